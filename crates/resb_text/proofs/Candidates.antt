@@ -1,124 +1,134 @@
 -- What each step does to the candidates for keys of the open groups.
-use Rattle.std.proofs.Common.{◌≡◌, ℕ, ◌+◌, ◌<◌, ◌≤◌, Bool, true, false, List, [], ◌∷◌, ◌++◌}
-use Rattle.std.proofs.Common.{refl, sym, ◌∙◌, ap, subst, arith, append_assoc, append-nil}
-use Rattle.std.proofs.lemmas.Bool.{false≢true}
-use Rattle.std.proofs.lemmas.List.{map-append}
+use Rattle.std.proofs.Common.{◌≡◌, ℕ, ◌<◌, ◌≤◌, Bool, true, false, cond, List, [], ◌∷◌, ◌++◌}
+use Rattle.std.proofs.Common.{length, refl, sym, ◌∙◌, ap, subst, arith, append_assoc, append-nil}
+use Rattle.std.specs.Prelude.{slice_index_or}
+use Rattle.std.proofs.lemmas.List.{map-append, map_push, get_or-set_other, length-set}
 use Rattle.resb_tree.specs.Tree.{Tree}
-use Rattle.resb_grammar.specs.Items.{Term, string_term, group_term, Item, plain, before_comma}
+use Rattle.resb_grammar.specs.KeyLists.{listed_keys}
+use Rattle.resb_grammar.specs.Items.{Term, string_term, group_term, Item, before_comma}
 use Rattle.resb_grammar.specs.Items.{Shape, a_string, a_table, an_array, shape_of, tree_in, keys_in}
 use Rattle.resb_grammar.specs.Items.{table_keys, array_keys, table_if, is_pairs}
 use Rattle.resb_grammar.specs.Machine.{Body, table_body, array_body, untyped_body, Frame, with_item}
 use Rattle.resb_grammar.specs.Machine.{new_frame, shape_in, closed}
-use Rattle.resb_text.specs.Inner.Discovered.{GroupText, without, texts}
-use Rattle.resb_text.specs.Inner.Frames.{lists}
-use Rattle.resb_text.specs.Inner.Frames.{left_after, NumberedFrame, with_number, frame_keys}
-use Rattle.resb_text.specs.Inner.Frames.{IsFrom, HoldsCandidates, none, one_more}
+use Rattle.resb_text.specs.declared.discovered.Keys.{Keys}
+use Rattle.resb_text.specs.Inner.Discovered.{GroupText, AllBelow, without, texts, left, group_count}
+use Rattle.resb_text.specs.Inner.Discovered.{is_dropped_in, OpensGroup, AddsCandidate, DropsGroup}
+use Rattle.resb_text.specs.Inner.Discovered.{ListsCandidates}
+use Rattle.resb_text.specs.Inner.Frames.{lists, left_after, NumberedFrame, with_number, frame_keys}
+use Rattle.resb_text.specs.Inner.Frames.{IsFrom, HoldsCandidates, HoldsKeys, AreSettled, AreOpen}
+use Rattle.resb_text.specs.Inner.Frames.{none, one_more, FrameView, view_of_frame, ClosesKeys}
+use Rattle.resb_text.specs.Inner.Frames.{frames_in}
 use Rattle.resb_text.proofs.DiscoveredLemmas.{without-append, without-own, without-other}
 use Rattle.resb_text.proofs.DiscoveredLemmas.{without-without}
-use Rattle.resb_text.proofs.DiscoveredLemmas.{texts_snoc}
 
-texts-append : (xs ys : List GroupText) → texts (xs ++ ys) ≡ texts xs ++ texts ys
-texts-append xs ys = map-append (λ c. c.text) xs ys
+-- a group whose last item has a comma behind it
+abbrev pub comma_frame : Frame → Term → List Item → Frame
+comma_frame f m xs = record { body = f.body; items = before_comma m ∷ xs }
 
-abbrev pub cand : List ℕ → ℕ → GroupText
+abbrev cand : List ℕ → ℕ → GroupText
 cand s n = record { text = s; group = n }
 
-frame_string : (b : Body) → lists b ≡ true → (xs : List Item) (s : List ℕ)
-    → frame_keys b (plain (string_term s) ∷ xs) ≡ frame_keys b xs ++ s ∷ []
-frame_string table_body h xs s = refl
-frame_string untyped_body h xs s = refl
-frame_string array_body h xs s = absurd (false≢true h)
+texts-append : (xs ys : List GroupText) → texts (xs ++ ys) ≡ texts xs ++ texts ys
+texts-append = map-append (λ c. c.text)
 
-from_string : (n : ℕ) (f : Frame) (s : List ℕ) (own : List GroupText) → lists f.body ≡ true
-    → IsFrom (with_number n f) own
-    → IsFrom (with_number n (with_item (string_term s) f)) (own ++ cand s n ∷ [])
-from_string n f s own h x = record {
-  whole =
-      texts_snoc own (cand s n) ∙ ap (λ ks. ks ++ s ∷ []) x.whole
-      ∙ sym (frame_string f.body h f.items s);
-  rest =
-      ap texts (without-append n own (cand s n ∷ [])
-      ∙ ap (λ cs. without n own ++ cs) (without-own n s) ∙ append-nil (without n own))
-      ∙ x.rest ∙ sym (append-nil (array_keys f.items));
-  later =
-      λ h lt. without-append h own (cand s n ∷ [])
-      ∙ ap (λ cs. cs ++ without h (cand s n ∷ [])) (x.later h lt)
-      ∙ ap (λ cs. own ++ cs) (without-other h n s (omega arith));
-}
+-- candidates that a removal leaves as they are, and more behind them
+without-behind : (h : ℕ) (xs ys : List GroupText) → without h xs ≡ xs
+    → without h (xs ++ ys) ≡ xs ++ without h ys
+without-behind h xs ys e = without-append h xs ys ∙ ap (λ cs. cs ++ without h ys) e
 
--- a string in a table's or an untyped group's body
-pub holds_string : (n : ℕ) (f : Frame) (gs : List NumberedFrame) (s : List ℕ) (cs : List GroupText)
+below-snoc : (limit n : ℕ) (s : List ℕ) (cs : List GroupText) → n < limit → AllBelow limit cs
+    → AllBelow limit (cs ++ cand s n ∷ [])
+below-snoc limit n s cs lt below =
+    λ h le. without-behind h cs (cand s n ∷ []) (below h le)
+    ∙ ap (λ ds. cs ++ ds) (without-other h n s (omega arith))
+
+cond-append : (b : Bool) (xs ys ks : List (List ℕ)) → cond b xs ys ++ ks ≡ cond b (xs ++ ks) (ys ++ ks)
+cond-append true xs ys ks = refl
+cond-append false xs ys ks = refl
+
+cond-same : (b : Bool) (xs : List (List ℕ)) → cond b xs xs ≡ xs
+cond-same true xs = refl
+cond-same false xs = refl
+
+module _ (n : ℕ) (f : Frame) where
+  from_string : (s : List ℕ) → lists f.body ≡ true → (own : List GroupText)
+      → IsFrom (with_number n f) own
+      → IsFrom (with_number n (with_item (string_term s) f)) (own ++ cand s n ∷ [])
+  from_string s h own x = record {
+    whole =
+        rw h (map_push (λ c. c.text) own (cand s n) ∙ ap (λ ks. ks ++ s ∷ []) (rw h at x.whole));
+    rest =
+        ap texts (without-append n own (cand s n ∷ [])
+        ∙ ap (λ cs. without n own ++ cs) (without-own n s) ∙ append-nil (without n own))
+        ∙ x.rest ∙ sym (append-nil (array_keys f.items));
+    later =
+        λ h lt. without-behind h own (cand s n ∷ []) (x.later h lt)
+        ∙ ap (λ cs. own ++ cs) (without-other h n s (omega arith));
+  }
+
+  -- a string in an array's body
+  pub from_item : (s : List ℕ) → lists f.body ≡ false → (own : List GroupText)
+      → IsFrom (with_number n f) own → IsFrom (with_number n (with_item (string_term s) f)) own
+  from_item s h own x = record {
+    whole = rw (h, append-nil) (rw h at x.whole);
+    rest = x.rest ∙ sym (append-nil (array_keys f.items));
+    later = x.later;
+  }
+
+  -- a group with its candidates, all of greater numbers
+  from_group : (t : Tree) (ks : List (List ℕ)) (cs : List GroupText)
+      → ((h : ℕ) → h ≤ n → without h cs ≡ cs) → texts cs ≡ ks → (own : List GroupText)
+      → IsFrom (with_number n f) own
+      → IsFrom (with_number n (with_item (group_term t ks) f)) (own ++ cs)
+  from_group t ks cs later is own x = record {
+    whole =
+        texts-append own cs ∙ (λ i. x.whole i ++ is i) ∙ cond-append (lists f.body) _ _ ks;
+    rest =
+        ap texts (without-append n own cs ∙ ap (λ ds. without n own ++ ds) (later n (omega arith)))
+        ∙ texts-append (without n own) cs ∙ (λ i. x.rest i ++ is i);
+    later =
+        λ h lt. without-behind h own cs (x.later h lt)
+        ∙ ap (λ ds. own ++ ds) (later h (omega arith));
+  }
+
+  -- a group without keys
+  pub from_leaf : (t : Tree) (own : List GroupText) → IsFrom (with_number n f) own
+      → IsFrom (with_number n (with_item (group_term t []) f)) own
+  from_leaf t own x =
+      subst (IsFrom (with_number n (with_item (group_term t []) f))) (append-nil own)
+      (from_group t [] [] (λ h le. refl) refl own x)
+
+  -- a comma behind the last item
+  pub from_comma : (m : Term) (k : Bool) (xs : List Item)
+      → f.items ≡ record { term = m; comma = k } ∷ xs → (own : List GroupText)
+      → IsFrom (with_number n f) own → IsFrom (with_number n (comma_frame f m xs)) own
+  from_comma m k xs i own x = record {
+    whole = x.whole ∙ ap (frame_keys f.body) i;
+    rest = x.rest ∙ ap array_keys i;
+    later = x.later;
+  }
+
+-- the innermost group has other items, and the same candidates
+frame_changed : {n : ℕ} {f e : Frame} {gs : List NumberedFrame} {cs : List GroupText}
+    → ((own : List GroupText) → IsFrom (with_number n f) own → IsFrom (with_number n e) own)
+    → HoldsCandidates (with_number n f ∷ gs) cs → HoldsCandidates (with_number n e ∷ gs) cs
+frame_changed change (one_more _ gs before own cs outer apart x e) =
+    one_more _ gs before own cs outer apart (change own x) e
+
+holds_string : {n : ℕ} {f : Frame} {gs : List NumberedFrame} (s : List ℕ) {cs : List GroupText}
     → lists f.body ≡ true → HoldsCandidates (with_number n f ∷ gs) cs
     → HoldsCandidates (with_number n (with_item (string_term s) f) ∷ gs) (cs ++ cand s n ∷ [])
-holds_string n f gs s cs h (one_more _ _ before own _ outer apart x e) =
-    one_more (with_number n (with_item (string_term s) f)) gs before (own ++ cand s n ∷ [])
-    (cs ++ cand s n ∷ []) outer apart (from_string n f s own h x)
+holds_string {n} {f} s h (one_more _ gs before own _ outer apart x e) =
+    one_more _ gs before (own ++ cand s n ∷ []) _ outer apart (from_string n f s h own x)
     (ap (λ ds. ds ++ cand s n ∷ []) e ∙ append_assoc before own (cand s n ∷ []))
 
--- a string in an array's body
-pub holds_item : (n : ℕ) (f : Frame) (gs : List NumberedFrame) (s : List ℕ) (cs : List GroupText)
-    → f.body ≡ array_body → HoldsCandidates (with_number n f ∷ gs) cs
-    → HoldsCandidates (with_number n (with_item (string_term s) f) ∷ gs) cs
-holds_item n f gs s cs h (one_more _ _ before own _ outer apart x e) =
-    one_more (with_number n (with_item (string_term s) f)) gs before own cs outer apart
-    (record {
-      whole =
-          x.whole ∙ ap (λ b. frame_keys b f.items) h ∙ sym (append-nil (array_keys f.items))
-          ∙ sym (ap (λ b. frame_keys b (plain (string_term s) ∷ f.items)) h);
-      rest = x.rest ∙ sym (append-nil (array_keys f.items));
-      later = x.later;
-    }) e
-
-frame_group : (b : Body) (xs : List Item) (t : Tree) (ks : List (List ℕ))
-    → frame_keys b (plain (group_term t ks) ∷ xs) ≡ frame_keys b xs ++ ks
-frame_group table_body xs t ks = refl
-frame_group untyped_body xs t ks = refl
-frame_group array_body xs t ks = refl
-
--- a group with its candidates, all of greater numbers
-pub holds_group : (n m : ℕ) (f : Frame) (gs : List NumberedFrame) (t : Tree) (ks : List (List ℕ))
-    (cs own : List GroupText)
-    → HoldsCandidates (with_number n f ∷ gs) cs → n < m → ((h : ℕ) → h < m → without h own ≡ own)
-    → texts own ≡ ks
-    → HoldsCandidates (with_number n (with_item (group_term t ks) f) ∷ gs) (cs ++ own)
-holds_group n m f gs t ks cs own (one_more _ _ before mine _ outer apart x e) lt later is =
-    one_more (with_number n (with_item (group_term t ks) f)) gs before (mine ++ own)
-    (cs ++ own) outer apart
-    (record {
-      whole =
-          texts-append mine own ∙ ap (λ ls. ls ++ texts own) x.whole
-          ∙ ap (λ ls. frame_keys f.body f.items ++ ls) is ∙ sym (frame_group f.body f.items t ks);
-      rest =
-          ap texts (without-append n mine own ∙ ap (λ ds. without n mine ++ ds) (later n lt))
-          ∙ texts-append (without n mine) own ∙ ap (λ ls. ls ++ texts own) x.rest
-          ∙ ap (λ ls. array_keys f.items ++ ls) is;
-      later =
-          λ h l. without-append h mine own ∙ ap (λ ds. ds ++ without h own) (x.later h l)
-          ∙ ap (λ ds. mine ++ ds) (later h (omega arith));
-    })
-    (ap (λ ds. ds ++ own) e ∙ append_assoc before mine own)
-
--- a group without keys
-pub holds_leaf : (n : ℕ) (f : Frame) (gs : List NumberedFrame) (t : Tree) (cs : List GroupText)
-    → HoldsCandidates (with_number n f ∷ gs) cs
-    → HoldsCandidates (with_number n (with_item (group_term t []) f) ∷ gs) cs
-holds_leaf n f gs t cs x =
-    subst (λ (ds : List GroupText). HoldsCandidates (with_number n (with_item (group_term t []) f)
-    ∷ gs) ds)
-    (append-nil cs) (holds_group n (n + 1) f gs t [] cs [] x (omega arith) (λ h l. refl) refl)
-
-frame_new : (b : Body) → frame_keys b [] ≡ []
-frame_new table_body = refl
-frame_new untyped_body = refl
-frame_new array_body = refl
-
--- a group is opened
-pub holds_new : (n : ℕ) (b : Body) (gs : List NumberedFrame) (cs : List GroupText)
-    → HoldsCandidates gs cs
-    → ((h : ℕ) → n ≤ h → without h cs ≡ cs) → HoldsCandidates (with_number n (new_frame b) ∷ gs) cs
+holds_new : (n : ℕ) (b : Body) (gs : List NumberedFrame) (cs : List GroupText)
+    → HoldsCandidates gs cs → AllBelow n cs
+    → HoldsCandidates (with_number n (new_frame b) ∷ gs) cs
 holds_new n b gs cs x apart =
-    one_more (with_number n (new_frame b)) gs cs [] cs x apart
-    (record { whole = sym (frame_new b); rest = refl; later = λ h l. refl }) (sym (append-nil cs))
+    one_more _ gs cs [] cs x apart
+    (record { whole = sym (cond-same (lists b) []); rest = refl; later = λ h l. refl })
+    (sym (append-nil cs))
 
 one_string : (xs : List Item) (s : List ℕ) → shape_of xs ≡ a_string s → array_keys xs ≡ []
 one_string [] s e = cc
@@ -147,60 +157,199 @@ keys_closed table_body xs n own (a_string s) e whole rest = cc
 keys_closed array_body xs n own (a_string s) e whole rest = cc
 keys_closed untyped_body xs n own (a_string s) e whole rest = rest ∙ one_string xs s e
 
-pub after-append : (sh : Shape) (n : ℕ) (xs ys : List GroupText) → without n xs ≡ xs
+after-append : (sh : Shape) (n : ℕ) (xs ys : List GroupText) → without n xs ≡ xs
     → left_after sh n (xs ++ ys) ≡ xs ++ left_after sh n ys
 after-append a_table n xs ys h = refl
-after-append an_array n xs ys h = without-append n xs ys ∙ ap (λ zs. zs ++ without n ys) h
-after-append (a_string s) n xs ys h = without-append n xs ys ∙ ap (λ zs. zs ++ without n ys) h
+after-append an_array n xs ys h = without-behind n xs ys h
+after-append (a_string s) n xs ys h = without-behind n xs ys h
 
 -- a group without candidates has none once another group is closed
-pub after_keeps : (sh : Shape) (n h : ℕ) (xs : List GroupText) → without h xs ≡ xs
+after_keeps : (sh : Shape) (n h : ℕ) (xs : List GroupText) → without h xs ≡ xs
     → without h (left_after sh n xs) ≡ left_after sh n xs
 after_keeps a_table n h xs e = e
 after_keeps an_array n h xs e = without-without h n xs ∙ ap (without n) e
 after_keeps (a_string s) n h xs e = without-without h n xs ∙ ap (without n) e
 
 -- the innermost group is closed
-pub holds_closed : (n m : ℕ) (f outer : Frame) (gs : List NumberedFrame) (cs : List GroupText)
-    → m < n
+holds_closed : (n m : ℕ) (f outer : Frame) (gs : List NumberedFrame) (cs : List GroupText) → m < n
     → HoldsCandidates (with_number n f ∷ with_number m outer ∷ gs) cs
-    → HoldsCandidates (with_number m (with_item (closed f) outer)
-    ∷ gs) (left_after (shape_in f.body f.items) n cs)
-holds_closed n m f outer gs cs lt (one_more _ _ before own _ around apart x e) =
-    subst (λ (ds : List GroupText). HoldsCandidates (with_number m (with_item (closed f) outer)
-    ∷ gs) ds)
-    (sym (ap (left_after (shape_in f.body f.items) n) e
-    ∙ after-append (shape_in f.body f.items) n before own (apart n (omega arith))))
-    (holds_group m n outer gs (tree_in (shape_in f.body f.items) f.items)
-    (keys_in (shape_in f.body f.items) f.items) before
-    (left_after (shape_in f.body f.items) n own) around lt
-    (λ h l. after_keeps (shape_in f.body f.items) n h own (x.later h l))
-    (keys_closed f.body f.items n own (shape_in f.body f.items) refl x.whole x.rest))
+    → HoldsCandidates (with_number m (with_item (closed f) outer) ∷ gs)
+    (left_after (shape_in f.body f.items) n cs)
+holds_closed n m f outer gs cs lt
+    (one_more _ _ _ own _ (one_more _ _ before mine among around below y i) apart x e) =
+    let shape = shape_in f.body f.items in
+    one_more _ gs before (mine ++ left_after shape n own) _ around below
+    (from_group m outer (tree_in shape f.items) (keys_in shape f.items) (left_after shape n own)
+    (λ h le. after_keeps shape n h own (x.later h (omega arith)))
+    (keys_closed f.body f.items n own shape refl x.whole x.rest) mine y)
+    (ap (left_after shape n) e ∙ after-append shape n among own (apart n (omega arith))
+    ∙ ap (λ ds. ds ++ left_after shape n own) i ∙ append_assoc before mine _)
 
 -- the keys of the root
-pub holds_root : (n : ℕ) (f : Frame) (cs : List GroupText) → f.body ≡ table_body
+holds_root : (n : ℕ) (f : Frame) (cs : List GroupText) → f.body ≡ table_body
     → HoldsCandidates (with_number n f ∷ []) cs → texts cs ≡ table_keys f.items
 holds_root n f cs b (one_more _ _ _ own _ none apart x e) =
     ap texts e ∙ x.whole ∙ ap (λ k. frame_keys k f.items) b
 
-frame_comma : (b : Body) (m : Term) (f : Bool) (ys : List Item)
-    → frame_keys b (record { term = m; comma = f } ∷ ys) ≡ frame_keys b (before_comma m ∷ ys)
-frame_comma table_body m f ys = refl
-frame_comma array_body m f ys = refl
-frame_comma untyped_body m f ys = refl
+dropped_same : (k l : Keys) → l.is_dropped ≡ k.is_dropped → (g : ℕ)
+    → is_dropped_in l g ≡ is_dropped_in k g
+dropped_same k l e g = ap (λ ds. slice_index_or ds.items g false) e
 
-abbrev pub comma_frame : Frame → Term → List Item → Frame
-comma_frame f m ys = record { body = f.body; items = before_comma m ∷ ys }
+-- groups stay open where no flag of theirs changes
+open_same : (k l : Keys) (limit : ℕ) (gs : List NumberedFrame)
+    → ((g : ℕ) → g < limit → is_dropped_in l g ≡ is_dropped_in k g) → AreOpen k limit gs
+    → AreOpen l limit gs
+open_same k l limit [] e x = tt
+open_same k l limit (g ∷ gs) e x = (
+  x.0,
+  e g.number x.0 ∙ x.1,
+  open_same k l g.number gs (λ h lt. e h (let m = x.0 in omega arith)) x.2,
+)
 
-pub holds_comma : (n : ℕ) (f : Frame) (gs : List NumberedFrame) (cs : List GroupText) (m : Term)
-    (k : Bool)
-    (ys : List Item)
-    → f.items ≡ record { term = m; comma = k } ∷ ys → HoldsCandidates (with_number n f ∷ gs) cs
-    → HoldsCandidates (with_number n (comma_frame f m ys) ∷ gs) cs
-holds_comma n f gs cs m k ys i (one_more _ _ before own _ outer apart x e) =
-    one_more (with_number n (comma_frame f m ys)) gs before own cs outer apart
-    (record {
-      whole = x.whole ∙ ap (frame_keys f.body) i ∙ frame_comma f.body m k ys;
-      rest = x.rest ∙ ap array_keys i;
-      later = x.later;
-    }) e
+-- what was settled stays so
+settled_on : (k l : Keys) {settled : List GroupText} {bound : ℕ} → l.listed ≡ k.listed
+    → group_count k ≤ group_count l → AreSettled k settled bound → AreSettled l settled bound
+settled_on k l e more x = record {
+  listed = ap listed_keys e ∙ x.listed;
+  apart = x.apart;
+  bounded = let b = x.bounded in omega (arith, b, more);
+}
+
+-- the innermost group gets an item without candidates, or a comma
+pub keys_changed : {k : Keys} {n : ℕ} {f e : Frame} {gs : List NumberedFrame}
+    → ((own : List GroupText) → IsFrom (with_number n f) own → IsFrom (with_number n e) own)
+    → HoldsKeys k (with_number n f) gs → HoldsKeys k (with_number n e) gs
+keys_changed change x = record {
+  settled = x.settled;
+  bound = x.bound;
+  are_settled = x.are_settled;
+  inner = x.inner;
+  holds = frame_changed change x.holds;
+  within = x.within;
+  are_open = x.are_open;
+}
+
+module _ (k l : Keys) where
+  -- the innermost group gets a string that may be a key
+  pub keys_string : {n : ℕ} (f : Frame) (s : List ℕ) {gs : List NumberedFrame}
+      → lists f.body ≡ true → AddsCandidate s n k l → HoldsKeys k (with_number n f) gs
+      → HoldsKeys l (with_number n (with_item (string_term s) f)) gs
+  keys_string {n} f s {gs} h adds x =
+      let had = x.settled ++ left k in
+      let now : x.settled ++ left l ≡ had ++ cand s n ∷ [] =
+      ap (λ cs. x.settled ++ cs) adds.added
+      ∙ sym (append_assoc x.settled (left k) (cand s n ∷ [])) in
+      let same : group_count l ≡ group_count k = ap (λ v. length v.items) adds.dropped in
+      record {
+        settled = x.settled;
+        bound = x.bound;
+        are_settled = settled_on k l adds.listed (omega (arith, same)) x.are_settled;
+        inner = x.inner;
+        holds = rw now (holds_string s h x.holds);
+        within = rw (now, same) (below-snoc (group_count k) n s had x.are_open.0 x.within);
+        are_open = rw same (open_same k l (group_count k) (with_number n f ∷ gs)
+            (λ g lt. dropped_same k l adds.dropped g) x.are_open);
+      }
+
+  -- a group is opened
+  pub keys_open : {g : ℕ} (outer : NumberedFrame) (gs : List NumberedFrame) (b : Body)
+      → OpensGroup g k l → HoldsKeys k outer gs
+      → HoldsKeys l (with_number (group_count k) (new_frame b)) (outer ∷ gs)
+  keys_open outer gs b opens x = record {
+    settled = x.settled;
+    bound = x.bound;
+    are_settled = settled_on k l opens.listed (omega (arith, opens.groups)) x.are_settled;
+    inner = (x.are_settled.bounded, x.inner);
+    holds = rw opens.stays (holds_new (group_count k) b (outer ∷ gs) _ x.holds x.within);
+    within = rw opens.stays (λ h le. x.within h (omega (arith, opens.groups)));
+    are_open = (
+      omega (arith, opens.groups),
+      opens.flags (group_count k) ∙ opens.fresh,
+      open_same k l (group_count k) (outer ∷ gs) (λ g lt. opens.flags g) x.are_open,
+    );
+  }
+
+  -- the innermost group is closed
+  pub keys_close : {n : ℕ} (m : ℕ) (f outer : Frame) (gs : List NumberedFrame) {look : FrameView}
+      → look ≡ view_of_frame (with_number n f) → ClosesKeys look k l
+      → HoldsKeys k (with_number n f) (with_number m outer ∷ gs)
+      → HoldsKeys l (with_number m (with_item (closed f) outer)) gs
+  keys_close {n} m f outer gs {look} e closes x =
+      let number : look.number ≡ n = ap (λ (v : FrameView). v.number) e in
+      let open_now = x.are_open in
+      let top = open_now.0 in
+      let inner = open_now.2 in
+      let rest = open_same k l n (with_number m outer ∷ gs)
+      (λ g lt. closes.others g (omega (arith, number))) inner in
+      let lt = inner.0 in
+      let shape = shape_in f.body f.items in
+      let all_left : x.settled ++ left l ≡ left_after shape n (x.settled ++ left k) =
+      ap (λ cs. x.settled ++ cs) (closes.rest n f e)
+      ∙ sym (after-append shape n x.settled (left k) (x.are_settled.apart n x.inner.0)) in
+      record {
+        settled = x.settled;
+        bound = x.bound;
+        are_settled = settled_on k l closes.listed (omega (arith, closes.groups)) x.are_settled;
+        inner = x.inner.1;
+        holds = rw all_left (holds_closed n m f outer gs _ lt x.holds);
+        within = rw all_left (λ h le. after_keeps shape n h _
+            (x.within h (omega (arith, closes.groups))));
+        are_open = (omega (arith, lt, top, closes.groups), rest.1, rest.2);
+      }
+
+  -- where the root alone is open, all candidates that are left are keys
+  pub keys_settle : (g : NumberedFrame) → ListsCandidates k l → HoldsKeys k g [] → HoldsKeys l g []
+  keys_settle g lists x =
+      let same : group_count l ≡ group_count k = ap (λ v. length v.items) lists.dropped in
+      let settled = x.settled ++ left k in
+      let all : settled ++ left l ≡ settled =
+      ap (λ cs. settled ++ cs) lists.empty ∙ append-nil settled in
+      record {
+        settled = settled;
+        bound = group_count k;
+        are_settled = record {
+          listed = lists.listed x.settled x.are_settled.listed;
+          apart = x.within;
+          bounded = omega (arith, same);
+        };
+        inner = tt;
+        holds = rw all x.holds;
+        within = rw (all, same) x.within;
+        are_open = rw same (open_same k l (group_count k) (g ∷ [])
+            (λ h lt. dropped_same k l lists.dropped h) x.are_open);
+      }
+
+-- the root is opened
+pub keys_root : (k : Keys) (n : ℕ) → n < group_count k → is_dropped_in k n ≡ false → left k ≡ []
+    → listed_keys k.listed ≡ [] → HoldsKeys k (with_number n (new_frame table_body)) []
+keys_root k n lt open_now empty none_listed = record {
+  settled = [];
+  bound = 0;
+  are_settled = record { listed = none_listed; apart = λ h le. refl; bounded = omega arith };
+  inner = tt;
+  holds = rw empty (holds_new n table_body [] [] none (λ h le. refl));
+  within = rw empty (λ h le. refl);
+  are_open = (lt, open_now, tt);
+}
+
+-- its keys, once it is closed
+pub root_keys : {k : Keys} {n : ℕ} {f : Frame} (gs : List NumberedFrame) → frames_in gs ≡ []
+    → (x : HoldsKeys k (with_number n f) gs) → f.body ≡ table_body
+    → texts (x.settled ++ left k) ≡ table_keys f.items
+root_keys {n = n} {f = f} [] e x b = holds_root n f _ b x.holds
+root_keys (g ∷ gs) e x b = cc
+
+-- a group that is dropped as it is closed, since it turns out to be no table
+pub dropped_closes : (look : FrameView) (k l : Keys) (shape : Shape) → DropsGroup look.number k l
+    → ((n : ℕ) (f : Frame) → look ≡ view_of_frame (with_number n f)
+    → shape ≡ shape_in f.body f.items)
+    → ((n : ℕ) (cs : List GroupText) → left_after shape n cs ≡ without n cs) → ClosesKeys look k l
+dropped_closes look k l shape drops is no_table = record {
+  rest = λ n f e.
+      drops.others ∙ ap (λ j. without j (left k)) (ap (λ (v : FrameView). v.number) e)
+      ∙ sym (no_table n (left k)) ∙ ap (λ s. left_after s n (left k)) (is n f e);
+  others = λ g ne. ap (λ ds. slice_index_or ds g false) drops.dropped
+      ∙ get_or-set_other k.is_dropped.items look.number g true false ne;
+  groups = ap length drops.dropped ∙ length-set k.is_dropped.items look.number true;
+  listed = drops.listed;
+}

@@ -1,7 +1,8 @@
 -- What an open group shows stays while more is made of other groups.
-use Rattle.std.proofs.Common.{◌≡◌, ℕ, Bool, true, List, [], ◌∷◌, ◌++◌, refl, sym, ◌∙◌, ap, subst}
+use Rattle.std.proofs.Common.{◌≡◌, ℕ, Bool, true, List, [], ◌∷◌, ◌++◌, refl, sym, ◌∙◌, ap}
 use Rattle.std.specs.Prelude.{map, Result, Ok, Err, IfOk}
 use Rattle.std.proofs.lemmas.Bool.{and_parts}
+use Rattle.std.proofs.lemmas.List.{map_push}
 use Rattle.resb_tree.specs.Tree.{Tree}
 use Rattle.resb_tree.specs.Borrowing.{all_true}
 use Rattle.resb_grammar.specs.Items.{Shape}
@@ -11,27 +12,22 @@ use Rattle.resb_text.specs.Inner.Build.{Grows, Adds}
 use Rattle.resb_text.specs.Inner.Shown.{group_shown, shown_by, shown_term_by, items_seen}
 use Rattle.resb_text.specs.Inner.Shown.{shown_borrowed}
 use Rattle.resb_text.specs.Inner.Frames.{view_of_code, view_of_frame, views_of_frames, FrameView}
-use Rattle.resb_text.specs.Inner.Frames.{NumberedFrame, with_number}
-use Rattle.resb_text.specs.Inner.Frames.{tree_shown_in}
+use Rattle.resb_text.specs.Inner.Frames.{NumberedFrame, with_number, tree_shown_in}
 use Rattle.resb_text.specs.declared.frames.Frame.{Frame}
 use Rattle.resb_text.specs.declared.items.Item.{Item}
 use Rattle.resb_text.specs.declared.items.Term.{Term}
 use Rattle.resb_text.specs.declared.items.Term.TheVariants as terms
 use Rattle.resb_text.proofs.BorrowedLemmas.{items_borrowed}
-use Rattle.resb_text.proofs.FramesLemmas.{same_view}
 
--- each is what some layer shows
-abbrev AreLooks : List FrameView → Type 0
-AreLooks [] = Unit {0}
-AreLooks (l ∷ ls) = ((g : NumberedFrame) × (l ≡ view_of_frame g)) × AreLooks ls
-
-looks_are : (gs : List NumberedFrame) → AreLooks (views_of_frames gs)
-looks_are [] = tt
-looks_are (g ∷ gs) = looks_one_more (views_of_frames gs) (looks_are gs)
-  where
-    looks_one_more : (ls : List FrameView) → AreLooks ls → AreLooks (ls ++ view_of_frame g ∷ [])
-    looks_one_more [] h = ((g, refl), tt)
-    looks_one_more (l ∷ ls) h = (h.0, looks_one_more ls h.1)
+-- the groups in the order in which the code lists them
+in_order : (gs : List NumberedFrame)
+    → (hs : List NumberedFrame) × (views_of_frames gs ≡ map view_of_frame hs)
+in_order [] = ([], refl)
+in_order (g ∷ gs) =
+    let rest = in_order gs in (
+      rest.0 ++ g ∷ [],
+      ap (λ vs. vs ++ view_of_frame g ∷ []) rest.1 ∙ sym (map_push view_of_frame rest.0 g),
+    )
 
 module _ {B X : Type 0} (tree : B → X → Tree) (held : B → X → Bool) (b d : B)
     (grows : Grows tree held b d) where
@@ -58,24 +54,27 @@ module _ {B X : Type 0} (tree : B → X → Tree) (held : B → X → Bool) (b d
   pub grown : (f : Frame X) (g : NumberedFrame) → view_of_code (tree b) (held b) f ≡ view_of_frame g
       → view_of_code (tree d) (held d) f ≡ view_of_frame g
   grown f g e =
-      same_view (view_of_code (tree d) (held d) f) (view_of_frame g)
-      (ap (λ (l : FrameView). l.body) e)
-      (grown_items f.items.items (items_borrowed (tree b) (held b) f g.number g.frame e)
-      ∙ ap (λ (l : FrameView). l.items) e)
-      (ap (λ (l : FrameView). l.alternates) e) (ap (λ (l : FrameView). l.number) e)
+      (λ i. record {
+        body = (e i).body;
+        items = (grown_items f.items.items (items_borrowed (tree b) (held b) f g.number g.frame e)
+            ∙ ap (λ (l : FrameView). l.items) e) i;
+        alternates = (e i).alternates;
+        number = (e i).number;
+      })
 
-  same_all : (fs : List (Frame X)) → AreLooks (map (view_of_code (tree b) (held b)) fs)
-      → map (view_of_code (tree d) (held d)) fs ≡ map (view_of_code (tree b) (held b)) fs
-  same_all [] h = refl
-  same_all (f ∷ fs) h =
-      ap (λ l. l ∷ map (view_of_code (tree d) (held d)) fs) (grown f h.0.0 h.0.1 ∙ sym h.0.1)
-      ∙ ap (λ ls. view_of_code (tree b) (held b) f ∷ ls) (same_all fs h.1)
+  each_grown : (fs : List (Frame X)) (gs : List NumberedFrame)
+      → map (view_of_code (tree b) (held b)) fs ≡ map view_of_frame gs
+      → map (view_of_code (tree d) (held d)) fs ≡ map view_of_frame gs
+  each_grown [] [] e = refl
+  each_grown [] (g ∷ gs) e = cc
+  each_grown (f ∷ fs) [] e = cc
+  each_grown (f ∷ fs) (g ∷ gs) e = λ i. grown f g (cc) i ∷ each_grown fs gs (cc) i
 
   -- the open groups around it
   pub all_grown : (fs : List (Frame X)) (gs : List NumberedFrame)
       → map (view_of_code (tree b) (held b)) fs ≡ views_of_frames gs
       → map (view_of_code (tree d) (held d)) fs ≡ views_of_frames gs
-  all_grown fs gs e = same_all fs (subst AreLooks (sym e) (looks_are gs)) ∙ e
+  all_grown fs gs e = let s = in_order gs in each_grown fs s.0 (e ∙ s.1) ∙ sym s.1
 
 -- what is made of a closed group
 pub closed_made : {B X E : Type 0} (tree : B → X → Tree) (held : B → X → Bool)

@@ -1,14 +1,14 @@
 -- Laws of how far a reading has looked at a word, at digits and at a sign.
-use Rattle.std.proofs.Common.{◌≡◌, ◌≢◌, ℕ, ◌+◌, ◌<◌, ◌≤◌, Bool, true, false}
-use Rattle.std.proofs.Common.{List, length, arith, refl}
-use Rattle.std.specs.Prelude.{slice_index, ◌==◌}
+use Rattle.std.proofs.Common.{◌≡◌, ℕ, ◌+◌, ◌<◌, ◌≤◌, true, List, length, arith, ⊎_elim}
+use Rattle.std.specs.Prelude.{slice_index}
+use Rattle.std.proofs.lemmas.Bool.{cases_eq}
 use Rattle.std.proofs.lemmas.Bool.Decides.{nat_tests}
 use Rattle.resb_grammar.specs.Ascii as ascii
 use Rattle.resb_grammar.specs.ByteRuns.{Run, is_word, is_digit}
 use Rattle.resb_grammar.specs.Inner.Reach.{reach}
 use Rattle.resb_grammar.proofs.ReachLemmas.{reach_low, reach_high, reach_here, reach_byte}
 use Rattle.resb_grammar.proofs.ReachLemmas.{reach_left, reach_right, reach_quote, reach_comma}
-use Rattle.resb_grammar.proofs.ReachLemmas.{reach_colon}
+use Rattle.resb_grammar.proofs.ReachLemmas.{reach_colon, reach_slash}
 use Rattle.resb_grammar.proofs.Lists.{nonzero_inside}
 use Rattle.resb_text.proofs.QuotaLemmas.{memory_stops}
 
@@ -29,15 +29,13 @@ reach_digit text from to run low =
 -- where a run of digits ends that begins at a place, a reading has looked no further than that run
 pub reach_digits : (text : List ℕ) (from to : ℕ) → Run is_digit text from to
     → reach text from + to ≤ length text + from
-reach_digits text from to run = pick (from == to) refl
-  where
-    pick : (t : Bool) → (from == to) ≡ t → reach text from + to ≤ length text + from
-    pick true e =
-        let same : from ≡ to = grind (arith, nat_tests, e) in
-        omega (arith, reach_high text from (omega (arith, run.order, run.fits)), same)
-    pick false e =
-        let other : from ≢ to = grind (arith, nat_tests, e) in
-        omega (arith, reach_digit text from to run (omega (arith, other, run.order)), run.fits)
+reach_digits text from to run =
+    ⊎_elim (λ same. omega (arith, reach_high text from (omega (arith, run.order, run.fits)), same))
+    (λ other. omega (
+      arith,
+      reach_digit text from to run (omega (arith, other, run.order)),
+      run.fits,
+    )) (cases_eq from to)
 
 -- where a plus stands, up to its place
 pub reach_plus : (text : List ℕ) (at : ℕ) → slice_index text at ≡ ascii.plus → reach text at ≡ at
@@ -61,6 +59,9 @@ pub ruleset reach_types = (reach_colon, reach_high)
 
 -- what is said of a quote or the end
 pub ruleset reach_texts = (reach_quote, reach_high)
+
+-- what is said of a comment or none
+pub ruleset reach_comments = (reach_here, reach_slash, nonzero_inside)
 
 -- where a brace, a comma or a colon stands
 pub ruleset at_left_brace = (reach_left, nonzero_inside, memory_stops)

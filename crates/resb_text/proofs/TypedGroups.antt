@@ -12,8 +12,8 @@ use Rattle.resb_grammar.specs.GroupTypes.{integer_kind, vector_kind, GroupType, 
 use Rattle.resb_grammar.specs.Group.{LeafContent, string_content, binary_content, integer_content}
 use Rattle.resb_grammar.specs.Group.{vector_content}
 use Rattle.resb_grammar.specs.Limit.{begun_bytes, leaf_bytes, Makes}
-use Rattle.resb_grammar.proofs.Making.{reading_of, makes_on, makes_more, opening_made}
-use Rattle.resb_grammar.proofs.Making.{begun_made, content_made, BeforeBrace}
+use Rattle.resb_grammar.proofs.Making.{reading_of, makes_on, makes_more, opening_made, begun_made}
+use Rattle.resb_grammar.proofs.Making.{content_made, BeforeBrace}
 use Rattle.resb_grammar.specs.Items.{Item, group_term}
 use Rattle.resb_grammar.specs.Machine as machine
 use Rattle.resb_grammar.specs.Machine.{Body, table_body, array_body, untyped_body, Token, a_text}
@@ -35,8 +35,7 @@ use Rattle.resb_text.specs.declared.error.TextParserError.{TextParserError}
 use Rattle.resb_grammar.proofs.Moves.{further, byte_class, none_some, no_text_colon}
 use Rattle.resb_grammar.proofs.Complete.{MayOpen, type_next, run_opening}
 use Rattle.resb_text.proofs.HeaderReading.{error_at}
-use Rattle.resb_text.proofs.StepsLemmas.{Leads, none_there, stuck_here, group_like}
-use Rattle.resb_text.proofs.StepsLemmas.{not_group_like}
+use Rattle.resb_text.proofs.StepsLemmas.{Leads, none_there, stuck_here, group_like, not_group_like}
 use Rattle.resb_text.proofs.NoTokens.{no_token}
 use Rattle.resb_text.proofs.QuotaLemmas.{quota_kept, quota_over}
 use Rattle.resb_grammar.proofs.Numbers.{plus_no_bytes}

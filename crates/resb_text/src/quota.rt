@@ -10,6 +10,9 @@ use resb_tree::{NoMemory, Resource};
 /// A resource of its own.
 pub(crate) const GROUP_BYTES: u128 = 72;
 
+/// A table that has entries, beside what it is as a resource and what its entries take.
+pub(crate) const TABLE_BYTES: u128 = 1024;
+
 /// How many bytes were made, how many may be, and whether more were asked for.
 #[derive(Drop)]
 pub(crate) struct Quota {

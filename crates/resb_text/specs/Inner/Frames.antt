@@ -1,7 +1,6 @@
 -- What the code's open groups show of a machine's, and which candidates are theirs.
 use Rattle.std.specs.Prelude.{◌≡◌, ◌≢◌, ℕ, ◌+◌, ◌<◌, ◌≤◌, Bool, true, false, List, [], ◌∷◌, ◌++◌}
-use Rattle.std.specs.Prelude.{map}
-use Rattle.std.specs.Prelude.{length, Some}
+use Rattle.std.specs.Prelude.{map, cond, length, Some}
 use Rattle.std.specs.List.{sum_by}
 use Rattle.resb_tree.specs.Tree.{Tree, string, array, table, trees_of, map_of}
 use Rattle.resb_grammar.specs.Items as spec
@@ -11,11 +10,9 @@ use Rattle.resb_grammar.specs.Machine as machine
 use Rattle.resb_grammar.specs.BundleText.{first_places}
 use Rattle.resb_grammar.specs.KeyLists.{listed_keys}
 use Rattle.resb_text.specs.Inner.Shown.{SeenItem, string_shown, group_shown, shown_by, items_seen}
-use Rattle.resb_text.specs.Inner.Shown.{shown_tree}
-use Rattle.resb_text.specs.Inner.Shown.{shown_pairs}
-use Rattle.resb_text.specs.Inner.Discovered.{GroupText, without, texts, left, group_count}
-use Rattle.resb_text.specs.Inner.Discovered.{candidate_count}
-use Rattle.resb_text.specs.Inner.Discovered.{is_dropped_in}
+use Rattle.resb_text.specs.Inner.Shown.{shown_tree, shown_pairs}
+use Rattle.resb_text.specs.Inner.Discovered.{GroupText, without, texts, left, group_count, AllBelow}
+use Rattle.resb_text.specs.Inner.Discovered.{candidate_count, is_dropped_in}
 use Rattle.resb_text.specs.declared.discovered.Keys.{Keys}
 use Rattle.resb_text.specs.declared.frames.Body.{Body}
 use Rattle.resb_text.specs.declared.frames.Body.TheVariants as body
@@ -24,6 +21,7 @@ use Rattle.resb_text.specs.declared.frames.Open.{Open}
 use Rattle.resb_text.specs.declared.frames.Shape.{Shape}
 use Rattle.resb_text.specs.declared.frames.Shape.TheVariants as shape
 
+-- the body as the grammar's machine names it
 abbrev pub group_body_of : Body → machine.Body
 group_body_of body.Table = machine.table_body
 group_body_of body.Array = machine.array_body
@@ -84,9 +82,7 @@ views_of_frames (g ∷ gs) = views_of_frames gs ++ view_of_frame g ∷ []
 
 -- the keys of an open group, if it turns out to be a table, and those of its groups otherwise
 abbrev pub frame_keys : machine.Body → List spec.Item → List (List ℕ)
-frame_keys machine.array_body items = array_keys items
-frame_keys machine.table_body items = table_keys items
-frame_keys machine.untyped_body items = table_keys items
+frame_keys body items = cond (lists body) (table_keys items) (array_keys items)
 
 -- a group's candidates: its own strings have its number, and all others greater ones
 pub record IsFrom (g : NumberedFrame) (own : List GroupText) : Type 0 where
@@ -98,8 +94,7 @@ pub record IsFrom (g : NumberedFrame) (own : List GroupText) : Type 0 where
 pub data HoldsCandidates : List NumberedFrame → List GroupText → Type 0 where
   none : HoldsCandidates [] []
   one_more : (g : NumberedFrame) (gs : List NumberedFrame) (before own cs : List GroupText)
-      → HoldsCandidates gs before
-      → ((h : ℕ) → g.number ≤ h → without h before ≡ before) → IsFrom g own → cs ≡ before ++ own
+      → HoldsCandidates gs before → AllBelow g.number before → IsFrom g own → cs ≡ before ++ own
       → HoldsCandidates (g ∷ gs) cs
 
 -- all open groups but the root have numbers from this one on, the innermost one's first
@@ -110,7 +105,7 @@ AllFrom bound number (g ∷ gs) = (bound ≤ number) × AllFrom bound g.number g
 -- the candidates that were listed as keys already: none is of a group that has such a number
 pub record AreSettled (k : Keys) (settled : List GroupText) (bound : ℕ) : Type 0 where
   pub listed : listed_keys k.listed ≡ first_places (texts settled)
-  pub apart : (h : ℕ) → bound ≤ h → without h settled ≡ settled
+  pub apart : AllBelow bound settled
   pub bounded : bound ≤ group_count k
 
 -- numbers fall from the innermost group on, and none was dropped
@@ -118,6 +113,16 @@ abbrev pub AreOpen : Keys → ℕ → List NumberedFrame → Type 0
 AreOpen k limit [] = Unit {0}
 AreOpen k limit (g ∷ gs) =
     (g.number < limit) × (is_dropped_in k g.number ≡ false) × AreOpen k g.number gs
+
+-- what is known of the candidates while this group is open, and these around it
+pub record HoldsKeys (k : Keys) (g : NumberedFrame) (gs : List NumberedFrame) : Type 0 where
+  pub settled : List GroupText
+  pub bound : ℕ
+  pub are_settled : AreSettled k settled bound
+  pub inner : AllFrom bound g.number gs
+  pub holds : HoldsCandidates (g ∷ gs) (settled ++ left k)
+  pub within : AllBelow (group_count k) (settled ++ left k)
+  pub are_open : AreOpen k (group_count k) (g ∷ gs)
 
 abbrev pub frames_in : List NumberedFrame → List machine.Frame
 frames_in gs = map (λ g. g.frame) gs
@@ -141,14 +146,7 @@ module _ {B X : Type 0} (tree : B → X → Tree) (held : B → X → Bool) wher
     pub outer : map (view_of_code (tree c.build) (held c.build)) c.around.items
         ≡ views_of_frames around
     pub frames : frames_in around ≡ o.around
-    pub settled : List GroupText
-    pub bound : ℕ
-    pub are_settled : AreSettled c.keys settled bound
-    pub inner : AllFrom bound number around
-    pub holds : HoldsCandidates (with_number number o.frame ∷ around) (settled ++ left c.keys)
-    pub within : (h : ℕ) → group_count c.keys ≤ h
-        → without h (settled ++ left c.keys) ≡ settled ++ left c.keys
-    pub are_open : AreOpen c.keys (group_count c.keys) (with_number number o.frame ∷ around)
+    pub keys : HoldsKeys c.keys (with_number number o.frame) around
 
   -- the code's open groups are some machine's
   abbrev pub IsOpen : Open B X → Type 0

@@ -1,11 +1,13 @@
-use Rattle.std.proofs.Common.{[], ◌++◌, ◌∙◌, ap, arith, refl, sym, append-nil}
-use Rattle.std.specs.Prelude.{map}
+use Rattle.std.proofs.Common.{[], ◌++◌, ◌∙◌, ap, arith, sym, append-nil, get_or}
+use Rattle.std.specs.Prelude.{map, nat_eq, true, false}
+use Rattle.std.specs.Cmp.Lexicographic.{pointwise}
+use Rattle.indexmap.specs.IndexSet.{insert_key}
 use Rattle.std.proofs.lemmas.List.{take_all}
 use Rattle.resb_grammar.specs.BundleText.{first_places}
 use Rattle.resb_grammar.specs.KeyLists.{listed_keys}
 use Rattle.resb_text.specs.Inner.Discovered.{text_in_group, left_of, texts}
 use Rattle.resb_text.specs.declared.discovered.Candidate.{Candidate}
-use Rattle.resb_text.proofs.DiscoveredLemmas.{collect_dropped, collect_kept}
+use Rattle.resb_text.proofs.DiscoveredLemmas.{listed_more}
 use Rattle.resb_text.proofs.discovered.list_left.Goals as goal
 use Rattle.resb_text.proofs.discovered.list_left.Goals.{then-not-dropped+in_ok-list}
 use Rattle.resb_text.proofs.discovered.list_left.Goals.{else-not-dropped}
@@ -17,19 +19,22 @@ loop-candidate-init c = record {
 
 pub loop-candidate-preserved : goal.loop-candidate-preserved
 loop-candidate-preserved c =
-    let before = c.loop-candidate.invariant in
     let d : Candidate = record { text = record { ref_ptr = (0, 0); now = [] }; group = 0 } in
+    let lt = c.loop-candidate-test.true in
+    let test = c.is_set-dropped.ensures in
+    let one = get_or c.args.candidates.now c.loop-candidate.candidate-index d in
     record {
-      keys = λ front h. elim c.if-not-dropped.branch [
-        | then-not-dropped+in_ok-list w ↦
-            collect_kept front _ _ _ d _ _ _ _ c.loop-candidate-test.true
-            c.is_set-dropped.ensures w.if-not-dropped.true (before.keys front h) refl
-            (ap listed_keys w.list-is ∙ w.in_ok-list.ensures)
-        | else-not-dropped w ↦
-            collect_dropped front _ _ _ d _ _ _ c.loop-candidate-test.true
-            c.is_set-dropped.ensures w.if-not-dropped.false (before.keys front h)
-            (ap listed_keys w.list-is)
-      ];
+      keys = λ front h.
+          let was = c.loop-candidate.invariant.keys front h in
+          elim c.if-not-dropped.branch [
+            | then-not-dropped+in_ok-list w ↦
+                ap listed_keys w.list-is ∙ w.in_ok-list.ensures
+                ∙ ap (λ ks. insert_key (pointwise nat_eq) ks one.text.now) was
+                ∙ sym (listed_more front _ _ _ d lt false (sym w.if-not-dropped.true ∙ test))
+            | else-not-dropped w ↦
+                ap listed_keys w.list-is ∙ was
+                ∙ sym (listed_more front _ _ _ d lt true (sym w.if-not-dropped.false ∙ test))
+          ];
     }
 
 pub returns-clause-ok : goal.returns-clause-ok

@@ -1,4 +1,4 @@
-use Rattle.std.proofs.Common.{eqb, sym, ap, ◌∙◌, arith, w8}
+use Rattle.std.proofs.Common.{ℕ, eqb, sym, ap, ◌∙◌, arith, w8}
 use Rattle.std.proofs.lemmas.Bool.{eqb-true, eqb-false}
 use Rattle.std.proofs.lemmas.Simd.{length-chunk, bitmask_splat, trailing_mask_l}
 use Rattle.std.proofs.lemmas.Simd.{none_from_empty_mask, run_in_chunk_le, run_in_chunk_fails}
@@ -17,35 +17,19 @@ returns-then-places-eq0-clause-before c =
     (none_from_empty_mask (λ x. eqb x c.args.b) xs c.args.from 16 0 c.requires
     (sym mask ∙ c.if-places-eq0.true) k low high) is
 
-pub returns-else-places-eq0-clause-few : goal.returns-else-places-eq0-clause-few
-returns-else-places-eq0-clause-few c =
+pub returns-else-places-eq0 : goal.returns-else-places-eq0
+returns-else-places-eq0 c =
     let xs = c.args.bytes.now in
     let v = chunk c.args.from 16 xs in
     let long = length-chunk c.args.from 16 xs c.requires in
+    let test = λ (x : ℕ). eqb x c.args.b in
     let mask = bitmask_splat w8 eqb v 16 c.args.b long (omega arith) in
     let counted = ap (count_trailing_zeros 64) mask
-    ∙ trailing_mask_l (λ x. eqb x c.args.b) 64 v (omega arith) (omega arith) in
-    run_in_chunk_le (λ x. eqb x c.args.b) xs c.args.from 16 _ 0 c.requires counted
-
-pub returns-else-places-eq0-clause-before : goal.returns-else-places-eq0-clause-before
-returns-else-places-eq0-clause-before c =
-    let xs = c.args.bytes.now in
-    let v = chunk c.args.from 16 xs in
-    let long = length-chunk c.args.from 16 xs c.requires in
-    let mask = bitmask_splat w8 eqb v 16 c.args.b long (omega arith) in
-    let counted = ap (count_trailing_zeros 64) mask
-    ∙ trailing_mask_l (λ x. eqb x c.args.b) 64 v (omega arith) (omega arith) in
-    λ k low high is. eqb-false _ _
-    (run_in_chunk_fails (λ x. eqb x c.args.b) xs c.args.from 16 _ 0 c.requires counted k low high)
-    is
-
-pub returns-else-places-eq0-clause-stands : goal.returns-else-places-eq0-clause-stands
-returns-else-places-eq0-clause-stands c =
-    let xs = c.args.bytes.now in
-    let v = chunk c.args.from 16 xs in
-    let long = length-chunk c.args.from 16 xs c.requires in
-    let mask = bitmask_splat w8 eqb v 16 c.args.b long (omega arith) in
-    let counted = ap (count_trailing_zeros 64) mask
-    ∙ trailing_mask_l (λ x. eqb x c.args.b) 64 v (omega arith) (omega arith) in
-    λ lt. eqb-true _ _
-    (run_in_chunk_stops (λ x. eqb x c.args.b) xs c.args.from 16 _ 0 c.requires counted lt)
+    ∙ trailing_mask_l test 64 v (omega arith) (omega arith) in
+    record {
+      few = run_in_chunk_le test xs c.args.from 16 _ 0 c.requires counted;
+      before = λ k low high is. eqb-false _ _
+          (run_in_chunk_fails test xs c.args.from 16 _ 0 c.requires counted k low high) is;
+      stands = λ lt. eqb-true _ _
+          (run_in_chunk_stops test xs c.args.from 16 _ 0 c.requires counted lt);
+    }

@@ -1,7 +1,7 @@
-use Rattle.resb_grammar.proofs.Lists.{nonzero_inside}
-use Rattle.resb_grammar.proofs.ReachLemmas.{reach_slash, reach_here}
+use Rattle.resb_grammar.specs.Lexical.{comment}
 use Rattle.std.proofs.Common.{arith}
-use Rattle.resb_text.proofs.LexicalLemmas.{comment_more, skip_ends, slash_black, no_comment_at}
+use Rattle.std.proofs.lemmas.Bool.Decides.{nat_tests}
+use Rattle.resb_text.proofs.LexicalLemmas.{run_blanks, skip_ends, no_comment_at}
 use Rattle.resb_text.proofs.tokens.skip_comments.Goals as goal
 
 pub comments-preserved : goal.comments-preserved
@@ -10,8 +10,8 @@ comments-preserved c = record {
   fits = c.skip_blanks-at.ensures.run.fits;
   stands = cc;
   so_far =
-      comment_more _ _ _ _ _ c.in-Some.ensures.found
-      c.skip_blanks-at.ensures.run c.comments.invariant.so_far;
+      λ end rest. c.comments.invariant.so_far end (comment _ _ end c.in-Some.ensures.found
+      (run_blanks _ _ _ end c.skip_blanks-at.ensures.run rest));
   cost = omega (arith, c.in-Some.ensures.cost);
 }
 
@@ -19,23 +19,11 @@ pub returns-then-b-ne47-clause-skip : goal.returns-then-b-ne47-clause-skip
 returns-then-b-ne47-clause-skip c =
     skip_ends _ _ _ c.skip_blanks-at.ensures.run.longest
     (no_comment_at _ _ (rw (← c.skip_blanks-at.ensures.byte) c.if-b-ne47.true))
-    (comment_more _ _ _ _ _ c.in-Some.ensures.found
-    c.skip_blanks-at.ensures.run c.comments.invariant.so_far)
+    (λ end rest. c.comments.invariant.so_far end (comment _ _ end c.in-Some.ensures.found
+    (run_blanks _ _ _ end c.skip_blanks-at.ensures.run rest)))
 
 pub returns-in_default-clause-skip : goal.returns-in_default-clause-skip
 returns-in_default-clause-skip c =
-    skip_ends _ _ _ (slash_black _ c.comments.invariant.stands)
-    c.in_default.ensures.found c.comments.invariant.so_far
-
-pub returns-in_default-clause-cost : goal.returns-in_default-clause-cost
-returns-in_default-clause-cost c =
     let stands = c.comments.invariant.stands in
-    let inside = nonzero_inside c.args.text.now c.comments.slash (omega (arith, stands)) in
-    let all = reach_slash c.args.text.now c.comments.slash stands in
-    omega (arith, inside, all, c.in_default.ensures.cost)
-
-pub returns-then-b-ne47-clause-cost : goal.returns-then-b-ne47-clause-cost
-returns-then-b-ne47-clause-cost c =
-    let here = reach_here c.args.text.now c.skip_blanks-at.result.0
-    (rw (← c.skip_blanks-at.ensures.byte) c.if-b-ne47.true) in
-    omega (arith, here, c.in-Some.ensures.cost)
+    skip_ends _ _ _ (grind (arith, nat_tests, stands))
+    c.in_default.ensures.found c.comments.invariant.so_far

@@ -1,19 +1,23 @@
-use Rattle.std.proofs.Common.{sym, ◌∙◌, arith}
+use Rattle.std.proofs.Common.{sym, ◌∙◌, ap, arith}
 use Rattle.std.proofs.lemmas.Bool.{eqb-false}
-use Rattle.resb_text.proofs.FramesLemmas.{table_bytes, array_bytes, string_none}
+use Rattle.resb_grammar.specs.Limit.{shape_bytes}
+use Rattle.resb_text.specs.Inner.Frames.{FrameView}
+use Rattle.resb_text.proofs.FramesLemmas.{table_bytes, shown_some}
 use Rattle.resb_text.proofs.frames.Frame.closing_bytes.Goals as goal
 
 pub returns-in-Table : goal.returns-in-Table
 returns-in-Table g c = λ tree held n f x.
-    let ok = c.args.self.now.items.ok.0 in
-    let e = eqb-false _ _ (sym c.is_empty.ensures ∙ c.if-is_empty.false) in
-    sym (table_bytes tree held c.args.self.now n f x (λ none. absurd (omega (arith, ok, e, none)))
-    (sym (c.in-Table.ensures tree held n f x)))
+    let items = c.args.self.now.items in
+    let ok = items.ok.0 in
+    let some = eqb-false _ _ (sym c.is_empty.ensures ∙ c.if-is_empty.false) in
+    let same = shown_some tree held items.items f.items (ap (λ (l : FrameView). l.items) x) in
+    table_bytes f.items (λ none. some (omega (arith, ok, same, none)))
+    ∙ ap (λ sh. shape_bytes sh f.items) (c.in-Table.ensures tree held n f x)
 
 pub returns-in-Array : goal.returns-in-Array
-returns-in-Array g c = λ tree held n f x. sym (array_bytes f (sym
-    (c.in-Array.ensures tree held n f x)))
+returns-in-Array g c = λ tree held n f x. ap (λ sh. shape_bytes sh f.items)
+    (c.in-Array.ensures tree held n f x)
 
 pub returns-in-String : goal.returns-in-String
-returns-in-String g c = λ tree held n f x. sym (string_none f _ (sym
-    (c.in-String.ensures tree held n f x)))
+returns-in-String g c = λ tree held n f x. ap (λ sh. shape_bytes sh f.items)
+    (c.in-String.ensures tree held n f x)

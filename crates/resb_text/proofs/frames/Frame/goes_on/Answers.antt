@@ -15,5 +15,5 @@ pub returns-then-self : goal.returns-then-self
 returns-then-self g c = λ tree held n f m x is.
     goes_group _ _ m f.items _ (sym (ap (λ
     (w : Term _). shown_term_by tree held w false) c.in-Group.is)
-    ∙ is) (key_then f.items _ _ (ap (λ (l : FrameView). l.alternates) x) c.if-self.true
+    ∙ is) (key_then f.items (sym (ap (λ (l : FrameView). l.alternates) x) ∙ c.if-self.true) _
     (c.is_key_place.ensures tree held n f x))

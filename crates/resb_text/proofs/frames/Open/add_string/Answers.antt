@@ -1,10 +1,10 @@
 use Rattle.std.proofs.Common.{sym, ◌∙◌, ap, refl, arith}
+use Rattle.resb_grammar.specs.Items.{string_term}
 use Rattle.resb_text.specs.Inner.Discovered.{is_dropped_in}
-use Rattle.resb_grammar.specs.Items as spec
-use Rattle.resb_grammar.specs.Machine.{with_term}
-use Rattle.resb_text.specs.Inner.Frames.{FrameView, Becomes}
-use Rattle.resb_text.specs.declared.items.Term.TheVariants as terms
-use Rattle.resb_text.proofs.OpenGroups.{shows_string, shows_item}
+use Rattle.resb_text.specs.Inner.Frames.{FrameView, lists}
+use Rattle.resb_text.specs.declared.items.Term.TheVariants.{String}
+use Rattle.resb_text.proofs.Candidates.{keys_string, keys_changed, from_item}
+use Rattle.resb_text.proofs.OpenGroups.{shows_term}
 use Rattle.resb_text.proofs.frames.Open.add_string.Goals as goal
 use Rattle.std.proofs.lemmas.Result.{on_ok_weaker}
 
@@ -12,18 +12,20 @@ pub add-requires : goal.add-requires
 add-requires g c =
     let x = c.requires.1 in
     ap (λ n. is_dropped_in c.args.self.now.keys n) (ap (λ (l : FrameView). l.number) x.frame)
-    ∙ x.are_open.1
+    ∙ x.keys.are_open.1
 
 pub returns-then-lists : goal.returns-then-lists
 returns-then-lists g c =
     let old = c.args.self.now in
     let looks = c.in_ok-push.ensures.looks (g.B.Build.tree old.build) (g.B.Build.held old.build) in
     let count = c.in_ok-push.ensures.count in
-    on_ok_weaker {Q = Becomes g.B.Build.tree g.B.Build.held
-    (with_term (spec.string_term c.args.text.now)) 2 old _} _
-    (λ added. record {
-      shows = λ o x. shows_string old _ o (terms.String c.args.text) c.args.text.now x refl
-          (λ y h. (refl, h)) looks refl (sym c.lists_keys-lists.ensures ∙ c.if-lists.true) added;
+    on_ok_weaker c.add.result (λ added. record {
+      shows = λ o x. shows_term old (string_term c.args.text.now) (String c.args.text) x refl
+          (λ y h. (refl, h)) looks
+          (keys_string old.keys c.add.new.self o.frame c.args.text.now
+          (ap lists (sym (ap (λ (l : FrameView). l.body) x.frame))
+          ∙ sym c.lists_keys-lists.ensures ∙ c.if-lists.true)
+          (rw (ap (λ (l : FrameView). l.number) x.frame) at added) x.keys);
       turns = omega (arith, count, added.candidates);
     })
     c.add.ensures
@@ -34,7 +36,10 @@ returns g c =
     let looks = c.in_ok-push.ensures.looks (g.B.Build.tree old.build) (g.B.Build.held old.build) in
     let count = c.in_ok-push.ensures.count in
     record {
-      shows = λ o x. shows_item old _ o (terms.String c.args.text) c.args.text.now x refl
-          (λ y h. (refl, h)) looks refl (sym c.lists_keys-lists.ensures ∙ c.if-lists.false) refl;
+      shows = λ o x. shows_term old (string_term c.args.text.now) (String c.args.text) x refl
+          (λ y h. (refl, h)) looks
+          (keys_changed (from_item x.number o.frame c.args.text.now
+          (ap lists (sym (ap (λ (l : FrameView). l.body) x.frame))
+          ∙ sym c.lists_keys-lists.ensures ∙ c.if-lists.false)) x.keys);
       turns = omega (arith, count);
     }

@@ -2,8 +2,8 @@ use Rattle.std.proofs.Common.{ap, refl}
 use Rattle.resb_text.specs.Inner.Discovered.{left}
 use Rattle.resb_text.specs.Inner.Frames.{left_after}
 use Rattle.resb_text.proofs.Growing.{closed_made}
-use Rattle.resb_text.proofs.OpenGroups.{dropped_closes}
-use Rattle.resb_text.proofs.frames.closed.Goals as goal
+use Rattle.resb_text.proofs.Candidates.{dropped_closes}
+use Rattle.resb_text.proofs.frames.made_of.Goals as goal
 
 pub returns-in-Table-clause-ok : goal.returns-in-Table-clause-ok
 returns-in-Table-clause-ok g c =
@@ -30,9 +30,7 @@ returns-in-Array-clause-keys g c =
 pub returns-in-String-clause-ok : goal.returns-in-String-clause-ok
 returns-in-String-clause-ok g c =
     closed_made g.B.Build.tree g.B.Build.held _ c.args.build.now c.string.new.self
-    c.args.frame.now _
-    (c.in-String.ensures _ _)
-    (λ h. c.string.ensures)
+    c.args.frame.now _ (c.in-String.ensures _ _) (λ h. c.string.ensures)
 
 pub returns-in-String-clause-keys : goal.returns-in-String-clause-keys
 returns-in-String-clause-keys g c =

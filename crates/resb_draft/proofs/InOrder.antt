@@ -22,6 +22,7 @@ pub trees_push : (d : Draft) (old new : List ℕ) (n : ℕ) → new ≡ old ++ n
     → map (tree_at d) new ≡ map (tree_at d) old ++ tree_at d n ∷ []
 trees_push d old new n e = ap (map (tree_at d)) e ∙ map_push (tree_at d) old n
 
+-- they are whole if it is
 pub whole_push : (d : Draft) (old new : List ℕ) (n : ℕ) → new ≡ old ++ n ∷ []
     → all_true (map (is_whole d) old) ≡ true → is_whole d n ≡ true
     → all_true (map (is_whole d) new) ≡ true
@@ -45,6 +46,7 @@ pub trees_more : (d : Draft) (old new more : List ℕ) → new ≡ old ++ more
     → map (tree_at d) new ≡ map (tree_at d) old ++ map (tree_at d) more
 trees_more d old new more e = ap (map (tree_at d)) e ∙ map-append (tree_at d) old more
 
+-- they are whole if both are
 pub whole_more : (d : Draft) (old new more : List ℕ) → new ≡ old ++ more
     → all_true (map (is_whole d) old) ≡ true → all_true (map (is_whole d) more) ≡ true
     → all_true (map (is_whole d) new) ≡ true

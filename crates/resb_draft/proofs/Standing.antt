@@ -24,6 +24,7 @@ Agrees ms qs =
 pub agrees_same : (ms : List (Tree × Bool)) → Agrees ms ms
 agrees_same ms n h = refl
 
+-- what agrees twice agrees
 pub agrees_on : (ms ns qs : List (Tree × Bool)) → Agrees ms ns → Agrees ns qs → Agrees ms qs
 agrees_on ms ns qs f g n h =
     g n (ap (λ (m : Tree × Bool). m.1) (f n h) ∙ h) ∙ f n h
@@ -46,9 +47,11 @@ Longer xs ys =
     (from : ℕ) (m : Members) → is_inside xs from m ≡ true
     → (part ys from m ≡ part xs from m) × (is_inside ys from m ≡ true)
 
+-- its parts are its own
 pub longer_same : {X : Type 0} (xs : List X) → Longer xs xs
 longer_same xs from m h = (refl, h)
 
+-- and those of a list that goes on
 pub longer_append : {X : Type 0} (xs ys : List X) → Longer xs (xs ++ ys)
 longer_append xs ys from m h =
     let inside = leb-true (from + m.count) (length xs) h in (

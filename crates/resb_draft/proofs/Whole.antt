@@ -95,6 +95,7 @@ pub record WholeArray (d : Draft) (n : ℕ) (m : Members) : Type 0 where
   pub inside : m.from + m.count ≤ length d.members.items
   pub whole : all_true (map (is_whole d) (part d.members.items m.from m)) ≡ true
 
+-- what is said of an array that is whole
 pub whole_array : (d : Draft) (n : ℕ) (m : Members)
     → piece.Array m ≡ get_or d.pieces.items n (piece.Array m) → is_whole d n ≡ true
     → WholeArray d n m
@@ -117,6 +118,7 @@ pub record WholeTable (d : Draft) (n : ℕ) (m : Members) (k : ℕ) : Type 0 whe
   pub ascend : texts_ascend (part (texts d.keys.items) k m) ≡ true
   pub whole : all_true (map (is_whole d) (part d.members.items m.from m)) ≡ true
 
+-- what is said of a table that is whole
 pub whole_table : (d : Draft) (n : ℕ) (m : Members) (k : ℕ)
     → piece.Table m k ≡ get_or d.pieces.items n (piece.Table m k) → is_whole d n ≡ true
     → WholeTable d n m k

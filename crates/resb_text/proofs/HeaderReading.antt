@@ -20,14 +20,16 @@ use Rattle.resb_grammar.proofs.HeaderPath.{typed_name}
 use Rattle.resb_grammar.proofs.Moves.{begin, none_some, root_colon}
 use Rattle.resb_text.proofs.NoTokens.{no_token}
 
+-- the refusal of a place, where this was expected
 abbrev pub error_at : ℕ → Expected → TextParserError
 error_at at x = record { position = at; expected = x }
 
--- a token that leads nowhere: one with a content, or a mark
+-- a token with a content that leads nowhere
 pub nowhere : {A B : Type 0} (P : A → B → Type 0) (a : A) (b : B) (u : State) → P a b
     → None ≡ Some u → ⊥
 nowhere P a b u h = none_some u
 
+-- a mark that leads nowhere
 pub no_mark : {P : Type 0} (u : State) → P → None ≡ Some u → ⊥
 no_mark u h = none_some u
 

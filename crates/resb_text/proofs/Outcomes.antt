@@ -14,6 +14,7 @@ pub match_same : {T E : Type 0} (P : T → Type 0) (G : E → Type 0) (r : Resul
     → IsErrAnd r (λ y. y ≡ e) → G e → MatchResult r P G
 match_same P G r e h g = match_err P G r h (λ y same. subst G (sym same) g)
 
+-- what is said of an option, said more weakly
 pub match_option_to : {A N M : Type 0} {P Q : A → Type 0} (r : Option A) → (N → M)
     → ((x : A) → P x → Q x) → MatchOption r N P → MatchOption r M Q
 match_option_to (Some x) f g h = g x h

@@ -1,9 +1,9 @@
 -- Items whose groups are pieces of a draft, while the draft grows.
 use Rattle.std.proofs.Common.{◌≡◌, ℕ, Bool, true, List, [], ◌∷◌, ◌++◌, map, refl, sym, ◌∙◌, ap}
-use Rattle.std.proofs.Common.{append_assoc, append-nil, arith, Bor, length}
+use Rattle.std.proofs.Common.{append_assoc, append-nil, Bor, length}
 use Rattle.std.specs.Prelude.{Option, Some, None}
 use Rattle.std.proofs.lemmas.Bool.{and_from, and_parts}
-use Rattle.std.proofs.lemmas.List.{map_push, map-append}
+use Rattle.std.proofs.lemmas.List.{map_push, map-append, nil_from_length}
 use Rattle.resb_tree.specs.Borrowing.{all_true}
 use Rattle.resb_draft.specs.Drafts.{tree_at, is_whole, Keeps}
 use Rattle.resb_draft.specs.declared.draft.Draft.{Draft}
@@ -110,18 +110,13 @@ entries_whole d waiting (x ∷ xs) h = go x.term x.comma waiting (λ w. entries_
         let both = and_parts (is_whole d n) _ h in and_from _ _ both.0 (more None both.1)
     go (terms.Group n) f None more h = more None (and_parts (is_whole d n) _ h).1
 
--- no items have no entries
-pub no_entries : (waiting : Option (Bor (List ℕ))) (xs : List (Item ℕ)) → length xs ≡ 0
-    → entries_after waiting xs ≡ []
-no_entries waiting [] h = refl
-no_entries waiting (x ∷ xs) h = absurd (omega (arith, h))
-
--- so where no items are left, nothing more is put behind a list
+-- where no items are left, nothing more is put behind a list
 pub nothing_left : {X : Type 0} (part : Bor (List ℕ) × ℕ → X) (all : List X)
     (waiting : Option (Bor (List ℕ))) (xs : List (Item ℕ)) → length xs ≡ 0
     → all ≡ all ++ map part (entries_after waiting xs)
 nothing_left part all waiting xs h =
-    sym (append-nil all) ∙ ap (λ es. all ++ map part es) (sym (no_entries waiting xs h))
+    sym (append-nil all)
+    ∙ ap (λ ys. all ++ map part (entries_after waiting ys)) (sym (nil_from_length xs h))
 
 -- a part of one entry more, or of none
 pub pushed_more : {X : Type 0} (part : Bor (List ℕ) × ℕ → X) (old new : List X)

@@ -15,6 +15,7 @@ after_byte text from u p h l =
     subst (λ i. IsCharBoundary text i) e
     (IsCharBoundary-after_ascii text (from - 1) u (nonzero_inside text (from - 1) h) l)
 
+-- a piece of a text begins where a character does
 pub start_boundary : (text : List ℕ) (from to : ℕ) → IsUtf8 text → IsTextPiece text from to
     → IsCharBoundary text from
 start_boundary text from to u = ⊎_elim
@@ -24,6 +25,7 @@ start_boundary text from to u = ⊎_elim
     (λ (q : IsQuotedPiece text from to).
     after_byte text from u q.order (omega arith) (omega arith))
 
+-- and ends where one ends
 pub end_boundary : (text : List ℕ) (from to : ℕ) → IsUtf8 text → IsTextPiece text from to
     → IsCharBoundary text to
 end_boundary text from to u = ⊎_elim

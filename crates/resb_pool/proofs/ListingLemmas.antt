@@ -1,10 +1,12 @@
 -- Strings whose texts are listed in their own room: what the next one does.
-use Rattle.std.proofs.Common.{◌≡◌, ℕ, ◌+◌, ◌<◌, ◌≤◌, List, [], ◌∷◌, ◌++◌, length, get_or, take, drop}
+use Rattle.std.proofs.Common.{◌≡◌, ℕ, ◌+◌, ◌<◌, ◌≤◌, List, [], ◌∷◌, ◌++◌, length, get_or, take}
+use Rattle.std.proofs.Common.{drop}
 use Rattle.std.proofs.Common.{Bor, refl, sym, ◌∙◌, ap, subst, arith}
 use Rattle.std.specs.Prelude.{slice_set, slice_index}
 use Rattle.std.specs.Str.{IsUtf8}
 use Rattle.std.specs.Vec.{with_item}
-use Rattle.std.proofs.lemmas.List.{drop_more, drop-set-lt, length-set, length-take-le, get_or-take, get_or_default}
+use Rattle.std.proofs.lemmas.List.{drop_more, drop-set-lt, length-set, length-take-le, get_or-take}
+use Rattle.std.proofs.lemmas.List.{get_or_default}
 use Rattle.std.proofs.lemmas.List.{take_more_set, map_push}
 use Rattle.resb_format.specs.Units.{units, size}
 use Rattle.resb_pool.specs.Plan.{nows}
@@ -79,7 +81,8 @@ module _ (xs : List (Bor (List ℕ))) (fs : List ℕ) (n : ℕ) (l : Listing) (h
     same_text : v.now ≡ (get_or xs n blank).now
     same_text = is ∙ sym (text_nows xs n less)
 
-    first_copy : IsFirst (nows (take n xs) ++ v.now ∷ []) (length (nows (take n xs))) (get_or fs n 0)
+    first_copy : IsFirst (nows (take n xs) ++ v.now ∷ []) (length (nows (take n xs)))
+        (get_or fs n 0)
     first_copy = subst (λ t. IsFirst (nows (take n xs) ++ t ∷ []) (length (nows (take n xs)))
         (get_or fs n 0)) (sym same_text) (first_so_far xs n (get_or fs n 0) less first)
 
@@ -97,7 +100,8 @@ module _ (xs : List (Bor (List ℕ))) (fs : List ℕ) (n : ℕ) (l : Listing) (h
           unread = order_on.1;
           taken = subst (IsTaken (nows (take n xs)) v.now
               (nows (take l.count l.strings.items)) l.measures.items (take n l.order.items))
-              (get_or-take n l.order.items f 0 c ∙ ap (λ j. get_or l.order.items j 0) (sym first_here))
+              (get_or-take n l.order.items f 0 c
+              ∙ ap (λ j. get_or l.order.items j 0) (sym first_here))
               (taken_again (nows (take n xs)) (nows (take l.count l.strings.items)) l.measures.items
               (take n l.order.items) h.texts h.turns v.now f first_copy u
               (omega (arith, c, turns_len)));
@@ -124,13 +128,14 @@ module _ (xs : List (Bor (List ℕ))) (fs : List ℕ) (n : ℕ) (l : Listing) (h
           left = ap (drop (n + 1)) e
               ∙ drop-set-lt (n + 1) ss l.count v (omega (arith, h.within)) ∙ strings_on.1;
           unread = ap (drop (n + 1)) o ∙ order_on.1;
-          taken = subst (λ ts. IsTaken (nows (take n xs)) v.now (nows (take k.count k.strings.items))
-              k.measures.items (take n ts) l.count) (sym o)
+          taken = subst (λ ts. IsTaken (nows (take n xs)) v.now
+              (nows (take k.count k.strings.items)) k.measures.items (take n ts) l.count) (sym o)
               (taken_first (nows (take n xs)) T l.measures.items (take n l.order.items) h.texts
               h.turns v.now (get_or fs n 0) first_copy u
-              (omega (arith, b, turns_len, first_here)) m p q z (nows (take k.count k.strings.items))
-              k.measures.items l.count grown g
-              (sym (length-nows (take l.count ss) ∙ length-take-le l.count ss (omega (arith, fewer)))));
+              (omega (arith, b, turns_len, first_here)) m p q z
+              (nows (take k.count k.strings.items)) k.measures.items l.count grown g
+              (sym (length-nows (take l.count ss)
+              ∙ length-take-le l.count ss (omega (arith, fewer)))));
         }
 
 -- the string is counted with its text, and its index put in its place
@@ -158,8 +163,8 @@ listed_on xs fs n t l i less is len h old new o a b c =
       left = h.left;
       unread = drop-set-lt (n + 1) os n i (omega arith) ∙ h.unread;
       texts = subst (λ d. AreTexts d T (slice_set l.measures.items i new)) (sym more)
-          (counted D t T l.measures.items h.taken.ready i h.taken.within h.taken.stands old o new a b
-          c);
+          (counted D t T l.measures.items h.taken.ready i h.taken.within h.taken.stands old o new
+          a b c);
       turns = subst (λ d. AreTurns d T (take (n + 1) (slice_set os n i))) (sym more)
           (subst (AreTurns (D ++ t ∷ []) T)
           (sym (take_more_set os n i (omega (arith, less, h.order_len)))) h.taken.turned);

@@ -67,8 +67,8 @@ returns-then-is_vast-clause-err c =
       c.len-string_count.ensures,
       c.args.strings.ok,
     ) in
-    let is = text_here xs c.args.firsts.items i c.loop-number.list v.listing l c.index-text.result.now
-    c.index-text.ensures in
+    let is = text_here xs c.args.firsts.items i c.loop-number.list v.listing l
+    c.index-text.result.now c.index-text.ensures in
     let t = (get_or xs i blank).now in
     let q : c.index-text.result.now.now ≡ t = is ∙ sym (text_nows xs i l) in
     let e = ap texts_size (nows-split xs i blank l) in
@@ -90,8 +90,8 @@ returns-in_err-size-clause-err c =
       c.len-string_count.ensures,
       c.args.strings.ok,
     ) in
-    let is = text_here xs c.args.firsts.items i c.loop-number.list v.listing l c.index-text.result.now
-    c.index-text.ensures in
+    let is = text_here xs c.args.firsts.items i c.loop-number.list v.listing l
+    c.index-text.result.now c.index-text.ensures in
     let t = (get_or xs i blank).now in
     let q : c.index-text.result.now.now ≡ t = is ∙ sym (text_nows xs i l) in
     let e = ap texts_size (nows-split xs i blank l) in
@@ -120,8 +120,8 @@ loop-number-preserved c =
       c.len-string_count.ensures,
       c.args.strings.ok,
     ) in
-    let is = text_here xs c.args.firsts.items i c.loop-number.list v.listing l c.index-text.result.now
-    c.index-text.ensures in
+    let is = text_here xs c.args.firsts.items i c.loop-number.list v.listing l
+    c.index-text.result.now c.index-text.ensures in
     let t = (get_or xs i blank).now in
     let q : c.index-text.result.now.now ≡ t = is ∙ sym (text_nows xs i l) in
     record {

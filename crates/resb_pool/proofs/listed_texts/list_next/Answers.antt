@@ -1,4 +1,5 @@
-use Rattle.std.proofs.Common.{◌≡◌, ◌<◌, ℕ, List, Bor, length, get_or, take, sym, ◌∙◌, ap, subst, arith}
+use Rattle.std.proofs.Common.{◌≡◌, ◌<◌, ℕ, List, Bor, length, get_or, take, sym, ◌∙◌, ap, subst}
+use Rattle.std.proofs.Common.{arith}
 use Rattle.std.proofs.Common.{refl}
 use Rattle.std.specs.Prelude.{slice_index}
 use Rattle.std.proofs.lemmas.List.{get_or_default}
@@ -10,7 +11,8 @@ use Rattle.resb_pool.specs.declared.listed_texts.Listing.{Listing}
 use Rattle.resb_pool.proofs.Interning.{count_is, count_fits}
 use Rattle.resb_pool.proofs.ListingLemmas.{IsNext, known_next, new_next, listed_on}
 use Rattle.resb_pool.proofs.listed_texts.list_next.Goals as goal
-use Rattle.resb_pool.proofs.listed_texts.list_next.Goals.{After-index_mut-measure, then-first-number}
+use Rattle.resb_pool.proofs.listed_texts.list_next.Goals.{After-index_mut-measure}
+use Rattle.resb_pool.proofs.listed_texts.list_next.Goals.{then-first-number}
 use Rattle.resb_pool.proofs.listed_texts.list_next.Goals.{else-first-number+in_ok-push}
 
 first_is : (c : After-index_mut-measure) (xs : List (Bor (List ℕ))) (fs : List ℕ)
@@ -78,6 +80,6 @@ returns-clause-count c =
 pub returns-clause-lists : goal.returns-clause-lists
 returns-clause-lists c = λ xs fs h less is first.
     let a = (goal.at.returns-clause-lists c).After-index_mut-measure in
-    listed_on xs fs c.args.number c.args.text.now c.if-first-number.list c.if-first-number.index less
-    is h.firsts_len (next a xs fs h less is first) c.index_mut-measure.result.now _
+    listed_on xs fs c.args.number c.args.text.now c.if-first-number.list c.if-first-number.index
+    less is h.firsts_len (next a xs fs h less is first) c.index_mut-measure.result.now _
     c.index_mut-measure.ensures.value refl refl refl

@@ -42,7 +42,8 @@ below-snoc limit n s cs lt below =
     λ h le. without-behind h cs (cand s n ∷ []) (below h le)
     ∙ ap (λ ds. cs ++ ds) (without-other h n s (omega arith))
 
-cond-append : (b : Bool) (xs ys ks : List (List ℕ)) → cond b xs ys ++ ks ≡ cond b (xs ++ ks) (ys ++ ks)
+cond-append : (b : Bool) (xs ys ks : List (List ℕ))
+    → cond b xs ys ++ ks ≡ cond b (xs ++ ks) (ys ++ ks)
 cond-append true xs ys ks = refl
 cond-append false xs ys ks = refl
 

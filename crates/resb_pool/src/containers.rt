@@ -16,8 +16,8 @@ use crate::texts::indexed_text;
 use resb_format::is_unmarked;
 use std::alloc::{AllocError, Global};
 
-/// Whether a text lies in the record of another one, which stands right before it in suffix order:
-/// it isn't empty, has no marker and ends that text.
+/// Whether a text has no record of its own, but lies where another one lies, which stands right
+/// before it in suffix order: it isn't empty, has no marker and ends that text.
 fn is_shared_end(text: &str, previous: &str) -> bool
     ensures { MatchBool result (IsSharedEnd previous.now text.now)
         (IsSharedEnd previous.now text.now → ⊥) }
@@ -55,6 +55,7 @@ pub(crate) fn find_containers(alloc: Global, texts: &[&str]) -> Result<Vec<u32>,
 {
     let rows = in_suffix_order(alloc, texts)?;
     let mut containers = vec![in alloc; 0; texts.len()]?;
+    // the empty text ends with no other, so that the first text lies in itself
     let mut previous = row_of("", texts.len() as u32);
     let mut container = 0;
     for row in &rows {

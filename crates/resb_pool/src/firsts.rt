@@ -8,8 +8,8 @@ ghost use Rattle.resb_pool.specs.Inner.Firsts.{text_hash, hash_cmp, AreHashes, A
 use crate::measure::SIZE_LIMIT;
 use std::alloc::{AllocError, Global};
 
-/// The hash of a string, and the string's number. In the order of these, equal strings stand
-/// together, and the first copy is the first of them.
+/// The hash of a string, and the string's number. In the order of these, strings of one hash stand
+/// together, in the order of their numbers. Equal strings have one hash.
 #[derive(Clone, Copy, PartialEq, Eq, PartialOrd, Ord)]
 pub(crate) struct NumberedHash {
     pub(crate) hash: u64,

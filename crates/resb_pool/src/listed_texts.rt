@@ -50,17 +50,19 @@ fn count_firsts(firsts: &[u32]) -> usize {
 /// Strings whose texts are listed in their own room.
 #[derive(Drop)]
 struct Listing<'a> {
-    /// The texts found so far, and from the next string on the strings.
+    /// The texts found so far. From the next string on the strings stand where they stood; what
+    /// stands between is read no more.
     strings: Vec<&'a str>,
     /// How many texts were found.
     count: usize,
     measures: Vec<Measure>,
-    /// The index of each string's text so far, and from the next string on the numbers of the
-    /// first copies.
+    /// The index of each string's text so far. From the next string on the number of each one's
+    /// first copy stands there.
     order: Vec<u32>,
 }
 
-/// Lists the text of the next string, whose number is given too, and gives the number of its units.
+/// Lists the text of the next string, before which so many strings stand. Gives how many units it
+/// has.
 fn list_next<'a>(list: &mut Listing<'a>, text: &'a str, number: usize) -> Result<usize, AllocError>
     requires given { (xs : List (Bor (List ℕ))) × (fs : List ℕ) × IsListing xs fs number list.old
         × (number < length xs) × (text.now ≡ indexed_text (nows xs) number)

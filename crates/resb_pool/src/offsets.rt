@@ -1,7 +1,7 @@
 //! Where each string stands once its record is laid.
 //! The records and their closing zeros come from `records`.
 ghost use Rattle.std.specs.Prelude.{◌≡◌, IfOk, length, map, slice_index};
-ghost use Rattle.resb_pool.specs.Plan.{plan_units, offset_of};
+ghost use Rattle.resb_pool.specs.Plan.{plan_units, offset_of, turn_offsets};
 ghost use Rattle.resb_pool.specs.Inner.Placing.{AllClose, AreOffsets};
 
 use crate::measure::Measure;
@@ -25,6 +25,16 @@ impl<'a> Plan<'a> {
         ensures { result.now ≡ plan_units self.now }
     {
         &self.units
+    }
+
+    /// The same units, and the offset of each string in the order in which they were given.
+    pub fn into_parts(self) -> (Vec<u16>, Vec<u32>)
+        ensures units { result.0.items ≡ plan_units self.entry }
+        ensures offsets { result.1.items ≡ turn_offsets self.entry }
+    {
+        let offsets = self.offsets;
+        let turns = self.order;
+        (self.units, in_turn(&offsets, turns))
     }
 
     /// The unit at which a text stands, its marker included, if it was given.

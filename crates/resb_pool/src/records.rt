@@ -31,7 +31,8 @@ pub(crate) struct Record<'a> {
     pub(crate) index: usize,
 }
 
-/// The units of the records, and where each text's closing 0 stands, if it is a record.
+/// Unit 0 and the units of the records, and where each text's closing 0 stands, or 0 where the text
+/// is no record.
 #[derive(Drop)]
 pub(crate) struct Block {
     pub(crate) units: Vec<u16>,

@@ -27,17 +27,18 @@ const END: u8 = 255;
 /// What eight digits stay below.
 const EIGHT_DIGITS: u128 = 0x1_0000_0000_0000_0000;
 
-/// A text by its index, with the first 16 digits of its characters, last character first. These
-/// tell it from most other texts. So rows are sorted and read one after the other, and few texts
-/// are looked at.
+/// A text by its index, with the first 16 digits of its characters, last character first. An ASCII
+/// character is one digit, and any other is three. Where the text has ended, 255 stands for each
+/// digit. These digits tell it from most other texts. So rows are sorted and read one after the
+/// other, and few texts are looked at.
 #[derive(Clone, Copy)]
 pub(crate) struct Row {
-    /// The first eight digits.
+    /// The first eight digits, which are of the last characters.
     pub(crate) last: u64,
-    /// The next eight digits.
+    /// The next eight digits, which are of the characters before those.
     pub(crate) before: u64,
     pub(crate) index: u32,
-    /// How many of the 16 digits stand behind the text's end.
+    /// How many of the 16 digits are 255, since the text has ended.
     pub(crate) left: u8,
 }
 
@@ -168,7 +169,7 @@ fn end_key_of(text: &str) -> EndKey
     chars_end_key(text)
 }
 
-/// A text in two: its last bytes, so many of them or up to three more, and what stands before.
+/// A text in two: what stands before its last bytes, and these, so many of them or up to three more.
 /// None where it has fewer.
 fn split_block(text: &str, size: usize) -> Option<(&str, &str)>
     requires { 0 < size }
@@ -196,7 +197,8 @@ fn strip_blocks<'a, 'b>(left: &'a str, right: &'b str, size: usize) -> (&'a str,
     (lefts, rights)
 }
 
-/// A text in two: its last bytes, so many of them or up to three less, and what stands before.
+/// A text in two: what stands before its last bytes, and these, so many of them or up to three
+/// fewer.
 fn split_end(text: &str, size: usize) -> Option<(&str, &str)>
     ensures { IfSome result (λ p. IsCut text.now p.0.now p.1.now) }
 {
@@ -326,8 +328,8 @@ fn key_of(row: &Row) -> u128
     u128::from(row.last) * EIGHT_DIGITS + u128::from(row.before)
 }
 
-/// The first 16 digits of a text, without so many at their end.
-fn without_last(key: u128, count: u8) -> u128
+/// The first 16 digits of a text without the lowest of them, so many.
+fn without_lowest(key: u128, count: u8) -> u128
     ensures { (t : List ℕ) → IsUtf8 t → key ≡ key_of_digits 0 16 (digits_backwards t) → count ≤ 16
         → result ≡ key_of_digits 0 (16 - count) (digits_backwards t) }
 {
@@ -340,7 +342,7 @@ pub(crate) fn may_end_with(row: &Row, end: &Row) -> bool
     ensures { (T : List (List ℕ)) → All IsUtf8 T → IsKeyed T row.now → IsKeyed T end.now
         → TellsEnd result (row_text T row.now) (row_text T end.now) }
 {
-    without_last(key_of(row), end.left) == without_last(key_of(end), end.left)
+    without_lowest(key_of(row), end.left) == without_lowest(key_of(end), end.left)
 }
 
 /// Whether one of the first 16 digits of a text is 0.
@@ -351,8 +353,8 @@ fn has_zero_digit(key: u128) -> bool
     key.to_be_bytes().contains(&0)
 }
 
-/// Whether the row has all of its text's digits, one at least and none that is 0. Such a text has
-/// no marker. Another text may have none either.
+/// Whether the row tells that its text has no marker: the text has fewer than 16 digits, one at
+/// least, and none that is 0. Another text may have no marker either.
 pub(crate) fn is_whole_in_row(row: &Row) -> bool
     ensures { (T : List (List ℕ)) → All IsUtf8 T → IsKeyed T row.now → result ≡ true
         → IsWholeInRow (row_text T row.now) }

@@ -1,5 +1,5 @@
-//! The distinct texts of strings in a table, each with its sizes. Later steps name a text by its
-//! index in the table.
+//! The distinct texts of strings in a hash table, each with its sizes. Later steps name a text by
+//! its index there.
 //! Where texts lie is said in `containers`.
 ghost use Rattle.std.specs.Prelude.{◌≡◌, ◌++◌, ◌∷◌, ◌<◌, ◌^◌, [], List, ℕ, IfOk, IfErr, OnOk, None};
 ghost use Rattle.std.specs.Prelude.{length};
@@ -12,7 +12,7 @@ use crate::measure::{Measure, is_vast, size_with};
 use indexmap::IndexSet;
 use std::alloc::{AllocError, Global};
 
-/// The first strings are looked at, so many times fewer than there are, for how many are distinct.
+/// How many of the strings are distinct is guessed from the first of them, so many times fewer.
 const SAMPLED_PART: usize = 64;
 
 /// Fewer strings than these are told apart by a table.
@@ -125,7 +125,8 @@ fn add_copy<'a>(texts: &mut Texts<'a>, text: &'a str) -> Result<usize, AllocErro
     Ok(count)
 }
 
-/// Adds strings to no texts. Refused are strings whose units and 16 for each come to 2^28 or more.
+/// Fills a table that has no texts yet. Refused are strings whose units and 16 for each come to
+/// 2^28 or more.
 fn add_all<'a>(texts: &mut Texts<'a>, strings: &[&'a str]) -> Result<(), PlanError>
     requires short { first_too_long (nows strings.now) ≡ None }
     requires empty { AreTexts [] (nows texts.old.distinct.keys) texts.old.measures.items }

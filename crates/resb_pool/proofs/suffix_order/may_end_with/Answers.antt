@@ -13,10 +13,10 @@ returns c = λ T utf8 h k.
     let v = text_utf8 T c.args.row.now.index utf8 in
     let left = c.args.end.now.left in
     let most : left ≤ 16 = omega (arith, k.left_is) in
-    let first : c.without_last.result ≡ key_of_digits 0 (16 - left) (digits_backwards t) =
-    c.without_last.ensures t v (c.key_of.ensures ∙ h.key_is) most in
-    let second : c.without_last-2.result ≡ key_of_digits 0 (16 - left) (digits_backwards s) =
-    c.without_last-2.ensures s u (c.key_of-2.ensures ∙ k.key_is) most in
+    let first : c.without_lowest.result ≡ key_of_digits 0 (16 - left) (digits_backwards t) =
+    c.without_lowest.ensures t v (c.key_of.ensures ∙ h.key_is) most in
+    let second : c.without_lowest-2.result ≡ key_of_digits 0 (16 - left) (digits_backwards s) =
+    c.without_lowest-2.ensures s u (c.key_of-2.ensures ∙ k.key_is) most in
     record {
       yes = λ ends. eq-eqb _ _ (first ∙ same_digits s t (16 - left) u v (omega (arith, k.left_is))
           ends ∙ sym second);

@@ -2,7 +2,7 @@ use Rattle.std.proofs.Common.{◌*◌, ◌/◌, ◌^◌, nat_lt, if◌then◌els
 use Rattle.resb_pool.specs.Inner.Suffixes.{digits_backwards}
 use Rattle.resb_pool.proofs.Digits.{small_key}
 use Rattle.resb_pool.proofs.KeyDigits.{first_digits}
-use Rattle.resb_pool.proofs.suffix_order.without_last.Goals as goal
+use Rattle.resb_pool.proofs.suffix_order.without_lowest.Goals as goal
 
 pub returns : goal.returns
 returns c = λ t u e l. c.unbounded_shr.ensures

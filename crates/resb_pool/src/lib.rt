@@ -1,5 +1,5 @@
 //! Plans the strings of a bundle: which get a record in the 16-bit block, and where each text lies.
-//! No plan knows of trees, keys or files.
+//! No plan knows of trees, their keys, or files.
 #![tactic(auto)]
 
 mod containers;

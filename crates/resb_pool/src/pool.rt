@@ -87,11 +87,11 @@ fn plan_texts<'a>(alloc: Global, texts: Texts<'a>) -> Result<Plan<'a>, PlanError
     })
 }
 
-/// Plans strings, given in laying order and as often as each stands in the tree. Each non-empty one
-/// that is not, without a marker, the end of another gets a record: marker, units, 0. The empty one
-/// stands at unit 0. Any other stands at the end of a record that ends with it: of these, the
-/// greatest in the order of characters from the end on, where the end of a text is greater than
-/// each character. (ICU's `reslist.cpp`: shared suffixes.)
+/// Plans strings, each of which may be given more than once. Each non-empty one that is not,
+/// without a marker, the end of another gets a record: marker, units, 0. The empty one stands at
+/// unit 0. Any other stands at the end of a record that ends with it: of these, the greatest in the
+/// order of characters from the end on, where the end of a text is greater than each character.
+/// (ICU's `reslist.cpp`: shared suffixes.)
 ///
 /// Refused are a string of more than 4294967295 units, the first of them, and strings whose units
 /// and 16 for each come to 2^28 or more.

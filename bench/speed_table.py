@@ -1,5 +1,5 @@
 #!/usr/bin/env python3
-"""Every row of the speed table in one run: `resb_tool compile IN OUT` beside `genrb -q`.
+"""Text to file in one run, row by row: `resb_tool compile IN OUT` beside `genrb -q`.
 
     speed_table.py [--program PATH] [--turns N] [--windows N]
 

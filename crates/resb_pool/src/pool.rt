@@ -119,12 +119,13 @@ fn list_of<'a>(alloc: Global, strings: Vec<&'a str>) -> Result<ListedTexts<'a>, 
         }
     }
     let texts = gather(alloc, &strings, sample)?;
+    drop(strings);
     Ok(as_list(alloc, texts)?)
 }
 
 /// The plan of strings, as `plan` makes it: its units and the offset of each string, in the order
-/// in which they were given. The list of strings is handed over, and is dropped once the strings
-/// are told apart.
+/// in which they were given. The list of strings is handed over. Once the strings are told apart it
+/// is dropped, or their texts stand in its room.
 pub fn plan_in_turn<'a>(
     alloc: Global,
     strings: Vec<&'a str>,

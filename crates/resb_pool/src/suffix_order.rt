@@ -169,7 +169,8 @@ fn end_key_of(text: &str) -> EndKey
     chars_end_key(text)
 }
 
-/// A text in two: what stands before its last bytes, and these, so many of them or up to three more.
+/// A text in two: what stands before its last bytes, and these, so many of them or up to three
+/// more.
 /// None where it has fewer.
 fn split_block(text: &str, size: usize) -> Option<(&str, &str)>
     requires { 0 < size }

@@ -10,11 +10,13 @@ mod streams;
 mod words;
 
 use clap::{ArgMatches, Error};
+use resb_program::keep_freed_memory;
 use std::env;
 use std::process::ExitCode;
 
 /// Ends the process with the status of what its words ask for.
 fn main(rt: HostRuntime) -> ExitCode {
+    keep_freed_memory(rt.alloc());
     ExitCode::from(perform(&rt))
 }
 

@@ -5,8 +5,10 @@
 
 mod command;
 mod fault;
+mod memory;
 mod streams;
 
 pub use command::{Command, command_of};
 pub use fault::ToolError;
+pub use memory::keep_freed_memory;
 pub use streams::{check_file, compile_text, read_all, run};

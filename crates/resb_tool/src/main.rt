@@ -4,10 +4,11 @@
 
 mod command_line;
 
-pub use resb_program::{ToolError, check_file, compile_text, run};
+pub use resb_program::{ToolError, check_file, compile_text, keep_freed_memory, run};
 use std::process::ExitCode;
 
 /// Ends the process with the status of what its words ask for.
 fn main(rt: HostRuntime) -> ExitCode {
+    keep_freed_memory(rt.alloc());
     ExitCode::from(command_line::perform(&rt))
 }

@@ -35,7 +35,8 @@ fn lay_records(
 {
     let sums = find_sums(alloc, containers, measures)?;
     let records = ordered(alloc, texts, containers, measures, &sums)?;
-    lay(alloc, &records, containers.len())
+    drop(sums);
+    lay(alloc, texts, &records)
 }
 
 /// Unit 0 and the records of distinct texts, and the unit at which each text stands.

@@ -1,7 +1,7 @@
 //! The records in their order, and their units.
 //! Which texts are records is said in `containers`.
 ghost use Rattle.std.specs.Prelude.{◌≡◌, ◌++◌, ◌∷◌, ◌+◌, ◌<◌, ◌^◌, length, map};
-ghost use Rattle.std.specs.Prelude.{All, IfOk, OnOk, sum_by, slice_index};
+ghost use Rattle.std.specs.Prelude.{All, IfOk, OnOk, sum_by, slice_index, slice_index_or};
 ghost use Rattle.std.specs.Prelude.{nat_eq, not, ◌&&◌};
 ghost use Rattle.std.specs.Char.Escape.{encode_utf16};
 ghost use Rattle.std.specs.Cmp.Lexicographic.{slice_cmp};
@@ -15,6 +15,7 @@ ghost use Rattle.resb_pool.specs.Records.{EachOnce, IsRecords};
 ghost use Rattle.resb_pool.specs.Inner.Placing.{AreContainers, AreSums, AreEnds};
 ghost use Rattle.resb_pool.specs.Inner.Placing.{IsRecordOf, record_text, record_texts};
 ghost use Rattle.resb_pool.specs.Inner.Placing.{record_cmp, fronted_cmp};
+ghost use Rattle.resb_pool.specs.declared.records.Record.{Record};
 ghost use Rattle.resb_pool.specs.Inner.Placing.{AreBytes, front_bytes};
 
 use crate::measure::{Measure, is_unmarked};
@@ -239,6 +240,17 @@ fn room_for(records: &[Record]) -> usize {
     room
 }
 
+/// The text of the record at a place, or the empty one where there is no record.
+fn text_at<'a>(texts: &[&'a str], records: &[Record], place: usize) -> &'a str
+    ensures { (d : Record) → place < length records.now
+        → result.now ≡ record_text (nows texts.now) (slice_index_or records.now place d) }
+{
+    match records.get(place) {
+        Some(record) => indexed_text(texts, record.index),
+        None => "",
+    }
+}
+
 /// Unit 0 and these records of texts, with the indexes of their closing zeros.
 pub(crate) fn lay(alloc: Global, texts: &[&str], records: &[Record]) -> Result<Block, AllocError>
     requires counts { All (λ r. r.unit_count
@@ -254,8 +266,11 @@ pub(crate) fn lay(alloc: Global, texts: &[&str], records: &[Record]) -> Result<B
     let mut units = Vec::with_capacity(alloc, room_for(records))?;
     let mut ends = vec![in alloc; 0; texts.len()]?;
     units.push(0)?;
-    for record in records {
-        let text = indexed_text(texts, record.index);
+    // looked up while the record before it is laid, since most texts stand elsewhere in memory
+    let mut next = text_at(texts, records, 0);
+    for (place, record) in records.iter().enumerate() {
+        let text = next;
+        next = text_at(texts, records, place + 1);
         ends[record.index as usize] = push_record(&mut units, text, record.unit_count)?;
     }
     Ok(Block { units, ends })

@@ -1,5 +1,5 @@
 use Rattle.std.proofs.Common.{◌≡◌, ◌+◌, ℕ, List, ◌++◌, ◌∷◌, length, take, get_or, sym, ◌∙◌, ap}
-use Rattle.std.proofs.Common.{arith}
+use Rattle.std.proofs.Common.{arith, rules}
 use Rattle.std.specs.List.{sum_by, flat_map}
 use Rattle.std.proofs.lemmas.List.{length-set}
 use Rattle.resb_format.specs.Units.{size}
@@ -17,11 +17,11 @@ no_record = record { unit_count = 0; saved = 0; front = 0; index = 0 }
 pub push_record-requires-clause-short : goal.push_record-requires-clause-short
 push_record-requires-clause-short c =
     let rs = c.args.records.now in
-    let i = c.loop-record.record-index in
+    let i = c.loop-place.place in
     omega (
       arith,
-      units_up_to_record (nows c.args.texts.now) rs i no_record c.loop-record-test.true,
-      c.requires.counts i no_record c.loop-record-test.true,
+      units_up_to_record (nows c.args.texts.now) rs i no_record c.loop-place-test.true,
+      c.requires.counts i no_record c.loop-place-test.true,
       c.requires.short,
     )
 
@@ -33,35 +33,37 @@ pub push_record-requires-clause-fits : goal.push_record-requires-clause-fits
 push_record-requires-clause-fits c =
     let T = nows c.args.texts.now in
     let rs = c.args.records.now in
-    let i = c.loop-record.record-index in
+    let i = c.loop-place.place in
     omega (
       arith,
-      units_up_to_record T rs i no_record c.loop-record-test.true,
-      before c.loop-record.units.items (record_texts T (take i rs)) c.loop-record.invariant.units,
-      ap size c.indexed_text-text.ensures,
+      units_up_to_record T rs i no_record c.loop-place-test.true,
+      before c.loop-place.units.items (record_texts T (take i rs)) c.loop-place.invariant.units,
+      ap size (c.loop-place.invariant.next no_record c.loop-place-test.true),
       c.requires.short,
     )
 
-pub loop-record-preserved : goal.loop-record-preserved
-loop-record-preserved c =
+pub loop-place-preserved : goal.loop-place-preserved
+loop-place-preserved c =
     let T = nows c.args.texts.now in
     let rs = c.args.records.now in
-    let i = c.loop-record.record-index in
-    let lt = c.loop-record-test.true in
+    let i = c.loop-place.place in
+    let lt = c.loop-place-test.true in
     let r = get_or rs i no_record in
     let t = record_text T r in
-    let is : c.indexed_text-text.result.now ≡ t = c.indexed_text-text.ensures in
-    let v = c.loop-record.invariant in
-    let n = before c.loop-record.units.items (record_texts T (take i rs)) v.units in
+    let v = c.loop-place.invariant in
+    let is : c.loop-place.next.now ≡ t = v.next no_record lt in
+    let n = before c.loop-place.units.items (record_texts T (take i rs)) v.units in
     let k = c.in_ok-ends-2.field-0 in
     record {
       units = c.in_ok-ends-2.ensures.appends
-          ∙ ap (λ z. c.loop-record.units.items ++ record_units z) is
+          ∙ ap (λ z. c.loop-place.units.items ++ record_units z) is
           ∙ ap (λ l. l ++ record_units t) v.units
           ∙ ap (λ l. 0 ∷ l) (sym (records-push (record_texts T (take i rs)) t))
           ∙ ap (λ qs. 0 ∷ flat_map record_units qs) (sym (texts-take T rs i no_record lt));
-      len = length-set c.loop-record.ends.items r.index k ∙ v.len;
-      ends = ends_put T rs i no_record lt c.loop-record.ends.items k
+      utf8 = search rules;
+      next = λ d l. c.text_at-next-in-loop-place.ensures d l;
+      len = length-set c.loop-place.ends.items r.index k ∙ v.len;
+      ends = ends_put T rs i no_record lt c.loop-place.ends.items k
           (omega (arith, v.len, c.requires.within i no_record lt)) v.ends
           (closes_at T rs i no_record lt k (omega (
             arith,

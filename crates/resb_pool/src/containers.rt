@@ -22,7 +22,7 @@ fn is_shared_end(text: &str, previous: &str) -> bool
     ensures { MatchBool result (IsSharedEnd previous.now text.now)
         (IsSharedEnd previous.now text.now → ⊥) }
 {
-    !text.is_empty() && previous.ends_with(text) && is_unmarked(text)
+    !text.is_empty() && is_unmarked(text) && previous.ends_with(text)
 }
 
 /// Whether the text of a row lies in the record of the text of the row right before it. The rows

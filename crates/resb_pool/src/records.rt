@@ -266,7 +266,7 @@ pub(crate) fn lay(alloc: Global, texts: &[&str], records: &[Record]) -> Result<B
     let mut units = Vec::with_capacity(alloc, room_for(records))?;
     let mut ends = vec![in alloc; 0; texts.len()]?;
     units.push(0)?;
-    // looked up while the record before it is laid, since most texts stand elsewhere in memory
+    // a text is looked up while the record before it is laid, since it is likely to stand far off
     let mut next = text_at(texts, records, 0);
     for (place, record) in records.iter().enumerate() {
         let text = next;

@@ -2,10 +2,13 @@
 """Text to file in one run, row by row: `resb_tool compile IN OUT` beside `genrb -q`.
 
     speed_table.py [--program PATH] [--turns N] [--windows N]
+    speed_table.py --likeness OURS THEIRS     what two files have in common
 
 First ICU's own locale data, as `real_texts.py` merges it, and texts of `write_kinds.py`: the two
 programs in turn, the least milliseconds of processor of so many rounds (twelve, and a quarter of
-them for made texts, on which `genrb` takes seconds), and the most memory. Then the growth per
+them for made texts, on which `genrb` takes seconds), and the most memory. The last column says
+whether the two files are the same, byte for byte, or print as the same tree by ICU's `derb`, since
+`genrb` lets keys share ends; a row ends the run where they are neither. Then the growth per
 tenfold from 1 to 100 MB. A slow second of the machine meets a long run, and not the least of many
 short ones; so each run on the greater text stands in a window of ten on the smaller one, five
 before it and five behind, and is divided by their mean. The middle one of so many windows (five) is
@@ -13,6 +16,7 @@ the row's, and all of them stand behind it.
 """
 import os
 import pathlib
+import shutil
 import statistics
 import subprocess
 import sys
@@ -34,9 +38,29 @@ MADE = {
 }
 
 
+def printed(file):
+    """The tree of a file as `derb` prints it, without the comments that name the file."""
+    command = ['derb', '-s', str(file.parent), '-A', '-c', file.name]
+    said = subprocess.run(command, capture_output=True, check=True).stdout
+    return [line for line in said.split(b'\n') if not line.startswith(b'//')]
+
+
+def likeness(ours, theirs):
+    """What two files have in common. A process of its own finds it, as `timing.py` says why."""
+    if ours.read_bytes() == theirs.read_bytes():
+        return 'same bytes'
+    with tempfile.TemporaryDirectory() as name:
+        # `derb` takes the root's name from that of the file
+        copy = shutil.copyfile(ours, pathlib.Path(name) / theirs.name)
+        if printed(copy) == printed(theirs):
+            return 'same tree'
+    sys.exit(f'{ours} and {theirs} are of two trees')
+
+
 def beside_genrb(program, name, text, turns, folder):
     """A row: the least time and the most memory of both programs, in so many rounds."""
-    commands = [[program, 'compile', text, 'ours.res'], ['genrb', '-q', '-d', '.', text]]
+    made = pathlib.Path(tempfile.mkdtemp(dir=folder))
+    commands = [[program, 'compile', text, 'ours.res'], ['genrb', '-q', '-d', made, text]]
     times, most = [[], []], [0, 0]
     for _ in range(turns):
         for which, command in enumerate(commands):
@@ -46,9 +70,11 @@ def beside_genrb(program, name, text, turns, folder):
             times[which].append(took)
             most[which] = max(most[which], memory)
     ours, theirs = min(times[0]), min(times[1])
+    command = [sys.executable, __file__, '--likeness', folder / 'ours.res', *made.glob('*.res')]
+    files = subprocess.run(command, capture_output=True, check=True, text=True).stdout.strip()
     print(f'| {name}, {os.path.getsize(text) / 1e6:.2f} MB | {ours:.1f} ms, {most[0] / 1e6:.0f} MB'
           f' | {theirs:.1f} ms, {most[1] / 1e6:.0f} MB | {ours / theirs:.3f}'
-          f' | {most[0] / most[1]:.2f} |', flush=True)
+          f' | {most[0] / most[1]:.2f} | {files} |', flush=True)
 
 
 def window(program, small, great, folder):
@@ -76,6 +102,8 @@ def grows(program, kind, windows, folder):
 
 
 def main(words):
+    if words[:1] == ['--likeness']:
+        return print(likeness(*map(pathlib.Path, words[1:])))
     given = dict(zip(words[::2], words[1::2]))
     program = os.path.abspath(given.get('--program', PROGRAM))
     turns, windows = int(given.get('--turns', 12)), int(given.get('--windows', 5))
@@ -83,7 +111,7 @@ def main(words):
         folder = pathlib.Path(name)
         subprocess.run([sys.executable, BENCH / 'real_texts.py', '--make', name],
                        stdout=subprocess.DEVNULL, check=True)
-        print('| Text | here | `genrb` | time | memory |\n|---|---|---|---|---|', flush=True)
+        print('| Text | here | `genrb` | time | memory | files |\n' + '|---' * 6 + '|', flush=True)
         for real in REAL:
             beside_genrb(program, real, name + f'/{real}.txt', turns, folder)
         for kind, size in MADE.items():

@@ -126,9 +126,9 @@ module _ (S T : TextList) (ms : List Measure) (given : AreTexts S T ms)
         pub laid_small : sum_by size (record_texts T v) < 2 ^ 28
         laid_small = omega (arith, laid_within, sizes_small)
 
-        text_at : (i : ℕ) (d : Record) → i < length v
+        record_text_at : (i : ℕ) (d : Record) → i < length v
             → get_or (record_texts T v) i [] ≡ record_text T (get_or v i d)
-        text_at i d l = get_or-map (record_text T) v i d [] l
+        record_text_at i d l = get_or-map (record_text T) v i d [] l
 
         is_record : (i : ℕ) (d : Record) → i < length v → IsRecord T (record_text T (get_or v i d))
         is_record i d l = (records.just (record_text T (get_or v i d))).0 (
@@ -159,7 +159,7 @@ module _ (S T : TextList) (ms : List Measure) (given : AreTexts S T ms)
                   let i : ℕ = f.0 in
                   let k : i < length v = omega (arith, f.1, length-map v (record_text T)) in
                   let x : Record = get_or v i no_record in
-                  let t = sym (text_at i no_record k) ∙ f.2 in
+                  let t = sym (record_text_at i no_record k) ∙ f.2 in
                   let n = one_index T x.index q given.once (each i no_record k).within l t in
                   subst (λ z. ClosesAt (record_texts T v) z (get_or es q 0)) t
                   (subst (λ z. ClosesAt (record_texts T v) (record_text T x) (get_or es z 0)) n
@@ -295,8 +295,8 @@ module _ (S T : TextList) (ms : List Measure) (given : AreTexts S T ms)
                     let next : suc k ≡ k + 1 = omega arith in
                     let a : k < length v = omega (arith, n) in
                     let b : k + 1 < length v = omega (arith, n) in
-                    let here = text_at k no_record a in
-                    let there = text_at (k + 1) no_record b in
+                    let here = record_text_at k no_record a in
+                    let there = record_text_at (k + 1) no_record b in
                     let x = get_or v k no_record in
                     let y = get_or v (k + 1) no_record in
                     let ne : record_text T x ≡ record_text T y

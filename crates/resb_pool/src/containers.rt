@@ -53,6 +53,7 @@ pub(crate) fn find_containers(alloc: Global, texts: &[&str]) -> Result<Vec<u32>,
     requires few { length texts.now < 2 ^ 32 }
     ensures { IfOk result (λ v. AreContainers (nows texts.now) v.items) }
 {
+    // asked for before the rows, so that what these give back isn't parted by it
     let mut containers = vec![in alloc; 0; texts.len()]?;
     let rows = in_suffix_order(alloc, texts)?;
     // the empty text ends with no other, so that the first text lies in itself

@@ -23,10 +23,11 @@ use crate::texts::indexed_text;
 use std::alloc::{AllocError, Global};
 use std::cmp::Ordering;
 
-/// The record of a text, which goes by its index. The other numbers tell the record from most, and
-/// are compared first, so that few texts are looked at.
+/// The record of a text, by the text's index. Its other numbers tell it from most other records,
+/// and are compared first, so that few texts are looked at.
 #[derive(Clone, Copy)]
 pub(crate) struct Record {
+    /// How many units the text has.
     pub(crate) unit_count: u32,
     /// How many units sharing the record saves.
     pub(crate) saved: u32,
@@ -241,7 +242,7 @@ fn room_for(records: &[Record]) -> usize {
 }
 
 /// The text of the record at a place, or the empty one where there is no record.
-fn text_at<'a>(texts: &[&'a str], records: &[Record], place: usize) -> &'a str
+fn record_text_at<'a>(texts: &[&'a str], records: &[Record], place: usize) -> &'a str
     ensures { (d : Record) → place < length records.now
         → result.now ≡ record_text (nows texts.now) (slice_index_or records.now place d) }
 {
@@ -267,10 +268,10 @@ pub(crate) fn lay(alloc: Global, texts: &[&str], records: &[Record]) -> Result<B
     let mut ends = vec![in alloc; 0; texts.len()]?;
     units.push(0)?;
     // a text is looked up while the record before it is laid, since it is likely to stand far off
-    let mut next = text_at(texts, records, 0);
+    let mut next = record_text_at(texts, records, 0);
     for (place, record) in records.iter().enumerate() {
         let text = next;
-        next = text_at(texts, records, place + 1);
+        next = record_text_at(texts, records, place + 1);
         ends[record.index as usize] = push_record(&mut units, text, record.unit_count)?;
     }
     Ok(Block { units, ends })

@@ -1,5 +1,5 @@
 //! What the program does, over any reader and writer: what its words ask for, the streams, and why
-//! it fails.
+//! it fails. How a program keeps the memory that it gives back is in `memory`.
 //! The process's own streams, words and files are named in the program `resb_tool` alone.
 #![tactic(auto)]
 

@@ -4,7 +4,8 @@
 
 mod command_line;
 
-pub use resb_program::{ToolError, check_file, compile_text, keep_freed_memory, run};
+use resb_program::keep_freed_memory;
+pub use resb_program::{ToolError, check_file, compile_text, run};
 use std::process::ExitCode;
 
 /// Ends the process with the status of what its words ask for.

@@ -61,7 +61,7 @@ loop-place-preserved c =
           ∙ ap (λ l. 0 ∷ l) (sym (records-push (record_texts T (take i rs)) t))
           ∙ ap (λ qs. 0 ∷ flat_map record_units qs) (sym (texts-take T rs i no_record lt));
       utf8 = search rules;
-      next = λ d l. c.text_at-next-in-loop-place.ensures d l;
+      next = λ d l. c.record_text_at-next-in-loop-place.ensures d l;
       len = length-set c.loop-place.ends.items r.index k ∙ v.len;
       ends = ends_put T rs i no_record lt c.loop-place.ends.items k
           (omega (arith, v.len, c.requires.within i no_record lt)) v.ends

@@ -1,18 +1,19 @@
 #!/usr/bin/env python3
 """Text to file in one run, row by row: `resb_tool compile IN OUT` beside `genrb -q`.
 
-    speed_table.py [--program PATH] [--turns N] [--windows N]
+    speed_table.py [--program PATH] [--before PATH] [--turns N] [--windows N]
     speed_table.py --likeness OURS THEIRS     what two files have in common
 
 First ICU's own locale data, as `real_texts.py` merges it, and texts of `write_kinds.py`: the two
 programs in turn, the least milliseconds of processor of so many rounds (twelve, and a quarter of
 them for made texts, on which `genrb` takes seconds), and the most memory. The last column says
 whether the two files are the same, byte for byte, or print as the same tree by ICU's `derb`, since
-`genrb` lets keys share ends; a row ends the run where they are neither. Then the growth per
-tenfold from 1 to 100 MB. A slow second of the machine meets a long run, and not the least of many
-short ones; so each run on the greater text stands in a window of ten on the smaller one, five
-before it and five behind, and is divided by their mean. The middle one of so many windows (five) is
-the row's, and all of them stand behind it.
+`genrb` lets keys share ends; a row ends the run where they are neither. `--before` times an older
+program in the same turns, in a column of its own. Then the growth per tenfold from 1 to 100 MB. A
+slow second of the machine meets a long run, and not the least of many short ones; so each run on
+the greater text stands in a window of ten on the smaller one, five before it and five behind, and
+is divided by their mean. The middle one of so many windows (five) is the row's, and all of them
+stand behind it.
 """
 import os
 import pathlib
@@ -57,11 +58,13 @@ def likeness(ours, theirs):
     sys.exit(f'{ours} and {theirs} are of two trees')
 
 
-def beside_genrb(program, name, text, turns, folder):
-    """A row: the least time and the most memory of both programs, in so many rounds."""
+def beside_genrb(programs, name, text, turns, folder):
+    """A row: the least time and the most memory of each program and of `genrb`, in so many
+    rounds."""
     made = pathlib.Path(tempfile.mkdtemp(dir=folder))
-    commands = [[program, 'compile', text, 'ours.res'], ['genrb', '-q', '-d', made, text]]
-    times, most = [[], []], [0, 0]
+    commands = [[program, 'compile', text, f'{n}.res'] for n, program in enumerate(programs)]
+    commands.append(['genrb', '-q', '-d', made, text])
+    times, most = [[] for _ in commands], [0 for _ in commands]
     for _ in range(turns):
         for which, command in enumerate(commands):
             took, memory, status = least(command, 1, folder=folder)
@@ -69,12 +72,12 @@ def beside_genrb(program, name, text, turns, folder):
                 sys.exit(f'{command}: status {status}')
             times[which].append(took)
             most[which] = max(most[which], memory)
-    ours, theirs = min(times[0]), min(times[1])
-    command = [sys.executable, __file__, '--likeness', folder / 'ours.res', *made.glob('*.res')]
+    command = [sys.executable, __file__, '--likeness', folder / '0.res', *made.glob('*.res')]
     files = subprocess.run(command, capture_output=True, check=True, text=True).stdout.strip()
-    print(f'| {name}, {os.path.getsize(text) / 1e6:.2f} MB | {ours:.1f} ms, {most[0] / 1e6:.0f} MB'
-          f' | {theirs:.1f} ms, {most[1] / 1e6:.0f} MB | {ours / theirs:.3f}'
-          f' | {most[0] / most[1]:.2f} | {files} |', flush=True)
+    cells = [f'{min(took):.1f} ms, {memory / 1e6:.0f} MB' for took, memory in zip(times, most)]
+    cells += [f'{min(times[0]) / min(times[-1]):.3f}', f'{most[0] / most[-1]:.2f}', files]
+    print(f'| {name}, {os.path.getsize(text) / 1e6:.2f} MB | ' + ' | '.join(cells) + ' |',
+          flush=True)
 
 
 def window(program, small, great, folder):
@@ -105,23 +108,26 @@ def main(words):
     if words[:1] == ['--likeness']:
         return print(likeness(*map(pathlib.Path, words[1:])))
     given = dict(zip(words[::2], words[1::2]))
-    program = os.path.abspath(given.get('--program', PROGRAM))
+    programs = [os.path.abspath(given.get('--program', PROGRAM))]
+    programs += [os.path.abspath(given[word]) for word in ('--before',) if word in given]
     turns, windows = int(given.get('--turns', 12)), int(given.get('--windows', 5))
     with tempfile.TemporaryDirectory() as name:
         folder = pathlib.Path(name)
         subprocess.run([sys.executable, BENCH / 'real_texts.py', '--make', name],
                        stdout=subprocess.DEVNULL, check=True)
-        print('| Text | here | `genrb` | time | memory | files |\n' + '|---' * 6 + '|', flush=True)
+        columns = ['Text', 'here', 'before', '`genrb`', 'time', 'memory', 'files']
+        columns = columns if len(programs) > 1 else columns[:2] + columns[3:]
+        print('| ' + ' | '.join(columns) + ' |\n' + '|---' * len(columns) + '|', flush=True)
         for real in REAL:
-            beside_genrb(program, real, name + f'/{real}.txt', turns, folder)
+            beside_genrb(programs, real, name + f'/{real}.txt', turns, folder)
         for kind, size in MADE.items():
             text = str(folder / 'made.txt')
             make(str(BENCH / 'write_kinds.py'), kind, size, text)
             rounds = turns * 3 if size < 10 ** 6 else max(3, turns // 4)
-            beside_genrb(program, kind, text, rounds, folder)
+            beside_genrb(programs, kind, text, rounds, folder)
         print('\n| Text | 1 to 10 MB | 10 to 100 MB |\n|---|---|---|', flush=True)
         for kind in GROWING:
-            grows(program, kind, windows, folder)
+            grows(programs[0], kind, windows, folder)
 
 
 main(sys.argv[1:])

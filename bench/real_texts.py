@@ -125,7 +125,7 @@ def main(words):
         elif word == '--turns':
             turns = int(words.pop(0))
         elif word == '--make':
-            folder = pathlib.Path(words.pop(0))
+            folder = pathlib.Path(words.pop(0)).resolve()
             for name, path in make(folder).items():
                 print(f'{name}: {os.path.getsize(path):,} bytes')
             return

@@ -1,22 +1,29 @@
 #!/usr/bin/env python3
-"""Text to file in one run, row by row: `resb_tool compile IN OUT` beside `genrb -q`.
+"""Text to file in one run, row by row: `resb_tool compile IN OUT` beside ICU's `genrb -q`.
 
-    speed_table.py [--program PATH] [--before PATH] [--turns N] [--windows N]
-    speed_table.py --likeness OURS THEIRS     what two files have in common
+The first table has ICU's own locale data, as `real_texts.py` merges it, and the kinds of
+`write_kinds.py` but unsorted keys, on which `genrb` takes half a minute. All programs run in turn.
+A cell has the least milliseconds of processor of so many rounds (--turns; for made texts a quarter
+of them and three at least, for the smallest three times as many), and the most memory in 10^6
+bytes. `time` and `memory` are the program's parts of `genrb`'s. Memory stands as `-` where it is no
+more than this script's own, since a process counts that of the one that started it.
 
-First ICU's own locale data, as `real_texts.py` merges it, and texts of `write_kinds.py`: the two
-programs in turn, the least milliseconds of processor of so many rounds (twelve, and a quarter of
-them for made texts, on which `genrb` takes seconds), and the most memory. The last column says
-whether the two files are the same, byte for byte, or print as the same tree by ICU's `derb`, since
-`genrb` lets keys share ends; a row ends the run where they are neither. `--before` times an older
-program in the same turns, in a column of its own. Then the growth per tenfold from 1 to 100 MB. A
-slow second of the machine meets a long run, and not the least of many short ones; so each run on
-the greater text stands in a window of ten on the smaller one, five before it and five behind, and
-is divided by their mean. The middle one of so many windows (five) is the row's, and all of them
-stand behind it.
+`files` says whether the program and `genrb` write the same bytes, or files that ICU's `derb` prints
+as one tree, since `genrb` lets keys share ends. (`derb` prints an empty array as an empty table,
+and both forms of the empty string alike.) Other files end the run.
+
+The second table has the growth per tenfold from 1 to 100 MB. A slow second of the machine meets a
+long run, and not the least of many short ones. So each run on the greater text stands in a window
+of ten on the smaller one, five in front of it and five behind, and is divided by their mean, and by
+a tenth of what the greater text's size is of the smaller one's. The middle one of so many windows
+(--windows) is the row's, and all of them stand behind it.
+
+A whole run takes some six minutes.
 """
+import argparse
 import os
 import pathlib
+import resource
 import shutil
 import statistics
 import subprocess
@@ -26,7 +33,7 @@ import tempfile
 from timing import least, make
 
 BENCH = pathlib.Path(__file__).resolve().parent
-PROGRAM = str(BENCH.parent / 'crates/resb_tool/out/resb_tool')
+PROGRAM = BENCH.parent / 'crates/resb_tool/out/resb_tool'
 REAL = ['locales', 'unit', 'zone', 'lang']
 GROWING = ['tables nested three levels', 'short strings, half ends of others',
            'one letter, all lengths', 'short vectors']
@@ -41,29 +48,51 @@ MADE = {
 
 def printed(file):
     """The tree of a file as `derb` prints it, without the comments that name the file."""
-    command = ['derb', '-s', str(file.parent), '-A', '-c', file.name]
-    said = subprocess.run(command, capture_output=True, check=True).stdout
+    command = ['derb', '-s', str(file.parent.resolve()), '-A', '-c', file.name]
+    said = subprocess.run(command, stdout=subprocess.PIPE, check=True).stdout
+    # where it can't open the file, `derb` prints nothing and ends with status 0
+    if not said:
+        sys.exit(f'derb prints nothing of {file}')
     return [line for line in said.split(b'\n') if not line.startswith(b'//')]
 
 
 def likeness(ours, theirs):
-    """What two files have in common. A process of its own finds it, as `timing.py` says why."""
+    """What two files have in common."""
     if ours.read_bytes() == theirs.read_bytes():
         return 'same bytes'
     with tempfile.TemporaryDirectory() as name:
         # `derb` takes the root's name from that of the file
-        copy = shutil.copyfile(ours, pathlib.Path(name) / theirs.name)
+        copy = pathlib.Path(shutil.copyfile(ours, pathlib.Path(name) / theirs.name))
         if printed(copy) == printed(theirs):
             return 'same tree'
     sys.exit(f'{ours} and {theirs} are of two trees')
 
 
+def likenesses(files, theirs):
+    """What each of the files has in common with `genrb`'s. Another process looks, since this one's
+    memory would count for all that it starts from then on."""
+    found = []
+    for file in files:
+        command = [sys.executable, __file__, '--likeness', file, theirs]
+        run = subprocess.run(command, stdout=subprocess.PIPE, text=True)
+        if run.returncode != 0:
+            sys.exit(run.returncode)
+        found.append(run.stdout.strip())
+    return ', '.join(dict.fromkeys(found))
+
+
+def megabytes(memory):
+    """So many bytes, or `-` where this process has as many."""
+    own = resource.getrusage(resource.RUSAGE_SELF).ru_maxrss * 1024
+    return f'{memory / 1e6:.0f} MB' if memory > own * 1.05 else '-'
+
+
 def beside_genrb(programs, name, text, turns, folder):
-    """A row: the least time and the most memory of each program and of `genrb`, in so many
-    rounds."""
-    made = pathlib.Path(tempfile.mkdtemp(dir=folder))
-    commands = [[program, 'compile', text, f'{n}.res'] for n, program in enumerate(programs)]
-    commands.append(['genrb', '-q', '-d', made, text])
+    """A row: the least time and the most memory of each program and of `genrb`."""
+    theirs = pathlib.Path(tempfile.mkdtemp(dir=folder))
+    files = [folder / f'{number}.res' for number in range(len(programs))]
+    commands = [[program, 'compile', text, file] for program, file in zip(programs, files)]
+    commands.append(['genrb', '-q', '-d', theirs, text])
     times, most = [[] for _ in commands], [0 for _ in commands]
     for _ in range(turns):
         for which, command in enumerate(commands):
@@ -72,12 +101,12 @@ def beside_genrb(programs, name, text, turns, folder):
                 sys.exit(f'{command}: status {status}')
             times[which].append(took)
             most[which] = max(most[which], memory)
-    command = [sys.executable, __file__, '--likeness', folder / '0.res', *made.glob('*.res')]
-    files = subprocess.run(command, capture_output=True, check=True, text=True).stdout.strip()
-    cells = [f'{min(took):.1f} ms, {memory / 1e6:.0f} MB' for took, memory in zip(times, most)]
-    cells += [f'{min(times[0]) / min(times[-1]):.3f}', f'{most[0] / most[-1]:.2f}', files]
-    print(f'| {name}, {os.path.getsize(text) / 1e6:.2f} MB | ' + ' | '.join(cells) + ' |',
-          flush=True)
+    cells = [f'{name}, {os.path.getsize(text) / 1e6:.2f} MB']
+    cells += [f'{min(took):.1f} ms, {megabytes(memory)}' for took, memory in zip(times, most)]
+    told = all(megabytes(memory) != '-' for memory in most)
+    cells += [f'{min(times[0]) / min(times[-1]):.3f}', f'{most[0] / most[-1]:.2f}' if told else '-']
+    cells += [likenesses(files, *theirs.glob('*.res'))]
+    print('| ' + ' | '.join(cells) + ' |', flush=True)
 
 
 def window(program, small, great, folder):
@@ -85,49 +114,73 @@ def window(program, small, great, folder):
     def took(text):
         return least([program, 'compile', text, 'ours.res'], 1, folder=folder)[0]
 
-    before = [took(small) for _ in range(5)]
+    front = [took(small) for _ in range(5)]
     middle = took(great)
     behind = [took(small) for _ in range(5)]
-    return middle / statistics.mean(before + behind)
+    return middle / statistics.mean(front + behind)
 
 
 def grows(program, kind, windows, folder):
-    """A row: the growth from 1 to 10 and from 10 to 100 MB."""
+    """A row: the growth per tenfold from 1 to 10 and from 10 to 100 MB."""
     texts = []
     for size in (10 ** 6, 10 ** 7, 10 ** 8):
         texts.append(str(folder / f'{size}.txt'))
         make(str(BENCH / 'write_kinds.py'), kind, size, texts[-1])
     row = f'| {kind}'
     for small, great in zip(texts, texts[1:]):
-        found = sorted(window(program, small, great, folder) for _ in range(windows))
+        tenth = os.path.getsize(great) / os.path.getsize(small) / 10
+        found = sorted(window(program, small, great, folder) / tenth for _ in range(windows))
         row += f' | {statistics.median(found):.1f} ({" ".join(f"{x:.1f}" for x in found)})'
     print(row + ' |', flush=True)
 
 
-def main(words):
-    if words[:1] == ['--likeness']:
-        return print(likeness(*map(pathlib.Path, words[1:])))
-    given = dict(zip(words[::2], words[1::2]))
-    programs = [os.path.abspath(given.get('--program', PROGRAM))]
-    programs += [os.path.abspath(given[word]) for word in ('--before',) if word in given]
-    turns, windows = int(given.get('--turns', 12)), int(given.get('--windows', 5))
+def beside(programs, turns, folder):
+    """The first table."""
+    subprocess.run([sys.executable, BENCH / 'real_texts.py', '--make', folder],
+                   stdout=subprocess.DEVNULL, check=True)
+    columns = ['Text', 'here', *['older'] * (len(programs) - 1), '`genrb`',
+               'time', 'memory', 'files']
+    print('| ' + ' | '.join(columns) + ' |\n' + '|---' * len(columns) + '|', flush=True)
+    for real in REAL:
+        beside_genrb(programs, real, str(folder / f'{real}.txt'), turns, folder)
+    for kind, size in MADE.items():
+        text = str(folder / 'made.txt')
+        make(str(BENCH / 'write_kinds.py'), kind, size, text)
+        rounds = turns * 3 if size < 10 ** 6 else max(3, turns // 4)
+        beside_genrb(programs, kind, text, rounds, folder)
+
+
+def options():
+    def count(word):
+        if int(word) < 1:
+            raise argparse.ArgumentTypeError('one at least is wanted')
+        return int(word)
+
+    parser = argparse.ArgumentParser(
+        description=__doc__, formatter_class=argparse.RawDescriptionHelpFormatter)
+    parser.add_argument('--program', default=PROGRAM, help='the program (./prove builds it)')
+    parser.add_argument('--older', help='an older program, timed in the same rounds')
+    parser.add_argument('--turns', type=count, default=12)
+    parser.add_argument('--windows', type=count, default=5)
+    parser.add_argument('--likeness', nargs=2, type=pathlib.Path, metavar=('OURS', 'THEIRS'),
+                        help='says what two files have in common, and times nothing')
+    return parser.parse_args()
+
+
+def main():
+    given = options()
+    if given.likeness:
+        return print(likeness(*given.likeness))
+    programs = [os.path.abspath(one) for one in (given.program, given.older) if one]
+    for needed in (*programs, 'genrb', 'derb'):
+        if not shutil.which(needed):
+            sys.exit(f'{needed} is no program')
     with tempfile.TemporaryDirectory() as name:
         folder = pathlib.Path(name)
-        subprocess.run([sys.executable, BENCH / 'real_texts.py', '--make', name],
-                       stdout=subprocess.DEVNULL, check=True)
-        columns = ['Text', 'here', 'before', '`genrb`', 'time', 'memory', 'files']
-        columns = columns if len(programs) > 1 else columns[:2] + columns[3:]
-        print('| ' + ' | '.join(columns) + ' |\n' + '|---' * len(columns) + '|', flush=True)
-        for real in REAL:
-            beside_genrb(programs, real, name + f'/{real}.txt', turns, folder)
-        for kind, size in MADE.items():
-            text = str(folder / 'made.txt')
-            make(str(BENCH / 'write_kinds.py'), kind, size, text)
-            rounds = turns * 3 if size < 10 ** 6 else max(3, turns // 4)
-            beside_genrb(programs, kind, text, rounds, folder)
+        beside(programs, given.turns, folder)
         print('\n| Text | 1 to 10 MB | 10 to 100 MB |\n|---|---|---|', flush=True)
         for kind in GROWING:
-            grows(programs[0], kind, windows, folder)
+            grows(programs[0], kind, given.windows, folder)
 
 
-main(sys.argv[1:])
+main()

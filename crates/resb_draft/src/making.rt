@@ -32,6 +32,18 @@ impl<'a> Draft<'a> {
         }
     }
 
+    /// Room for so many pieces and members more, so that lists of a known length don't grow step by
+    /// step. What stands in the draft stays.
+    pub fn reserve(&mut self, more: usize) -> Result<(), NoMemory>
+        ensures members { self.new.members.items ≡ self.old.members.items }
+        ensures pieces { pieces_stand self.new ≡ pieces_stand self.old }
+        ensures keeps { Keeps self.old self.new }
+    {
+        self.pieces.reserve(more)?;
+        self.members.reserve(more)?;
+        Ok(())
+    }
+
     /// Puts one text behind the other pieces. Each call that puts a piece gives its number.
     pub fn push_string(&mut self, text: &'a str) -> Result<u32, NoMemory>
         ensures made { IfOk result (λ n. IsMade self.new n (string text.now)) }

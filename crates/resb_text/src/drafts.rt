@@ -87,6 +87,7 @@ fn push_members<'a>(
     ensures keeps { OnOk result (Keeps draft.old draft.new) }
     ensures cost { ticks.new.count ≤ ticks.old.count + length items.now }
 {
+    draft.reserve(items.len())?;
     for item in items {
         ticks.tick();
         let piece = piece_of(draft, &item.term)?;

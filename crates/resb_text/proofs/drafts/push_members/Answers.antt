@@ -1,11 +1,29 @@
-use Rattle.std.proofs.Common.{◌+◌, ◌++◌, ◌∷◌, ℕ, false, [], arith, drop, get_or, length, ◌∙◌, ap}
-use Rattle.std.proofs.lemmas.List.{drop_more, drop-append-le, length-append}
+use Rattle.std.proofs.Common.{◌≡◌, ◌+◌, ◌++◌, ◌∷◌, ℕ, false, [], arith, drop, get_or, length, ◌∙◌}
+use Rattle.std.proofs.Common.{ap, refl, subst, sym}
+use Rattle.std.proofs.lemmas.List.{drop_more, drop_all, drop-append-le, length-append}
 use Rattle.resb_draft.proofs.Standing.{keeps_on}
 use Rattle.resb_text.specs.declared.items.Item.{Item}
 use Rattle.resb_text.specs.declared.items.Term.{Term}
 use Rattle.resb_text.specs.declared.items.Term.TheVariants as terms
-use Rattle.resb_text.proofs.PieceItems.{lists_more}
+use Rattle.resb_text.proofs.PieceItems.{ListsNumbers, lists_more}
 use Rattle.resb_text.proofs.drafts.push_members.Goals as goal
+
+-- nothing is listed yet in the room that was asked for
+pub loop-item-init : goal.loop-item-init
+loop-item-init c =
+    let first = c.args.draft.now in
+    let mid = c.reserve.new.self in
+    let from = length first.members.items in
+    let same = c.in_ok-reserve.ensures.members in
+    let items = c.args.items.now in
+    let none : drop from mid.members.items ≡ [] = drop_all from mid.members.items
+    (omega (arith, ap length same)) in
+    record {
+      made = λ h. subst (λ ns. ListsNumbers first mid ns items items) (sym none) (refl, refl, h);
+      longer = omega (arith, ap length same);
+      keeps = c.in_ok-reserve.ensures.keeps;
+      count = omega arith;
+    }
 
 pub loop-item-preserved : goal.loop-item-preserved
 loop-item-preserved c =

@@ -57,6 +57,10 @@ impl<'a> Build<'a> for Draft<'a> {
     }
 }
 
+/// Room for so many pieces more than an array's members, since those of the groups around it come
+/// behind them, and the first one that finds no room doubles the list.
+const ROOM_BEHIND: usize = 16;
+
 /// The number of the piece that the term is. A string becomes one here.
 fn piece_of<'a>(draft: &mut Draft<'a>, term: &Term<'a, u32>) -> Result<u32, NoMemory>
     ensures made { (f : Bool) → let seen = piece_term_seen draft.old term.now f in
@@ -87,7 +91,7 @@ fn push_members<'a>(
     ensures keeps { OnOk result (Keeps draft.old draft.new) }
     ensures cost { ticks.new.count ≤ ticks.old.count + length items.now }
 {
-    draft.reserve(items.len())?;
+    draft.reserve(items.len().saturating_add(ROOM_BEHIND))?;
     for item in items {
         ticks.tick();
         let piece = piece_of(draft, &item.term)?;

@@ -1,25 +1,29 @@
 -- What each step does to the candidates for keys of the open groups.
-use Rattle.std.proofs.Common.{◌≡◌, ℕ, ◌<◌, ◌≤◌, Bool, true, false, cond, List, [], ◌∷◌, ◌++◌}
+use Rattle.std.proofs.Common.{◌≡◌, ℕ, ◌<◌, ◌≤◌, Bool, true, false, List, [], ◌∷◌, ◌++◌}
 use Rattle.std.proofs.Common.{length, refl, sym, ◌∙◌, ap, subst, arith, append_assoc, append-nil}
 use Rattle.std.specs.Prelude.{slice_index_or}
+use Rattle.std.proofs.lemmas.Bool.{false≢true}
 use Rattle.std.proofs.lemmas.List.{map-append, map_push, get_or-set_other, length-set}
 use Rattle.resb_tree.specs.Tree.{Tree}
 use Rattle.resb_grammar.specs.KeyLists.{listed_keys}
-use Rattle.resb_grammar.specs.Items.{Term, string_term, group_term, Item, before_comma}
+use Rattle.resb_grammar.specs.Items.{Term, string_term, group_term, Item, plain, before_comma}
 use Rattle.resb_grammar.specs.Items.{Shape, a_string, a_table, an_array, shape_of, tree_in, keys_in}
 use Rattle.resb_grammar.specs.Items.{table_keys, array_keys, table_if, is_pairs}
 use Rattle.resb_grammar.specs.Machine.{Body, table_body, array_body, untyped_body, Frame, with_item}
 use Rattle.resb_grammar.specs.Machine.{new_frame, shape_in, closed}
+use Rattle.resb_grammar.specs.Inner.Half.{is_half_behind, is_half}
+use Rattle.resb_grammar.proofs.HalfLemmas.{half-pairs, half-group, no_comma}
 use Rattle.resb_text.specs.declared.discovered.Keys.{Keys}
 use Rattle.resb_text.specs.Inner.Discovered.{GroupText, AllBelow, without, texts, left, group_count}
 use Rattle.resb_text.specs.Inner.Discovered.{is_dropped_in, OpensGroup, AddsCandidate, DropsGroup}
 use Rattle.resb_text.specs.Inner.Discovered.{ListsCandidates}
-use Rattle.resb_text.specs.Inner.Frames.{lists, left_after, NumberedFrame, with_number, frame_keys}
+use Rattle.resb_text.specs.Inner.Frames.{may_be_table, left_after, NumberedFrame, with_number}
 use Rattle.resb_text.specs.Inner.Frames.{IsFrom, HoldsCandidates, HoldsKeys, AreSettled, AreOpen}
 use Rattle.resb_text.specs.Inner.Frames.{none, one_more, FrameView, view_of_frame, ClosesKeys}
-use Rattle.resb_text.specs.Inner.Frames.{frames_in}
+use Rattle.resb_text.specs.Inner.Frames.{frames_in, IsTableWhole}
 use Rattle.resb_text.proofs.DiscoveredLemmas.{without-append, without-own, without-other}
 use Rattle.resb_text.proofs.DiscoveredLemmas.{without-without}
+use Rattle.resb_text.proofs.FramesLemmas.{table_is_pairs}
 
 -- a group whose last item has a comma behind it
 abbrev pub comma_frame : Frame → Term → List Item → Frame
@@ -42,22 +46,34 @@ below-snoc limit n s cs lt below =
     λ h le. without-behind h cs (cand s n ∷ []) (below h le)
     ∙ ap (λ ds. cs ++ ds) (without-other h n s (omega arith))
 
-cond-append : (b : Bool) (xs ys ks : List (List ℕ))
-    → cond b xs ys ++ ks ≡ cond b (xs ++ ks) (ys ++ ks)
-cond-append true xs ys ks = refl
-cond-append false xs ys ks = refl
+half_shorter : (m : Term) (f : Bool) (xs : List Item) → is_half_behind m f xs ≡ true
+    → is_half xs ≡ true
+half_shorter (string_term s) false xs h = half-pairs xs h
+half_shorter (group_term t ks) false xs h = (half-group xs h).0
+half_shorter (string_term s) true xs h = cc
+half_shorter (group_term t ks) true xs h = cc
 
-cond-same : (b : Bool) (xs : List (List ℕ)) → cond b xs xs ≡ xs
-cond-same true xs = refl
-cond-same false xs = refl
+-- what may be a table with one item more may be one without it
+may_shorter : (b : Body) (m : Term) (f : Bool) (xs : List Item)
+    → may_be_table b (record { term = m; comma = f } ∷ xs) ≡ true → may_be_table b xs ≡ true
+may_shorter table_body m f xs h = half_shorter m f xs h
+may_shorter array_body m f xs h = h
+may_shorter untyped_body m f xs h = half_shorter m f xs h
+
+-- with a comma it can't
+may_comma : (b : Body) (m : Term) (xs : List Item) → may_be_table b (before_comma m ∷ xs) ≡ true
+    → ⊥
+may_comma table_body m xs h = no_comma m xs h
+may_comma array_body m xs h = false≢true h
+may_comma untyped_body m xs h = no_comma m xs h
 
 module _ (n : ℕ) (f : Frame) where
-  from_string : (s : List ℕ) → lists f.body ≡ true → (own : List GroupText)
-      → IsFrom (with_number n f) own
+  from_string : (s : List ℕ) (own : List GroupText) → IsFrom (with_number n f) own
       → IsFrom (with_number n (with_item (string_term s) f)) (own ++ cand s n ∷ [])
-  from_string s h own x = record {
-    whole =
-        rw h (map_push (λ c. c.text) own (cand s n) ∙ ap (λ ks. ks ++ s ∷ []) (rw h at x.whole));
+  from_string s own x = record {
+    whole = λ h.
+        map_push (λ c. c.text) own (cand s n)
+        ∙ ap (λ ks. ks ++ s ∷ []) (x.whole (may_shorter f.body (string_term s) false f.items h));
     rest =
         ap texts (without-append n own (cand s n ∷ [])
         ∙ ap (λ cs. without n own ++ cs) (without-own n s) ∙ append-nil (without n own))
@@ -67,11 +83,12 @@ module _ (n : ℕ) (f : Frame) where
         ∙ ap (λ cs. own ++ cs) (without-other h n s (omega arith));
   }
 
-  -- a string in an array's body
-  pub from_item : (s : List ℕ) → lists f.body ≡ false → (own : List GroupText)
-      → IsFrom (with_number n f) own → IsFrom (with_number n (with_item (string_term s) f)) own
-  from_item s h own x = record {
-    whole = rw (h, append-nil) (rw h at x.whole);
+  -- a string behind which the group can't be a table
+  pub from_item : (s : List ℕ) → may_be_table f.body (plain (string_term s) ∷ f.items) ≡ false
+      → (own : List GroupText) → IsFrom (with_number n f) own
+      → IsFrom (with_number n (with_item (string_term s) f)) own
+  from_item s no_table own x = record {
+    whole = λ h. absurd (false≢true (sym no_table ∙ h));
     rest = x.rest ∙ sym (append-nil (array_keys f.items));
     later = x.later;
   }
@@ -82,8 +99,9 @@ module _ (n : ℕ) (f : Frame) where
       → IsFrom (with_number n f) own
       → IsFrom (with_number n (with_item (group_term t ks) f)) (own ++ cs)
   from_group t ks cs later is own x = record {
-    whole =
-        texts-append own cs ∙ (λ i. x.whole i ++ is i) ∙ cond-append (lists f.body) _ _ ks;
+    whole = λ h.
+        texts-append own cs
+        ∙ (λ i. x.whole (may_shorter f.body (group_term t ks) false f.items h) i ++ is i);
     rest =
         ap texts (without-append n own cs ∙ ap (λ ds. without n own ++ ds) (later n (omega arith)))
         ∙ texts-append (without n own) cs ∙ (λ i. x.rest i ++ is i);
@@ -104,7 +122,7 @@ module _ (n : ℕ) (f : Frame) where
       → f.items ≡ record { term = m; comma = k } ∷ xs → (own : List GroupText)
       → IsFrom (with_number n f) own → IsFrom (with_number n (comma_frame f m xs)) own
   from_comma m k xs i own x = record {
-    whole = x.whole ∙ ap (frame_keys f.body) i;
+    whole = λ h. absurd (may_comma f.body m xs h);
     rest = x.rest ∙ ap array_keys i;
     later = x.later;
   }
@@ -117,10 +135,10 @@ frame_changed change (one_more _ gs before own cs outer apart x e) =
     one_more _ gs before own cs outer apart (change own x) e
 
 holds_string : {n : ℕ} {f : Frame} {gs : List NumberedFrame} (s : List ℕ) {cs : List GroupText}
-    → lists f.body ≡ true → HoldsCandidates (with_number n f ∷ gs) cs
+    → HoldsCandidates (with_number n f ∷ gs) cs
     → HoldsCandidates (with_number n (with_item (string_term s) f) ∷ gs) (cs ++ cand s n ∷ [])
-holds_string {n} {f} s h (one_more _ gs before own _ outer apart x e) =
-    one_more _ gs before (own ++ cand s n ∷ []) _ outer apart (from_string n f s h own x)
+holds_string {n} {f} s (one_more _ gs before own _ outer apart x e) =
+    one_more _ gs before (own ++ cand s n ∷ []) _ outer apart (from_string n f s own x)
     (ap (λ ds. ds ++ cand s n ∷ []) e ∙ append_assoc before own (cand s n ∷ []))
 
 holds_new : (n : ℕ) (b : Body) (gs : List NumberedFrame) (cs : List GroupText)
@@ -128,7 +146,7 @@ holds_new : (n : ℕ) (b : Body) (gs : List NumberedFrame) (cs : List GroupText)
     → HoldsCandidates (with_number n (new_frame b) ∷ gs) cs
 holds_new n b gs cs x apart =
     one_more _ gs cs [] cs x apart
-    (record { whole = sym (cond-same (lists b) []); rest = refl; later = λ h l. refl })
+    (record { whole = λ h. refl; rest = refl; later = λ h l. refl })
     (sym (append-nil cs))
 
 one_string : (xs : List Item) (s : List ℕ) → shape_of xs ≡ a_string s → array_keys xs ≡ []
@@ -148,15 +166,18 @@ one_string (x ∷ y ∷ xs) s e = no (is_pairs (x ∷ y ∷ xs)) e
 
 -- the keys of a closed group
 keys_closed : (b : Body) (xs : List Item) (n : ℕ) (own : List GroupText) (sh : Shape)
-    → shape_in b xs ≡ sh → texts own ≡ frame_keys b xs → texts (without n own) ≡ array_keys xs
-    → texts (left_after sh n own) ≡ keys_in sh xs
-keys_closed b xs n own an_array e whole rest = rest
-keys_closed table_body xs n own a_table e whole rest = whole
-keys_closed untyped_body xs n own a_table e whole rest = whole
-keys_closed array_body xs n own a_table e whole rest = cc
-keys_closed table_body xs n own (a_string s) e whole rest = cc
-keys_closed array_body xs n own (a_string s) e whole rest = cc
-keys_closed untyped_body xs n own (a_string s) e whole rest = rest ∙ one_string xs s e
+    → shape_in b xs ≡ sh → (b ≡ table_body → is_pairs xs ≡ true)
+    → (may_be_table b xs ≡ true → texts own ≡ table_keys xs)
+    → texts (without n own) ≡ array_keys xs → texts (left_after sh n own) ≡ keys_in sh xs
+keys_closed b xs n own an_array e pairs whole rest = rest
+keys_closed table_body xs n own a_table e pairs whole rest =
+    whole (half-pairs xs (pairs refl))
+keys_closed untyped_body xs n own a_table e pairs whole rest =
+    whole (half-pairs xs (table_is_pairs untyped_body xs e pairs))
+keys_closed array_body xs n own a_table e pairs whole rest = cc
+keys_closed table_body xs n own (a_string s) e pairs whole rest = cc
+keys_closed array_body xs n own (a_string s) e pairs whole rest = cc
+keys_closed untyped_body xs n own (a_string s) e pairs whole rest = rest ∙ one_string xs s e
 
 after-append : (sh : Shape) (n : ℕ) (xs ys : List GroupText) → without n xs ≡ xs
     → left_after sh n (xs ++ ys) ≡ xs ++ left_after sh n ys
@@ -173,24 +194,27 @@ after_keeps (a_string s) n h xs e = without-without h n xs ∙ ap (without n) e
 
 -- the innermost group is closed
 holds_closed : (n m : ℕ) (f outer : Frame) (gs : List NumberedFrame) (cs : List GroupText) → m < n
+    → IsTableWhole f
     → HoldsCandidates (with_number n f ∷ with_number m outer ∷ gs) cs
     → HoldsCandidates (with_number m (with_item (closed f) outer) ∷ gs)
     (left_after (shape_in f.body f.items) n cs)
-holds_closed n m f outer gs cs lt
+holds_closed n m f outer gs cs lt pairs
     (one_more _ _ _ own _ (one_more _ _ before mine among around below y i) apart x e) =
     let shape = shape_in f.body f.items in
     one_more _ gs before (mine ++ left_after shape n own) _ around below
     (from_group m outer (tree_in shape f.items) (keys_in shape f.items) (left_after shape n own)
     (λ h le. after_keeps shape n h own (x.later h (omega arith)))
-    (keys_closed f.body f.items n own shape refl x.whole x.rest) mine y)
+    (keys_closed f.body f.items n own shape refl pairs x.whole x.rest) mine y)
     (ap (left_after shape n) e ∙ after-append shape n among own (apart n (omega arith))
     ∙ ap (λ ds. ds ++ left_after shape n own) i ∙ append_assoc before mine _)
 
 -- the keys of the root
 holds_root : (n : ℕ) (f : Frame) (cs : List GroupText) → f.body ≡ table_body
-    → HoldsCandidates (with_number n f ∷ []) cs → texts cs ≡ table_keys f.items
-holds_root n f cs b (one_more _ _ _ own _ none apart x e) =
-    ap texts e ∙ x.whole ∙ ap (λ k. frame_keys k f.items) b
+    → is_pairs f.items ≡ true → HoldsCandidates (with_number n f ∷ []) cs
+    → texts cs ≡ table_keys f.items
+holds_root n f cs b pairs (one_more _ _ _ own _ none apart x e) =
+    ap texts e
+    ∙ x.whole (ap (λ k. may_be_table k f.items) b ∙ half-pairs f.items pairs)
 
 dropped_same : (k l : Keys) → l.is_dropped ≡ k.is_dropped → (g : ℕ)
     → is_dropped_in l g ≡ is_dropped_in k g
@@ -233,9 +257,9 @@ keys_changed change x = record {
 module _ (k l : Keys) where
   -- the innermost group gets a string that may be a key
   pub keys_string : {n : ℕ} (f : Frame) (s : List ℕ) {gs : List NumberedFrame}
-      → lists f.body ≡ true → AddsCandidate s n k l → HoldsKeys k (with_number n f) gs
+      → AddsCandidate s n k l → HoldsKeys k (with_number n f) gs
       → HoldsKeys l (with_number n (with_item (string_term s) f)) gs
-  keys_string {n} f s {gs} h adds x =
+  keys_string {n} f s {gs} adds x =
       let had = x.settled ++ left k in
       let now : x.settled ++ left l ≡ had ++ cand s n ∷ [] =
       ap (λ cs. x.settled ++ cs) adds.added
@@ -246,7 +270,7 @@ module _ (k l : Keys) where
         bound = x.bound;
         are_settled = settled_on k l adds.listed (omega (arith, same)) x.are_settled;
         inner = x.inner;
-        holds = rw now (holds_string s h x.holds);
+        holds = rw now (holds_string s x.holds);
         within = rw (now, same) (below-snoc (group_count k) n s had x.are_open.0 x.within);
         are_open = rw same (open_same k l (group_count k) (with_number n f ∷ gs)
             (λ g lt. dropped_same k l adds.dropped g) x.are_open);
@@ -272,10 +296,10 @@ module _ (k l : Keys) where
 
   -- the innermost group is closed
   pub keys_close : {n : ℕ} (m : ℕ) (f outer : Frame) (gs : List NumberedFrame) {look : FrameView}
-      → look ≡ view_of_frame (with_number n f) → ClosesKeys look k l
+      → look ≡ view_of_frame (with_number n f) → ClosesKeys look k l → IsTableWhole f
       → HoldsKeys k (with_number n f) (with_number m outer ∷ gs)
       → HoldsKeys l (with_number m (with_item (closed f) outer)) gs
-  keys_close {n} m f outer gs {look} e closes x =
+  keys_close {n} m f outer gs {look} e closes pairs x =
       let number : look.number ≡ n = ap (λ (v : FrameView). v.number) e in
       let open_now = x.are_open in
       let top = open_now.0 in
@@ -292,7 +316,7 @@ module _ (k l : Keys) where
         bound = x.bound;
         are_settled = settled_on k l closes.listed (omega (arith, closes.groups)) x.are_settled;
         inner = x.inner.1;
-        holds = rw all_left (holds_closed n m f outer gs _ lt x.holds);
+        holds = rw all_left (holds_closed n m f outer gs _ lt pairs x.holds);
         within = rw all_left (λ h le. after_keeps shape n h _
             (x.within h (omega (arith, closes.groups))));
         are_open = (omega (arith, lt, top, closes.groups), rest.1, rest.2);
@@ -335,10 +359,10 @@ keys_root k n lt open_now empty none_listed = record {
 
 -- its keys, once it is closed
 pub root_keys : {k : Keys} {n : ℕ} {f : Frame} (gs : List NumberedFrame) → frames_in gs ≡ []
-    → (x : HoldsKeys k (with_number n f) gs) → f.body ≡ table_body
+    → (x : HoldsKeys k (with_number n f) gs) → f.body ≡ table_body → is_pairs f.items ≡ true
     → texts (x.settled ++ left k) ≡ table_keys f.items
-root_keys {n = n} {f = f} [] e x b = holds_root n f _ b x.holds
-root_keys (g ∷ gs) e x b = cc
+root_keys {n = n} {f = f} [] e x b pairs = holds_root n f _ b pairs x.holds
+root_keys (g ∷ gs) e x b pairs = cc
 
 -- a group that is dropped as it is closed, since it turns out to be no table
 pub dropped_closes : (look : FrameView) (k l : Keys) (shape : Shape) → DropsGroup look.number k l

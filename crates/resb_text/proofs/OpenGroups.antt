@@ -116,7 +116,8 @@ module _ {B X : Type 0} {tree : B → X → Tree} {held : B → X → Bool} wher
             frame = push h.number h.frame (machine.closed o.frame) parts.1 is;
             outer = parts.0;
             frames = refl;
-            keys = keys_close c.keys d.keys h.number o.frame h.frame gs x.frame closes keys;
+            keys =
+                keys_close c.keys d.keys h.number o.frame h.frame gs x.frame closes whole keys;
           }
 
   -- where the root alone is open, all candidates that are left are keys

@@ -1,6 +1,6 @@
 -- What the code's open groups show of a machine's, and which candidates are theirs.
 use Rattle.std.specs.Prelude.{◌≡◌, ◌≢◌, ℕ, ◌+◌, ◌<◌, ◌≤◌, Bool, true, false, List, [], ◌∷◌, ◌++◌}
-use Rattle.std.specs.Prelude.{map, cond, length, Some}
+use Rattle.std.specs.Prelude.{map, length, Some}
 use Rattle.std.specs.List.{sum_by}
 use Rattle.resb_tree.specs.Tree.{Tree, string, array, table, trees_of, map_of}
 use Rattle.resb_grammar.specs.Items as spec
@@ -27,11 +27,11 @@ group_body_of body.Table = machine.table_body
 group_body_of body.Array = machine.array_body
 group_body_of body.Untyped = machine.untyped_body
 
--- whether strings may be keys in such a body
-abbrev pub lists : machine.Body → Bool
-lists machine.table_body = true
-lists machine.array_body = false
-lists machine.untyped_body = true
+-- whether a group with this body may turn out to be a table, as its items stand so far
+abbrev pub may_be_table : machine.Body → List spec.Item → Bool
+may_be_table machine.table_body items = is_half items
+may_be_table machine.array_body items = false
+may_be_table machine.untyped_body items = is_half items
 
 -- what a group of this shape is
 abbrev pub tree_shown_in : spec.Shape → List SeenItem → Tree
@@ -80,13 +80,11 @@ abbrev pub views_of_frames : List NumberedFrame → List FrameView
 views_of_frames [] = []
 views_of_frames (g ∷ gs) = views_of_frames gs ++ view_of_frame g ∷ []
 
--- the keys of an open group, if it turns out to be a table, and those of its groups otherwise
-abbrev pub frame_keys : machine.Body → List spec.Item → List (List ℕ)
-frame_keys body items = cond (lists body) (table_keys items) (array_keys items)
-
--- a group's candidates: its own strings have its number, and all others greater ones
+-- a group's candidates: while it may be a table, these are its keys; its own strings have its
+-- number, and all others greater ones
 pub record IsFrom (g : NumberedFrame) (own : List GroupText) : Type 0 where
-  pub whole : texts own ≡ frame_keys g.frame.body g.frame.items
+  pub whole : may_be_table g.frame.body g.frame.items ≡ true
+      → texts own ≡ table_keys g.frame.items
   pub rest : texts (without g.number own) ≡ array_keys g.frame.items
   pub later : (h : ℕ) → h < g.number → without h own ≡ own
 

@@ -7,7 +7,6 @@ use Rattle.std.specs.Cmp.{IsTotalOrder, IsStrictWeakOrder}
 use Rattle.std.proofs.lemmas.List.MinMax.{ranks_by}
 use Rattle.std.specs.Str.{IsUtf8}
 use Rattle.std.specs.Ordering.{nat_cmp, ordering_then, ordering_reverse, is_lt}
-use Rattle.std.specs.declared.cmp.Ordering.{Ordering}
 use Rattle.std.specs.declared.cmp.Ordering.TheVariants.{Less}
 use Rattle.std.proofs.lemmas.Cmp.{then_total, on_total, nat_cmp_total}
 use Rattle.std.proofs.lemmas.Cmp.{tied_itself}
@@ -25,7 +24,7 @@ use Rattle.resb_pool.specs.declared.suffix_order.Row.{Row}
 use Rattle.resb_pool.proofs.SuffixOrder.{end_last_total}
 use Rattle.resb_pool.proofs.Digits.{IsSmall, small_key, digits_order}
 use Rattle.resb_pool.proofs.Numbers.{ordering_then_less, ordering_then_equal}
-use Rattle.resb_pool.proofs.Numbers.{three_ways, less_is_first}
+use Rattle.resb_pool.proofs.Numbers.{three_ways, less_is_first, tied_first}
 
 pub head_small : (x : ℕ) (xs : List ℕ) → IsSmall (x ∷ xs) → x < 255
 head_small x xs h = h 0 x (omega arith)
@@ -112,12 +111,6 @@ order_of (suc n) a (x ∷ xs) (y ∷ ys) s t l =
       less_kept n (a * 256 + y) (a * 256 + x) ys xs
           (tail_small y ys t) (tail_small x xs s) (omega (arith, m)),
     )))
-
--- of two comparisons in a row, what ties by the first goes by the second
-tied_first : (a b : ℕ) (o : Ordering) → a ≡ b → is_lt (ordering_then (nat_cmp a b) o) ≡ false
-    → is_lt o ≡ false
-tied_first a b o f e = sym (ap is_lt (ap (λ z. ordering_then (nat_cmp a z) o) (sym f)
-    ∙ ordering_then_equal (nat_cmp a a) o (tied_itself nat_cmp_total a))) ∙ e
 
 -- each text, and the empty one where there is none
 pub text_utf8 : (T : List (List ℕ)) (i : ℕ) → All IsUtf8 T → IsUtf8 (indexed_text T i)

@@ -3,17 +3,18 @@ use Rattle.std.proofs.Common.{◌≡◌, ℕ, zero, suc, ◌+◌, ◌*◌, ◌<�
 use Rattle.std.proofs.Common.{refl, sym, ◌∙◌, ap, subst, arith}
 use Rattle.std.specs.List.{All}
 use Rattle.std.specs.List.Sorted.{IsSorted}
+use Rattle.std.specs.Cmp.{IsTotalOrder, IsStrictWeakOrder}
 use Rattle.std.specs.Cmp.Lexicographic.{slice_cmp, nat_list_cmp_total}
 use Rattle.std.specs.Ordering.{nat_cmp, ordering_then, ordering_reverse, is_lt}
 use Rattle.std.specs.declared.cmp.Ordering.{Ordering}
 use Rattle.std.specs.declared.cmp.Ordering.TheVariants.{Less}
-use Rattle.std.proofs.lemmas.Cmp.{nat_cmp_total, tied_itself}
+use Rattle.std.proofs.lemmas.Cmp.{nat_cmp_total, tied_itself, then_total, on_total, back_total}
+use Rattle.std.proofs.lemmas.List.MinMax.{ranks_by}
 use Rattle.resb_pool.specs.Inner.Placing.{AreBytes, front_bytes, record_cmp, fronted_cmp}
-use Rattle.resb_pool.specs.Inner.Placing.{IsRecordOf}
+use Rattle.resb_pool.specs.Inner.Placing.{IsRecordOf, record_text}
 use Rattle.resb_pool.specs.declared.records.Record.{Record}
 use Rattle.resb_pool.proofs.Numbers.{ordering_then_less, ordering_then_equal, three_ways}
-use Rattle.resb_pool.proofs.Numbers.{less_is_first, greater_is_not_before}
-use Rattle.resb_pool.proofs.Numbers.{ordering_then_not_before}
+use Rattle.resb_pool.proofs.Numbers.{less_is_first, tied_first, ordering_then_not_before}
 
 head_small : (x : ℕ) (xs : List ℕ) → AreBytes (x ∷ xs) → x < 256
 head_small x xs h = h 0
@@ -77,37 +78,35 @@ front_is (a ∷ b ∷ c ∷ d ∷ e ∷ f ∷ []) = omega arith
 front_is (a ∷ b ∷ c ∷ d ∷ e ∷ f ∷ g ∷ []) = omega arith
 front_is (a ∷ b ∷ c ∷ d ∷ e ∷ f ∷ g ∷ h ∷ bs) = omega arith
 
--- the record has its text's first bytes
-pub record IsFronted (r : Record) : Type 0 where
-  pub front_is : r.front ≡ front_bytes 0 8 r.text.now
-  pub bytes : AreBytes r.text.now
+module _ (T : List (List ℕ)) where
+  -- by texts alone
+  abbrev text_cmp : Record → Record → Ordering
+  text_cmp x y = slice_cmp nat_cmp (record_text T x) (record_text T y)
 
-pub record_fronted : (T : List (List ℕ)) (sums : List ℕ) (r : Record) → IsRecordOf T sums r
-    → IsFronted r
-record_fronted T sums r h = record { front_is = h.front_is; bytes = h.bytes }
+  fronted_total : IsTotalOrder (fronted_cmp T)
+  fronted_total = then_total (on_total (λ (r : Record). r.unit_count) nat_cmp_total)
+      (then_total (back_total (on_total (λ (r : Record). r.saved) nat_cmp_total))
+      (then_total (on_total (λ (r : Record). r.front) nat_cmp_total)
+      (on_total (record_text T) nat_list_cmp_total)))
 
--- by texts and indexes alone
-abbrev text_cmp : Record → Record → Ordering
-text_cmp x y =
-    ordering_then (slice_cmp nat_cmp x.text.now y.text.now) (nat_cmp x.index y.index)
+  pub fronted_order : IsStrictWeakOrder (λ (x y : Record). is_lt (fronted_cmp T x y))
+  fronted_order = ranks_by fronted_total (λ (r : Record). r)
 
-not_before : (x y : Record) → IsFronted x → IsFronted y
-    → is_lt (ordering_then (nat_cmp x.front y.front) (text_cmp x y)) ≡ false
-    → is_lt (text_cmp x y) ≡ false
-not_before x y h k e = three_ways (is_lt (text_cmp x y) ≡ false) x.front y.front
-    (λ f. absurd (less_is_first (nat_cmp x.front y.front) (text_cmp x y) f e))
-    (λ f. sym (ap is_lt (ap (λ z. ordering_then (nat_cmp x.front z) (text_cmp x y)) (sym f)
-    ∙ ordering_then_equal (nat_cmp x.front x.front) (text_cmp x y)
-    (tied_itself nat_cmp_total x.front))) ∙ e)
-    (λ m. greater_is_not_before (slice_cmp nat_cmp x.text.now y.text.now) (nat_cmp x.index y.index)
-    (nat_list_cmp_total.antisymm x.text.now y.text.now
-    ∙ ap ordering_reverse (order_of 8 0 y.text.now x.text.now k.bytes h.bytes
-    (omega (arith, m, h.front_is, k.front_is)))))
+  module _ (sums : List ℕ) where
+    not_before : (x y : Record) → IsRecordOf T sums x → IsRecordOf T sums y
+        → is_lt (ordering_then (nat_cmp x.front y.front) (text_cmp x y)) ≡ false
+        → is_lt (text_cmp x y) ≡ false
+    not_before x y h k e = three_ways (is_lt (text_cmp x y) ≡ false) x.front y.front
+        (λ f. absurd (less_is_first (nat_cmp x.front y.front) (text_cmp x y) f e))
+        (λ f. tied_first x.front y.front (text_cmp x y) f e)
+        (λ m. ap is_lt (nat_list_cmp_total.antisymm (record_text T x) (record_text T y)
+        ∙ ap ordering_reverse (order_of 8 0 (record_text T y) (record_text T x) k.bytes h.bytes
+        (omega (arith, m, h.front_is, k.front_is)))))
 
-pub in_order : (rs : List Record) → All IsFronted rs → IsSorted fronted_cmp rs
-    → IsSorted record_cmp rs
-in_order rs fronted up k d l m =
-    let x = get_or rs (k + 1) d in let y = get_or rs k d in
-    ordering_then_not_before (nat_cmp x.unit_count y.unit_count) _ _
-    (ordering_then_not_before (nat_cmp y.saved.0 x.saved.0) _ _
-    (not_before x y (fronted (k + 1) d m) (fronted k d (omega (arith, m))))) (up k d l m)
+    pub in_order : (rs : List Record) → All (IsRecordOf T sums) rs → IsSorted (fronted_cmp T) rs
+        → IsSorted (record_cmp T) rs
+    in_order rs each up k d l m =
+        let x = get_or rs (k + 1) d in let y = get_or rs k d in
+        ordering_then_not_before (nat_cmp x.unit_count y.unit_count) _ _
+        (ordering_then_not_before (nat_cmp y.saved x.saved) _ _
+        (not_before x y (each (k + 1) d m) (each k d (omega (arith, m))))) (up k d l m)

@@ -4,12 +4,13 @@ use Rattle.std.proofs.Common.{◌≡◌, ℕ, zero, suc, ◌+◌, ◌<◌, ◌�
 use Rattle.std.proofs.Common.{take, drop, Bool, true, false, cond, refl, sym, ◌∙◌, ap, subst, arith}
 use Rattle.std.proofs.Common.{length-append, true≢false, inl, inr, ◌⊎◌, append_assoc, append-nil}
 use Rattle.std.proofs.Common.{get_or-set_other, get_or-set_same}
-use Rattle.std.specs.List.{Contains, sum_by, flat_map}
+use Rattle.std.specs.List.{All, Contains, sum_by, flat_map}
 use Rattle.std.specs.List.Sorted.{IsPermutation}
 use Rattle.std.specs.Prelude.{slice_set}
-use Rattle.std.proofs.Math.Nat.{eq-or-lt_of_le}
 use Rattle.std.proofs.lemmas.Bool.{cases_eq}
-use Rattle.std.proofs.lemmas.List.{get_or_default, get_or-take, length-take-le, map_more}
+use Rattle.std.proofs.lemmas.List.{get_or-take, length-take-le, map_more, map-append}
+use Rattle.std.proofs.lemmas.List.{take-append-drop, drop_more, take-take}
+use Rattle.std.proofs.lemmas.List.Elements.{All-more, All-take}
 use Rattle.std.specs.Str.{bytes_eq}
 use Rattle.std.specs.Cmp.Lexicographic.{slice_cmp, bytes_decides}
 use Rattle.std.specs.Ordering.{nat_cmp, ordering_then, is_lt}
@@ -21,7 +22,8 @@ use Rattle.resb_format.specs.Units.{units, marker, size}
 use Rattle.resb_pool.specs.Records.{EachOnce, IsRecords}
 use Rattle.resb_pool.specs.Pool.{Saved, Precedes, fewer_units, saves_more, smaller_bytes}
 use Rattle.resb_pool.specs.Pool.{record_units, ClosesAt}
-use Rattle.resb_pool.specs.Inner.Placing.{AreIndexed, AreEnds, record_texts, record_cmp}
+use Rattle.resb_pool.specs.Inner.Placing.{AreEnds, indexed_text, record_text, record_texts}
+use Rattle.resb_pool.specs.Inner.Placing.{record_cmp}
 use Rattle.resb_pool.specs.declared.records.Record.{Record}
 use Rattle.resb_pool.proofs.TextLists.{TextList}
 use Rattle.resb_pool.proofs.Numbers.{cmp_cases}
@@ -98,40 +100,34 @@ neighbours_differ (x ∷ []) zero d h e = omega arith
 neighbours_differ (x ∷ y ∷ xs) zero d h e = d.0 (0, omega arith, sym e)
 neighbours_differ (x ∷ xs) (suc k) d h e = neighbours_differ xs k d.1 (omega arith) e
 
-pub text_at_index : (rs : List Record) (k : ℕ) (d : Record) → k < length rs
-    → get_or (record_texts rs) k [] ≡ (get_or rs k d).text.now
-text_at_index [] k d h = absurd (omega arith)
-text_at_index (r ∷ rs) zero d h = refl
-text_at_index (r ∷ rs) (suc k) d h = text_at_index rs k d (omega arith)
-
 -- of two records in order, the first precedes
-module _ (S : TextList) (x y : Record) (ux : x.unit_count ≡ length (units x.text.now))
-    (uy : y.unit_count ≡ length (units y.text.now))
-    (sx : Saved S x.text.now x.saved.0) (sy : Saved S y.text.now y.saved.0) where
-  pub in_order : is_lt (record_cmp y x) ≡ false → (x.text.now ≡ y.text.now → ⊥)
-      → Precedes S x.text.now y.text.now
+module _ (S T : TextList) (x y : Record) (ux : x.unit_count ≡ length (units (record_text T x)))
+    (uy : y.unit_count ≡ length (units (record_text T y)))
+    (sx : Saved S (record_text T x) x.saved) (sy : Saved S (record_text T y) y.saved) where
+  pub in_order : is_lt (record_cmp T y x) ≡ false → (record_text T x ≡ record_text T y → ⊥)
+      → Precedes S (record_text T x) (record_text T y)
   in_order h ne = elim (cmp_cases y.unit_count x.unit_count) [
     | inl l ↦ absurd (true≢false (sym (ap (λ o. is_lt (ordering_then o later)) l.0) ∙ h))
     | inr (inr g) ↦ fewer_units (omega (arith, ux, uy, g.1))
     | inr (inl e) ↦
-        (let units_same : length (units x.text.now) ≡ length (units y.text.now) =
+        (let units_same : length (units (record_text T x)) ≡ length (units (record_text T y)) =
         omega (arith, ux, uy, e.1) in
         let h2 : is_lt later ≡ false = sym (ap (λ o. is_lt (ordering_then o later)) e.0) ∙ h in
-        elim (cmp_cases x.saved.0 y.saved.0) [
+        elim (cmp_cases x.saved y.saved) [
           | inl l ↦ absurd (true≢false (sym (ap (λ o. is_lt (ordering_then o last)) l.0) ∙ h2))
-          | inr (inr g) ↦ saves_more x.saved.0 y.saved.0 units_same sx sy g.1
-          | inr (inl f) ↦ smaller_bytes x.saved.0 units_same sx
-              (subst (Saved S y.text.now) (sym f.1) sy)
-              (text_order x.text.now y.text.now (nat_cmp y.index x.index)
+          | inr (inr g) ↦ saves_more x.saved y.saved units_same sx sy g.1
+          | inr (inl f) ↦ smaller_bytes x.saved units_same sx
+              (subst (Saved S (record_text T y)) (sym f.1) sy)
+              (text_order (record_text T x) (record_text T y)
               (sym (ap (λ o. is_lt (ordering_then o last)) f.0) ∙ h2) ne)
         ])
   ]
     where
       last : Ordering
-      last = ordering_then (slice_cmp nat_cmp y.text.now x.text.now) (nat_cmp y.index x.index)
+      last = slice_cmp nat_cmp (record_text T y) (record_text T x)
 
       later : Ordering
-      later = ordering_then (nat_cmp x.saved.0 y.saved.0) last
+      later = ordering_then (nat_cmp x.saved y.saved) last
 
 -- places of closing zeros
 one_long : length {A = ℕ} (0 ∷ []) ≡ 1
@@ -150,117 +146,75 @@ length-records (q ∷ qs) = omega (
   length-records qs,
 )
 
-pub texts-take : (rs : List Record) (i : ℕ) (d : Record) → i < length rs
-    → record_texts (take (i + 1) rs) ≡ record_texts (take i rs) ++ (get_or rs i d).text.now ∷ []
-texts-take rs i d h = map_more (λ (r : Record). r.text.now) rs i d h
+module _ (T : TextList) (rs : List Record) (i : ℕ) (d : Record) (l : i < length rs) where
+  abbrev here : Record
+  here = get_or rs i d
 
-pub texts-split : (rs : List Record) (i : ℕ) (d : Record) → i < length rs
-    → record_texts rs ≡ record_texts (take i rs) ++ (get_or rs i d).text.now ∷ record_texts
-    (drop (suc i) rs)
-texts-split [] i d h = absurd (omega arith)
-texts-split (r ∷ rs) zero d h = refl
-texts-split (r ∷ rs) (suc i) d h = ap (λ l. r.text.now ∷ l) (texts-split rs i d (omega arith))
+  pub texts-take : record_texts T (take (i + 1) rs)
+      ≡ record_texts T (take i rs) ++ record_text T here ∷ []
+  texts-take = map_more (record_text T) rs i d l
 
--- a record closes behind those before it
-pub closes_at : (rs : List Record) (i : ℕ) (d : Record) (k : ℕ) → i < length rs
-    → k ≡ sum_by size (record_texts (take i rs)) + size (get_or rs i d).text.now
-    → ClosesAt (record_texts rs) (get_or rs i d).text.now k
-closes_at rs i d k h e = record {
-  before = record_texts (take i rs);
-  after =
-      record_texts (drop (suc i) rs);
-  is = texts-split rs i d h;
-  place = e;
-}
+  texts-split : record_texts T rs
+      ≡ record_texts T (take i rs) ++ record_text T here ∷ record_texts T (drop (i + 1) rs)
+  texts-split = ap (record_texts T) (sym (take-append-drop i rs)
+      ∙ ap (λ z. take i rs ++ z) (drop_more rs i d l))
+      ∙ map-append (record_text T) (take i rs) (here ∷ drop (i + 1) rs)
 
--- the place of a closing zero more
-pub ends_put : (rs : List Record) (i count : ℕ) (d : Record) (es : List ℕ) (k : ℕ) → i < length rs
-    → AreIndexed rs count → length es ≡ count → AreEnds rs (take i rs) es
-    → ClosesAt (record_texts rs) (get_or rs i d).text.now k
-    → AreEnds rs (take (i + 1) rs) (slice_set es (get_or rs i d).index k)
-ends_put rs i count d es k l x e h c = record {
-  closes = λ j f m. elim (eq-or-lt_of_le (j_le j f m)) [
-    | inl q ↦ last j f (suc_is j q)
-    | inr b ↦ elim (cases_eq (get_or (take (i + 1) rs) j f).index (get_or rs i d).index) [
-      | inl same ↦
-          let t : (get_or (take (i + 1) rs) j f).text.now ≡ (get_or rs i d).text.now =
-          one_text j f (omega (arith, b)) same in
-          at_index (get_or (take (i + 1) rs) j f) same t
-      | inr ne ↦
-          let a : get_or (take (i + 1) rs) j f ≡ get_or (take i rs) j f =
-          get_or-take (i + 1) rs j f (omega (arith, b))
-          ∙ sym (get_or-take i rs j f (omega (arith, b))) in
-          let old = h.closes j f (omega (arith, b, length-take-le i rs (omega (arith, l)))) in
-          let r = get_or (take (i + 1) rs) j f in
-          subst (λ n. ClosesAt (record_texts rs) r.text.now n)
-          (sym (get_or-set_other es (get_or rs i d).index r.index k 0 ne))
-          (subst (λ (z : Record). ClosesAt (record_texts rs) z.text.now (get_or es z.index 0))
-          (sym a) old)
-    ]
-  ];
-  others = λ j f.
-      let ne : (get_or rs i d).index ≡ j
-      → ⊥ = λ q. f i d (omega (arith, l, length-take-le (i + 1) rs (omega (arith, l))))
-      (ap (λ (z : Record). z.index) (get_or-take (i + 1) rs i d (omega arith)) ∙ q) in
-      get_or-set_other es (get_or rs i d).index j k 0 (λ q. ne (sym q))
-      ∙ h.others j (λ m g b. λ q. f m g (omega (
-        arith,
-        b,
-        length-take-le i rs (omega (arith, l)),
-        length-take-le (i + 1) rs (omega (arith, l)),
-      ))
-      (ap (λ (z : Record). z.index) (get_or-take (i + 1) rs m g
-      (omega (arith, b, length-take-le i rs (omega (arith, l))))
-      ∙ sym (get_or-take i rs m g (omega (arith, b, length-take-le i rs (omega (arith, l))))))
-      ∙ q));
-}
-  where
-    j_le : (j : ℕ) (f : Record) → j < length (take (i + 1) rs) → suc j ≤ i + 1
-    j_le j f m = omega (arith, m, length-take-le (i + 1) rs (omega (arith, l)))
+  -- a record closes behind those before it
+  pub closes_at : (k : ℕ) → k ≡ sum_by size (record_texts T (take i rs)) + size (record_text T here)
+      → ClosesAt (record_texts T rs) (record_text T here) k
+  closes_at k e = record {
+    before = record_texts T (take i rs);
+    after = record_texts T (drop (i + 1) rs);
+    is = texts-split;
+    place = e;
+  }
 
-    suc_is : (j : ℕ) → suc j ≡ i + 1 → j ≡ i
-    suc_is j q = omega (arith, q)
+  -- so many units as the records before a record and itself take
+  pub units_up_to_record : sum_by size (record_texts T (take i rs)) + size (record_text T here)
+      ≤ sum_by size (record_texts T rs)
+  units_up_to_record =
+      let t = record_text T here in
+      let rest = record_texts T (drop (i + 1) rs) in
+      let e = ap (sum_by size) texts-split in
+      let f = sum_by-append size (record_texts T (take i rs)) (t ∷ rest) in
+      omega (arith, e, f, sum_by-cons size t rest)
 
-    at_index : (r : Record) → r.index ≡ (get_or rs i d).index
-        → r.text.now ≡ (get_or rs i d).text.now
-        → ClosesAt (record_texts rs) r.text.now (get_or (slice_set es (get_or rs i d).index k)
-        r.index 0)
-    at_index r same t =
-        let v : get_or (slice_set es (get_or rs i d).index k) r.index 0 ≡ k =
-        ap (λ z. get_or (slice_set es (get_or rs i d).index k) z 0) same
-        ∙ get_or-set_same es (get_or rs i d).index k 0 (omega (arith, e, x.within i d l)) in
-        subst (λ n. ClosesAt (record_texts rs) r.text.now n) (sym v)
-        (subst (λ z. ClosesAt (record_texts rs) z k) (sym t) c)
+  -- the place of a closing zero more
+  pub ends_put : (es : List ℕ) (k : ℕ) → here.index < length es → AreEnds T rs (take i rs) es
+      → ClosesAt (record_texts T rs) (record_text T here) k
+      → AreEnds T rs (take (i + 1) rs) (slice_set es here.index k)
+  ends_put es k w h c = record {
+    closes = All-more (λ q. Closes q (get_or new q.index 0)) rs i d l
+        (λ j f m. elsewhere (get_or (take i rs) j f) (h.closes j f m)) (at_index here refl);
+    others = λ j f.
+        let back = take-take i (i + 1) rs (omega arith) in
+        let ne : here.index ≡ j → ⊥ = subst (λ (q : Record). q.index ≡ j → ⊥)
+        (get_or-take (i + 1) rs i d (omega arith))
+        (f i d (omega (arith, l, length-take-le (i + 1) rs (omega (arith, l))))) in
+        get_or-set_other es here.index j k 0 (λ e. ne (sym e))
+        ∙ h.others j (subst (All (λ (q : Record). q.index ≡ j → ⊥)) back
+        (All-take (λ (q : Record). q.index ≡ j → ⊥) i (take (i + 1) rs) f));
+  }
+    where
+      new : List ℕ
+      new = slice_set es here.index k
 
-    one_text : (j : ℕ) (f : Record) → j < i + 1
-        → (get_or (take (i + 1) rs) j f).index ≡ (get_or rs i d).index
-        → (get_or (take (i + 1) rs) j f).text.now ≡ (get_or rs i d).text.now
-    one_text j f b same =
-        let a : get_or (take (i + 1) rs) j f ≡ get_or rs j d = get_or-take (i + 1) rs j f b
-        ∙ get_or_default rs j f d (omega (arith, b, l)) in
-        ap (λ (z : Record). z.text.now) a
-        ∙ x.one j i d (omega (arith, b, l)) l (sym (ap (λ (z : Record). z.index) a) ∙ same)
+      Closes : Record → ℕ → Type 0
+      Closes q n = ClosesAt (record_texts T rs) (record_text T q) n
 
-    last : (j : ℕ) (f : Record) → j ≡ i
-        → ClosesAt (record_texts rs) (get_or (take (i + 1) rs) j f).text.now
-        (get_or (slice_set es (get_or rs i d).index k) (get_or (take (i + 1) rs) j f).index 0)
-    last j f q =
-        let a : get_or (take (i + 1) rs) j f ≡ get_or rs i d =
-        get_or-take (i + 1) rs j f (omega (arith, q)) ∙ ap (λ z. get_or rs z f) q
-        ∙ get_or_default rs i f d l in
-        at_index (get_or (take (i + 1) rs) j f) (ap (λ (z : Record). z.index) a)
-        (ap (λ (z : Record). z.text.now) a)
+      at_index : (q : Record) → q.index ≡ here.index → Closes q (get_or new q.index 0)
+      at_index q e =
+          let v : get_or new q.index 0 ≡ k = ap (λ z. get_or new z 0) e
+          ∙ get_or-set_same es here.index k 0 w in
+          subst (Closes q) (sym v) (subst (λ z. ClosesAt (record_texts T rs) (indexed_text T z) k)
+          (sym e) c)
 
--- so many units as the records before a record and itself take
-pub units_up_to_record : (rs : List Record) (i : ℕ) (d : Record) → i < length rs
-    → sum_by size (record_texts (take i rs)) + size (get_or rs i d).text.now ≤ sum_by size
-    (record_texts rs)
-units_up_to_record rs i d h =
-    let t = (get_or rs i d).text.now in
-    let e = ap (sum_by size) (texts-split rs i d h) in
-    let f = sum_by-append size (record_texts (take i rs)) (t ∷ record_texts (drop (suc i) rs)) in
-    let g = sum_by-cons size t (record_texts (drop (suc i) rs)) in
-    omega (arith, e, f, g)
+      elsewhere : (q : Record) → Closes q (get_or es q.index 0) → Closes q (get_or new q.index 0)
+      elsewhere q old = elim (cases_eq q.index here.index) [
+        | inl e ↦ at_index q e
+        | inr ne ↦ subst (Closes q) (sym (get_or-set_other es here.index q.index k 0 ne)) old
+      ]
 
 pub records-push : (qs : TextList) (t : List ℕ)
     → flat_map record_units (qs ++ t ∷ []) ≡ flat_map record_units qs ++ record_units t

@@ -1,5 +1,5 @@
 -- From what is laid of records to their block, and from the block to the plan.
-use Rattle.std.proofs.Common.{◌≡◌, ℕ, ◌∷◌, List, Result, Ok, Err, IfOk, length}
+use Rattle.std.proofs.Common.{◌≡◌, ℕ, ◌∷◌, List, Result, Ok, Err, IfOk, length, ◌∙◌}
 use Rattle.std.specs.declared.alloc.AllocError.{AllocError}
 use Rattle.std.specs.List.{All, flat_map}
 use Rattle.std.specs.List.Sorted.{IsSorted}
@@ -13,13 +13,13 @@ use Rattle.resb_pool.specs.declared.records.Block.{Block}
 
 module _ (T : List (List ℕ)) (hs : List ℕ) (ms : List Measure) (sums : List ℕ)
     (lying : AreLyingIn hs ms sums)
-    (v : List Record) (records : IsRecords T (record_texts v)) (each : All (IsRecordOf T sums) v)
-    (ascend : IsSorted record_cmp v) where
-  pub block_of : (r : Result Block AllocError)
-      → IfOk r (λ b. b.units.items ≡ 0 ∷ flat_map record_units (record_texts v))
-      → IfOk r (λ b. length b.ends.items ≡ length hs) → IfOk r (λ b. AreEnds v v b.ends.items)
+    (v : List Record) (records : IsRecords T (record_texts T v))
+    (each : All (IsRecordOf T sums) v) (ascend : IsSorted (record_cmp T) v) where
+  pub block_of : (n : ℕ) → n ≡ length hs → (r : Result Block AllocError)
+      → IfOk r (λ b. b.units.items ≡ 0 ∷ flat_map record_units (record_texts T v))
+      → IfOk r (λ b. length b.ends.items ≡ n) → IfOk r (λ b. AreEnds T v v b.ends.items)
       → IfOk r (λ b. IsBlock T hs ms b.units.items b.ends.items)
-  block_of (Ok b) u n e = record {
+  block_of n m (Ok b) u k e = record {
     sums = sums;
     lying = lying;
     rows = v;
@@ -27,7 +27,7 @@ module _ (T : List (List ℕ)) (hs : List ℕ) (ms : List Measure) (sums : List 
     each = each;
     ascend = ascend;
     units = u;
-    len = n;
+    len = k ∙ m;
     ends = e;
   }
-  block_of (Err x) u n e = tt
+  block_of n m (Err x) u k e = tt

@@ -3,7 +3,7 @@ use Rattle.std.proofs.Common.{◌≡◌, ℕ, zero, suc, ◌+◌, ◌-◌, ◌<�
 use Rattle.std.proofs.Common.{◌∙◌, ap, arith, ◌≤◌, get_or, ◌⊎◌, inl, false, refl, sym, true≢false}
 use Rattle.std.proofs.Common.{nat_cmp, Bool, true, cond}
 use Rattle.std.specs.Cmp.Lexicographic.{slice_cmp, nat_list_cmp_total}
-use Rattle.std.specs.Ordering.{ordering_then, ordering_reverse, is_lt}
+use Rattle.std.specs.Ordering.{ordering_reverse, is_lt}
 use Rattle.std.specs.declared.cmp.Ordering.{Ordering}
 use Rattle.std.specs.declared.cmp.Ordering.TheVariants.{Less, Equal, Greater}
 use Rattle.std.specs.FinMap.{slice_cmp-IsAntisymmetric, nat_cmp-IsAntisymmetric}
@@ -25,15 +25,13 @@ pub first_kept : (us rest : List ℕ) → (get_or us 0 0 ≤ 0xdbff) ⊎ (0xdfff
 first_kept [] rest h = inl (omega arith)
 first_kept (u ∷ us) rest h = h
 
--- a text that is not after another one, by an order that begins with that of texts, is before it,
--- or the same
-pub text_order : (s t : List ℕ) (z : Ordering)
-    → is_lt (ordering_then (slice_cmp nat_cmp t s) z) ≡ false → (s ≡ t → ⊥)
+-- a text that is not after another one is before it, or the same
+pub text_order : (s t : List ℕ) → is_lt (slice_cmp nat_cmp t s) ≡ false → (s ≡ t → ⊥)
     → slice_cmp nat_cmp s t ≡ Less
-text_order s t z h ne = by (slice_cmp nat_cmp t s) refl
+text_order s t h ne = by (slice_cmp nat_cmp t s) refl
   where
     by : (o : Ordering) → slice_cmp nat_cmp t s ≡ o → slice_cmp nat_cmp s t ≡ Less
-    by Less e = absurd (true≢false (sym (ap (λ o. is_lt (ordering_then o z)) e) ∙ h))
+    by Less e = absurd (true≢false (sym (ap is_lt e) ∙ h))
     by Equal e = absurd (ne (sym (slice_cmp-IsAntisymmetric nat_cmp-IsAntisymmetric t s e)))
     by Greater e = nat_list_cmp_total.antisymm s t ∙ ap ordering_reverse e
 

@@ -4,7 +4,7 @@ use Rattle.std.proofs.Common.{false, zero, nat_eq, ◌≤◌}
 use Rattle.std.specs.Ordering.{nat_cmp, ordering_reverse, ordering_then, is_lt}
 use Rattle.std.specs.declared.cmp.Ordering.{Ordering}
 use Rattle.std.specs.declared.cmp.Ordering.TheVariants.{Less, Equal, Greater}
-use Rattle.std.proofs.lemmas.Cmp.{nat_cmp_total, ranked, by_ranked}
+use Rattle.std.proofs.lemmas.Cmp.{nat_cmp_total, ranked, by_ranked, tied_itself}
 use Rattle.std.proofs.lemmas.Bool.{cases_lt, ne_eqb}
 
 -- how two numbers compare, both ways
@@ -47,9 +47,11 @@ three_ways P x y less same more = by_ranked (x < y) (x ≡ y) (y < x) (nat_cmp x
 pub less_is_first : (o p : Ordering) → o ≡ Less → is_lt (ordering_then o p) ≡ false → ⊥
 less_is_first o p f g = cc (ap is_lt (ordering_then_less o p f), g)
 
--- what is after another thing by the first comparison is not before it
-pub greater_is_not_before : (o p : Ordering) → o ≡ Greater → is_lt (ordering_then o p) ≡ false
-greater_is_not_before o p f = rw f refl
+-- of two comparisons in a row, what ties by the first goes by the second
+pub tied_first : (a b : ℕ) (o : Ordering) → a ≡ b → is_lt (ordering_then (nat_cmp a b) o) ≡ false
+    → is_lt o ≡ false
+tied_first a b o f e = sym (ap is_lt (ap (λ z. ordering_then (nat_cmp a z) o) (sym f)
+    ∙ ordering_then_equal (nat_cmp a a) o (tied_itself nat_cmp_total a))) ∙ e
 
 -- not before by two comparisons in a row, nor where the second one is another that says no more
 pub ordering_then_not_before : (o p q : Ordering) → (is_lt p ≡ false → is_lt q ≡ false)

@@ -23,34 +23,22 @@ use Rattle.resb_pool.specs.Pool.{off_empty, off_within}
 use Rattle.resb_pool.specs.Plan.{nows, texts_size, IsPlan}
 use Rattle.resb_pool.specs.Inner.Placing.{indexed_text, copies, AreTexts, AreContainers, AreSums}
 use Rattle.resb_pool.specs.Inner.Placing.{lying_in}
-use Rattle.resb_pool.specs.Inner.Placing.{IsRecordOf, AreEnds, record_texts, record_cmp}
-use Rattle.resb_pool.specs.Inner.Placing.{AllClose, AreOffsets}
+use Rattle.resb_pool.specs.Inner.Placing.{IsRecordOf, AreEnds, record_text, record_texts}
+use Rattle.resb_pool.specs.Inner.Placing.{record_cmp, AllClose, AreOffsets}
 use Rattle.resb_pool.specs.Inner.LaidRecords.{AreLyingIn}
 use Rattle.resb_pool.specs.declared.measure.Measure.{Measure}
 use Rattle.resb_pool.specs.declared.records.Record.{Record}
 use Rattle.resb_pool.proofs.Least.{into_least}
-use Rattle.resb_pool.proofs.TextLoops.{blank}
 use Rattle.resb_pool.proofs.Distinct.{has_text, index_of, one_index}
 use Rattle.resb_pool.proofs.Sizes.{sizes_within}
 use Rattle.resb_pool.proofs.Sums.{sized, totals_of, copies_of_all}
 use Rattle.resb_pool.proofs.PlacingLemmas.{record_from, container_from, records_from}
 use Rattle.resb_pool.proofs.Sharing.{own_size, size_within}
-use Rattle.resb_pool.proofs.InOrder.{length-records, neighbours_differ, text_at_index}
-use Rattle.resb_pool.proofs.InOrder.{in_order}
+use Rattle.resb_pool.proofs.InOrder.{length-records, neighbours_differ, in_order}
 use Rattle.resb_pool.proofs.TextLists.{TextList}
 
-texts_len : (v : List Record) → length (record_texts v) ≡ length v
-texts_len [] = refl
-texts_len (r ∷ v) = omega (arith, texts_len v)
-
 no_record : Record
-no_record = record {
-  unit_count = 0;
-  saved = record { 0 = 0 };
-  front = 0;
-  text = blank;
-  index = 0;
-}
+no_record = record { unit_count = 0; saved = 0; front = 0; index = 0 }
 
 size_nil : size [] ≡ 1
 size_nil =
@@ -126,65 +114,59 @@ module _ (S T : TextList) (ms : List Measure) (given : AreTexts S T ms)
             omega (arith, o, lying.each q (omega (arith, l, placed.len)));
       }
 
-      module _ (v : List Record) (records : IsRecords T (record_texts v))
+      module _ (v : List Record) (records : IsRecords T (record_texts T v))
           (each : All (IsRecordOf T sums) v) where
-        in_given : IsRecords S (record_texts v)
-        in_given = records_from T S given.same (record_texts v) records
+        in_given : IsRecords S (record_texts T v)
+        in_given = records_from T S given.same (record_texts T v) records
 
-        pub laid_within : sum_by size (record_texts v) ≤ sum_by size S
-        laid_within = into_least size (λ p r. p ≡ r) (λ p q r e f. e ∙ sym f) (record_texts v) S
+        pub laid_within : sum_by size (record_texts T v) ≤ sum_by size S
+        laid_within = into_least size (λ p r. p ≡ r) (λ p q r e f. e ∙ sym f) (record_texts T v) S
             in_given.once (λ q c. (q, ((in_given.just q).0 c).given, refl, omega arith))
 
-        pub laid_small : sum_by size (record_texts v) < 2 ^ 28
+        pub laid_small : sum_by size (record_texts T v) < 2 ^ 28
         laid_small = omega (arith, laid_within, sizes_small)
 
+        record_text_at : (i : ℕ) (d : Record) → i < length v
+            → get_or (record_texts T v) i [] ≡ record_text T (get_or v i d)
+        record_text_at i d l = get_or-map (record_text T) v i d [] l
+
+        is_record : (i : ℕ) (d : Record) → i < length v → IsRecord T (record_text T (get_or v i d))
+        is_record i d l = (records.just (record_text T (get_or v i d))).0 (
+          i,
+          omega (arith, l, length-map v (record_text T)),
+          get_or-map (record_text T) v i d (record_text T (get_or v i d)) l,
+        )
+
         saved_at : (i : ℕ) (d : Record) → i < length v
-            → Saved S (get_or v i d).text.now (get_or v i d).saved.0
+            → Saved S (record_text T (get_or v i d)) (get_or v i d).saved
         saved_at i d l =
             let r = get_or v i d in
             let e = each i d l in
-            let own : IsRecord T (indexed_text T r.index) =
-            subst (IsRecord T) e.text_is ((records.just r.text.now).0 (contains_text v i d l)) in
-            let n : lying_in hs ms r.index ≡ r.saved.0 + size r.text.now =
-            sym (lying.each r.index (omega (arith, e.within, placed.len))) ∙ sym e.saved_is in
-            subst (λ z. SizeIn S z S (r.saved.0 + size z)) (sym e.text_is)
-            (subst (SizeIn S (indexed_text T r.index) S) (n
-            ∙ ap (λ z. r.saved.0 + size z) e.text_is)
-            (record_in r.index e.within own))
-          where
-            contains_text : (v : List Record) (i : ℕ) (d : Record) → i < length v
-                → Contains (record_texts v) (get_or v i d).text.now
-            contains_text v i d l = (
-              i,
-              omega (arith, l, texts_len v),
-              get_or-map (λ (r : Record). r.text.now) v i d
-                  (get_or v i d).text.now l,
-            )
+            subst (SizeIn S (record_text T r) S)
+            (sym (lying.each r.index (omega (arith, e.within, placed.len))) ∙ sym e.saved_is)
+            (record_in r.index e.within (is_record i d l))
 
-        module _ (es : List ℕ) (count : length es ≡ length hs) (ends : AreEnds v v es) where
+        module _ (es : List ℕ) (count : length es ≡ length hs) (ends : AreEnds T v v es) where
           closed : (q : ℕ) → q < length T → IsRecord T (indexed_text T q)
-              → ClosesAt (record_texts v) (indexed_text T q) (get_or es q 0)
-          closed q l r = at (index_of (record_texts v) (indexed_text T q)
+              → ClosesAt (record_texts T v) (indexed_text T q) (get_or es q 0)
+          closed q l r = at (index_of (record_texts T v) (indexed_text T q)
               ((records.just (indexed_text T q)).1 r))
             where
-              at : (f : (i : ℕ) × (i < length (record_texts v))
-                  × (indexed_text (record_texts v) i ≡ indexed_text T q))
-                  → ClosesAt (record_texts v) (indexed_text T q) (get_or es q 0)
+              at : (f : (i : ℕ) × (i < length (record_texts T v))
+                  × (indexed_text (record_texts T v) i ≡ indexed_text T q))
+                  → ClosesAt (record_texts T v) (indexed_text T q) (get_or es q 0)
               at f =
                   let i : ℕ = f.0 in
-                  let k : i < length v = omega (arith, f.1, texts_len v) in
+                  let k : i < length v = omega (arith, f.1, length-map v (record_text T)) in
                   let x : Record = get_or v i no_record in
-                  let e = each i no_record k in
-                  let t : x.text.now ≡ indexed_text T q =
-                  sym (get_or-map (λ (r : Record). r.text.now) v i no_record [] k) ∙ f.2 in
-                  let n : x.index ≡ q = one_index T x.index q given.once e.within l (sym e.text_is
-                  ∙ t) in
-                  subst (λ z. ClosesAt (record_texts v) z (get_or es q 0)) t
-                  (subst (λ z. ClosesAt (record_texts v) x.text.now (get_or es z 0)) n
+                  let t = sym (record_text_at i no_record k) ∙ f.2 in
+                  let n = one_index T x.index q given.once (each i no_record k).within l t in
+                  subst (λ z. ClosesAt (record_texts T v) z (get_or es q 0)) t
+                  (subst (λ z. ClosesAt (record_texts T v) (record_text T x) (get_or es z 0)) n
                   (ends.closes i no_record k))
 
-          closes_within : (r : List ℕ) (k : ℕ) → ClosesAt (record_texts v) r k
-              → k ≤ sum_by size (record_texts v)
+          closes_within : (r : List ℕ) (k : ℕ) → ClosesAt (record_texts T v) r k
+              → k ≤ sum_by size (record_texts T v)
           closes_within r k c = omega (
             arith,
             c.place,
@@ -196,20 +178,12 @@ module _ (S T : TextList) (ms : List Measure) (given : AreTexts S T ms)
           -- the empty text is no record
           empty_zero : (q : ℕ) → q < length T → length (indexed_text T q) ≡ 0 → get_or es q 0 ≡ 0
           empty_zero q l z = ends.others q (λ i d k e.
-              let o = each i d k in
-              let c : Contains (record_texts v) (get_or v i d).text.now = (
-                i,
-                omega (arith, k, texts_len v),
-                get_or-map (λ (r : Record). r.text.now) v i d
-                    (get_or v i d).text.now k,
-              ) in
-              let n = ((records.just (get_or v i d).text.now).0 c).nonempty in
-              omega (arith, n, z, ap length (o.text_is ∙ ap (indexed_text T) e)))
+              omega (arith, (is_record i d k).nonempty, z, ap (λ n. length (indexed_text T n)) e))
 
           -- where the record of a text closes
           record_end : (i : ℕ) → i < length T → 0 < length (indexed_text T i)
               → LiesIn S (indexed_text T i) (indexed_text T (get_or hs i 0))
-              × ClosesAt (record_texts v) (indexed_text T (get_or hs i 0))
+              × ClosesAt (record_texts T v) (indexed_text T (get_or hs i 0))
               (get_or es (get_or hs i 0) 0)
               × (size (indexed_text T i) ≤ size (indexed_text T (get_or hs i 0)))
           record_end i l pos =
@@ -264,7 +238,7 @@ module _ (S T : TextList) (ms : List Measure) (given : AreTexts S T ms)
 
           module _ (os : List ℕ) (offsets : AreOffsets hs ms es os) where
             stands : (i : ℕ) → i < length T
-                → Off S (record_texts v) (indexed_text T i) (get_or os i 0)
+                → Off S (record_texts T v) (indexed_text T i) (get_or os i 0)
             stands i l =
                 let d : Measure = record { unit_count = 0; size = 0; total = 0 } in
                 let o = offsets.each i d (omega (arith, l, placed.len)) in
@@ -278,22 +252,22 @@ module _ (S T : TextList) (ms : List Measure) (given : AreTexts S T ms)
                   | inr z ↦
                       let e = empty_end i l (omega (arith, z)) in
                       let k : get_or os i 0 ≡ 0 = omega (arith, o, size_is i d l, e.0, e.1) in
-                      subst (Off S (record_texts v) (indexed_text T i)) (sym k)
-                      (subst (λ s. Off S (record_texts v) s 0)
+                      subst (Off S (record_texts T v) (indexed_text T i)) (sym k)
+                      (subst (λ s. Off S (record_texts T v) s 0)
                       (sym (nil_from_length (indexed_text T i) (omega (arith, z)))) off_empty)
                 ]
 
-            pub planned : IsSorted record_cmp v → All (λ s. length (units s) ≤ 4294967295) S
+            pub planned : IsSorted (record_cmp T) v → All (λ s. length (units s) ≤ 4294967295) S
                 → (us : List ℕ) (offset : List ℕ → Option ℕ)
-                → us ≡ 0 ∷ flat_map record_units (record_texts v)
+                → us ≡ 0 ∷ flat_map record_units (record_texts T v)
                 → ((s : List ℕ) → MatchOption (offset s) (Contains T s → ⊥) (λ k. (i : ℕ)
                 × (i < length T) × (indexed_text T i ≡ s) × (k ≡ get_or os i 0)))
                 → IsPlan S us offset
             planned sorted short us offset u f = record {
               texts = given.utf8;
               short = short;
-              room = omega (arith, ap length u, length-records (record_texts v), laid_small);
-              records = record_texts v;
+              room = omega (arith, ap length u, length-records (record_texts T v), laid_small);
+              records = record_texts T v;
               pool = record {
                 records = in_given;
                 ordered = λ k lt. precedes k lt;
@@ -305,32 +279,32 @@ module _ (S T : TextList) (ms : List Measure) (given : AreTexts S T ms)
                 by : (s : List ℕ) (o : Option ℕ) → MatchOption o (Contains T s → ⊥) (λ k. (i : ℕ)
                     × (i < length T) × (indexed_text T i ≡ s) × (k ≡ get_or os i 0))
                     → MatchOption o (Contains S s → ⊥) (λ k. Contains S s
-                    × Off S (record_texts v) s k)
+                    × Off S (record_texts T v) s k)
                 by s None h = λ c. h ((given.same s).1 c)
                 by s (Some k) (i, l, e, q) = (
                   (given.same s).0 (subst (Contains T) e (has_text T i l)),
-                  subst (λ z. Off S (record_texts v) z k) e
-                      (subst (Off S (record_texts v) (indexed_text T i)) (sym q) (stands i l)),
+                  subst (λ z. Off S (record_texts T v) z k) e
+                      (subst (Off S (record_texts T v) (indexed_text T i)) (sym q) (stands i l)),
                 )
 
-                precedes : (k : ℕ) → k + 1 < length (record_texts v)
-                    → Precedes S (get_or (record_texts v) k []) (get_or (record_texts v) (k + 1) [])
+                precedes : (k : ℕ) → k + 1 < length (record_texts T v) → Precedes S
+                    (get_or (record_texts T v) k []) (get_or (record_texts T v) (k + 1) [])
                 precedes k lt =
-                    let Q = record_texts v in
-                    let n = texts_len v in
+                    let Q = record_texts T v in
+                    let n = length-map v (record_text T) in
                     let next : suc k ≡ k + 1 = omega arith in
                     let a : k < length v = omega (arith, n) in
                     let b : k + 1 < length v = omega (arith, n) in
-                    let here = text_at_index v k no_record a in
-                    let there = text_at_index v (k + 1) no_record b in
+                    let here = record_text_at k no_record a in
+                    let there = record_text_at (k + 1) no_record b in
                     let x = get_or v k no_record in
                     let y = get_or v (k + 1) no_record in
-                    let ne : x.text.now ≡ y.text.now
+                    let ne : record_text T x ≡ record_text T y
                     → ⊥ = λ q. neighbours_differ Q k records.once (omega arith) (here ∙ q
                     ∙ sym there ∙ ap (λ i. get_or Q i []) (sym next)) in
                     subst (λ z. Precedes S z (get_or Q (k + 1) [])) (sym here)
-                    (subst (Precedes S x.text.now) (sym there)
-                    (in_order S x y (each k no_record a).units_is
+                    (subst (Precedes S (record_text T x)) (sym there)
+                    (in_order S T x y (each k no_record a).units_is
                     (each (k + 1) no_record b).units_is
                     (saved_at k no_record a) (saved_at (k + 1) no_record b)
                     (sorted k no_record (omega arith) b) ne))

@@ -78,15 +78,6 @@ texts_size-most ss s rs = omega (
   sum_by-cons (λ (r : List ℕ). 16 + length (units r)) s rs,
 )
 
-pub nows-whole : (xs : List (Bor (List ℕ))) (i : ℕ) → length xs ≤ i → nows (take i xs) ≡ nows xs
-nows-whole xs i h = ap nows (take-all xs i h)
-  where
-    take-all : (xs : List (Bor (List ℕ))) (i : ℕ) → length xs ≤ i → take i xs ≡ xs
-    take-all [] zero h = refl
-    take-all [] (suc i) h = refl
-    take-all (x ∷ xs) zero h = absurd (omega arith)
-    take-all (x ∷ xs) (suc i) h = ap (λ l. x ∷ l) (take-all xs i (omega arith))
-
 -- the texts behind references of which one more was pushed
 pub nows-push : (old new : List (Bor (List ℕ))) (t : Bor (List ℕ)) → new ≡ old ++ t ∷ []
     → nows new ≡ nows old ++ t.now ∷ []

@@ -36,7 +36,7 @@ fn lay_records(
     let sums = find_sums(alloc, containers, measures)?;
     let records = ordered(alloc, texts, containers, measures, &sums)?;
     drop(sums);
-    lay(alloc, &records, containers.len())
+    lay(alloc, texts, &records)
 }
 
 /// Unit 0 and the records of distinct texts, and the unit at which each text stands.

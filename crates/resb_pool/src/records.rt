@@ -1,34 +1,40 @@
 //! The records in their order, and their units.
 //! Which texts are records is said in `containers`.
 ghost use Rattle.std.specs.Prelude.{◌≡◌, ◌++◌, ◌∷◌, ◌+◌, ◌<◌, ◌^◌, length, map};
-ghost use Rattle.std.specs.Prelude.{All, IfOk, OnOk, sum_by, slice_index};
+ghost use Rattle.std.specs.Prelude.{All, IfOk, OnOk, sum_by, slice_index, slice_index_or};
 ghost use Rattle.std.specs.Prelude.{nat_eq, not, ◌&&◌};
 ghost use Rattle.std.specs.Char.Escape.{encode_utf16};
+ghost use Rattle.std.specs.Cmp.Lexicographic.{slice_cmp};
 ghost use Rattle.std.specs.List.{flat_map};
 ghost use Rattle.std.specs.List.Sorted.{IsSorted};
+ghost use Rattle.std.specs.Ordering.{nat_cmp};
 ghost use Rattle.resb_format.specs.Units.{units as units_of, marker, size};
 ghost use Rattle.resb_pool.specs.Pool.{record_units};
 ghost use Rattle.resb_pool.specs.Plan.{nows};
 ghost use Rattle.resb_pool.specs.Records.{EachOnce, IsRecords};
-ghost use Rattle.resb_pool.specs.Inner.Placing.{AreContainers, AreSums, AreIndexed, AreEnds};
-ghost use Rattle.resb_pool.specs.Inner.Placing.{IsRecordOf, record_texts, record_cmp};
+ghost use Rattle.resb_pool.specs.Inner.Placing.{AreContainers, AreSums, AreEnds};
+ghost use Rattle.resb_pool.specs.Inner.Placing.{IsRecordOf, record_text, record_texts};
+ghost use Rattle.resb_pool.specs.Inner.Placing.{record_cmp, fronted_cmp};
+ghost use Rattle.resb_pool.specs.declared.records.Record.{Record};
 ghost use Rattle.resb_pool.specs.Inner.Placing.{AreBytes, front_bytes};
 
 use crate::measure::{Measure, is_unmarked};
+use crate::texts::indexed_text;
 use std::alloc::{AllocError, Global};
-use std::cmp::Reverse;
+use std::cmp::Ordering;
 
-/// A record, ordered as in the block: by its text's units, then by the units that sharing it
-/// saves, the most first, then by its text's bytes.
-#[derive(Clone, Copy, PartialEq, Eq, PartialOrd, Ord)]
-pub(crate) struct Record<'a> {
+/// The record of a text, by the text's index. Its other numbers tell it from most other records,
+/// and are compared first, so that few texts are looked at.
+#[derive(Clone, Copy)]
+pub(crate) struct Record {
+    /// How many units the text has.
     pub(crate) unit_count: u32,
-    pub(crate) saved: Reverse<u32>,
+    /// How many units sharing the record saves.
+    pub(crate) saved: u32,
     /// The text's first eight bytes, which tell most texts apart.
     pub(crate) front: u64,
-    pub(crate) text: &'a str,
     /// The text's index.
-    pub(crate) index: usize,
+    pub(crate) index: u32,
 }
 
 /// Unit 0 and the units of the records, and where each text's closing 0 stands, or 0 where the text
@@ -73,17 +79,19 @@ fn front_of(bytes: &[u8]) -> u64
 }
 
 /// The records among texts: those that aren't empty and lie in themselves.
-fn find_records<'a>(
+fn find_records(
     alloc: Global,
-    texts: &[&'a str],
+    texts: &[&str],
     containers: &[u32],
     measures: &[Measure],
     sums: &[u32],
-) -> Result<Vec<Record<'a>>, AllocError>
+) -> Result<Vec<Record>, AllocError>
     requires distinct { EachOnce (nows texts.now) }
+    requires few { length texts.now < 2 ^ 32 }
     requires containers { AreContainers (nows texts.now) containers.now }
     requires sums { AreSums (nows texts.now) measures.now sums.now }
-    ensures records { IfOk result (λ v. IsRecords (nows texts.now) (record_texts v.items)) }
+    ensures records { IfOk result (λ v. IsRecords (nows texts.now)
+        (record_texts (nows texts.now) v.items)) }
     ensures each { IfOk result (λ v. All (IsRecordOf (nows texts.now) sums.now) v.items) }
 {
     let mut records = Vec::with_capacity(alloc, containers.len())?;
@@ -94,32 +102,63 @@ fn find_records<'a>(
         let measure = &measures[index];
         records.push(Record {
             unit_count: measure.unit_count,
-            saved: Reverse(sums[index] - measure.size),
+            saved: sums[index] - measure.size,
             front: front_of(texts[index].as_bytes()),
-            text: texts[index],
-            index,
+            index: index as u32,
         })?;
     }
     Ok(records)
 }
 
-/// The records among texts, in their order.
-pub(crate) fn ordered<'a>(
+/// How two texts compare by their bytes. This call is kept out of the sort, which for most records
+/// only compares numbers.
+#[inline(never)]
+fn compare_texts(left: &str, right: &str) -> Ordering
+    ensures { result ≡ slice_cmp nat_cmp left.now right.now }
+{
+    left.cmp(right)
+}
+
+/// How two records compare: by their texts' units, then by the units that sharing them saves, the
+/// most first, then by their texts' first bytes, and where all of these are the same by all bytes.
+#[inline(always)]
+fn compare_records(texts: &[&str], left: &Record, right: &Record) -> Ordering
+    ensures { result ≡ fronted_cmp (nows texts.now) left.now right.now }
+{
+    match left.unit_count.cmp(&right.unit_count) {
+        Ordering::Equal => match right.saved.cmp(&left.saved) {
+            Ordering::Equal => match left.front.cmp(&right.front) {
+                Ordering::Equal => compare_texts(
+                    indexed_text(texts, left.index),
+                    indexed_text(texts, right.index),
+                ),
+                other => other,
+            },
+            other => other,
+        },
+        other => other,
+    }
+}
+
+/// The records among texts, in the order in which they stand in the block.
+pub(crate) fn ordered(
     alloc: Global,
-    texts: &[&'a str],
+    texts: &[&str],
     containers: &[u32],
     measures: &[Measure],
     sums: &[u32],
-) -> Result<Vec<Record<'a>>, AllocError>
+) -> Result<Vec<Record>, AllocError>
     requires distinct { EachOnce (nows texts.now) }
+    requires few { length texts.now < 2 ^ 32 }
     requires containers { AreContainers (nows texts.now) containers.now }
     requires sums { AreSums (nows texts.now) measures.now sums.now }
-    ensures records { IfOk result (λ v. IsRecords (nows texts.now) (record_texts v.items)) }
+    ensures records { IfOk result (λ v. IsRecords (nows texts.now)
+        (record_texts (nows texts.now) v.items)) }
     ensures each { IfOk result (λ v. All (IsRecordOf (nows texts.now) sums.now) v.items) }
-    ensures ascend { IfOk result (λ v. IsSorted record_cmp v.items) }
+    ensures ascend { IfOk result (λ v. IsSorted (record_cmp (nows texts.now)) v.items) }
 {
     let mut records = find_records(alloc, texts, containers, measures, sums)?;
-    records.sort_unstable();
+    records.sort_unstable_by(|left, right| compare_records(texts, left, right));
     Ok(records)
 }
 
@@ -178,25 +217,23 @@ fn push_marker(units: &mut Vec<u16>, text: &str, count: u32) -> Result<(), Alloc
     units.extend_from_slice(&[0xdfff, high, low])
 }
 
-/// Appends a record, and gives the index of its closing 0.
-fn push_record(units: &mut Vec<u16>, item: &Record<'_>) -> Result<u32, AllocError>
-    requires count { item.now.unit_count ≡ length (units_of item.now.text.now) }
-    requires short { item.now.unit_count < 2 ^ 28 }
-    requires fits { length units.old.items + size item.now.text.now < 2 ^ 32 }
-    ensures appends { OnOk result (units.new.items
-        ≡ units.old.items ++ record_units item.now.text.now) }
-    ensures end { IfOk result (λ end. end + 1
-        ≡ length units.old.items + size item.now.text.now) }
+/// Appends the record of a text of so many units, and gives the index of its closing 0.
+fn push_record(units: &mut Vec<u16>, text: &str, count: u32) -> Result<u32, AllocError>
+    requires count { count ≡ length (units_of text.now) }
+    requires short { count < 2 ^ 28 }
+    requires fits { length units.old.items + size text.now < 2 ^ 32 }
+    ensures appends { OnOk result (units.new.items ≡ units.old.items ++ record_units text.now) }
+    ensures end { IfOk result (λ end. end + 1 ≡ length units.old.items + size text.now) }
 {
-    push_marker(units, item.text, item.unit_count)?;
-    push_units(units, item.text)?;
+    push_marker(units, text, count)?;
+    push_units(units, text)?;
     let end = units.len() as u32;
     units.push(0)?;
     Ok(end)
 }
 
 /// Room for unit 0 and these records, each with the longest marker.
-fn room_for(records: &[Record<'_>]) -> usize {
+fn room_for(records: &[Record]) -> usize {
     let mut room = 1usize;
     for record in records {
         room = room.saturating_add(record.unit_count as usize + 4);
@@ -204,21 +241,38 @@ fn room_for(records: &[Record<'_>]) -> usize {
     room
 }
 
-/// Unit 0 and the records of so many texts, with the indexes of their closing zeros.
-pub(crate) fn lay(alloc: Global, records: &[Record<'_>], count: usize) -> Result<Block, AllocError>
-    requires counts { All (λ r. r.unit_count ≡ length (units_of r.text.now)) records.now }
-    requires indexed { AreIndexed records.now count }
-    requires short { sum_by size (record_texts records.now) < 2 ^ 28 }
+/// The text of the record at a place, or the empty one where there is no record.
+fn record_text_at<'a>(texts: &[&'a str], records: &[Record], place: usize) -> &'a str
+    ensures { (d : Record) → place < length records.now
+        → result.now ≡ record_text (nows texts.now) (slice_index_or records.now place d) }
+{
+    match records.get(place) {
+        Some(record) => indexed_text(texts, record.index),
+        None => "",
+    }
+}
+
+/// Unit 0 and these records of texts, with the indexes of their closing zeros.
+pub(crate) fn lay(alloc: Global, texts: &[&str], records: &[Record]) -> Result<Block, AllocError>
+    requires counts { All (λ r. r.unit_count
+        ≡ length (units_of (record_text (nows texts.now) r))) records.now }
+    requires within { All (λ r. r.index < length texts.now) records.now }
+    requires short { sum_by size (record_texts (nows texts.now) records.now) < 2 ^ 28 }
     ensures units { IfOk result (λ b. b.units.items
-        ≡ 0 ∷ flat_map record_units (record_texts records.now)) }
-    ensures len { IfOk result (λ b. length b.ends.items ≡ count) }
-    ensures ends { IfOk result (λ b. AreEnds records.now records.now b.ends.items) }
+        ≡ 0 ∷ flat_map record_units (record_texts (nows texts.now) records.now)) }
+    ensures len { IfOk result (λ b. length b.ends.items ≡ length texts.now) }
+    ensures ends { IfOk result (λ b. AreEnds (nows texts.now) records.now records.now
+        b.ends.items) }
 {
     let mut units = Vec::with_capacity(alloc, room_for(records))?;
-    let mut ends = vec![in alloc; 0; count]?;
+    let mut ends = vec![in alloc; 0; texts.len()]?;
     units.push(0)?;
-    for record in records {
-        ends[record.index] = push_record(&mut units, record)?;
+    // a text is looked up while the record before it is laid, since it is likely to stand far off
+    let mut next = record_text_at(texts, records, 0);
+    for (place, record) in records.iter().enumerate() {
+        let text = next;
+        next = record_text_at(texts, records, place + 1);
+        ends[record.index as usize] = push_record(&mut units, text, record.unit_count)?;
     }
     Ok(Block { units, ends })
 }

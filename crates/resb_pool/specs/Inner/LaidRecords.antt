@@ -22,12 +22,12 @@ pub record IsBlock (T : List (List ℕ)) (cs : List ℕ) (ms : List Measure) (us
   pub sums : List ℕ
   pub lying : AreLyingIn cs ms sums
   pub rows : List Record
-  pub records : IsRecords T (record_texts rows)
+  pub records : IsRecords T (record_texts T rows)
   pub each : All (IsRecordOf T sums) rows
-  pub ascend : IsSorted record_cmp rows
-  pub units : us ≡ 0 ∷ flat_map record_units (record_texts rows)
+  pub ascend : IsSorted (record_cmp T) rows
+  pub units : us ≡ 0 ∷ flat_map record_units (record_texts T rows)
   pub len : length es ≡ length cs
-  pub ends : AreEnds rows rows es
+  pub ends : AreEnds T rows rows es
 
 pub record HaveOffsets (T : List (List ℕ)) (ms : List Measure) (us os : List ℕ) : Type 0 where
   pub containers : List ℕ

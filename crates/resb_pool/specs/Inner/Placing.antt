@@ -4,7 +4,7 @@
 --     LiesAt T i r            the text i lies in the text r
 --     AreContainers T cs      each text lies in the one that cs has at its index
 --     lying_in cs ms q        what all copies that lie in the text q would take
---     AreEnds rs done es      es says where each record done closes
+--     AreEnds T rs done es    es says where each record done closes
 use Rattle.std.specs.Prelude.{◌≡◌, ℕ, zero, suc, ◌+◌, ◌-◌, ◌*◌, ◌^◌, ◌<◌, ◌≤◌, List, []}
 use Rattle.std.specs.Prelude.{◌∷◌, length}
 use Rattle.std.specs.Prelude.{map, All, Contains}
@@ -74,8 +74,13 @@ pub record AreRecordsAmong (S done rs : List (List ℕ)) : Type 0 where
   pub sound : (s : List ℕ) → Contains rs s → IsRecord S s × Contains done s
   pub complete : (s : List ℕ) → IsRecord S s → Contains done s → Contains rs s
 
-abbrev pub record_texts : List Record → List (List ℕ)
-record_texts rs = map (λ r. r.text.now) rs
+-- the text of a record
+abbrev pub record_text : List (List ℕ) → Record → List ℕ
+record_text T r = indexed_text T r.index
+
+-- the texts of records, in the order of these
+abbrev pub record_texts : List (List ℕ) → List Record → List (List ℕ)
+record_texts T rs = map (record_text T) rs
 
 -- each text's sizes, and that its own record is among what lies in it
 pub record AreSums (T : List (List ℕ)) (ms : List Measure) (sums : List ℕ) : Type 0 where
@@ -101,34 +106,28 @@ front_bytes number (suc n) (b ∷ bs) = front_bytes (number * 256 + b) n bs
 -- the record of a text with its units, and with what it saves
 pub record IsRecordOf (T : List (List ℕ)) (sums : List ℕ) (r : Record) : Type 0 where
   pub within : r.index < length T
-  pub text_is : r.text.now ≡ indexed_text T r.index
-  pub units_is : r.unit_count ≡ length (units r.text.now)
-  pub saved_is : r.saved.0 + size r.text.now ≡ slice_index sums r.index
-  pub front_is : r.front ≡ front_bytes 0 8 r.text.now
-  pub bytes : AreBytes r.text.now
+  pub units_is : r.unit_count ≡ length (units (record_text T r))
+  pub saved_is : r.saved + size (record_text T r) ≡ slice_index sums r.index
+  pub front_is : r.front ≡ front_bytes 0 8 (record_text T r)
+  pub bytes : AreBytes (record_text T r)
 
--- the order of records
-abbrev pub record_cmp : Record → Record → Ordering
-record_cmp x y = ordering_then (nat_cmp x.unit_count y.unit_count)
-    (ordering_then (nat_cmp y.saved.0 x.saved.0)
-    (ordering_then (slice_cmp nat_cmp x.text.now y.text.now) (nat_cmp x.index y.index)))
+-- the order of records: by their texts' units, then by what is saved, the most first, then by their
+-- texts
+abbrev pub record_cmp : List (List ℕ) → Record → Record → Ordering
+record_cmp T x y = ordering_then (nat_cmp x.unit_count y.unit_count)
+    (ordering_then (nat_cmp y.saved x.saved)
+    (slice_cmp nat_cmp (record_text T x) (record_text T y)))
 
 -- the same, with the first bytes before the texts
-abbrev pub fronted_cmp : Record → Record → Ordering
-fronted_cmp x y = ordering_then (nat_cmp x.unit_count y.unit_count)
-    (ordering_then (nat_cmp y.saved.0 x.saved.0) (ordering_then (nat_cmp x.front y.front)
-    (ordering_then (slice_cmp nat_cmp x.text.now y.text.now) (nat_cmp x.index y.index))))
-
--- records of one index are of one text
-pub record AreIndexed (rs : List Record) (count : ℕ) : Type 0 where
-  pub within : All (λ r. r.index < count) rs
-  pub one : (j k : ℕ) (d : Record) → j < length rs → k < length rs
-      → (slice_index_or rs j d).index ≡ (slice_index_or rs k d).index
-      → (slice_index_or rs j d).text.now ≡ (slice_index_or rs k d).text.now
+abbrev pub fronted_cmp : List (List ℕ) → Record → Record → Ordering
+fronted_cmp T x y = ordering_then (nat_cmp x.unit_count y.unit_count)
+    (ordering_then (nat_cmp y.saved x.saved) (ordering_then (nat_cmp x.front y.front)
+    (slice_cmp nat_cmp (record_text T x) (record_text T y))))
 
 -- where each record done closes; 0 for what is no record
-pub record AreEnds (rs done : List Record) (es : List ℕ) : Type 0 where
-  pub closes : All (λ r. ClosesAt (record_texts rs) r.text.now (slice_index es r.index)) done
+pub record AreEnds (T : List (List ℕ)) (rs done : List Record) (es : List ℕ) : Type 0 where
+  pub closes : All (λ r. ClosesAt (record_texts T rs) (record_text T r) (slice_index es r.index))
+      done
   pub others : (i : ℕ) → All (λ r. r.index ≡ i → ⊥) done → slice_index es i ≡ 0
 
 -- where a text of measure m that lies in c stands, by where its record closes

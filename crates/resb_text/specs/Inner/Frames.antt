@@ -75,13 +75,13 @@ view_of_frame g =
       number = g.number;
     }
 
--- groups from the innermost on, as the code lists them: the innermost last
+-- what the code shows of groups that are given from the innermost on: it lists that one last
 abbrev pub views_of_frames : List NumberedFrame → List FrameView
 views_of_frames [] = []
 views_of_frames (g ∷ gs) = views_of_frames gs ++ view_of_frame g ∷ []
 
--- a group's candidates: while it may be a table, these are its keys; its own strings have its
--- number, and all others greater ones
+-- a group's candidates: its own strings have its number, and all others greater ones; while it may
+-- be a table, they are its keys
 pub record IsFrom (g : NumberedFrame) (own : List GroupText) : Type 0 where
   pub whole : may_be_table g.frame.body g.frame.items ≡ true
       → texts own ≡ table_keys g.frame.items
@@ -95,7 +95,8 @@ pub data HoldsCandidates : List NumberedFrame → List GroupText → Type 0 wher
       → HoldsCandidates gs before → AllBelow g.number before → IsFrom g own → cs ≡ before ++ own
       → HoldsCandidates (g ∷ gs) cs
 
--- all open groups but the root have numbers from this one on, the innermost one's first
+-- the open group with this number and those around it, but the root, have numbers from the bound
+-- on
 abbrev pub AllFrom : ℕ → ℕ → List NumberedFrame → Type 0
 AllFrom bound number [] = Unit {0}
 AllFrom bound number (g ∷ gs) = (bound ≤ number) × AllFrom bound g.number gs

@@ -1,12 +1,13 @@
-use Rattle.std.proofs.Common.{ℕ, List, sym, ◌∙◌, subst}
+use Rattle.std.proofs.Common.{ℕ, List, length, sym, ◌∙◌, subst, arith}
 use Rattle.std.specs.List.{All}
 use Rattle.std.specs.List.Sorted.{IsSorted}
 use Rattle.resb_pool.specs.Plan.{nows}
 use Rattle.resb_pool.specs.Records.{IsRecords}
 use Rattle.resb_pool.specs.Inner.Placing.{AreSums, IsRecordOf, record_texts, record_cmp}
 use Rattle.resb_pool.specs.declared.records.Record.{Record}
+use Rattle.resb_pool.proofs.Interning.{length-nows}
 use Rattle.resb_pool.proofs.PlacingLemmas.{within_texts}
-use Rattle.resb_pool.proofs.PlanLemmas.{totals_small, sums_are, laid_small}
+use Rattle.resb_pool.proofs.PlanLemmas.{totals_small, sums_are, laid_small, texts_few}
 use Rattle.resb_pool.proofs.Laying.{block_of}
 use Rattle.resb_pool.proofs.pool.lay_records.Goals as goal
 
@@ -23,6 +24,12 @@ find_sums-requires-clause-small c =
     totals_small g.0 (nows c.args.texts.now) c.args.measures.now g.2 g.1 c.args.containers.now
     c.requires.containers
 
+pub ordered-requires-clause-few : goal.ordered-requires-clause-few
+ordered-requires-clause-few c =
+    let g = c.requires.given in
+    let few = texts_few g.0 (nows c.args.texts.now) c.args.measures.now g.2 g.1 in
+    omega (arith, length-nows c.args.texts.now, few)
+
 pub ordered-requires-clause-sums : goal.ordered-requires-clause-sums
 ordered-requires-clause-sums c =
     let T = nows c.args.texts.now in
@@ -38,7 +45,7 @@ lay-requires-clause-short c =
     let g = c.requires.given in
     let sums = c.in_ok-sums.sums.items in
     let v = c.deref-2.result.now in
-    let records = subst (λ (z : List Record). IsRecords T (record_texts z))
+    let records = subst (λ (z : List Record). IsRecords T (record_texts T z))
     (sym c.deref-2.ensures.value) c.in_ok-records.ensures.records in
     let each = subst (λ (z : List Record). All (IsRecordOf T sums) z) (sym c.deref-2.ensures.value)
     (subst (λ (z : List ℕ). All (IsRecordOf T z) c.in_ok-records.records.items)
@@ -51,12 +58,14 @@ returns c =
     let T = nows c.args.texts.now in
     let sums = c.in_ok-sums.sums.items in
     let v = c.deref-2.result.now in
-    let records = subst (λ (z : List Record). IsRecords T (record_texts z))
+    let records = subst (λ (z : List Record). IsRecords T (record_texts T z))
     (sym c.deref-2.ensures.value) c.in_ok-records.ensures.records in
     let each = subst (λ (z : List Record). All (IsRecordOf T sums) z) (sym c.deref-2.ensures.value)
     (subst (λ (z : List ℕ). All (IsRecordOf T z) c.in_ok-records.records.items)
     c.deref.ensures.value c.in_ok-records.ensures.each) in
-    let ascend = subst (IsSorted record_cmp) (sym c.deref-2.ensures.value)
+    let ascend = subst (IsSorted (record_cmp T)) (sym c.deref-2.ensures.value)
     c.in_ok-records.ensures.ascend in
+    let count = sym (length-nows c.args.texts.now) ∙ sym c.requires.containers.len in
     block_of T c.args.containers.now c.args.measures.now sums c.in_ok-sums.ensures v records each
-    ascend c.lay.result c.lay.ensures.units c.lay.ensures.len c.lay.ensures.ends
+    ascend (length c.args.texts.now) count c.lay.result c.lay.ensures.units c.lay.ensures.len
+    c.lay.ensures.ends

@@ -1,19 +1,19 @@
-use Rattle.std.proofs.Common.{◌≡◌, ◌+◌, ◌-◌, ◌<◌, ℕ, List, Bor, length, take, get_or, ap, subst}
+use Rattle.std.proofs.Common.{◌≡◌, ◌+◌, ◌-◌, ◌<◌, ℕ, List, [], Bor, length, take, get_or, ap}
+use Rattle.std.proofs.Common.{subst}
 use Rattle.std.proofs.Common.{sym, ◌∙◌, arith, Bool, true, false, not, nat_eq, ◌&&◌, true≢false}
 use Rattle.std.proofs.Common.{refl, inl, inr}
-use Rattle.std.specs.List.{All, Contains}
+use Rattle.std.specs.List.{All}
 use Rattle.std.proofs.lemmas.Bool.{eqb-true, eq-eqb, and_parts, and_cases}
-use Rattle.std.proofs.lemmas.List.{map_push, take-map}
+use Rattle.std.proofs.lemmas.List.{map_push, take_more, take_all}
 use Rattle.std.proofs.lemmas.List.Elements.{All-push}
-use Rattle.resb_format.specs.Units.{units, size}
 use Rattle.resb_pool.specs.Plan.{nows}
 use Rattle.resb_pool.specs.Records.{IsRecord}
 use Rattle.resb_pool.specs.Inner.Placing.{indexed_text, AreContainers, AreRecordsAmong, IsRecordOf}
 use Rattle.resb_pool.specs.Inner.Placing.{AreBytes, front_bytes}
-use Rattle.resb_pool.specs.Inner.Placing.{record_texts}
+use Rattle.resb_pool.specs.Inner.Placing.{record_text, record_texts}
 use Rattle.resb_pool.specs.declared.measure.Measure.{Measure}
 use Rattle.resb_pool.specs.declared.records.Record.{Record}
-use Rattle.resb_pool.proofs.TextLoops.{blank, nows-take, nows-whole}
+use Rattle.resb_pool.proofs.TextLoops.{blank}
 use Rattle.resb_pool.proofs.Interning.{length-nows, text_nows}
 use Rattle.resb_pool.proofs.Distinct.{not_before}
 use Rattle.resb_pool.proofs.PlacingLemmas.{listed_keep, listed_push, records_all, lies_in_itself}
@@ -72,83 +72,60 @@ overflow_sub-sums c =
 
 pub loop-index-preserved-then-not-is_record : goal.loop-index-preserved-then-not-is_record
 loop-index-preserved-then-not-is_record c =
-    let xs = c.args.texts.now in
+    let T = nows c.args.texts.now in
     let i = c.loop-index.index in
-    let l : i < length (nows xs) =
-    omega (arith, c.loop-index-test.true, c.requires.containers.len) in
-    let k : i < length xs = omega (arith, l, length-nows xs) in
-    let t = text_nows xs i k in
+    let l : i < length T = omega (arith, c.loop-index-test.true, c.requires.containers.len) in
     record {
-      records = listed_keep (nows xs) (nows (take i xs)) (nows (take (i + 1) xs))
-          (get_or xs i blank).now (nows-take xs i blank k) (record_texts c.loop-index.records.items)
-          c.loop-index.invariant.records
-          (λ r. absurd (no_record xs c.args.containers.now i c.requires.containers
-          c.loop-index-test.true (sym c.is_record.ensures ∙ c.if-not-is_record.true)
-          (subst (IsRecord (nows xs)) t r)));
+      records = listed_keep T (take i T) (take (i + 1) T) (indexed_text T i) (take_more T i [] l)
+          (record_texts T c.loop-index.records.items) c.loop-index.invariant.records
+          (λ r. absurd (no_record c.args.texts.now c.args.containers.now i c.requires.containers
+          c.loop-index-test.true (sym c.is_record.ensures ∙ c.if-not-is_record.true) r));
       each = c.loop-index.invariant.each;
     }
 
 pub loop-index-preserved : goal.loop-index-preserved
 loop-index-preserved c =
     let xs = c.args.texts.now in
+    let T = nows xs in
     let i = c.loop-index.index in
-    let l : i < length (nows xs) =
-    omega (arith, c.loop-index-test.true, c.requires.containers.len) in
-    let k : i < length xs = omega (arith, l, length-nows xs) in
-    let t = text_nows xs i k in
+    let old = c.loop-index.records.items in
+    let l : i < length T = omega (arith, c.loop-index-test.true, c.requires.containers.len) in
     let own = own_record xs c.args.containers.now i c.requires.containers c.loop-index-test.true
     (sym c.is_record.ensures ∙ c.if-not-is_record.false) in
     let m = get_or c.args.measures.now i no_measure in
     let r : Record = record {
       unit_count = m.unit_count;
-      saved =
-          record { 0 = get_or c.args.sums.now i 0 - m.size };
+      saved = get_or c.args.sums.now i 0 - m.size;
       front = c.front_of.result;
-      text = get_or xs i blank;
       index = i;
     } in
     let e = c.in_ok-push.ensures.items in
-    let small : m.size ≡ size (get_or xs i blank).now = c.requires.sums.size_is i no_measure l
-    ∙ ap size (sym t) in
+    let t = c.as_bytes.ensures.value ∙ text_nows xs i (omega (arith, l, length-nows xs)) in
     record {
-      records = subst (AreRecordsAmong (nows xs) (nows (take (i + 1) xs))) (sym (ap record_texts e
-          ∙ map_push (λ (x : Record). x.text.now) c.loop-index.records.items r))
-          (listed_push (nows xs) (nows (take i xs)) (nows (take (i + 1) xs)) (get_or xs i blank).now
-          (nows-take xs i blank k) (record_texts c.loop-index.records.items)
-          c.loop-index.invariant.records
-          (λ x. not_before (nows xs) i c.requires.distinct l
-          (subst (λ (z : List (List ℕ)). Contains z (indexed_text (nows xs) i))
-          (sym (take-map (λ (y : Bor (List ℕ)). y.now) i xs))
-          (subst (Contains (nows (take i xs))) t x))) (subst (IsRecord (nows xs)) (sym t) own));
-      each = subst (All (IsRecordOf (nows xs) c.args.sums.now)) (sym e)
-          (All-push (IsRecordOf (nows xs) c.args.sums.now) c.loop-index.records.items r
-          c.loop-index.invariant.each
+      records = subst (AreRecordsAmong T (take (i + 1) T)) (sym (ap (record_texts T) e
+          ∙ map_push (record_text T) old r))
+          (listed_push T (take i T) (take (i + 1) T) (indexed_text T i) (take_more T i [] l)
+          (record_texts T old) c.loop-index.invariant.records
+          (not_before T i c.requires.distinct l) own);
+      each = subst (All (IsRecordOf T c.args.sums.now)) (sym e)
+          (All-push (IsRecordOf T c.args.sums.now) old r c.loop-index.invariant.each
           (record {
             within = l;
-            text_is = t;
-            units_is = c.requires.sums.units_is i no_measure l
-                ∙ ap (λ z. length (units z)) (sym t);
-            saved_is =
-                omega (
-                  arith,
-                  small,
-                  c.requires.sums.size_is i no_measure l,
-                  c.requires.sums.own i l own,
-                );
-            front_is = c.front_of.ensures.front ∙ ap (front_bytes 0 8) c.as_bytes.ensures.value;
-            bytes = subst AreBytes c.as_bytes.ensures.value c.front_of.ensures.bytes;
+            units_is = c.requires.sums.units_is i no_measure l;
+            saved_is = omega (
+              arith,
+              c.requires.sums.size_is i no_measure l,
+              c.requires.sums.own i l own,
+            );
+            front_is = c.front_of.ensures.front ∙ ap (front_bytes 0 8) t;
+            bytes = subst AreBytes t c.front_of.ensures.bytes;
           }));
     }
 
 pub returns-clause-records : goal.returns-clause-records
 returns-clause-records c =
-    let xs = c.args.texts.now in
-    let i = c.loop-index.index in
-    records_all (nows xs) (record_texts c.loop-index.records.items)
-    (subst (λ d. AreRecordsAmong (nows xs) d (record_texts c.loop-index.records.items))
-    (nows-whole xs i (omega (
-      arith,
-      c.loop-index-test.false,
-      c.requires.containers.len,
-      length-nows xs,
-    ))) c.loop-index.invariant.records)
+    let T = nows c.args.texts.now in
+    let rs = record_texts T c.loop-index.records.items in
+    records_all T rs (subst (λ d. AreRecordsAmong T d rs) (take_all c.loop-index.index T
+    (omega (arith, c.loop-index-test.false, c.requires.containers.len)))
+    c.loop-index.invariant.records)

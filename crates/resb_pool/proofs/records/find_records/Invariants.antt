@@ -6,7 +6,7 @@ use Rattle.resb_pool.proofs.records.find_records.Given as goal
 
 abbrev pub invariant-loop-index : goal.invariant-loop-index
 invariant-loop-index l = record {
-  records : AreRecordsAmong (nows l.texts) (nows (take l.index l.texts))
-      (record_texts l.records.items);
+  records : AreRecordsAmong (nows l.texts) (take l.index (nows l.texts))
+      (record_texts (nows l.texts) l.records.items);
   each : All (IsRecordOf (nows l.texts) l.sums) l.records.items;
 }

@@ -1,33 +1,27 @@
 use Rattle.std.proofs.Common.{◌≡◌, ◌+◌, ℕ, List, ◌++◌, ◌∷◌, length, take, get_or, sym, ◌∙◌, ap}
-use Rattle.std.proofs.Common.{arith}
+use Rattle.std.proofs.Common.{arith, rules}
 use Rattle.std.specs.List.{sum_by, flat_map}
 use Rattle.std.proofs.lemmas.List.{length-set}
 use Rattle.resb_format.specs.Units.{size}
+use Rattle.resb_pool.specs.Plan.{nows}
 use Rattle.resb_pool.specs.Pool.{record_units}
-use Rattle.resb_pool.specs.Inner.Placing.{record_texts}
+use Rattle.resb_pool.specs.Inner.Placing.{record_text, record_texts}
 use Rattle.resb_pool.specs.declared.records.Record.{Record}
-use Rattle.resb_pool.proofs.TextLoops.{blank}
 use Rattle.resb_pool.proofs.InOrder.{length-records, texts-take, ends_put, closes_at}
 use Rattle.resb_pool.proofs.InOrder.{units_up_to_record, records-push}
 use Rattle.resb_pool.proofs.records.lay.Goals as goal
 
 abbrev no_record : Record
-no_record = record {
-  unit_count = 0;
-  saved = record { 0 = 0 };
-  front = 0;
-  text = blank;
-  index = 0;
-}
+no_record = record { unit_count = 0; saved = 0; front = 0; index = 0 }
 
 pub push_record-requires-clause-short : goal.push_record-requires-clause-short
 push_record-requires-clause-short c =
     let rs = c.args.records.now in
-    let i = c.loop-record.record-index in
+    let i = c.loop-place.place in
     omega (
       arith,
-      units_up_to_record rs i no_record c.loop-record-test.true,
-      c.requires.counts i no_record c.loop-record-test.true,
+      units_up_to_record (nows c.args.texts.now) rs i no_record c.loop-place-test.true,
+      c.requires.counts i no_record c.loop-place-test.true,
       c.requires.short,
     )
 
@@ -37,34 +31,44 @@ before us qs e = omega (arith, ap length e, length-records qs)
 
 pub push_record-requires-clause-fits : goal.push_record-requires-clause-fits
 push_record-requires-clause-fits c =
+    let T = nows c.args.texts.now in
     let rs = c.args.records.now in
-    let i = c.loop-record.record-index in
+    let i = c.loop-place.place in
     omega (
       arith,
-      units_up_to_record rs i no_record c.loop-record-test.true,
-      before c.loop-record.units.items (record_texts (take i rs)) c.loop-record.invariant.units,
+      units_up_to_record T rs i no_record c.loop-place-test.true,
+      before c.loop-place.units.items (record_texts T (take i rs)) c.loop-place.invariant.units,
+      ap size (c.loop-place.invariant.next no_record c.loop-place-test.true),
       c.requires.short,
     )
 
-pub loop-record-preserved : goal.loop-record-preserved
-loop-record-preserved c =
+pub loop-place-preserved : goal.loop-place-preserved
+loop-place-preserved c =
+    let T = nows c.args.texts.now in
     let rs = c.args.records.now in
-    let i = c.loop-record.record-index in
-    let t = (get_or rs i no_record).text.now in
-    let lt = c.loop-record-test.true in
-    let e = texts-take rs i no_record lt in
-    let v = c.loop-record.invariant in
-    let n = before c.loop-record.units.items (record_texts (take i rs)) v.units in
+    let i = c.loop-place.place in
+    let lt = c.loop-place-test.true in
+    let r = get_or rs i no_record in
+    let t = record_text T r in
+    let v = c.loop-place.invariant in
+    let is : c.loop-place.next.now ≡ t = v.next no_record lt in
+    let n = before c.loop-place.units.items (record_texts T (take i rs)) v.units in
     let k = c.in_ok-ends-2.field-0 in
     record {
-      units = c.in_ok-ends-2.ensures.appends ∙ ap (λ l. l ++ record_units t) v.units
-          ∙ ap (λ l. 0 ∷ l) (sym (records-push (record_texts (take i rs)) t))
-          ∙ ap (λ qs. 0 ∷ flat_map record_units qs) (sym e);
-      len = length-set c.loop-record.ends.items (get_or rs i no_record).index k ∙ v.len;
-      ends = ends_put rs i c.args.count no_record c.loop-record.ends.items k lt c.requires.indexed
-          v.len v.ends (closes_at rs i no_record k lt (omega (
+      units = c.in_ok-ends-2.ensures.appends
+          ∙ ap (λ z. c.loop-place.units.items ++ record_units z) is
+          ∙ ap (λ l. l ++ record_units t) v.units
+          ∙ ap (λ l. 0 ∷ l) (sym (records-push (record_texts T (take i rs)) t))
+          ∙ ap (λ qs. 0 ∷ flat_map record_units qs) (sym (texts-take T rs i no_record lt));
+      utf8 = search rules;
+      next = λ d l. c.record_text_at-next-in-loop-place.ensures d l;
+      len = length-set c.loop-place.ends.items r.index k ∙ v.len;
+      ends = ends_put T rs i no_record lt c.loop-place.ends.items k
+          (omega (arith, v.len, c.requires.within i no_record lt)) v.ends
+          (closes_at T rs i no_record lt k (omega (
             arith,
             c.in_ok-ends-2.ensures.end,
+            ap size is,
             n,
           )));
     }

@@ -5,7 +5,7 @@ use Rattle.resb_pool.proofs.records.push_record.Goals as goal
 pub returns-clause-appends : goal.returns-clause-appends
 returns-clause-appends c =
     let old = c.args.units.now.items in
-    let text = c.args.item.now.text.now in
+    let text = c.args.text.now in
     c.in_ok-push.ensures.items
     ∙ ap (λ l. l ++ 0 ∷ []) (c.in_ok-push_units.ensures
     ∙ ap (λ l. l ++ units text) c.in_ok-push_marker.ensures)
@@ -15,7 +15,7 @@ returns-clause-appends c =
 pub returns-clause-end : goal.returns-clause-end
 returns-clause-end c =
     let old = c.args.units.now.items in
-    let text = c.args.item.now.text.now in
+    let text = c.args.text.now in
     omega (
       arith,
       c.len-end.ensures,

@@ -10,8 +10,8 @@ use Rattle.std.specs.declared.cmp.Ordering.{Ordering}
 use Rattle.std.specs.declared.cmp.Ordering.TheVariants.{Less}
 use Rattle.std.proofs.lemmas.Cmp.{nat_cmp_total, tied_itself, then_total, on_total, back_total}
 use Rattle.std.proofs.lemmas.List.MinMax.{ranks_by}
-use Rattle.resb_pool.specs.Inner.Placing.{AreBytes, front_bytes, record_cmp, fronted_cmp}
-use Rattle.resb_pool.specs.Inner.Placing.{IsRecordOf, record_text}
+use Rattle.resb_pool.specs.Inner.Placing.{AreBytes, front_bytes, record_cmp, bytes_cmp}
+use Rattle.resb_pool.specs.Inner.Placing.{fronted_cmp, IsRecordOf, record_text}
 use Rattle.resb_pool.specs.declared.records.Record.{Record}
 use Rattle.resb_pool.proofs.Numbers.{ordering_then_less, ordering_then_equal, three_ways}
 use Rattle.resb_pool.proofs.Numbers.{less_is_first, tied_first, ordering_then_not_before}
@@ -78,6 +78,24 @@ front_is (a ∷ b ∷ c ∷ d ∷ e ∷ f ∷ []) = omega arith
 front_is (a ∷ b ∷ c ∷ d ∷ e ∷ f ∷ g ∷ []) = omega arith
 front_is (a ∷ b ∷ c ∷ d ∷ e ∷ f ∷ g ∷ h ∷ bs) = omega arith
 
+-- the first twelve bytes are the first eight and then four
+pub next_is : (bs : List ℕ) → front_bytes 0 12 bs ≡ front_bytes 0 8 bs * 0x1_0000_0000
+    + (get_or bs 8 0 * 0x100_0000 + get_or bs 9 0 * 0x1_0000 + get_or bs 10 0 * 0x100
+    + get_or bs 11 0)
+next_is [] = omega arith
+next_is (a ∷ []) = omega arith
+next_is (a ∷ b ∷ []) = omega arith
+next_is (a ∷ b ∷ c ∷ []) = omega arith
+next_is (a ∷ b ∷ c ∷ d ∷ []) = omega arith
+next_is (a ∷ b ∷ c ∷ d ∷ e ∷ []) = omega arith
+next_is (a ∷ b ∷ c ∷ d ∷ e ∷ f ∷ []) = omega arith
+next_is (a ∷ b ∷ c ∷ d ∷ e ∷ f ∷ g ∷ []) = omega arith
+next_is (a ∷ b ∷ c ∷ d ∷ e ∷ f ∷ g ∷ h ∷ []) = omega arith
+next_is (a ∷ b ∷ c ∷ d ∷ e ∷ f ∷ g ∷ h ∷ i ∷ []) = omega arith
+next_is (a ∷ b ∷ c ∷ d ∷ e ∷ f ∷ g ∷ h ∷ i ∷ j ∷ []) = omega arith
+next_is (a ∷ b ∷ c ∷ d ∷ e ∷ f ∷ g ∷ h ∷ i ∷ j ∷ k ∷ []) = omega arith
+next_is (a ∷ b ∷ c ∷ d ∷ e ∷ f ∷ g ∷ h ∷ i ∷ j ∷ k ∷ l ∷ bs) = omega arith
+
 module _ (T : List (List ℕ)) where
   -- by texts alone
   abbrev text_cmp : Record → Record → Ordering
@@ -87,21 +105,37 @@ module _ (T : List (List ℕ)) where
   fronted_total = then_total (on_total (λ (r : Record). r.unit_count) nat_cmp_total)
       (then_total (back_total (on_total (λ (r : Record). r.saved) nat_cmp_total))
       (then_total (on_total (λ (r : Record). r.front) nat_cmp_total)
-      (on_total (record_text T) nat_list_cmp_total)))
+      (then_total (on_total (λ (r : Record). r.next) nat_cmp_total)
+      (on_total (record_text T) nat_list_cmp_total))))
 
   pub fronted_order : IsStrictWeakOrder (λ (x y : Record). is_lt (fronted_cmp T x y))
   fronted_order = ranks_by fronted_total (λ (r : Record). r)
 
   module _ (sums : List ℕ) where
-    not_before : (x y : Record) → IsRecordOf T sums x → IsRecordOf T sums y
-        → is_lt (ordering_then (nat_cmp x.front y.front) (text_cmp x y)) ≡ false
+    -- a text with greater first bytes isn't before
+    greater : (n : ℕ) (x y : Record) → IsRecordOf T sums x → IsRecordOf T sums y
+        → front_bytes 0 n (record_text T y) < front_bytes 0 n (record_text T x)
         → is_lt (text_cmp x y) ≡ false
-    not_before x y h k e = three_ways (is_lt (text_cmp x y) ≡ false) x.front y.front
-        (λ f. absurd (less_is_first (nat_cmp x.front y.front) (text_cmp x y) f e))
-        (λ f. tied_first x.front y.front (text_cmp x y) f e)
-        (λ m. ap is_lt (nat_list_cmp_total.antisymm (record_text T x) (record_text T y)
-        ∙ ap ordering_reverse (order_of 8 0 (record_text T y) (record_text T x) k.bytes h.bytes
-        (omega (arith, m, h.front_is, k.front_is)))))
+    greater n x y h k l = ap is_lt (nat_list_cmp_total.antisymm (record_text T x) (record_text T y)
+        ∙ ap ordering_reverse (order_of n 0 (record_text T y) (record_text T x) k.bytes h.bytes l))
+
+    next_not_before : (x y : Record) → IsRecordOf T sums x → IsRecordOf T sums y
+        → x.front ≡ y.front
+        → is_lt (ordering_then (nat_cmp x.next y.next) (text_cmp x y)) ≡ false
+        → is_lt (text_cmp x y) ≡ false
+    next_not_before x y h k same e = three_ways (is_lt (text_cmp x y) ≡ false) x.next y.next
+        (λ f. absurd (less_is_first (nat_cmp x.next y.next) (text_cmp x y) f e))
+        (λ f. tied_first x.next y.next (text_cmp x y) f e)
+        (λ m. greater 12 x y h k (omega (arith, m, same, h.next_is, k.next_is)))
+
+    not_before : (x y : Record) → IsRecordOf T sums x → IsRecordOf T sums y
+        → is_lt (bytes_cmp T x y) ≡ false → is_lt (text_cmp x y) ≡ false
+    not_before x y h k e =
+        let behind = ordering_then (nat_cmp x.next y.next) (text_cmp x y) in
+        three_ways (is_lt (text_cmp x y) ≡ false) x.front y.front
+        (λ f. absurd (less_is_first (nat_cmp x.front y.front) behind f e))
+        (λ f. next_not_before x y h k f (tied_first x.front y.front behind f e))
+        (λ m. greater 8 x y h k (omega (arith, m, h.front_is, k.front_is)))
 
     pub in_order : (rs : List Record) → All (IsRecordOf T sums) rs → IsSorted (fronted_cmp T) rs
         → IsSorted (record_cmp T) rs

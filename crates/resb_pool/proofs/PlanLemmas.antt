@@ -38,7 +38,7 @@ use Rattle.resb_pool.proofs.InOrder.{length-records, neighbours_differ, in_order
 use Rattle.resb_pool.proofs.TextLists.{TextList}
 
 no_record : Record
-no_record = record { unit_count = 0; saved = 0; front = 0; index = 0 }
+no_record = record { unit_count = 0; saved = 0; front = 0; next = 0; index = 0 }
 
 size_nil : size [] ≡ 1
 size_nil =

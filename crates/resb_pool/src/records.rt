@@ -1,6 +1,6 @@
 //! The records in their order, and their units.
 //! Which texts are records is said in `containers`.
-ghost use Rattle.std.specs.Prelude.{◌≡◌, ◌++◌, ◌∷◌, ◌+◌, ◌<◌, ◌^◌, length, map};
+ghost use Rattle.std.specs.Prelude.{◌≡◌, ◌++◌, ◌∷◌, ◌+◌, ◌*◌, ◌<◌, ◌^◌, length, map};
 ghost use Rattle.std.specs.Prelude.{All, IfOk, OnOk, sum_by, slice_index, slice_index_or};
 ghost use Rattle.std.specs.Prelude.{nat_eq, not, ◌&&◌};
 ghost use Rattle.std.specs.Char.Escape.{encode_utf16};
@@ -14,7 +14,7 @@ ghost use Rattle.resb_pool.specs.Plan.{nows};
 ghost use Rattle.resb_pool.specs.Records.{EachOnce, IsRecords};
 ghost use Rattle.resb_pool.specs.Inner.Placing.{AreContainers, AreSums, AreEnds};
 ghost use Rattle.resb_pool.specs.Inner.Placing.{IsRecordOf, record_text, record_texts};
-ghost use Rattle.resb_pool.specs.Inner.Placing.{record_cmp, fronted_cmp};
+ghost use Rattle.resb_pool.specs.Inner.Placing.{record_cmp, bytes_cmp, fronted_cmp};
 ghost use Rattle.resb_pool.specs.declared.records.Record.{Record};
 ghost use Rattle.resb_pool.specs.Inner.Placing.{AreBytes, front_bytes};
 
@@ -31,8 +31,10 @@ pub(crate) struct Record {
     pub(crate) unit_count: u32,
     /// How many units sharing the record saves.
     pub(crate) saved: u32,
-    /// The text's first eight bytes, which tell most texts apart.
+    /// The text's first eight bytes.
     pub(crate) front: u64,
+    /// The four bytes behind these. Twelve bytes tell most texts apart.
+    pub(crate) next: u32,
     /// The text's index.
     pub(crate) index: u32,
 }
@@ -78,6 +80,18 @@ fn front_of(bytes: &[u8]) -> u64
     ])
 }
 
+/// The four bytes behind the first eight as a number, in the same way.
+fn next_of(bytes: &[u8]) -> u32
+    ensures { front_bytes 0 12 bytes.now ≡ front_bytes 0 8 bytes.now * 0x1_0000_0000 + result }
+{
+    u32::from_be_bytes([
+        byte_or_0(bytes, 8),
+        byte_or_0(bytes, 9),
+        byte_or_0(bytes, 10),
+        byte_or_0(bytes, 11),
+    ])
+}
+
 /// The records among texts: those that aren't empty and lie in themselves.
 fn find_records(
     alloc: Global,
@@ -100,10 +114,12 @@ fn find_records(
             continue;
         }
         let measure = &measures[index];
+        let bytes = texts[index].as_bytes();
         records.push(Record {
             unit_count: measure.unit_count,
             saved: sums[index] - measure.size,
-            front: front_of(texts[index].as_bytes()),
+            front: front_of(bytes),
+            next: next_of(bytes),
             index: index as u32,
         })?;
     }
@@ -119,21 +135,33 @@ fn compare_texts(left: &str, right: &str) -> Ordering
     left.cmp(right)
 }
 
+/// How the texts of two records compare: by their first twelve bytes, and where these are the same
+/// by all.
+#[inline(always)]
+fn compare_bytes(texts: &[&str], left: &Record, right: &Record) -> Ordering
+    ensures { result ≡ bytes_cmp (nows texts.now) left.now right.now }
+{
+    match left.front.cmp(&right.front) {
+        Ordering::Equal => match left.next.cmp(&right.next) {
+            Ordering::Equal => compare_texts(
+                indexed_text(texts, left.index),
+                indexed_text(texts, right.index),
+            ),
+            other => other,
+        },
+        other => other,
+    }
+}
+
 /// How two records compare: by their texts' units, then by the units that sharing them saves, the
-/// most first, then by their texts' first bytes, and where all of these are the same by all bytes.
+/// most first, then by their texts' bytes.
 #[inline(always)]
 fn compare_records(texts: &[&str], left: &Record, right: &Record) -> Ordering
     ensures { result ≡ fronted_cmp (nows texts.now) left.now right.now }
 {
     match left.unit_count.cmp(&right.unit_count) {
         Ordering::Equal => match right.saved.cmp(&left.saved) {
-            Ordering::Equal => match left.front.cmp(&right.front) {
-                Ordering::Equal => compare_texts(
-                    indexed_text(texts, left.index),
-                    indexed_text(texts, right.index),
-                ),
-                other => other,
-            },
+            Ordering::Equal => compare_bytes(texts, left, right),
             other => other,
         },
         other => other,

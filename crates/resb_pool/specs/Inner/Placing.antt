@@ -109,6 +109,7 @@ pub record IsRecordOf (T : List (List ℕ)) (sums : List ℕ) (r : Record) : Typ
   pub units_is : r.unit_count ≡ length (units (record_text T r))
   pub saved_is : r.saved + size (record_text T r) ≡ slice_index sums r.index
   pub front_is : r.front ≡ front_bytes 0 8 (record_text T r)
+  pub next_is : front_bytes 0 12 (record_text T r) ≡ r.front * 0x1_0000_0000 + r.next
   pub bytes : AreBytes (record_text T r)
 
 -- the order of records: by their texts' units, then by what is saved, the most first, then by their
@@ -118,11 +119,16 @@ record_cmp T x y = ordering_then (nat_cmp x.unit_count y.unit_count)
     (ordering_then (nat_cmp y.saved x.saved)
     (slice_cmp nat_cmp (record_text T x) (record_text T y)))
 
--- the same, with the first bytes before the texts
+-- the order of records' texts: by their first bytes, and then by themselves
+abbrev pub bytes_cmp : List (List ℕ) → Record → Record → Ordering
+bytes_cmp T x y = ordering_then (nat_cmp x.front y.front)
+    (ordering_then (nat_cmp x.next y.next)
+    (slice_cmp nat_cmp (record_text T x) (record_text T y)))
+
+-- the order of records, where their texts compare so
 abbrev pub fronted_cmp : List (List ℕ) → Record → Record → Ordering
 fronted_cmp T x y = ordering_then (nat_cmp x.unit_count y.unit_count)
-    (ordering_then (nat_cmp y.saved x.saved) (ordering_then (nat_cmp x.front y.front)
-    (slice_cmp nat_cmp (record_text T x) (record_text T y))))
+    (ordering_then (nat_cmp y.saved x.saved) (bytes_cmp T x y))
 
 -- where each record done closes; 0 for what is no record
 pub record AreEnds (T : List (List ℕ)) (rs done : List Record) (es : List ℕ) : Type 0 where

@@ -1,4 +1,4 @@
-use Rattle.std.proofs.Common.{◌≡◌, ◌+◌, ◌-◌, ◌<◌, ℕ, List, [], Bor, length, take, get_or, ap}
+use Rattle.std.proofs.Common.{◌≡◌, ◌+◌, ◌*◌, ◌-◌, ◌<◌, ℕ, List, [], Bor, length, take, get_or, ap}
 use Rattle.std.proofs.Common.{subst}
 use Rattle.std.proofs.Common.{sym, ◌∙◌, arith, Bool, true, false, not, nat_eq, ◌&&◌, true≢false}
 use Rattle.std.proofs.Common.{refl, inl, inr}
@@ -97,10 +97,11 @@ loop-index-preserved c =
       unit_count = m.unit_count;
       saved = get_or c.args.sums.now i 0 - m.size;
       front = c.front_of.result;
+      next = c.next_of.result;
       index = i;
     } in
     let e = c.in_ok-push.ensures.items in
-    let t = c.as_bytes.ensures.value ∙ text_nows xs i (omega (arith, l, length-nows xs)) in
+    let t = c.as_bytes-bytes.ensures.value ∙ text_nows xs i (omega (arith, l, length-nows xs)) in
     record {
       records = subst (AreRecordsAmong T (take (i + 1) T)) (sym (ap (record_texts T) e
           ∙ map_push (record_text T) old r))
@@ -118,6 +119,9 @@ loop-index-preserved c =
               c.requires.sums.own i l own,
             );
             front_is = c.front_of.ensures.front ∙ ap (front_bytes 0 8) t;
+            next_is = subst (λ bs. front_bytes 0 12 bs ≡ c.front_of.result * 0x1_0000_0000
+                + c.next_of.result) t (c.next_of.ensures
+                ∙ ap (λ n. n * 0x1_0000_0000 + c.next_of.result) (sym c.front_of.ensures.front));
             bytes = subst AreBytes t c.front_of.ensures.bytes;
           }));
     }

@@ -12,7 +12,7 @@ use Rattle.resb_pool.proofs.InOrder.{units_up_to_record, records-push}
 use Rattle.resb_pool.proofs.records.lay.Goals as goal
 
 abbrev no_record : Record
-no_record = record { unit_count = 0; saved = 0; front = 0; index = 0 }
+no_record = record { unit_count = 0; saved = 0; front = 0; next = 0; index = 0 }
 
 pub push_record-requires-clause-short : goal.push_record-requires-clause-short
 push_record-requires-clause-short c =

@@ -71,4 +71,5 @@ def main():
             grows(words[0] == 'read', words[1], kind, sizes, pathlib.Path(work))
 
 
-main()
+if __name__ == '__main__':
+    main()

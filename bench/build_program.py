@@ -1,10 +1,11 @@
 #!/usr/bin/env python3
 """Builds a program of this folder, NAME.rattle, over the libraries that `./prove` has proved.
 
-    build_program.py NAME PROGRAM       e.g. build_program.py write_times /tmp/write_times
+    python3 build_program.py NAME PROGRAM       e.g. build_program.py write_times /tmp/write_times
 
-It is a crate of a copy of this repository, in a folder that goes again. What is proved here is
-proved there; a library that no program of `./prove` stands on is proved first.
+It is a crate of a copy of this repository, in a folder that goes again; the copy has the libraries
+that the program stands on, with what was proved of them, some hundred megabytes. A library that
+isn't proved here is proved in the copy first, which takes minutes for each.
 """
 import pathlib
 import re
@@ -17,18 +18,52 @@ BENCH = pathlib.Path(__file__).resolve().parent
 TOP = BENCH.parent
 
 
+def crates():
+    """The crates that each crate names, by `crates.txt`."""
+    lines = (TOP / 'crates.txt').read_text().splitlines()
+    named = [line.split(':', 1) for line in lines if line and not line.startswith('#')]
+    return {name.split()[0]: below.split() for name, below in named}
+
+
+def below(names, known):
+    """These crates of the repository, and all that they stand on."""
+    found, pending = set(), list(names)
+    while pending:
+        name = pending.pop()
+        if name in known and name not in found:
+            found.add(name)
+            pending += known[name]
+    return found
+
+
+def copy_libraries(libraries, copy):
+    """The libraries in a folder of their own. Says which of them have nothing proved here."""
+    (copy / 'crates').mkdir(parents=True)
+    for file in TOP.iterdir():
+        if file.is_file():
+            shutil.copy(file, copy / file.name)
+    for name in sorted(libraries):
+        if not (TOP / 'crates' / name / 'out').exists():
+            print('%s is not proved here, so it is proved first' % name, file=sys.stderr)
+        shutil.copytree(TOP / 'crates' / name, copy / 'crates' / name,
+                        ignore=shutil.ignore_patterns('must-fail'))
+
+
 def build(name, program):
     """The program NAME, built as PROGRAM."""
+    if not shutil.which('rt'):
+        sys.exit('the toolchain (rt) is not on PATH')
+    source, known = (BENCH / (name + '.rattle')).read_text(), crates()
+    named = sorted(set(re.findall(r'^use (resb\w*)::', source, re.MULTILINE)))
+    libraries = sorted(set(named).union(*(known[library] for library in named)))
     with tempfile.TemporaryDirectory() as work:
         copy = pathlib.Path(work) / 'copy'
-        shutil.copytree(TOP, copy, ignore=shutil.ignore_patterns('.git', 'must-fail'))
+        copy_libraries(below(named, known), copy)
         crate = copy / 'crates' / name
         (crate / 'src').mkdir(parents=True)
-        source = (BENCH / (name + '.rattle')).read_text()
         (crate / 'src/main.rt').write_text(source)
-        libraries = sorted(set(re.findall(r'^use (resb\w*)::', source, re.MULTILINE)))
-        with open(copy / 'crates.txt', 'a') as crates:
-            crates.write('%s: %s\n' % (name, ' '.join(libraries)))
+        with open(copy / 'crates.txt', 'a') as lines:
+            lines.write('%s: %s\n' % (name, ' '.join(libraries)))
         # with nothing to read some programs end with another status, once they are built
         told = subprocess.run(['rt', 'run'], cwd=crate, stdin=subprocess.DEVNULL,
                               stdout=subprocess.PIPE, stderr=subprocess.STDOUT)
@@ -44,6 +79,8 @@ def main():
     if not (BENCH / (name + '.rattle')).exists():
         known = ' '.join(sorted(path.stem for path in BENCH.glob('*.rattle')))
         sys.exit('no program %s: there are %s' % (name, known))
+    if not pathlib.Path(program).absolute().parent.is_dir():
+        sys.exit('no folder for %s' % program)
     build(name, program)
 
 

@@ -1,11 +1,12 @@
 #!/usr/bin/env python3
 """The reader of files: how many megabytes (10^6 bytes) a second of whole trees, and of the count.
 
-    read_table.py [--program PROGRAM] [--turns TURNS]
+    python3 read_table.py [--program PROGRAM] [--turns TURNS]
 
 Each file is an array of ASCII strings, which the built program (`./prove`) makes of a text. It is
 read by the program of `read_times.rattle`, which times itself by the clock: five readings a turn,
-of which the least counts. Wanted are 300 MB/s of tree and 1,000 of count on short strings.
+of which the least counts. The last column is what it takes to copy the strings of the tree. Wanted
+are 300 MB/s of tree and 1,000 of count on short strings.
 
 Without --program that program is built first, by `build_program.py`.
 """
@@ -20,12 +21,15 @@ from build_program import build
 from growth import COMPILE, least
 
 
+LETTERS = 'abcdefghijklmnopqrstuvwxyz'
+
+
 def word(number, length):
     """A word of so many letters that no other number has, as long as there are so many words."""
     letters = ''
     for _ in range(length):
         number, letter = divmod(number, 26)
-        letters = chr(ord('a') + letter) + letters
+        letters = LETTERS[letter] + letters
     return letters
 
 
@@ -35,7 +39,7 @@ def texts():
     yield ('500,000 words of eight letters, in the order of their records',
            [word(number, 8) for number in range(500000)])
     yield ('500,000 words of five to ten letters, in no order',
-           [word(turned.randrange(26 ** 5), turned.randint(5, 10)) for _ in range(500000)])
+           [''.join(turned.choices(LETTERS, k=turned.randint(5, 10))) for _ in range(500000)])
     yield ('4,000 strings of 1,030 letters',
            [word(number, 3) + 1027 * 'x' for number in range(4000)])
 
@@ -71,10 +75,13 @@ def main():
         words.error('--turns: one at least')
     if not pathlib.Path(COMPILE[0]).exists():
         sys.exit("the program isn't built: ./prove builds it")
+    if given.program and not pathlib.Path(given.program).is_file():
+        sys.exit('no program ' + given.program)
     with tempfile.TemporaryDirectory() as name:
         work = pathlib.Path(name)
-        program = given.program
-        if not program:
+        if given.program:
+            program = str(pathlib.Path(given.program).resolve())
+        else:
             program = str(work / 'read_times')
             build('read_times', program)
         print('| File | tree | count | copying its strings |\n|---|---|---|---|')

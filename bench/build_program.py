@@ -56,13 +56,17 @@ def build(name, program):
     source, known = (BENCH / (name + '.rattle')).read_text(), crates()
     named = sorted(set(re.findall(r'^use (resb\w*)::', source, re.MULTILINE)))
     libraries = sorted(set(named).union(*(known[library] for library in named)))
+    needed = below(named, known)
     with tempfile.TemporaryDirectory() as work:
         copy = pathlib.Path(work) / 'copy'
-        copy_libraries(below(named, known), copy)
+        copy_libraries(needed, copy)
         crate = copy / 'crates' / name
         (crate / 'src').mkdir(parents=True)
         (crate / 'src/main.rt').write_text(source)
-        with open(copy / 'crates.txt', 'a') as lines:
+        with open(copy / 'crates.txt', 'w') as lines:
+            for library in known:
+                if library in needed:
+                    lines.write('%s: %s\n' % (library, ' '.join(known[library])))
             lines.write('%s: %s\n' % (name, ' '.join(libraries)))
         # with nothing to read some programs end with another status, once they are built
         told = subprocess.run(['rt', 'run'], cwd=crate, stdin=subprocess.DEVNULL,

@@ -16,7 +16,7 @@ import subprocess
 import sys
 import tempfile
 
-from timing import growth, make
+from timing import growth, known, make, program_of, sizes_of
 
 BENCH = pathlib.Path(__file__).resolve().parent
 COMPILE = [str(BENCH.parent / 'crates/resb_tool/out/resb_tool'), 'compile']
@@ -39,6 +39,8 @@ def least(program, given):
         lines = said.read().decode().splitlines()
     if status != 0:
         sys.exit('%s on %s: status %d' % (program, given, os.waitstatus_to_exitcode(status)))
+    if not lines or not all(': ' in line for line in lines):
+        sys.exit('%s says no times: it is no program of this folder' % program)
     runs = [parts_of(line) for line in lines]
     parts = {name: min(run[name] for run in runs) for name in runs[0]}
     return lines[0].split(': ')[0], parts, used.ru_maxrss * 1024
@@ -62,13 +64,18 @@ def grows(reads, program, kind, sizes, work):
 
 def main():
     words = sys.argv[1:]
-    if len(words) < 2 or words[0] not in ('read', 'write'):
+    if '--help' in words or not words:
         sys.exit(__doc__)
-    sizes = [int(word) for word in words[2:] if word.isdigit()] or [10 ** k for k in range(4, 9)]
-    kinds = [word for word in words[2:] if not word.isdigit()] or KINDS
+    part = known(words[:1], ['read', 'write'], 'part')[0]
+    program = program_of(words[1:])
+    if not pathlib.Path(COMPILE[0]).exists():
+        sys.exit("the program isn't built: ./prove builds it")
+    sizes = sizes_of([word for word in words[2:] if word.isdigit()])
+    kinds = known([word for word in words[2:] if not word.isdigit()], KINDS, 'kind')
     with tempfile.TemporaryDirectory() as work:
-        for kind in kinds:
-            grows(words[0] == 'read', words[1], kind, sizes, pathlib.Path(work))
+        for kind in kinds or KINDS:
+            grows(part == 'read', program, kind, sizes or [10 ** k for k in range(4, 9)],
+                  pathlib.Path(work))
 
 
 if __name__ == '__main__':

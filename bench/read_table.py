@@ -19,6 +19,7 @@ import tempfile
 
 from build_program import build
 from growth import COMPILE, least
+from timing import program_of
 
 
 LETTERS = 'abcdefghijklmnopqrstuvwxyz'
@@ -69,18 +70,16 @@ def main():
     words = argparse.ArgumentParser(
         description=__doc__, formatter_class=argparse.RawDescriptionHelpFormatter)
     words.add_argument('--program', help='the program of read_times.rattle, if it is built')
-    words.add_argument('--turns', type=int, default=5, help='how often a file is read five times')
+    words.add_argument('--turns', type=int, default=5, help='runs of the program on each file')
     given = words.parse_args()
     if given.turns < 1:
         words.error('--turns: one at least')
     if not pathlib.Path(COMPILE[0]).exists():
         sys.exit("the program isn't built: ./prove builds it")
-    if given.program and not pathlib.Path(given.program).is_file():
-        sys.exit('no program ' + given.program)
     with tempfile.TemporaryDirectory() as name:
         work = pathlib.Path(name)
         if given.program:
-            program = str(pathlib.Path(given.program).resolve())
+            program = program_of([given.program])
         else:
             program = str(work / 'read_times')
             build('read_times', program)

@@ -24,7 +24,7 @@ import subprocess
 import sys
 import tempfile
 
-from timing import least
+from timing import known, least, sizes_of
 
 TOP = pathlib.Path(__file__).resolve().parent.parent
 PROGRAM = str(TOP / 'crates/resb_tool/out/resb_tool')
@@ -116,6 +116,10 @@ def make(folder):
 
 def main(words):
     programs, turns, names = [], 5, []
+    if '--help' in words:
+        sys.exit(__doc__)
+    if words and words[-1] in ('--program', '--icu', '--turns', '--make'):
+        sys.exit(words[-1] + ' takes a word more')
     while words:
         word = words.pop(0)
         if word == '--program':
@@ -123,14 +127,14 @@ def main(words):
         elif word == '--icu':
             programs.append([words.pop(0), 'compile', '--icu', 'TEXT', '-d', 'FOLDER'])
         elif word == '--turns':
-            turns = int(words.pop(0))
+            turns = sizes_of([words.pop(0)])[0]
         elif word == '--make':
             folder = pathlib.Path(words.pop(0)).resolve()
             for name, path in make(folder).items():
                 print(f'{name}: {os.path.getsize(path):,} bytes')
             return
         else:
-            names.append(word)
+            names += known([word], TEXTS, 'text')
     with tempfile.TemporaryDirectory() as temporary:
         folder = pathlib.Path(temporary)
         # by a process of its own, since a process counts the memory of the one that started it

@@ -18,7 +18,7 @@ of ten on the smaller one, five in front of it and five behind, and is divided b
 a tenth of what the greater text's size is of the smaller one's. The middle one of so many windows
 (--windows) is the row's, and all of them stand behind it.
 
-A whole run takes some six minutes.
+A whole run takes some five minutes.
 """
 import argparse
 import os
@@ -160,8 +160,10 @@ def options():
         description=__doc__, formatter_class=argparse.RawDescriptionHelpFormatter)
     parser.add_argument('--program', default=PROGRAM, help='the program (./prove builds it)')
     parser.add_argument('--older', help='an older program, timed in the same rounds')
-    parser.add_argument('--turns', type=count, default=12)
-    parser.add_argument('--windows', type=count, default=5)
+    parser.add_argument('--turns', type=count, default=12,
+                        help="rounds for ICU's texts (default 12)")
+    parser.add_argument('--windows', type=count, default=5,
+                        help='windows of each row of growth (default 5)')
     parser.add_argument('--likeness', nargs=2, type=pathlib.Path, metavar=('OURS', 'THEIRS'),
                         help='says what two files have in common, and times nothing')
     return parser.parse_args()

@@ -15,7 +15,7 @@ import shutil
 import sys
 import tempfile
 
-from timing import growth, least, make
+from timing import growth, known, least, make, program_of, sizes_of
 
 TOP = pathlib.Path(__file__).resolve().parent.parent
 PROGRAM = str(TOP / 'crates/resb_tool/out/resb_tool')
@@ -115,26 +115,28 @@ def grows(command, work, sizes):
             before = took
 
 
-def sizes_of(words):
-    return [int(word) for word in words] or [10 ** k for k in range(4, 9)]
-
-
 def main():
     words = sys.argv[1:]
+    if '--help' in words:
+        sys.exit(__doc__)
     if words[:1] == ['--make']:
-        sys.stdout.buffer.write(KINDS[words[1]][0](int(words[2])).encode())
+        if len(words) != 3:
+            sys.exit('--make takes a kind and a number of bytes')
+        kind, size = known(words[1:2], KINDS, 'kind')[0], sizes_of(words[2:])[0]
+        sys.stdout.buffer.write(KINDS[kind][0](size).encode())
         return
     program = PROGRAM
     if words[:1] == ['--program']:
-        program, words = words[1], words[2:]
+        program, words = program_of(words[1:]), words[2:]
+    all_sizes = [10 ** k for k in range(4, 9)]
     with tempfile.TemporaryDirectory() as name:
         work = pathlib.Path(name)
         if words[:1] == ['--growth']:
-            grows([program, 'compile', 'b.txt', 'ours.res'], work, sizes_of(words[1:]))
+            grows([program, 'compile', 'b.txt', 'ours.res'], work, sizes_of(words[1:]) or all_sizes)
         elif words[:1] == ['--distinct']:
-            grows([words[1]], work, sizes_of(words[2:]))
+            grows([program_of(words[1:])], work, sizes_of(words[2:]) or all_sizes)
         else:
-            beside_genrb(program, work, words or list(KINDS))
+            beside_genrb(program, work, known(words, KINDS, 'kind') or list(KINDS))
 
 
 main()

@@ -3,9 +3,10 @@
 
     python3 build_program.py NAME PROGRAM       e.g. build_program.py write_times /tmp/write_times
 
-It takes a minute or two. It is a crate of a copy of this repository, in a folder that goes again; the copy has the libraries
-that the program stands on, with what was proved of them, some hundred megabytes. A library that
-isn't proved here is proved in the copy first, which takes minutes for each.
+It takes a minute or two. The program is a crate of a copy of this repository, in a folder that goes
+again; the copy has the libraries that the program stands on, with what was proved of them, some
+hundred megabytes. A library that isn't proved here is proved in the copy first, which takes minutes
+for each.
 """
 import pathlib
 import re

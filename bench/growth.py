@@ -65,10 +65,11 @@ def grows(reads, program, kind, sizes, work):
 def main():
     words = sys.argv[1:]
     if '--help' in words or not words:
-        sys.exit(__doc__)
+        print(__doc__)
+        return
     part = known(words[:1], ['read', 'write'], 'part')[0]
     program = program_of(words[1:])
-    if not pathlib.Path(COMPILE[0]).exists():
+    if part == 'read' and not pathlib.Path(COMPILE[0]).exists():
         sys.exit("the program isn't built: ./prove builds it")
     sizes = sizes_of([word for word in words[2:] if word.isdigit()])
     kinds = known([word for word in words[2:] if not word.isdigit()], KINDS, 'kind')

@@ -24,7 +24,7 @@ import subprocess
 import sys
 import tempfile
 
-from timing import known, least, sizes_of
+from timing import known, least
 
 TOP = pathlib.Path(__file__).resolve().parent.parent
 PROGRAM = str(TOP / 'crates/resb_tool/out/resb_tool')
@@ -117,7 +117,8 @@ def make(folder):
 def main(words):
     programs, turns, names = [], 5, []
     if '--help' in words:
-        sys.exit(__doc__)
+        print(__doc__)
+        return
     if words and words[-1] in ('--program', '--icu', '--turns', '--make'):
         sys.exit(words[-1] + ' takes a word more')
     while words:
@@ -127,7 +128,10 @@ def main(words):
         elif word == '--icu':
             programs.append([words.pop(0), 'compile', '--icu', 'TEXT', '-d', 'FOLDER'])
         elif word == '--turns':
-            turns = sizes_of([words.pop(0)])[0]
+            given = words.pop(0)
+            turns = int(given) if given.isdigit() else 0
+            if turns == 0:
+                sys.exit(f'--turns takes a number, and not {given}')
         elif word == '--make':
             folder = pathlib.Path(words.pop(0)).resolve()
             for name, path in make(folder).items():

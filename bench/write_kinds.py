@@ -118,7 +118,8 @@ def grows(command, work, sizes):
 def main():
     words = sys.argv[1:]
     if '--help' in words:
-        sys.exit(__doc__)
+        print(__doc__)
+        return
     if words[:1] == ['--make']:
         if len(words) != 3:
             sys.exit('--make takes a kind and a number of bytes')

@@ -4,7 +4,7 @@ use Rattle.std.proofs.Common.{inr}
 use Rattle.std.proofs.Common.{refl, ap, subst, arith}
 use Rattle.std.proofs.lemmas.Bool.{cases_lt}
 use Rattle.resb_tree.specs.Tree.{Tree, string, array, table, trees_of, map_of}
-use Rattle.resb_format.specs.Strings.{key_at}
+use Rattle.resb_format.specs.Lookups.{key_in}
 use Rattle.resb_format.specs.Parts.{Parts}
 use Rattle.resb_format.specs.Content.{Member, Content, leaf, list, entry_list}
 use Rattle.resb_format.specs.Denotes.{Den, den_leaf, den_list, den_entries, DenMember, den_word}
@@ -146,7 +146,7 @@ module _ (p : Parts) where
   ]
 
   in_entries : (x : Member) (at j : ℕ) (es : List (ℕ × Member)) (m : ℕ) {key : List ℕ} {t : Tree}
-      → 1 ≤ m → key_at p.keys at ≡ Some key → DenMember p x t j
+      → 1 ≤ m → key_in p at ≡ Some key → DenMember p x t j
       → (m ≤ j → ReachesMember p x m) → (j < m → ReachesEntries p es (m - j))
       → ReachesEntries p ((at, x) ∷ es) m
   in_entries x at j es m h key d here later =

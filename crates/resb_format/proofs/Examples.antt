@@ -10,6 +10,7 @@ use Rattle.resb_format.specs.Bytes.{units_of, words_of}
 use Rattle.resb_format.specs.Units.{length_marker}
 use Rattle.resb_format.specs.Strings.{string_at, text_at, key_at}
 use Rattle.resb_format.specs.Parts.{Parts}
+use Rattle.resb_format.specs.Lookups.{key_place_by, text_place_by, index_by}
 use Rattle.resb_format.specs.Content.{Member, word, unit, leaf, list, entry_list, content_at}
 use Rattle.resb_format.specs.Denotes.{Den, den_leaf, den_list, den_entries, den_word, den_unit}
 use Rattle.resb_format.specs.Denotes.{DenEach, each_none, each_more, entries_none, entries_more}
@@ -129,6 +130,7 @@ small = record {
       1 ∷ 0 ∷ 0 ∷ 0 ∷ 7 ∷ 0 ∷ 0 ∷ 0x70 ∷ [];
   keys = 97 ∷ 0 ∷ [];
   block = 0 ∷ 120 ∷ 0 ∷ 1 ∷ 0 ∷ 1 ∷ [];
+  lent = None;
 }
 
 an_integer : content_at small 0x7fff_ffff ≡ Some (leaf (integer 0xfff_ffff))
@@ -161,13 +163,13 @@ an_unknown_type = refl
 
 -- The array holds the integer 5 and the string "x": three resources.
 array_denotes : Den small 0x8000_0001 (array (trees_of (integer 5 ∷ string (120 ∷ []) ∷ []))) 3
-unfolding content_at small words_of units_of text_at string_at utf16_chars lib.Utf8.encode
+unfolding content_at small words_of units_of key_place_by text_place_by index_by text_at string_at utf16_chars lib.Utf8.encode
 array_denotes =
     den_list refl
     (each_more (den_word (den_leaf refl)) (each_more (den_word (den_leaf refl)) each_none))
 
 table_denotes : Den small 0x5000_0003 (table (entry (97 ∷ []) (string (120 ∷ [])) no_entries)) 2
-unfolding content_at small words_of units_of text_at string_at utf16_chars key_at lib.Utf8.encode
+unfolding content_at small words_of units_of key_place_by text_place_by index_by text_at string_at utf16_chars key_at lib.Utf8.encode
 table_denotes =
     let key : key_at small.keys 0 ≡ Some (97 ∷ []) = rw (ascii_key 97 (omega arith)) refl in
     den_entries refl (entries_more key (den_unit refl) entries_none)
@@ -178,6 +180,7 @@ looped = record {
   body = 1 ∷ 0 ∷ 0 ∷ 0x80 ∷ 1 ∷ 0 ∷ 0 ∷ 0 ∷ 1 ∷ 0 ∷ 0 ∷ 0x80 ∷ [];
   keys = [];
   block = [];
+  lent = None;
 }
 
 loop_content : content_at looped 0x8000_0001 ≡ Some (list (word 0x8000_0001 ∷ []))

@@ -8,7 +8,7 @@ use Rattle.resb_tree.specs.Maps.{AreMaps, AreMapsIn}
 use Rattle.resb_tree.specs.Inner.Dropping.{IsNoCollection}
 use Rattle.resb_tree.proofs.MapsLemmas.{AllAreMaps, AreMaps-map_of}
 use Rattle.resb_format.specs.Bytes.{units_of, words_of, part}
-use Rattle.resb_format.specs.Strings.{text_at}
+use Rattle.resb_format.specs.Lookups.{text_in}
 use Rattle.resb_format.specs.Parts.{Parts}
 use Rattle.resb_format.specs.Types as types
 use Rattle.resb_format.specs.Content.{Member, Content, leaf, list, entry_list, content_at}
@@ -68,7 +68,7 @@ plain_placed p type v =
     (plain_if (type == types.table16) _ _ (plain_counted p.block v _
     (λ n. plain_paired (part p.block (v + 1) n) (offsets_at p (v + 1 + n) n)))
     (plain_if (type == types.string) _ _
-    (plain_map (λ x. leaf (string x)) (text_at p.block v) (λ s. (tt, tt)))
+    (plain_map (λ x. leaf (string x)) (text_in p v) (λ s. (tt, tt)))
     (plain_if (type == types.array) _ _ (plain_counted (words_of p.body) v _
     (λ n. plain_map list (words_at p (v + 1) n) (λ ms. tt)))
     (plain_if (type == types.array16) _ _ (plain_counted p.block v _

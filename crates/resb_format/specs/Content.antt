@@ -7,7 +7,7 @@ use Rattle.std.specs.Prelude.{option_map, option_and_then, ◌==◌, slice_get, 
 use Rattle.std.specs.List.{zip}
 use Rattle.resb_tree.specs.Tree.{Tree, string, binary, integer, int_vector}
 use Rattle.resb_format.specs.Bytes.{units_of, words_of, part}
-use Rattle.resb_format.specs.Strings.{text_at}
+use Rattle.resb_format.specs.Lookups.{text_in}
 use Rattle.resb_format.specs.Parts.{Parts}
 use Rattle.resb_format.specs.Types as types
 
@@ -82,7 +82,7 @@ table32_at p v =
 
 -- the string that stands at a unit of the 16-bit block, if it is a text
 abbrev pub text_leaf : Parts → ℕ → Option Content
-text_leaf p u = option_map (λ s. leaf (string s)) (text_at p.block u)
+text_leaf p u = option_map (λ s. leaf (string s)) (text_in p u)
 
 -- what a type with a value other than 0 leads to
 abbrev pub placed : Parts → ℕ → ℕ → Option Content

@@ -4,7 +4,7 @@
 --     Reaches p w n           at least n resources stand there up to the first fault
 use Rattle.std.specs.Prelude.{◌≡◌, ℕ, ◌+◌, List, [], ◌∷◌, Some}
 use Rattle.resb_tree.specs.Tree.{Tree, string, array, table, trees_of, map_of}
-use Rattle.resb_format.specs.Strings.{text_at, key_at}
+use Rattle.resb_format.specs.Lookups.{key_in, text_in, index_in}
 use Rattle.resb_format.specs.Parts.{Parts}
 use Rattle.resb_format.specs.Content.{Member, word, unit, leaf, list, entry_list, content_at}
 
@@ -23,7 +23,7 @@ module _ (p : Parts) where
     -- a member, which is a resource too
     pub data DenMember : Member → Tree → ℕ → Type 0 where
       den_word : {w n : ℕ} {t : Tree} → Den w t n → DenMember (word w) t n
-      den_unit : {u : ℕ} {s : List ℕ} → text_at p.block u ≡ Some s → DenMember (unit u) (string s) 1
+      den_unit : {u : ℕ} {s : List ℕ} → text_in p (index_in p u) ≡ Some s → DenMember (unit u) (string s) 1
 
     -- each member has its tree; the count is the sum of theirs
     pub data DenEach : List Member → List Tree → ℕ → Type 0 where
@@ -35,7 +35,7 @@ module _ (p : Parts) where
     pub data DenEntries : List (ℕ × Member) → List (List ℕ × Tree) → ℕ → Type 0 where
       entries_none : DenEntries [] [] 0
       entries_more : {m : Member} {at j k : ℕ} {es : List (ℕ × Member)} {key : List ℕ} {t : Tree}
-          {ts : List (List ℕ × Tree)} → key_at p.keys at ≡ Some key → DenMember m t j
+          {ts : List (List ℕ × Tree)} → key_in p at ≡ Some key → DenMember m t j
           → DenEntries es ts k → DenEntries ((at, m) ∷ es) ((key, t) ∷ ts) (j + k)
 
   mutual
@@ -64,7 +64,7 @@ module _ (p : Parts) where
     -- denote
     pub data ReachesEntries : List (ℕ × Member) → ℕ → Type 0 where
       entries_here : {m : Member} {at n : ℕ} {es : List (ℕ × Member)} {key : List ℕ}
-          → key_at p.keys at ≡ Some key → ReachesMember m n → ReachesEntries ((at, m) ∷ es) n
+          → key_in p at ≡ Some key → ReachesMember m n → ReachesEntries ((at, m) ∷ es) n
       entries_later : {m : Member} {at j n : ℕ} {es : List (ℕ × Member)} {key : List ℕ} {t : Tree}
-          → key_at p.keys at ≡ Some key → DenMember m t j → ReachesEntries es n
+          → key_in p at ≡ Some key → DenMember m t j → ReachesEntries es n
           → ReachesEntries ((at, m) ∷ es) (j + n)

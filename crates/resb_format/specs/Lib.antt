@@ -10,6 +10,7 @@ pub mod Bytes
 pub mod Units
 pub mod Strings
 pub mod Parts
+pub mod Lookups
 pub mod Content
 pub mod Denotes
 pub mod Error

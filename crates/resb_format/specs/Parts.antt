@@ -1,16 +1,40 @@
 -- The parts of a body. Which bytes of a file they are is said in `resb_head`. (ICU's `uresdata.h`.)
 --     Parts                   a body, its key block and its 16-bit block
 --     parts_in f              those that a value of the code shows
-use Rattle.std.specs.Prelude.{ℕ, List}
+use Rattle.std.specs.Prelude.{ℕ, List, Option, Some, None, option_map}
 use Rattle.resb_format.specs.Bytes.{units_of}
 use Rattle.resb_format.specs.declared.file_blocks.FileBlocks.{FileBlocks}
+use Rattle.resb_format.specs.declared.file_blocks.PoolBlocks.{PoolBlocks}
+
+-- what a file takes from a pool bundle: the pool's keys and units, and the first index of a string
+-- that is the file's own, as a descriptor and as a unit tell it
+pub record Lent : Type 0 where
+  pub keys : List ℕ
+  pub block : List ℕ
+  pub limit : ℕ
+  pub short_limit : ℕ
 
 -- The body is in bytes, as is the key block, its front. The 16-bit block is in units.
 pub record Parts : Type 0 where
   pub body : List ℕ
   pub keys : List ℕ
   pub block : List ℕ
+  pub lent : Option Lent
+
+-- what a value of the code shows of a pool
+abbrev pub lent_in : PoolBlocks → Lent
+lent_in l = record {
+  keys = l.keys.now;
+  block = units_of l.block.now;
+  limit = l.limit;
+  short_limit = l.short_limit;
+}
 
 -- the parts of a file as the definitions see them
 abbrev pub parts_in : FileBlocks → Parts
-parts_in f = record { body = f.body.now; keys = f.keys.now; block = units_of f.block.now }
+parts_in f = record {
+  body = f.body.now;
+  keys = f.keys.now;
+  block = units_of f.block.now;
+  lent = option_map lent_in f.pool;
+}

@@ -1,6 +1,19 @@
 //! The parts of a file, as the crates above hand them on.
 //! How they are cut out of its bytes is said in `resb_head`, what stands in them in `resb_walk`.
 
+/// What a file takes from a pool bundle.
+#[derive(Clone, Copy)]
+pub struct PoolBlocks<'a> {
+    /// The pool's keys, from behind its index on.
+    pub keys: &'a [u8],
+    /// The pool's 16-bit block.
+    pub block: &'a [u8],
+    /// The first index of a string that is the file's own.
+    pub limit: u32,
+    /// The same as a unit tells it.
+    pub short_limit: u16,
+}
+
 /// The parts of a file, each in bytes. (ICU's `uresdata.h`.)
 #[derive(Clone, Copy)]
 pub struct FileBlocks<'a> {
@@ -10,4 +23,6 @@ pub struct FileBlocks<'a> {
     pub keys: &'a [u8],
     /// The 16-bit block behind the keys, two bytes for each unit.
     pub block: &'a [u8],
+    /// What it takes from a pool bundle.
+    pub pool: Option<PoolBlocks<'a>>,
 }

@@ -19,7 +19,7 @@ pub use casts::{
 };
 pub use descriptor::ResDescriptor;
 pub use error::{BinaryDeserializerError, ErrorKind, ReadingError};
-pub use file_blocks::FileBlocks;
+pub use file_blocks::{FileBlocks, PoolBlocks};
 pub use repr_type::ResourceReprType;
 pub use resb_tree::{Int28, Key, NoMemory, Resource, ResourceBundle, Table};
 pub use units::{MAX_UNMARKED, is_unmarked, marker_units, string_at, utf16_len};

@@ -5,6 +5,7 @@ use Rattle.resb_tree.specs.Tree.{Tree, string, table, no_entries, entry}
 use Rattle.resb_format.specs.Bytes.{units_of, words_of}
 use Rattle.resb_format.specs.Strings.{string_at, text_at, key_at}
 use Rattle.resb_format.specs.Content.{content_at}
+use Rattle.resb_format.specs.Lookups.{key_place_by, text_place_by, index_by}
 use Rattle.resb_format.specs.Denotes.{den_entries, den_unit, entries_none, entries_more}
 use Rattle.resb_format.proofs.Examples.{ascii_key}
 use Rattle.resb_head.specs.File.{IsBundleFile, parts_of, Denotes, budget}
@@ -73,7 +74,7 @@ flat_tree = table (entry (107 ∷ []) (string (118 ∷ [])) no_entries)
 
 flat_denotes : Denotes flat_bundle flat_tree 2
 unfolding flat_bundle flat_tree units_of words_of parts_of content_at string_at text_at key_at
-    utf16_chars lib.Utf8.encode
+    key_place_by text_place_by index_by utf16_chars lib.Utf8.encode
 flat_denotes =
     let key : key_at (parts_of flat_bundle).keys 32 ≡ Some (107 ∷ []) =
     rw (ascii_key 107 (omega arith)) refl in

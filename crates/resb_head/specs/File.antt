@@ -5,7 +5,7 @@
 --     Denotes bytes t n       the file's root denotes the tree t, of n resources
 --     budget bytes            one resource for each 16-bit unit of the file
 use Rattle.std.specs.Prelude.{◌≡◌, ℕ, ◌+◌, ◌-◌, ◌*◌, ◌/◌, ◌≤◌, min, List, [], ◌∷◌, length, take}
-use Rattle.std.specs.Prelude.{drop, slice_index, slice_range, codes}
+use Rattle.std.specs.Prelude.{drop, slice_index, slice_range, codes, None}
 use Rattle.resb_tree.specs.Tree.{Tree}
 use Rattle.resb_format.specs.Bytes.{units_of, words_of}
 use Rattle.resb_format.specs.Parts.{Parts}
@@ -60,6 +60,7 @@ parts_in_body body =
       body = body;
       keys = take (4 * keys_end) body;
       block = units_of (take (4 * (block_end - keys_end)) (drop (4 * keys_end) body));
+      lent = None;
     }
 
 -- the parts of a file: those of its body

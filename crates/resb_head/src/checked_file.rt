@@ -64,7 +64,12 @@ impl<'de> CheckedFile<'de> {
         }
         let (front, _) = body.split_at(block_end);
         let (keys, block) = front.split_at(keys_end);
-        let file = FileBlocks { body, keys, block };
+        let file = FileBlocks {
+            body,
+            keys,
+            block,
+            pool: None,
+        };
         let root = word_at(body, 0);
         Ok(CheckedFile { file, root })
     }

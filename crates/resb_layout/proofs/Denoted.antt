@@ -11,7 +11,7 @@ use Rattle.resb_tree.specs.Tree.{Tree, string, array, table, binary, integer, in
 use Rattle.resb_tree.specs.Tree.{no_trees, more_trees, Entries, no_entries, entry, trees_of}
 use Rattle.resb_tree.specs.Tree.{map_of, tree_count, trees_count, entries_count}
 use Rattle.resb_tree.specs.Maps.{keyed_trees}
-use Rattle.resb_format.specs.Strings.{key_at}
+use Rattle.resb_format.specs.Lookups.{key_in, text_in}
 use Rattle.resb_format.specs.Parts.{Parts}
 use Rattle.resb_format.specs.Content.{Member, word, unit, leaf, list, entry_list, content_at}
 use Rattle.resb_format.specs.Content.{placed, empty}
@@ -124,7 +124,8 @@ module _ (p : Parts) (g : Given) (read : IsRead p g) where
       let both = and_parts _ _ e in
       let i = string_word h (leb-true 0x6000_0000 w both.0) (leb-true w 0x6000_ffff both.1) in
       subst (λ t. DenMember p (unit (w - 0x6000_0000)) t (tree_count t)) (sym i.is)
-      (den_unit (read.texts i.text (w - 0x6000_0000) i.offset))
+      (den_unit (ap (text_in p) (read.units (w - 0x6000_0000))
+      ∙ read.texts i.text (w - 0x6000_0000) i.offset))
 
   -- strings alone
   short_each : {s e : Laid} {ts : Trees} {ws : List ℕ} → LaysEach g s ts e ws
@@ -149,7 +150,7 @@ module _ (p : Parts) (g : Given) (read : IsRead p g) where
       let rest : map g.position (entry_keys es) ≡ map Some ps = cc in
       one_and_more (read.keys k q first) (λ ms j h. keyed es ps ms j rest h) ms n d
     where
-      one_and_more : key_at p.keys q ≡ Some k → ((ms : List Member) (j : ℕ)
+      one_and_more : key_in p q ≡ Some k → ((ms : List Member) (j : ℕ)
           → DenEach p ms (list_of (entry_trees es)) j → DenEntries p (zip ps ms) (keyed_trees es) j)
           → (ms : List Member) (n : ℕ) → DenEach p ms (t ∷ list_of (entry_trees es)) n
           → DenEntries p (zip (q ∷ ps) ms) ((k, t) ∷ keyed_trees es) n

@@ -6,7 +6,7 @@
 --     LaidIsPaid              what was laid has two bytes for each resource but the root
 use Rattle.std.specs.Prelude.{◌≡◌, ℕ, ◌+◌, ◌*◌, ◌%◌, ◌<◌, ◌≤◌, List, [], ◌++◌, length, Some}
 use Rattle.resb_tree.specs.Tree.{Tree, tree_count}
-use Rattle.resb_format.specs.Strings.{text_at, key_at}
+use Rattle.resb_format.specs.Lookups.{text_in, key_in, index_in}
 use Rattle.resb_format.specs.Parts.{Parts}
 use Rattle.resb_format.specs.Denotes.{Den}
 use Rattle.resb_tree.specs.LayingOrder.{laying_order}
@@ -20,9 +20,11 @@ OneLayout = (g : Given) (s a b : Laid) (t : Tree) (v w : ℕ) → Lays g s t a v
 
 -- the blocks read back what is given: each key at its position, each string at its offset
 pub record IsRead (p : Parts) (g : Given) : Type 0 where
-  pub keys : (k : List ℕ) (at : ℕ) → g.position k ≡ Some at → key_at p.keys at ≡ Some k
-  pub texts : (s : List ℕ) (k : ℕ) → g.offset s ≡ Some k → text_at p.block k ≡ Some s
-  pub empty : text_at p.block 0 ≡ Some []
+  pub keys : (k : List ℕ) (at : ℕ) → g.position k ≡ Some at → key_in p at ≡ Some k
+  pub texts : (s : List ℕ) (k : ℕ) → g.offset s ≡ Some k → text_in p k ≡ Some s
+  -- a unit tells itself
+  pub units : (u : ℕ) → index_in p u ≡ u
+  pub empty : text_in p 0 ≡ Some []
   pub base : 0 < g.base
   pub aligned : g.base % 4 ≡ 0
 

@@ -6,7 +6,7 @@ use Rattle.std.specs.Prelude.{if◌then◌else◌}
 use Rattle.std.specs.Int.{cast_signed, w32}
 use Rattle.resb_tree.specs.Int28.{signed}
 use Rattle.resb_format.specs.Bytes.{words_of, part}
-use Rattle.resb_format.specs.Strings.{string_at, text_at, key_at}
+use Rattle.resb_format.specs.Lookups.{string_in, text_in, key_in, index_in}
 use Rattle.resb_format.specs.Parts.{Parts}
 use Rattle.resb_format.specs.Content.{behind_count}
 use Rattle.resb_format.specs.Types as types
@@ -92,14 +92,14 @@ CountsBits p n = CountsThere any (bits_at p.at) n
 abbrev pub described_text : Parts → ℕ → Option (List ℕ)
 described_text p w =
     if type_in w == types.string then
-    (if value_in w == 0 then Some [] else text_at p.block (value_in w)) else None
+    (if value_in w == 0 then Some [] else text_in p (value_in w)) else None
 
 -- the text of a string, for one resource, or of a key, for none
 abbrev pub text_from : Parts → Spot → Option (List ℕ × ℕ)
 text_from p (spot.Descriptor w) = option_map (λ s. (s, 1)) (described_text p w)
-text_from p (spot.Unit u) = option_map (λ s. (s, 1)) (text_at p.block u)
+text_from p (spot.Unit u) = option_map (λ s. (s, 1)) (text_in p (index_in p u))
 text_from p (spot.Word w) = None
-text_from p (spot.Key k) = option_map (λ s. (s, 0)) (key_at p.keys k)
+text_from p (spot.Key k) = option_map (λ s. (s, 0)) (key_in p k)
 
 -- this text stands there
 abbrev pub ReadsText : Place → List ℕ → ℕ → Type 0
@@ -111,7 +111,7 @@ CountsText p n = CountsThere any (text_from p.parts p.at) n
 
 -- the key at a spot, for no resource, if one stands there
 abbrev pub key_from : Parts → Spot → Option (List ℕ × ℕ)
-key_from p (spot.Key k) = option_map (λ s. (s, 0)) (key_at p.keys k)
+key_from p (spot.Key k) = option_map (λ s. (s, 0)) (key_in p k)
 key_from p s = None
 
 -- this key stands there
@@ -131,7 +131,7 @@ abbrev pub bytes_of_type : Parts → ℕ → ℕ → Option (List ℕ)
 bytes_of_type p type v =
     if type == types.binary then (if v == 0 then Some [] else counted_bytes p 1 v)
     else if type == types.string then
-    (if v == 0 then Some [] else option_map units_as_bytes (string_at p.block v))
+    (if v == 0 then Some [] else option_map units_as_bytes (string_in p v))
     else if type == types.int_vector then (if v == 0 then Some [] else counted_bytes p 4 v)
     else None
 
@@ -139,9 +139,9 @@ bytes_of_type p type v =
 abbrev pub bytes_from : Parts → Spot → Option (List ℕ × ℕ)
 bytes_from p (spot.Descriptor w) =
     option_map (λ s. (s, 1)) (bytes_of_type p (type_in w) (value_in w))
-bytes_from p (spot.Unit u) = option_map (λ us. (units_as_bytes us, 1)) (string_at p.block u)
+bytes_from p (spot.Unit u) = option_map (λ us. (units_as_bytes us, 1)) (string_in p (index_in p u))
 bytes_from p (spot.Word w) = None
-bytes_from p (spot.Key k) = option_map (λ s. (s, 0)) (key_at p.keys k)
+bytes_from p (spot.Key k) = option_map (λ s. (s, 0)) (key_in p k)
 
 -- these bytes stand there
 abbrev pub ReadsBytes : Place → List ℕ → ℕ → Type 0

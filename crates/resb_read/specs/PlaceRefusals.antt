@@ -10,10 +10,11 @@ use Rattle.std.specs.Prelude.{◌==◌, ◌||◌, nat_le, ℕ, List, Bool, false
 use Rattle.std.specs.Prelude.{codes, if◌then◌else◌}
 use Rattle.resb_format.specs.Error.{Refusal, invalid, end_of_input}
 use Rattle.resb_format.specs.Parts.{Parts}
+use Rattle.resb_format.specs.Lookups.{index_in, text_place}
 use Rattle.resb_format.specs.StringMessage.{string_message}
 use Rattle.resb_format.specs.Types as types
 use Rattle.resb_format.specs.declared.error.ErrorKind.TheVariants.{ResourceTypeMismatch, Unknown}
-use Rattle.resb_walk.specs.BlockRefusals.{block_text_refusal, block_key_refusal}
+use Rattle.resb_walk.specs.BlockRefusals.{text_refusal_in, key_refusal_in}
 use Rattle.resb_walk.specs.BlockRefusals.{unread_type_refusal}
 use Rattle.resb_read.specs.Places.{Place}
 use Rattle.resb_read.specs.Leaves.{type_in, value_in, bytes_from}
@@ -76,9 +77,13 @@ bits_refusal (spot.Descriptor w) left =
 bits_refusal (spot.Unit u) left = paid left elsewhere
 bits_refusal s left = elsewhere
 
+-- why no string stands at an index
+abbrev pub string_message_in : Parts → ℕ → List ℕ
+string_message_in p i = string_message (text_place p i).0 (text_place p i).1
+
 -- why no key is read at a spot: it is another place, or the key's own fault
 abbrev pub key_refusal_from : Parts → Spot → ℕ → Refusal
-key_refusal_from p (spot.Key k) left = block_key_refusal p.keys k
+key_refusal_from p (spot.Key k) left = key_refusal_in p k
 key_refusal_from p s left = no_value s left
 
 -- why no key is read at a place with so much left
@@ -88,15 +93,15 @@ key_refusal p left = key_refusal_from p.parts p.at left
 -- why no text stands at a descriptor: no string, or one that is no text; or another type
 abbrev pub word_text_refusal : Parts → ℕ → Refusal
 word_text_refusal p w =
-    if type_in w == types.string then block_text_refusal p.block (value_in w)
+    if type_in w == types.string then text_refusal_in p (value_in w)
     else type_refusal (type_in w) (mismatch (codes "expected string resource"))
 
 -- why no text is read at a spot with so much left
 abbrev pub text_refusal_from : Parts → Spot → ℕ → Refusal
 text_refusal_from p (spot.Descriptor w) left = paid left (word_text_refusal p w)
-text_refusal_from p (spot.Unit u) left = paid left (block_text_refusal p.block u)
+text_refusal_from p (spot.Unit u) left = paid left (text_refusal_in p (index_in p u))
 text_refusal_from p (spot.Word w) left = elsewhere
-text_refusal_from p (spot.Key k) left = block_key_refusal p.keys k
+text_refusal_from p (spot.Key k) left = key_refusal_in p k
 
 -- why no text is read at a place with so much left
 abbrev pub text_refusal : Place → ℕ → Refusal
@@ -106,16 +111,16 @@ text_refusal p left = text_refusal_from p.parts p.at left
 -- the body, or another type
 abbrev pub word_bytes_refusal : Parts → ℕ → Refusal
 word_bytes_refusal p w =
-    if type_in w == types.string then invalid (string_message p.block (value_in w))
+    if type_in w == types.string then invalid (string_message_in p (value_in w))
     else if type_in w == types.binary || type_in w == types.int_vector then end_of_input
     else type_refusal (type_in w) (mismatch (codes "expected binary data resource"))
 
 -- why no bytes are read at a spot with so much left
 abbrev pub bytes_refusal_from : Parts → Spot → ℕ → Refusal
 bytes_refusal_from p (spot.Descriptor w) left = paid left (word_bytes_refusal p w)
-bytes_refusal_from p (spot.Unit u) left = paid left (invalid (string_message p.block u))
+bytes_refusal_from p (spot.Unit u) left = paid left (invalid (string_message_in p (index_in p u)))
 bytes_refusal_from p (spot.Word w) left = elsewhere
-bytes_refusal_from p (spot.Key k) left = block_key_refusal p.keys k
+bytes_refusal_from p (spot.Key k) left = key_refusal_in p k
 
 -- why no bytes are read at a place with so much left
 abbrev pub bytes_refusal : Place → ℕ → Refusal

@@ -18,6 +18,8 @@ use Rattle.std.specs.Cmp.Lexicographic.{slice_cmp}
 use Rattle.std.specs.declared.cmp.Ordering.TheVariants.{Less}
 use Rattle.resb_format.specs.declared.error.ReadingError.{ReadingError}
 use Rattle.resb_walk.specs.Refusals.{IsSpent}
+use Rattle.resb_format.specs.Parts.{Parts}
+use Rattle.resb_format.specs.Lookups.{key_place}
 use Rattle.resb_read.specs.Places.{Place}
 use Rattle.resb_read.specs.Leaves.{key_from, ReadsKey}
 use Rattle.resb_read.specs.RefusedReadings.{RefusesThere, RefusesEntries}
@@ -125,14 +127,14 @@ abbrev pub AscendIsTold : Type 0
 AscendIsTold = (es : List (Place × Place)) → (keys_ascend es ≡ true) ↔ Ascend es
 
 -- how many bytes stand from a key's place to the next zero byte, or to the key block's end
-abbrev pub size_at : List ℕ → Spot → ℕ
-size_at keys (spot.Key k) = position_or_len (λ b. b == 0) (drop k keys)
-size_at keys s = 0
+abbrev pub size_at : Parts → Spot → ℕ
+size_at p (spot.Key k) = position_or_len (λ b. b == 0) (drop (key_place p k).1 (key_place p k).0)
+size_at p s = 0
 
 -- what is paid before all keys of entries are read: of each, one for each 16 of its bytes
 abbrev pub price_of : List (Place × Place) → ℕ
 price_of [] = 0
-price_of (e ∷ es) = size_at e.0.parts.keys e.0.at / 16 + price_of es
+price_of (e ∷ es) = size_at e.0.parts e.0.at / 16 + price_of es
 
 -- there is no place and no value, which costs nothing; or the value is read at the place
 abbrev pub ReadsFound : {X : Type 0} → (Place → X → ℕ → Type 0) → Option Place → Option X → ℕ

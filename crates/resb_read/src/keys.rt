@@ -3,11 +3,12 @@
 //! Where in a table a name is looked for is said in `tables` and `sorted`.
 ghost use Rattle.std.specs.Prelude.{◌≡◌, ◌≢◌, ◌≤◌, ◌<◌, ◌+◌, ◌/◌, ◌==◌, ℕ, List, Some, length};
 ghost use Rattle.std.specs.List.{position_or_len};
-ghost use Rattle.std.specs.Prelude.{slice_get, take, MatchOption, IfSome};
+ghost use Rattle.std.specs.Prelude.{slice_get, take, drop, option_map, MatchOption, IfSome};
 ghost use Rattle.std.specs.Ordering.{nat_cmp};
 ghost use Rattle.std.specs.Cmp.Lexicographic.{slice_cmp};
 ghost use Rattle.resb_format.specs.Strings.{key_at};
 ghost use Rattle.resb_format.specs.Parts.{parts_in};
+ghost use Rattle.resb_format.specs.Lookups.{key_in};
 ghost use Rattle.resb_read.specs.Leaves.{key_from};
 ghost use Rattle.resb_read.specs.declared.cursor.Spot.TheVariants as spot;
 ghost use Rattle.resb_read.specs.Tables.{is_text, size_at};
@@ -15,14 +16,23 @@ ghost use Rattle.resb_read.specs.Inner.Naming.{is_plain, order_ended};
 
 use resb_format::FileBlocks;
 use resb_format::bytes::cut_at;
+use resb_walk::places::key_place;
 use std::cmp::Ordering;
 
 /// Whether the key at a position is this name.
-#[tactic(auto, using(crate::proofs::Naming::told))]
 pub(crate) fn is_key(file: FileBlocks<'_>, position: usize, name: &str) -> bool
     ensures { result ≡ is_text name.now (key_from (parts_in file.entry) (spot.Key position)) }
 {
-    let Some((_, tail)) = cut_at(file.keys, position) else {
+    let (keys, at) = key_place(file, position);
+    is_block_key(keys, at, name)
+}
+
+/// Whether the key at a byte of a block of keys is this name.
+#[tactic(auto, using(crate::proofs::Naming::told))]
+fn is_block_key(keys: &[u8], at: usize, name: &str) -> bool
+    ensures { result ≡ is_text name.now (option_map (λ s. (s, 0)) (key_at keys.now at)) }
+{
+    let Some((_, tail)) = cut_at(keys, at) else {
         return false;
     };
     match closed(tail, name.len()) {
@@ -69,10 +79,19 @@ fn is_same(bytes: &[u8], wanted: &[u8]) -> bool
 
 /// How a name stands to the key at a position, byte by byte, if one can be read there.
 pub(crate) fn order_of(file: FileBlocks<'_>, name: &str, position: usize) -> Ordering
-    ensures { (t : List ℕ) → key_at file.entry.keys.now position ≡ Some t
+    ensures { (t : List ℕ) → key_in (parts_in file.entry) position ≡ Some t
         → result ≡ slice_cmp nat_cmp name.now t }
 {
-    match cut_at(file.keys, position) {
+    let (keys, at) = key_place(file, position);
+    block_order(keys, name, at)
+}
+
+/// How a name stands to the key at a byte of a block of keys.
+fn block_order(keys: &[u8], name: &str, position: usize) -> Ordering
+    ensures { (t : List ℕ) → key_at keys.now position ≡ Some t
+        → result ≡ slice_cmp nat_cmp name.now t }
+{
+    match cut_at(keys, position) {
         Some((_, tail)) => order(name.as_bytes(), front(tail, name.len() + 1)),
         None => Ordering::Greater,
     }
@@ -118,12 +137,21 @@ fn order(wanted: &[u8], key: &[u8]) -> Ordering
 
 /// How many bytes the key at a position has, whether it can be read or not, if they are at most 15
 /// more than 16 for each of so many. No more than those and one are looked at.
-#[tactic(auto, using(crate::proofs::PlainLists::no_zero_behind))]
 pub(crate) fn size_within(file: FileBlocks<'_>, position: usize, room: usize) -> Option<usize>
-    ensures { let size = size_at file.entry.keys.now (spot.Key position) in
+    ensures { let size = size_at (parts_in file.entry) (spot.Key position) in
         MatchOption result (room < size / 16) (λ n. (n ≡ size) × (size / 16 ≤ room)) }
 {
-    match cut_at(file.keys, position) {
+    let (keys, at) = key_place(file, position);
+    block_size_within(keys, at, room)
+}
+
+/// The same at a byte of a block of keys.
+#[tactic(auto, using(crate::proofs::PlainLists::no_zero_behind))]
+fn block_size_within(keys: &[u8], at: usize, room: usize) -> Option<usize>
+    ensures { let size = position_or_len (λ b. b == 0) (drop at keys.now) in
+        MatchOption result (room < size / 16) (λ n. (n ≡ size) × (size / 16 ≤ room)) }
+{
+    match cut_at(keys, at) {
         Some((_, tail)) => zero_within(tail, room),
         None => Some(0),
     }

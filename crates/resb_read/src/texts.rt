@@ -28,6 +28,7 @@ use resb_format::{
     BinaryDeserializerError, FileBlocks, Key, ReadingError, ResourceReprType, string_at,
 };
 use resb_walk::faults::past_end;
+use resb_walk::places::{index_of, text_place};
 use resb_walk::types::readable;
 use resb_walk::{Walk, key_at, text_at, text_of_units};
 use std::alloc::Global;
@@ -88,7 +89,10 @@ fn described(file: FileBlocks<'_>, word: u32) -> Result<&[u8], BinaryDeserialize
         ResourceReprType::Binary | ResourceReprType::StringV2 | ResourceReprType::IntVector
             if value == 0 => { Ok(&[]) }
         ResourceReprType::Binary => counted_at(file, 1, value),
-        ResourceReprType::StringV2 => units_at(file.block, value),
+        ResourceReprType::StringV2 => {
+            let (block, unit) = text_place(file, value);
+            units_at(block, unit)
+        }
         ResourceReprType::IntVector => counted_at(file, 4, value),
         _ => Err(BinaryDeserializerError::resource_type_mismatch("expected binary data resource")),
     }
@@ -119,7 +123,7 @@ impl<'de> Cursor<'de> {
             }
             Spot::Unit(unit) => {
                 walk.pay()?;
-                let units = text_at(self.file, usize::from(unit))?;
+                let units = text_at(self.file, index_of(self.file, unit))?;
                 Ok(text_of_units(alloc, units)?)
             }
             Spot::Key(position) => {
@@ -168,7 +172,8 @@ impl<'de> Cursor<'de> {
                 if let Err(spent) = walk.pay() {
                     return Err(spent);
                 }
-                match units_at(self.file.block, usize::from(unit)) {
+                let (block, unit) = text_place(self.file, index_of(self.file, unit));
+                match units_at(block, unit) {
                     Ok(bytes) => Ok(bytes),
                     Err(error) => Err(error),
                 }

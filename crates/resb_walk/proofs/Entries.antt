@@ -3,7 +3,7 @@ use Rattle.std.proofs.Common.{ℕ, List, [], ◌∷◌, ◌++◌, ◌≡◌, ◌
 use Rattle.std.proofs.Common.{subst, arith, add_assoc}
 use Rattle.resb_tree.specs.Tree.{Tree}
 use Rattle.resb_format.specs.Parts.{Parts}
-use Rattle.resb_format.specs.Strings.{key_at}
+use Rattle.resb_format.specs.Lookups.{key_in}
 use Rattle.resb_format.specs.Content.{Member}
 use Rattle.resb_format.specs.Denotes.{DenMember, DenEntries, entries_none, entries_more}
 use Rattle.resb_format.specs.Denotes.{ReachesMember}
@@ -15,7 +15,7 @@ module _ (p : Parts) where
   -- one more entry at the end
   pub entries_snoc : {es : List (ℕ × Member)} {ts : List (List ℕ × Tree)} {a : ℕ} (place : ℕ)
       (x : Member) (key : List ℕ) (t : Tree) (n : ℕ)
-      → DenEntries p es ts a → key_at p.keys place ≡ Some key → DenMember p x t n
+      → DenEntries p es ts a → key_in p place ≡ Some key → DenMember p x t n
       → DenEntries p (es ++ (place, x) ∷ []) (ts ++ (key, t) ∷ []) (a + n)
   entries_snoc place x key t n entries_none h d =
       let D : ℕ
@@ -43,7 +43,7 @@ module _ (p : Parts) where
   -- an entry whose key or member is at fault
   pub none_entries : (es : List (ℕ × Member)) (place : ℕ) (x : Member) (rest : List (ℕ × Member))
       (none : (key : List ℕ) (t : Tree) (n : ℕ)
-      → key_at p.keys place ≡ Some key → DenMember p x t n
+      → key_in p place ≡ Some key → DenMember p x t n
       → ⊥) (ts : List (List ℕ × Tree)) (n : ℕ)
       → DenEntries p (es ++ (place, x) ∷ rest) ts n → ⊥
   none_entries [] place x rest none ts n (entries_more g d ds) = none _ _ _ g d
@@ -54,8 +54,8 @@ module _ (p : Parts) where
   pub stuck_entries : {es : List (ℕ × Member)} {ts : List (List ℕ × Tree)} {a : ℕ} (place : ℕ)
       (x : Member) (rest : List (ℕ × Member)) (left i : ℕ)
       (none : (key : List ℕ) (t : Tree) (n : ℕ)
-      → key_at p.keys place ≡ Some key → DenMember p x t n → ⊥) (stuck : (key : List ℕ)
-      → key_at p.keys place ≡ Some key → ReachesMember p x (left + 1) → ⊥)
+      → key_in p place ≡ Some key → DenMember p x t n → ⊥) (stuck : (key : List ℕ)
+      → key_in p place ≡ Some key → ReachesMember p x (left + 1) → ⊥)
       → DenEntries p es ts a → i ≡ a + left + 1 → ReachesEntries p (es ++ (place, x) ∷ rest) i → ⊥
   stuck_entries place x rest left i none stuck entries_none e (entries_here g r) =
       let f : i ≡ left + 1 = omega arith in let D : ℕ

@@ -5,7 +5,7 @@ use Rattle.std.proofs.Common.{ap, ◌∙◌, subst, arith}
 use Rattle.std.specs.Prelude.{option_map}
 use Rattle.std.proofs.lemmas.List.Sums.{sum_by-cons, sum_by-append}
 use Rattle.resb_tree.specs.Tree.{Tree, string}
-use Rattle.resb_format.specs.Strings.{text_at, key_at}
+use Rattle.resb_format.specs.Lookups.{key_in, text_in, index_in}
 use Rattle.resb_format.specs.Parts.{Parts}
 use Rattle.resb_format.specs.Content.{Member, word, unit, leaf, list, entry_list}
 use Rattle.resb_format.specs.Content.{content_at}
@@ -62,17 +62,17 @@ module _ (p : Parts) where
   none_holds e (holds_entries f h) = some_none e f
 
   pub text_holds : (w u : ℕ) (xs : List Piece) → content_at p w ≡ text_leaf p u → Holds p w xs
-      → (s : List ℕ) × (text_at p.block u ≡ Some s) × (xs ≡ leaf_piece (string s) ∷ [])
-  text_holds w u xs e h = at h (text_at p.block u) refl
+      → (s : List ℕ) × (text_in p u ≡ Some s) × (xs ≡ leaf_piece (string s) ∷ [])
+  text_holds w u xs e h = at h (text_in p u) refl
     where
-      at : Holds p w xs → (o : Option (List ℕ)) → text_at p.block u ≡ o
-          → (s : List ℕ) × (text_at p.block u ≡ Some s) × (xs ≡ leaf_piece (string s) ∷ [])
+      at : Holds p w xs → (o : Option (List ℕ)) → text_in p u ≡ o
+          → (s : List ℕ) × (text_in p u ≡ Some s) × (xs ≡ leaf_piece (string s) ∷ [])
       at g None f = absurd (none_holds (e ∙ ap (option_map (λ s. leaf (string s))) f) g)
       at g (Some s) f =
           (s, f, leaf_holds (e ∙ ap (option_map (λ s. leaf (string s))) f) g)
 
   pub unit_holds : (u : ℕ) (xs : List Piece) → HoldsMember p (unit u) xs
-      → (s : List ℕ) × (text_at p.block u ≡ Some s) × (xs ≡ leaf_piece (string s) ∷ [])
+      → (s : List ℕ) × (text_in p (index_in p u) ≡ Some s) × (xs ≡ leaf_piece (string s) ∷ [])
   unit_holds u xs (holds_unit {s = t} e) = (t, e, refl)
 
   pub word_holds : {w : ℕ} {xs : List Piece} → HoldsMember p (word w) xs → Holds p w xs
@@ -90,12 +90,12 @@ module _ (p : Parts) where
 
   pub first_entry_holds : (es fs : List (ℕ × Member)) (at : ℕ) (m : Member) (xs : List Piece)
       → es ≡ (at, m) ∷ fs → HoldsEachEntry p es xs
-      → (k : List ℕ) × (ys zs : List Piece) × (key_at p.keys at ≡ Some k)
+      → (k : List ℕ) × (ys zs : List Piece) × (key_in p at ≡ Some k)
       × (xs ≡ key_piece k ∷ ys ++ zs) × HoldsMember p m ys × HoldsEachEntry p fs zs
   first_entry_holds es fs at m xs e h = first (subst (λ ls. HoldsEachEntry p ls xs) e h)
     where
       first : {us : List Piece} → HoldsEachEntry p ((at, m) ∷ fs) us
-          → (k : List ℕ) × (ys zs : List Piece) × (key_at p.keys at ≡ Some k)
+          → (k : List ℕ) × (ys zs : List Piece) × (key_in p at ≡ Some k)
           × (us ≡ key_piece k ∷ ys ++ zs) × HoldsMember p m ys × HoldsEachEntry p fs zs
       first (holds_entry {key = k} {xs = ys} {ys = zs} f g i) = (k, ys, zs, f, refl, g, i)
 

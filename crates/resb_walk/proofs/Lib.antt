@@ -12,6 +12,7 @@ pub mod Lists
 mod Made
 mod Surrogates
 mod Keys
+mod Alone
 mod Plain
 mod Marked
 mod Paths

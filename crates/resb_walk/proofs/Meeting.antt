@@ -7,8 +7,8 @@ use Rattle.resb_format.specs.Denotes.{DenMember, den_word, den_unit, DenEach, ea
 use Rattle.resb_format.specs.Denotes.{DenEntries, entries_none, entries_more}
 use Rattle.resb_format.specs.Error.{Refusal}
 use Rattle.resb_format.specs.Parts.{Parts}
-use Rattle.resb_format.specs.Strings.{key_at}
-use Rattle.resb_walk.specs.BlockRefusals.{block_key_refusal}
+use Rattle.resb_format.specs.Lookups.{key_in}
+use Rattle.resb_walk.specs.BlockRefusals.{key_refusal_in}
 use Rattle.resb_walk.specs.Meets.{Meets, meets_text, meets_word, meets_list, meets_key}
 use Rattle.resb_walk.specs.Meets.{meets_entry}
 use Rattle.resb_walk.specs.Inner.Frames.{Waits, OpenedTable}
@@ -56,7 +56,7 @@ module _ (p : Parts) where
   -- an entry that denotes nothing
   abbrev Lacks : ℕ × Member → Type 0
   Lacks e = (key : List ℕ) (t : Tree) (n : ℕ)
-      → key_at p.keys e.0 ≡ Some key → DenMember p e.1 t n → ⊥
+      → key_in p e.0 ≡ Some key → DenMember p e.1 t n → ⊥
 
   -- the same of entries
   same_entry : {es es' : List (ℕ × Member)} {ts ts' : List (List ℕ × Tree)} {j j' : ℕ}
@@ -76,7 +76,7 @@ module _ (p : Parts) where
       same_entry a b fs fs' ds ds' f g cc
 
   -- an entry without a key, or whose member meets a fault
-  no_key : (k : ℕ) (m : Member) → key_at p.keys k ≡ None → Lacks (k, m)
+  no_key : (k : ℕ) (m : Member) → key_in p k ≡ None → Lacks (k, m)
   no_key k m e key t n h d = some_none e h
 
   no_value : (k : ℕ) (m : Member) (f : Refusal) → Meets p m f → Lacks (k, m)
@@ -100,17 +100,17 @@ module _ (p : Parts) where
   one_fault (meets_key j x ms e c h) (meets_key k y ns d b i) =
       let same = same_entry (j, x) (k, y) ms ns c b (no_key j x h) (no_key k y i)
       (same_entries e d) in
-      ap (λ z. block_key_refusal p.keys z.0) same
+      ap (λ z. key_refusal_in p z.0) same
   one_fault (meets_key j x ms e c h) (meets_entry {m = y} {f = g'} k ns d b a i) =
       let same = same_entry (j, x) (k, y) ms ns c b (no_key j x h) (no_value k y g' i)
       (same_entries e d) in
-      absurd (some_none (subst (λ z. key_at p.keys z.0 ≡ None) same h) a)
+      absurd (some_none (subst (λ z. key_in p z.0 ≡ None) same h) a)
   one_fault (meets_entry j ms e c q h) (meets_word d) = absurd (some_none d e)
   one_fault (meets_entry j ms e c q h) (meets_list ns d b i) = absurd (list_entries d e)
   one_fault (meets_entry {m = x} {f = f'} j ms e c q h) (meets_key k y ns d b i) =
       let same = same_entry (j, x) (k, y) ms ns c b (no_value j x f' h) (no_key k y i)
       (same_entries e d) in
-      absurd (some_none (subst (λ z. key_at p.keys z.0 ≡ None) (sym same) i) q)
+      absurd (some_none (subst (λ z. key_in p z.0 ≡ None) (sym same) i) q)
   one_fault (meets_entry {m = x} {f = f'} j ms e c q h)
       (meets_entry {m = y} {f = g'} k ns d b a i) =
       let same = same_entry (j, x) (k, y) ms ns c b (no_value j x f' h) (no_value k y g' i)
@@ -140,7 +140,7 @@ module _ (p : Parts) where
       (tables : T → List (List ℕ × Tree) → Type 0) (rest later : TableParts) (k : ℕ) (x : Member)
       (made : T) (w n : ℕ)
       → OpenedTable lists tables p rest made w n → keyed_members rest ≡ (k, x) ∷ keyed_members later
-      → key_at p.keys k ≡ None → Meets p (word w) (block_key_refusal p.keys k)
+      → key_in p k ≡ None → Meets p (word w) (key_refusal_in p k)
   table_meets lists tables rest later k x made w n h e none =
       let stands = h.stands ∙ ap (λ es. Some (entry_list (h.done ++ es))) e in
       meets_key k x (keyed_members later) stands h.each none

@@ -52,14 +52,14 @@ module _ (p : Parts) where
   -- the next entry has no key
   pub key_stuck : (es fs : TableParts) (k : ℕ) (x : Member) (w n : ℕ) (e : ReadingError)
       → IsOpenedAt p (rest.Table es) w n → keyed_members es ≡ (k, x) ∷ keyed_members fs
-      → LooksKey {A = ℕ} p.keys k (Err e) → TakesNext p w n (Err e)
+      → LooksKey {A = ℕ} p k (Err e) → TakesNext p w n (Err e)
   key_stuck es fs k x w n e h split (inl memory) = inl memory
   key_stuck es fs k x w n e h split (inr (none, is_fault, says)) =
       inr (is_fault, table_no_key no_list no_table p es fs k x 0 w n h split none)
 
   pub key_meets : (es fs : TableParts) (k : ℕ) (x : Member) (w n : ℕ) (e : ReadingError)
       → IsOpenedAt p (rest.Table es) w n → keyed_members es ≡ (k, x) ∷ keyed_members fs
-      → LooksKey {A = ℕ} p.keys k (Err e) → Blames (Meets p (word w)) e
+      → LooksKey {A = ℕ} p k (Err e) → Blames (Meets p (word w)) e
   key_meets es fs k x w n e h split (inl memory) f = absurd (f.not_memory memory.kind_is)
   key_meets es fs k x w n e h split (inr (none, is_fault, says)) f =
       rw says (table_meets p no_list no_table es fs k x 0 w n h split none)

@@ -6,7 +6,7 @@ use Rattle.resb_format.specs.Parts.{Parts}
 use Rattle.resb_format.specs.Content.{Member, word, unit, Content, leaf, list, entry_list}
 use Rattle.resb_format.specs.Content.{content_at}
 use Rattle.resb_format.specs.Denotes.{DenMember, den_word, den_unit, den_leaf}
-use Rattle.resb_format.specs.Strings.{text_at}
+use Rattle.resb_format.specs.Lookups.{text_in, index_in}
 use Rattle.resb_walk.specs.Inner.MemberContent.{member_content, content_refusal}
 use Rattle.resb_walk.specs.Inner.Members.{content_of, leaf_tree}
 use Rattle.resb_walk.specs.Inner.Rounds.{Starts, ReadsMember}
@@ -51,28 +51,28 @@ module _ {X L T : Type 0} (is : X → Tree → Type 0) (lists : L → List Tree 
       let stands = subst (λ v. content_at p w ≡ Some (content_of v)) h.0 e in
       (w, refl, waiting_table_begins lists tables p rest made w stands h.1, paid)
   started (unit u) s (Made x) left left' e h paid =
-      let r = unit_text (text_at p.block u) (content_of s) e in
+      let r = unit_text (text_in p (index_in p u)) (content_of s) e in
       let same : leaf_tree h.0 ≡ string r.0 =
       same_leaf (subst (λ v. content_of v ≡ leaf (string r.0)) h.1 r.2) in
       (leaf_tree h.0, subst (λ t. DenMember p (unit u) t 1) (sym same) (den_unit r.1), h.2, paid)
   started (unit u) s (Begun (open_.List rest made)) left left' e h paid =
-      let r = unit_text (text_at p.block u) (content_of s) e in
+      let r = unit_text (text_in p (index_in p u)) (content_of s) e in
       absurd (no_list (subst (λ v. content_of v ≡ leaf (string r.0)) h.0 r.2))
   started (unit u) s (Begun (open_.Table rest made)) left left' e h paid =
-      let r = unit_text (text_at p.block u) (content_of s) e in
+      let r = unit_text (text_in p (index_in p u)) (content_of s) e in
       absurd (no_leaf_of_entries (subst (λ v. content_of v ≡ leaf (string r.0)) h.0 r.2))
 
 -- the fault that is met where nothing stands
 pub member_meets : (p : Parts) (m : Member) → member_content p m ≡ None
     → Meets p m (content_refusal p m)
 member_meets p (word w) e = meets_word e
-member_meets p (unit u) e = meets_text (no_text (text_at p.block u) e)
+member_meets p (unit u) e = meets_text (no_text (text_in p (index_in p u)) e)
 
 -- what has no members denotes itself
 pub leaf_denotes : (p : Parts) (m : Member) (t : Tree) → member_content p m ≡ Some (leaf t)
     → DenMember p m t 1
 leaf_denotes p (word w) t e = den_word (den_leaf e)
 leaf_denotes p (unit u) t e =
-    let r = unit_text (text_at p.block u) (leaf t) e in
+    let r = unit_text (text_in p (index_in p u)) (leaf t) e in
     let same : t ≡ string r.0 = same_leaf r.2 in
     subst (λ v. DenMember p (unit u) v 1) (sym same) (den_unit r.1)

@@ -3,7 +3,7 @@ use Rattle.std.proofs.Common.{inl, inr, ℕ, List, [], ◌∷◌, ◌++◌, ◌�
 use Rattle.std.proofs.Common.{None, refl, sym, ◌∙◌, ap, subst, arith, append_assoc, append-nil}
 use Rattle.resb_tree.specs.Tree.{Tree, array, table, trees_of, map_of}
 use Rattle.resb_format.specs.Parts.{Parts}
-use Rattle.resb_format.specs.Strings.{key_at}
+use Rattle.resb_format.specs.Lookups.{key_in}
 use Rattle.resb_format.specs.Content.{Member, list, entry_list, content_at}
 use Rattle.resb_format.specs.Denotes.{Den, den_list, den_entries, DenMember, each_none}
 use Rattle.resb_format.specs.Denotes.{entries_none, Reaches, reaches_list, reaches_entries}
@@ -87,7 +87,7 @@ module _ {L T : Type 0} (lists : L → List Tree → Type 0)
   pub table_no_key : (rest later : TableParts) (place : ℕ) (x : Member) (made : T) (w n : ℕ)
       → OpenedTable lists tables p rest made w n
       → keyed_members rest ≡ (place, x) ∷ keyed_members later
-      → key_at p.keys place ≡ None → (left : ℕ)
+      → key_in p place ≡ None → (left : ℕ)
       → DenotesNothing (Den p w) (Reaches p w) (left + (1 + n))
   table_no_key rest later place x made w n h e k left =
       let stands = h.stands ∙ ap (λ es. Some (entry_list (h.done ++ es))) e in

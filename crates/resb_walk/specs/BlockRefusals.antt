@@ -7,6 +7,7 @@ use Rattle.std.specs.Prelude.{◌≡◌, ◌==◌, ◌||◌, ◌/◌, ◌%◌, �
 use Rattle.std.specs.Prelude.{is_some, codes, if◌then◌else◌}
 use Rattle.resb_format.specs.Error.{Refusal, invalid, unsupported, end_of_input, refusal_of}
 use Rattle.resb_format.specs.Parts.{Parts}
+use Rattle.resb_format.specs.Lookups.{key_place, text_place}
 use Rattle.resb_format.specs.Types as types
 use Rattle.resb_format.specs.StringMessage.{string_message}
 use Rattle.resb_format.specs.Strings.{string_at, before_zero}
@@ -31,6 +32,14 @@ block_key_refusal keys k =
     else if is_some (before_zero (drop k keys)) then invalid (codes "key string is not valid UTF-8")
     else invalid (codes "unterminated key string")
 
+-- why no text stands at an index
+abbrev pub text_refusal_in : Parts → ℕ → Refusal
+text_refusal_in p i = block_text_refusal (text_place p i).0 (text_place p i).1
+
+-- why no key stands at a position
+abbrev pub key_refusal_in : Parts → ℕ → Refusal
+key_refusal_in p k = block_key_refusal (key_place p k).0 (key_place p k).1
+
 -- types whose value leads to a count and what is counted
 abbrev pub is_counted_type : ℕ → Bool
 is_counted_type n =
@@ -47,7 +56,7 @@ unread_type_refusal type =
 -- that the input ends
 abbrev pub value_refusal : Parts → ℕ → ℕ → Refusal
 value_refusal p type v =
-    if type == types.string then block_text_refusal p.block v
+    if type == types.string then text_refusal_in p v
     else if is_counted_type type then end_of_input
     else unread_type_refusal type
 

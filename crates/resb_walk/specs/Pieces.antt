@@ -5,7 +5,7 @@
 use Rattle.std.specs.Prelude.{◌≡◌, ℕ, List, [], ◌∷◌, ◌++◌, Some}
 use Rattle.resb_tree.specs.Tree.{Tree, string, array, table, binary, integer, int_vector, Trees}
 use Rattle.resb_tree.specs.Tree.{no_trees, more_trees, Entries, no_entries, entry}
-use Rattle.resb_format.specs.Strings.{text_at, key_at}
+use Rattle.resb_format.specs.Lookups.{text_in, key_in, index_in}
 use Rattle.resb_format.specs.Parts.{Parts}
 use Rattle.resb_format.specs.Content.{Member, word, unit, leaf, list, entry_list, content_at}
 
@@ -39,7 +39,7 @@ module _ (p : Parts) where
     -- a member: a word, or a string of a short collection
     pub data HoldsMember : Member → List Piece → Type 0 where
       holds_word : {w : ℕ} {xs : List Piece} → Holds w xs → HoldsMember (word w) xs
-      holds_unit : {u : ℕ} {s : List ℕ} → text_at p.block u ≡ Some s
+      holds_unit : {u : ℕ} {s : List ℕ} → text_in p (index_in p u) ≡ Some s
           → HoldsMember (unit u) (leaf_piece (string s) ∷ [])
 
     -- members, one after another
@@ -52,7 +52,7 @@ module _ (p : Parts) where
     pub data HoldsEachEntry : List (ℕ × Member) → List Piece → Type 0 where
       holds_no_entry : HoldsEachEntry [] []
       holds_entry : {m : Member} {at : ℕ} {es : List (ℕ × Member)} {key : List ℕ}
-          {xs ys : List Piece} → key_at p.keys at ≡ Some key → HoldsMember m xs
+          {xs ys : List Piece} → key_in p at ≡ Some key → HoldsMember m xs
           → HoldsEachEntry es ys → HoldsEachEntry ((at, m) ∷ es) (key_piece key ∷ xs ++ ys)
 
 -- a table's own piece in a tree, by its entries

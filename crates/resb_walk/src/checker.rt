@@ -2,8 +2,7 @@
 //! What is known of a block is found once, where that is worth it; the rounds are in `count`.
 ghost use Rattle.std.specs.Prelude.{◌≡◌, ℕ, List, Some, IfOk, IfSome, IsTrue};
 ghost use Rattle.std.specs.Option.{ForSome};
-ghost use Rattle.resb_format.specs.Bytes.{units_of};
-ghost use Rattle.resb_format.specs.Strings as strings;
+ghost use Rattle.resb_format.specs.Lookups.{key_in, text_in};
 ghost use Rattle.resb_shared.specs.Blocks.{breaks_block, tails_keys};
 ghost use Rattle.resb_format.specs.Parts.{parts_in};
 ghost use Rattle.resb_walk.specs.Inner.Counting.{LooksKey, LooksText, LooksAt};
@@ -11,7 +10,7 @@ ghost use Rattle.resb_walk.specs.Inner.Members.{member_of};
 
 use crate::members::{Member, Rest, Standing};
 use crate::standing::{key_at, member_at, text_at};
-use crate::strings::{marked, string_unit};
+use crate::strings::{marked, string_index};
 use resb_format::{BinaryDeserializerError, FileBlocks};
 use resb_shared::{Breaks, LongTails, SHORT_TAIL};
 use resb_tree::NoMemory;
@@ -52,8 +51,11 @@ impl<'a> Checker<'a> {
     #[inline(always)]
     fn has_key(&self, at: usize) -> bool
         ensures { IsTrue result
-            → (key : List ℕ) × (strings.key_at self.now.file.keys.now at ≡ Some key) }
+            → (key : List ℕ) × (key_in (parts_in self.now.file) at ≡ Some key) }
     {
+        if self.file.pool.is_some() {
+            return false;
+        }
         match &self.tails {
             Some(tails) => tails.key(at).is_some(),
             None => false,
@@ -77,7 +79,7 @@ impl<'a> Checker<'a> {
     /// Looks at the key at a position, in bytes from the body's start.
     #[inline(always)]
     pub fn key(&mut self, alloc: Global, at: usize) -> Result<(), BinaryDeserializerError>
-        ensures looks { LooksKey self.old.file.keys.now at result }
+        ensures looks { LooksKey (parts_in self.old.file) at result }
         ensures file { self.new.file ≡ self.old.file }
     {
         if self.has_key(at) {
@@ -93,8 +95,11 @@ impl<'a> Checker<'a> {
     fn has_text(&self, unit: usize) -> bool
         ensures { IsTrue result
             → (text : List ℕ)
-            × (strings.text_at (units_of self.now.file.block.now) unit ≡ Some text) }
+            × (text_in (parts_in self.now.file) unit ≡ Some text) }
     {
+        if self.file.pool.is_some() {
+            return false;
+        }
         let Some(breaks) = &self.breaks else {
             return false;
         };
@@ -125,7 +130,7 @@ impl<'a> Checker<'a> {
     /// Looks at the string at a unit of the 16-bit block.
     #[inline(always)]
     pub fn text(&mut self, alloc: Global, unit: usize) -> Result<(), BinaryDeserializerError>
-        ensures looks { LooksText (units_of self.old.file.block.now) unit result }
+        ensures looks { LooksText (parts_in self.old.file) unit result }
         ensures file { self.new.file ≡ self.old.file }
     {
         if self.has_text(unit) {
@@ -146,7 +151,7 @@ impl<'a> Checker<'a> {
         ensures looks { LooksAt (parts_in self.old.file) (member_of member) result }
         ensures file { self.new.file ≡ self.old.file }
     {
-        if let Some(unit) = string_unit(member) {
+        if let Some(unit) = string_index(self.file, member) {
             self.text(alloc, unit)?;
             return Ok(None);
         }

@@ -14,6 +14,7 @@ ghost use Rattle.resb_walk.specs.Refusals.{Answers};
 
 use crate::checker::Checker;
 use crate::members::{Member, Rest, Standing};
+use crate::places::index_of;
 use crate::standing::{standing_at, text_at};
 use crate::walk::Walk;
 use resb_format::{FileBlocks, ReadingError};
@@ -149,7 +150,7 @@ pub fn count_string_at<'m>(
     ensures meets { IfErr result (Blames (Meets (parts_in file.entry) (at.unit unit))) }
 {
     walk.pay()?;
-    text_at(file, usize::from(unit))?;
+    text_at(file, index_of(file, unit))?;
     Ok(())
 }
 

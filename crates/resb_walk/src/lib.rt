@@ -9,6 +9,7 @@ mod filling;
 mod frame;
 mod make;
 mod members;
+pub mod places;
 mod read;
 mod room;
 mod scale;

@@ -1,14 +1,13 @@
 //! How long the keys and strings of a file are, and the sums of one piece after another. No key and
 //! no string is looked at twice as a whole. Going from member to member is the business of `weigh`.
 ghost use Rattle.std.specs.Prelude.{◌≡◌, ℕ, List, length, Some, IfOk};
-ghost use Rattle.resb_format.specs.Bytes.{units_of};
-ghost use Rattle.resb_format.specs.Strings as strings;
 ghost use Rattle.resb_shared.specs.Blocks.{widths_block, tails_keys};
 
 use crate::count::Inner;
 use crate::members::{Member, Rest, Standing};
+use crate::places::index_of;
 use crate::standing::{key_at, standing_at, text_at};
-use crate::strings::{marked, string_unit};
+use crate::strings::{marked, string_index};
 use crate::sums::Sums;
 use crate::units::text_len;
 use resb_format::FileBlocks;
@@ -28,8 +27,7 @@ pub struct Scale<'a> {
 
 impl<'a> Scale<'a> {
     ghost use Rattle.std.specs.Prelude.{◌≡◌, ℕ, List, length, Some, IfOk};
-    ghost use Rattle.resb_format.specs.Bytes.{units_of};
-    ghost use Rattle.resb_format.specs.Strings as strings;
+    ghost use Rattle.resb_format.specs.Lookups.{key_in, text_in};
     ghost use Rattle.resb_format.specs.Parts.{parts_in};
     ghost use Rattle.resb_walk.specs.Inner.Members.{member_of};
     ghost use Rattle.resb_walk.specs.Inner.Weighing.{Looked, TakenPieces, ToCome};
@@ -51,11 +49,12 @@ impl<'a> Scale<'a> {
 
     /// How many bytes the key at a position has.
     fn key_len(&self, at: usize) -> usize
-        ensures { let keys = self.now.file.keys.now in
-            (k : List ℕ) → strings.key_at keys at ≡ Some k → length k ≡ result }
+        ensures { (k : List ℕ) → key_in (parts_in self.now.file) at ≡ Some k → length k ≡ result }
     {
-        if let Some(key) = self.tails.key(at) {
-            return key.len();
+        if self.file.pool.is_none() {
+            if let Some(key) = self.tails.key(at) {
+                return key.len();
+            }
         }
         match key_at(self.file, at) {
             Ok(key) => key.len(),
@@ -65,16 +64,27 @@ impl<'a> Scale<'a> {
 
     /// How many bytes the text at a unit of the 16-bit block has.
     fn text_len(&self, unit: usize) -> usize
-        ensures { (s : List ℕ) → strings.text_at (units_of self.now.file.block.now) unit ≡ Some s
+        ensures { (s : List ℕ) → text_in (parts_in self.now.file) unit ≡ Some s
             → length s ≡ result }
     {
         let units = self.file.block.len() / 2;
+        if self.file.pool.is_some() {
+            return self.plain_len(unit);
+        }
         if let Some((from, count)) = marked(self.file.block, unit) {
             if from <= units && count <= units - from {
                 return self.widths.utf8_len(from, count);
             }
         }
-        match text_at(self.file, unit) {
+        self.plain_len(unit)
+    }
+
+    /// How many bytes the text with an index has, by a look at all its units.
+    fn plain_len(&self, index: usize) -> usize
+        ensures { (s : List ℕ) → text_in (parts_in self.now.file) index ≡ Some s
+            → length s ≡ result }
+    {
+        match text_at(self.file, index) {
             Ok(text) => text_len(text),
             Err(_) => 0,
         }
@@ -85,7 +95,7 @@ impl<'a> Scale<'a> {
         ensures { let p = parts_in self.now.file in (xs zs : List Piece)
             → Holds p word xs → AddsUp sums.old zs → Looked p xs zs result sums.new }
     {
-        if let Some(unit) = string_unit(Member::Word(word)) {
+        if let Some(unit) = string_index(self.file, Member::Word(word)) {
             *sums = sums.with_text(self.text_len(unit));
             return None;
         }
@@ -116,7 +126,7 @@ impl<'a> Scale<'a> {
         match member {
             Member::Word(word) => self.look_at(word, sums),
             Member::Unit(unit) => {
-                *sums = sums.with_text(self.text_len(usize::from(unit)));
+                *sums = sums.with_text(self.text_len(index_of(self.file, unit)));
                 None
             }
         }

@@ -13,12 +13,15 @@ ghost use Rattle.resb_walk.specs.BlockRefusals as refusals;
 ghost use Rattle.resb_walk.specs.BlockRefusals.{Says, block_text_refusal, block_key_refusal};
 ghost use Rattle.resb_walk.specs.BlockRefusals.{word_refusal};
 ghost use Rattle.resb_format.specs.Parts.{parts_in};
+ghost use Rattle.resb_format.specs.Lookups.{key_in, text_in, index_in};
+ghost use Rattle.resb_walk.specs.BlockRefusals.{key_refusal_in, text_refusal_in};
 ghost use Rattle.resb_walk.specs.Inner.Members.{content_of, text_of_bytes, member_of};
 ghost use Rattle.resb_walk.specs.Inner.MemberContent.{member_content, content_refusal};
 ghost use Rattle.resb_walk.specs.Refusals.{IsFault};
 
 use crate::faults::{key_not_utf8, key_past_end, key_unterminated, not_utf16, past_end};
 use crate::members::{Leaf, Member, Members, Positions, Standing, TableParts};
+use crate::places::{index_of, key_place, text_place};
 use crate::types::readable;
 use crate::units::is_well_formed;
 use resb_format::bytes::{
@@ -58,15 +61,14 @@ fn plain_text(block: &[u8], unit: usize) -> Option<&[u8]>
     None
 }
 
-/// The key at a position, in bytes from the body's start: what stands before the next zero byte.
+/// The key at a byte of a block of keys: what stands before the next zero byte.
 #[tactic(auto, using(crate::proofs::Keys::at), unfolding(resb_format::specs::Strings::key_at))]
-pub fn key_at(file: FileBlocks<'_>, at: usize) -> Result<&str, BinaryDeserializerError>
-    ensures stands { let keys = file.entry.keys.now in
-        MatchResult result (λ s. strings.key_at keys at ≡ Some s.now)
-        (λ e. (strings.key_at keys at ≡ None) × IsFault e) }
-    ensures says { IfErr result (Says (block_key_refusal file.entry.keys.now at)) }
+fn block_key(keys: &[u8], at: usize) -> Result<&str, BinaryDeserializerError>
+    ensures stands { MatchResult result (λ s. strings.key_at keys.now at ≡ Some s.now)
+        (λ e. (strings.key_at keys.now at ≡ None) × IsFault e) }
+    ensures says { IfErr result (Says (block_key_refusal keys.now at)) }
 {
-    let Some((_, tail)) = cut_at(file.keys, at) else {
+    let Some((_, tail)) = cut_at(keys, at) else {
         return Err(key_past_end());
     };
     let Some(end) = first_zero(tail) else {
@@ -81,19 +83,29 @@ pub fn key_at(file: FileBlocks<'_>, at: usize) -> Result<&str, BinaryDeserialize
     }
 }
 
-/// The units of the string at a unit of the 16-bit block, two bytes for each, which are a text.
+/// The key at a position, in bytes from the body's start, or of the pool.
+pub fn key_at(file: FileBlocks<'_>, position: usize) -> Result<&str, BinaryDeserializerError>
+    ensures stands { let p = parts_in file.entry in
+        MatchResult result (λ s. key_in p position ≡ Some s.now)
+        (λ e. (key_in p position ≡ None) × IsFault e) }
+    ensures says { IfErr result (Says (key_refusal_in (parts_in file.entry) position)) }
+{
+    let (keys, at) = key_place(file, position);
+    block_key(keys, at)
+}
+
+/// The units of the string at a unit of a 16-bit block, two bytes for each, which are a text.
 #[tactic(auto, using(crate::proofs::Placed::text_some, crate::proofs::Placed::text_unpaired))]
-pub fn text_at(file: FileBlocks<'_>, unit: usize) -> Result<&[u8], BinaryDeserializerError>
-    ensures stands { let block = units_of file.entry.block.now in
+fn block_text(units: &[u8], unit: usize) -> Result<&[u8], BinaryDeserializerError>
+    ensures stands { let block = units_of units.now in
         MatchResult result (λ v. strings.text_at block unit ≡ Some (text_of_bytes v.now))
         (λ e. (strings.text_at block unit ≡ None) × IsFault e) }
-    ensures says { IfErr result
-        (Says (block_text_refusal (units_of file.entry.block.now) unit)) }
+    ensures says { IfErr result (Says (block_text_refusal (units_of units.now) unit)) }
 {
-    if let Some(bytes) = plain_text(file.block, unit) {
+    if let Some(bytes) = plain_text(units, unit) {
         return Ok(bytes);
     }
-    match string_at(file.block, unit) {
+    match string_at(units, unit) {
         Ok(view) => {
             let bytes = view.as_bytes();
             if is_well_formed(bytes) {
@@ -104,6 +116,17 @@ pub fn text_at(file: FileBlocks<'_>, unit: usize) -> Result<&[u8], BinaryDeseria
         }
         Err(error) => Err(error),
     }
+}
+
+/// The units of the string with an index, own or the pool's, which are a text.
+pub fn text_at(file: FileBlocks<'_>, index: usize) -> Result<&[u8], BinaryDeserializerError>
+    ensures stands { let p = parts_in file.entry in
+        MatchResult result (λ v. text_in p index ≡ Some (text_of_bytes v.now))
+        (λ e. (text_in p index ≡ None) × IsFault e) }
+    ensures says { IfErr result (Says (text_refusal_in (parts_in file.entry) index)) }
+{
+    let (units, unit) = text_place(file, index);
+    block_text(units, unit)
 }
 
 /// What stands at a word.
@@ -137,7 +160,7 @@ pub fn member_at(
 {
     match member {
         Member::Word(word) => standing_at(file, word),
-        Member::Unit(unit) => match text_at(file, usize::from(unit)) {
+        Member::Unit(unit) => match text_at(file, index_of(file, unit)) {
             Ok(text) => Ok(Standing::Leaf(Leaf::Text(text))),
             Err(error) => Err(error),
         },

@@ -3,16 +3,17 @@
 ghost use Rattle.std.specs.Prelude.{◌≡◌, ◌+◌, ◌≤◌, IfSome, Some, length, take, drop};
 ghost use Rattle.resb_format.specs.Bytes.{units_of};
 ghost use Rattle.resb_format.specs.Content as at;
-ghost use Rattle.resb_format.specs.Parts.{Parts};
+ghost use Rattle.resb_format.specs.Parts.{parts_in};
 ghost use Rattle.resb_format.specs.Strings.{string_at};
-ghost use Rattle.resb_walk.specs.BlockRefusals.{block_text_refusal};
+ghost use Rattle.resb_walk.specs.BlockRefusals.{text_refusal_in};
 ghost use Rattle.resb_walk.specs.Inner.MemberContent.{member_content, content_refusal};
 ghost use Rattle.resb_walk.specs.Inner.Members.{member_of};
 
 use crate::members::Member;
+use crate::places::index_of;
 use crate::types::readable;
-use resb_format::ResourceReprType;
 use resb_format::bytes::unit_at;
+use resb_format::{FileBlocks, ResourceReprType};
 
 /// Where the units of the string at a unit begin, and how many there are, where it has a marker.
 pub fn marked(block: &[u8], unit: usize) -> Option<(usize, usize)>
@@ -38,16 +39,16 @@ pub fn marked(block: &[u8], unit: usize) -> Option<(usize, usize)>
     Some((unit + 3, second * 0x1_0000 + third))
 }
 
-/// The unit of the 16-bit block to which a member leads, if that is what it does.
+/// The index of the string to which a member leads, if that is what it does.
 #[tactic(auto, unfolding(resb_format::specs::Content::content_at))]
 #[inline(always)]
-pub fn string_unit(member: Member) -> Option<usize>
-    ensures { let m = member_of member in IfSome result (λ u. (p : Parts)
-        → (member_content p m ≡ at.text_leaf p u)
-        × (content_refusal p m ≡ block_text_refusal p.block u)) }
+pub fn string_index(file: FileBlocks<'_>, member: Member) -> Option<usize>
+    ensures { let m = member_of member in let p = parts_in file.entry in
+        IfSome result (λ u. (member_content p m ≡ at.text_leaf p u)
+        × (content_refusal p m ≡ text_refusal_in p u)) }
 {
     match member {
-        Member::Unit(unit) => Some(usize::from(unit)),
+        Member::Unit(unit) => Some(index_of(file, unit)),
         Member::Word(word) => match readable(word) {
             Ok((ResourceReprType::StringV2, value)) if value != 0 => Some(value as usize),
             _ => None,

@@ -19,6 +19,7 @@ use Rattle.resb_pool.proofs.IsRead.{pool_is_read}
 use Rattle.resb_pool.proofs.ReadBack.{text_at-zero}
 use Rattle.resb_layout.specs.Laid.{Given, Laid, Lays, fill}
 use Rattle.resb_format.specs.Bytes.{units_as_bytes}
+use Rattle.resb_format.specs.Lookups.{key_place_by, text_place_by, index_by}
 use Rattle.resb_layout.specs.Laws.{IsRead, StandsIn}
 use Rattle.resb_layout.proofs.BytesLemmas.{EachBelow, halves_len}
 use Rattle.resb_layout.proofs.Grows.{grows}
@@ -194,8 +195,10 @@ module _ (t : Tree) (ks js : List (List ℕ)) (m : Made t ks js) (largest : ℕ)
           h))
 
   is_read : IsRead parts given
+  unfolding key_place_by text_place_by index_by
   is_read = record {
     keys = key_is_read;
+    units = λ u. refl;
     texts = λ s k e. ap (λ l. text_at l k) block_begins
         ∙ (pool_is_read (texts_of t) m.pool m.offset m.plan s k e).1
         ((grows m.lays).units ++ more.0);

@@ -1,5 +1,5 @@
 -- The parts of a file that is put together from its header, its words, its blocks and its tail.
-use Rattle.std.proofs.Common.{◌≡◌, ℕ, ◌+◌, ◌-◌, ◌*◌, ◌/◌, ◌%◌, ◌^◌, List, [], ◌∷◌, ◌++◌, length}
+use Rattle.std.proofs.Common.{None, ◌≡◌, ℕ, ◌+◌, ◌-◌, ◌*◌, ◌/◌, ◌%◌, ◌^◌, List, [], ◌∷◌, ◌++◌, length}
 use Rattle.std.proofs.Common.{get_or, take, drop, Bool, cond, refl, sym, ◌∙◌, ap, append_assoc}
 use Rattle.std.proofs.Common.{append-nil, length-append, arith}
 use Rattle.std.proofs.lemmas.List.{take_at, drop_at}
@@ -162,11 +162,11 @@ module _ (x : Whole) where
 
   -- the parts of the file
   abbrev pub parts : Parts
-  parts = record { body = body; keys = head ++ x.keys; block = x.us }
+  parts = record { body = body; keys = head ++ x.keys; block = x.us; lent = None }
 
   pub parts_are : parts_of file ≡ parts
   unfolding parts_of
-  parts_are = λ i. record { body = body_is i; keys = keys_are i; block = block_is i }
+  parts_are = λ i. record { body = body_is i; keys = keys_are i; block = block_is i; lent = None }
 
   pub is_bundle_file : IsBundleFile file
   is_bundle_file = record {

@@ -12,8 +12,8 @@ use Rattle.resb_format.specs.Denotes.{Den, DenMember, Reaches, ReachesMember}
 use Rattle.resb_format.specs.Error.{IsWantOfMemory}
 use Rattle.resb_format.specs.Parts.{Parts}
 use Rattle.resb_format.specs.declared.error.ReadingError.{ReadingError}
-use Rattle.resb_format.specs.Strings.{text_at, key_at}
-use Rattle.resb_walk.specs.BlockRefusals.{Says, block_text_refusal, block_key_refusal}
+use Rattle.resb_format.specs.Lookups.{text_in, key_in}
+use Rattle.resb_walk.specs.BlockRefusals.{Says, text_refusal_in, key_refusal_in}
 use Rattle.resb_walk.specs.Inner.Frames.{OpenedList, OpenedTable, ListWaits, TableWaits}
 use Rattle.resb_walk.specs.Inner.MemberContent.{member_content, content_refusal}
 use Rattle.resb_walk.specs.Inner.Members.{member_of, members_of, keyed_members, rest_length}
@@ -32,16 +32,16 @@ abbrev pub no_table : ℕ → List (List ℕ × Tree) → Type 0
 no_table _ _ = Unit {0}
 
 -- some key stands there, or the fault of it is said
-abbrev pub LooksKey : {A : Type 0} → List ℕ → ℕ → Result A ReadingError → Type 0
-LooksKey keys k (Ok _) = (key : List ℕ) × (key_at keys k ≡ Some key)
-LooksKey keys k (Err e) =
-    IsWantOfMemory e ⊎ ((key_at keys k ≡ None) × IsFault e × Says (block_key_refusal keys k) e)
+abbrev pub LooksKey : {A : Type 0} → Parts → ℕ → Result A ReadingError → Type 0
+LooksKey p k (Ok _) = (key : List ℕ) × (key_in p k ≡ Some key)
+LooksKey p k (Err e) =
+    IsWantOfMemory e ⊎ ((key_in p k ≡ None) × IsFault e × Says (key_refusal_in p k) e)
 
 -- some text stands there, or the fault of it is said
-abbrev pub LooksText : {A : Type 0} → List ℕ → ℕ → Result A ReadingError → Type 0
-LooksText block u (Ok _) = (text : List ℕ) × (text_at block u ≡ Some text)
-LooksText block u (Err e) =
-    IsWantOfMemory e ⊎ ((text_at block u ≡ None) × IsFault e × Says (block_text_refusal block u) e)
+abbrev pub LooksText : {A : Type 0} → Parts → ℕ → Result A ReadingError → Type 0
+LooksText p u (Ok _) = (text : List ℕ) × (text_in p u ≡ Some text)
+LooksText p u (Err e) =
+    IsWantOfMemory e ⊎ ((text_in p u ≡ None) × IsFault e × Says (text_refusal_in p u) e)
 
 -- the collection waits, by its word and by how many members are still to come
 abbrev pub KeepsOuter : Inner → Outer → Type 0

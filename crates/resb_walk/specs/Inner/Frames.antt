@@ -4,7 +4,7 @@
 --     Waits f w x n           the same, where the member x is being read
 use Rattle.std.specs.Prelude.{ℕ, List, ◌∷◌, ◌++◌, Some, ◌≡◌}
 use Rattle.resb_tree.specs.Tree.{Tree}
-use Rattle.resb_format.specs.Strings.{key_at}
+use Rattle.resb_format.specs.Lookups.{key_in}
 use Rattle.resb_format.specs.Parts.{Parts}
 use Rattle.resb_format.specs.Content.{Member, list, entry_list, content_at}
 use Rattle.resb_format.specs.Denotes.{DenEach, DenEntries}
@@ -45,7 +45,7 @@ module _ {L T : Type 0} (lists : L → List Tree → Type 0)
     pub entries : List (List ℕ × Tree)
     pub position : ℕ
     pub stands : content_at p w ≡ Some (entry_list (done ++ (position, x) ∷ keyed_members rest))
-    pub keyed : key_at p.keys position ≡ Some key
+    pub keyed : key_in p position ≡ Some key
     pub each : DenEntries p done entries n
     pub is_made : tables made entries
 

@@ -25,9 +25,9 @@ returns-in_err-text_at-clause-meets c =
     let p = err_from_is_err_and c.from_residual-in_err-text_at.result
     c.from_residual-in_err-text_at.ensures.1 in
     let h = c.in_err-text_at.ensures in
-    rw (p.1, p.2) (λ _. rw (h.says, c.from.ensures) (meets_text (rw c.from.ensures at h.stands.0)))
+    rw (p.1, p.2) (λ _. rw (h.says, c.index_of.ensures) (meets_text (rw c.index_of.ensures at h.stands.0)))
 
 pub returns-clause-answers : goal.returns-clause-answers
 returns-clause-answers c =
-    let t = rw c.from.ensures at c.in_ok-text_at.ensures.stands in
+    let t = rw c.index_of.ensures at c.in_ok-text_at.ensures.stands in
     (string (text_of_bytes c.in_ok-text_at.field-0.now), 1, den_unit t, tt, c.in_ok-pay.ensures)

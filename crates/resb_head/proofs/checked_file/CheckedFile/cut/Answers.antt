@@ -1,7 +1,7 @@
 -- Each refusal is that of the first check of the blocks that fails; else the parts are cut at their
 -- ends.
 use Rattle.std.proofs.Common.{ℕ, List, ◌≡◌, ◌-◌, ◌*◌, ◌<◌, ◌≤◌, ◌⊎◌, inl, inr, length, take}
-use Rattle.std.proofs.Common.{drop, sym, ap, ◌∙◌, arith, get_or}
+use Rattle.std.proofs.Common.{drop, sym, ap, ◌∙◌, arith, get_or, None}
 use Rattle.resb_format.specs.Bytes.{units_of, words_of}
 use Rattle.resb_head.proofs.FileSteps.{field_behind, keys_past, end_missing, block_past}
 use Rattle.resb_head.proofs.FileSteps.{blocks_hold}
@@ -77,6 +77,6 @@ returns c =
     ∙ (λ i. take (4 * (b i - k i)) (drop (4 * k i) body)) in (
       blocks_hold body (omega (arith, k, c.if-keys_end-body.false)) (omega (arith, n, there.0))
           ordered (omega (arith, b, c.if-block_end-body.false)),
-      λ i. record { body = body; keys = keys i; block = units_of (block i) },
+      λ i. record { body = body; keys = keys i; block = units_of (block i); lent = None },
       c.word_at-root.ensures,
     )

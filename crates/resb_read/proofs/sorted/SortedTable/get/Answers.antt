@@ -7,7 +7,7 @@ use Rattle.resb_read.specs.Inner.Elements.{entry_places}
 use Rattle.resb_read.specs.Tables.{view_entries, last_named, Ascend}
 use Rattle.resb_read.proofs.Ascending.{keys_ascend_sound, key_in, half_less, half_greater}
 use Rattle.resb_read.proofs.Ascending.{half_equal}
-use Rattle.resb_format.specs.Strings.{key_at}
+use Rattle.resb_format.specs.Lookups as lookups
 use Rattle.resb_read.proofs.sorted.SortedTable.get.Goals as goal
 use Rattle.resb_read.proofs.PlainLists.{map_of_front, text_there}
 
@@ -34,7 +34,7 @@ returns-in-Equal c =
     (entry_places file c.halves.window) (entry_places file c.in-Some.front)
     (entry_places file c.in-Some-split.later) (at_entry (parts_in file) e) t is
     c.halves.invariant key
-    (sym (c.order_of.ensures t.0 (text_there (key_at file.keys.now c.in-Some-split.position) t key))
+    (sym (c.order_of.ensures t.0 (text_there (lookups.key_in (parts_in file) c.in-Some-split.position) t key))
     ∙ c.in-Equal.is)
 
 pub halves-preserved-in-Less : goal.halves-preserved-in-Less
@@ -52,7 +52,7 @@ halves-preserved-in-Less c =
     (entry_places file c.halves.window) (entry_places file c.in-Some.front)
     (entry_places file c.in-Some-split.later) (at_entry (parts_in file) e) t is
     c.halves.invariant key
-    (sym (c.order_of.ensures t.0 (text_there (key_at file.keys.now c.in-Some-split.position) t key))
+    (sym (c.order_of.ensures t.0 (text_there (lookups.key_in (parts_in file) c.in-Some-split.position) t key))
     ∙ c.in-Less.is)
 
 pub halves-preserved : goal.halves-preserved
@@ -70,5 +70,5 @@ halves-preserved c =
     (entry_places file c.halves.window) (entry_places file c.in-Some.front)
     (entry_places file c.in-Some-split.later) (at_entry (parts_in file) e) t is
     c.halves.invariant key
-    (sym (c.order_of.ensures t.0 (text_there (key_at file.keys.now c.in-Some-split.position) t key))
+    (sym (c.order_of.ensures t.0 (text_there (lookups.key_in (parts_in file) c.in-Some-split.position) t key))
     ∙ c.in-Greater.is)

@@ -1,6 +1,7 @@
-use Rattle.std.proofs.Common.{◌+◌, ◌≤◌, length, arith}
+use Rattle.std.proofs.Common.{◌+◌, ◌≤◌, length, arith, sym, ◌∙◌}
 use Rattle.resb_format.specs.Bytes.{units_of}
 use Rattle.resb_format.proofs.Spelled.{units_length}
+use Rattle.resb_walk.proofs.Alone.{text_alone}
 use Rattle.resb_walk.proofs.Marked.{known_is_text}
 use Rattle.resb_walk.proofs.checker.Checker.has_text.Goals as goal
 
@@ -17,5 +18,8 @@ returns c h =
     let same = c.args.self.now.of_block c.in-Some.breaks c.in-Some.is in
     let inside : i + n ≤ length block =
     omega (arith, units_length c.args.self.now.file.block.now) in
-    known_is_text block c.args.unit i n inside c.in-Some-marked.ensures
-    (rw same at (c.is_text.ensures.0 h))
+    let (text, e) = known_is_text block c.args.unit i n inside c.in-Some-marked.ensures
+    (rw same at (c.is_text.ensures.0 h)) in (
+      text,
+      text_alone c.args.self.now.file c.args.unit (sym c.is_some.ensures ∙ c.if-is_some.false) ∙ e,
+    )

@@ -8,5 +8,5 @@ use Rattle.resb_walk.proofs.checker.Checker.look.Goals as goal
 pub returns-in-Some-clause-looks : goal.returns-in-Some-clause-looks
 returns-in-Some-clause-looks c =
     let text = c.in_ok-text.ensures.looks in
-    let same = c.in-Some.ensures (parts_in c.args.self.now.file) in
+    let same = c.in-Some.ensures in
     (string text.0, same.0 ∙ ap (option_map (λ s. leaf (string s))) text.1)

@@ -11,7 +11,7 @@ use Rattle.resb_walk.proofs.scale.Scale.look_at.Goals as goal
 pub returns-in-Some : goal.returns-in-Some
 returns-in-Some c xs zs h adds =
     let p = parts_in c.args.self.now.file in
-    let t = text_holds p c.args.word c.in-Some.unit xs (c.in-Some.ensures p).0 h in
+    let t = text_holds p c.args.word c.in-Some.unit xs c.in-Some.ensures.0 h in
     rw t.2 (refl, c.with_text.ensures zs t.0 adds (c.text_len.ensures t.0 t.1))
 
 pub returns-in-Ok-Leaf : goal.returns-in-Ok-Leaf

@@ -1,0 +1,53 @@
+-- Where keys and strings stand that a file tells by number: among its own, or in its pool.
+--     key_place p k           the key block and the place in it that a position tells
+--     text_place p i          the 16-bit block and the unit of it that an index tells
+--     index_in p u            the index that a unit of a short collection tells
+--     key_in p k, string_in p i, text_in p i      what stands there
+use Rattle.std.specs.Prelude.{ℕ, ◌+◌, ◌-◌, ◌^◌, List, length, Option, Some, None, nat_lt, nat_le}
+use Rattle.std.specs.Prelude.{if◌then◌else◌}
+use Rattle.resb_format.specs.Parts.{Parts, Lent}
+use Rattle.resb_format.specs.Strings.{key_at, string_at, text_at}
+
+-- in a pool: a position of 31 bits behind the highest one, or one behind the own keys
+abbrev pub lent_position : List ℕ → ℕ → ℕ
+lent_position keys k = if nat_le (2 ^ 31) k then k - 2 ^ 31 else k - length keys
+
+-- without a pool a position tells a byte of the own keys; with one only a lower position does
+unfoldable pub key_place_by : Option Lent → List ℕ → ℕ → List ℕ × ℕ
+key_place_by None keys k = (keys, k)
+key_place_by (Some l) keys k =
+    if nat_lt k (length keys) then (keys, k) else (l.keys, lent_position keys k)
+
+-- the key block and the byte of it that a position tells
+abbrev pub key_place : Parts → ℕ → List ℕ × ℕ
+key_place p k = key_place_by p.lent p.keys k
+
+-- the key at a position
+abbrev pub key_in : Parts → ℕ → Option (List ℕ)
+key_in p k = key_at (key_place p k).0 (key_place p k).1
+
+-- without a pool a unit tells itself
+unfoldable pub index_by : Option Lent → ℕ → ℕ
+index_by None u = u
+index_by (Some l) u = if nat_lt u l.short_limit then u else u - l.short_limit + l.limit
+
+-- the index of the string that a unit tells
+abbrev pub index_in : Parts → ℕ → ℕ
+index_in p u = index_by p.lent u
+
+-- without a pool an index tells a unit of the own block; with one an index from the limit on does
+unfoldable pub text_place_by : Option Lent → List ℕ → ℕ → List ℕ × ℕ
+text_place_by None block i = (block, i)
+text_place_by (Some l) block i = if nat_lt i l.limit then (l.block, i) else (block, i - l.limit)
+
+-- the 16-bit block and the unit of it that an index tells
+abbrev pub text_place : Parts → ℕ → List ℕ × ℕ
+text_place p i = text_place_by p.lent p.block i
+
+-- the units of the string with an index
+abbrev pub string_in : Parts → ℕ → Option (List ℕ)
+string_in p i = string_at (text_place p i).0 (text_place p i).1
+
+-- the text of the string with an index
+abbrev pub text_in : Parts → ℕ → Option (List ℕ)
+text_in p i = text_at (text_place p i).0 (text_place p i).1

@@ -2,8 +2,10 @@
 """Tries each wrong body, and says for which goal it is refused.
 
     wrong_bodies.py [--jobs N] [--logs FOLDER] [--without-answers] [CRATE | CRATE/EDIT]..
+    wrong_bodies.py --standing     only looks whether each can be applied: no proof, a second
 
-A wrong body is a file crates/CRATE/must-fail/EDIT.edit. Each is applied to a copy of the repository
+A wrong body is a file EDIT.edit of crates/CRATE/must-fail, which the gate tries too, or of
+crates/CRATE/wrong-bodies, which this script alone does. Each is applied to a copy of the repository
 in a temporary folder, never in place, and the copy takes over what out/ keeps, so that little more
 than the changed function is proved. First each crate is checked as it stands. N checks run side by
 side (1 if left out); --logs keeps what each of them printed.
@@ -40,6 +42,8 @@ import tempfile
 
 ROOT = os.path.dirname(os.path.dirname(os.path.abspath(__file__)))
 PARTS = ('src', 'specs', 'proofs')
+FOLDERS = ('must-fail', 'wrong-bodies')
+MOST_IN_GATE = 70
 SAFETY = re.compile(r'(overflow|nonzero|bounds|slice_bounds|offset_bounds)_|(bounds|slice_bounds|'
                     r'offset_bounds)-|.*(unreachable|prove)-requires')
 INVARIANT = re.compile(r'.*-(init|preserved|smaller)(-|$)|invariant_of-|(invariant|decreases)-')
@@ -319,10 +323,10 @@ def chosen(words, below):
     """The wrong bodies that the words name, or all, by crate and name."""
     found = []
     for crate in below:
-        folder = f'{ROOT}/crates/{crate}/must-fail'
-        for name in sorted(os.listdir(folder)) if os.path.isdir(folder) else []:
-            if name.endswith('.edit'):
-                found.append(Edit(crate, f'{folder}/{name}'))
+        folders = [f'{ROOT}/crates/{crate}/{it}' for it in FOLDERS]
+        paths = [f'{it}/{name}' for it in folders if os.path.isdir(it) for name in os.listdir(it)]
+        paths = [it for it in paths if it.endswith('.edit')]
+        found += [Edit(crate, it) for it in sorted(paths, key=os.path.basename)]
     if not words:
         return found
     kept = [it for it in found if it.crate in words or f'{it.crate}/{it.name}' in words]
@@ -331,6 +335,24 @@ def chosen(words, below):
         if word not in known:
             sys.exit(f'wrong_bodies: no wrong body is named {word}')
     return kept
+
+
+def standing(edits):
+    """Whether each wrong body can be applied, and no more are in the gate than its budget has."""
+    passed, failed = 0, 0
+    for edit in edits:
+        try:
+            edit.texts()
+            passed += 1
+        except (OSError, ValueError) as error:
+            print(f'FAILED: {edit.crate}/{edit.name}: cannot be applied: {error}')
+            failed += 1
+    in_gate = sum(os.path.basename(os.path.dirname(it.path)) == FOLDERS[0] for it in edits)
+    if in_gate > MOST_IN_GATE:
+        print(f'FAILED: {in_gate} wrong bodies are in the gate, of at most {MOST_IN_GATE}')
+        failed += 1
+    print(f'{passed} passed, {failed} failed')
+    return 1 if failed else 0
 
 
 def checked_first(crates):
@@ -352,10 +374,13 @@ def main():
     words.add_argument('--jobs', type=int, default=1)
     words.add_argument('--logs')
     words.add_argument('--without-answers', action='store_true')
+    words.add_argument('--standing', action='store_true')
     words.add_argument('names', nargs='*')
     given = words.parse_args()
     below = libraries()
     edits = chosen(given.names, below)
+    if given.standing:
+        return standing(edits)
     bad = checked_first(dict.fromkeys(it.crate for it in edits))
     edits = [it for it in edits if it.crate not in bad]
     passed, failed = 0, len(bad)

@@ -9,6 +9,4 @@ mod pool_rows;
 #[cfg(test)]
 mod rows;
 #[cfg(test)]
-mod way_rows;
-#[cfg(test)]
 mod write_rows;

@@ -1,8 +1,7 @@
 //! The tests of the rows that are lines of text: what answers a row of each kind, and one loop,
 //! which is proved once. The rows and what answers them stand in the other modules.
 use crate::answers::{assert_said, parts};
-use crate::{pool_rows, way_rows, write_rows};
-use resb_text_rows::rows::REFUSALS;
+use crate::{pool_rows, write_rows};
 use std::alloc::Global;
 use std::process::Abort;
 use std::test::Fail;
@@ -14,9 +13,6 @@ enum Kind {
     Marker,
     Plan,
     PlanError,
-    Text,
-    Refusal,
-    Closed,
     Strings,
     List,
     Root,
@@ -34,9 +30,6 @@ fn answered(alloc: Global, kind: Kind, input: &str) -> Result<String, Fail> {
         Kind::Marker => pool_rows::line_of_marker(alloc, input),
         Kind::Plan => pool_rows::line_of_plan(alloc, input),
         Kind::PlanError => pool_rows::line_of_plan_error(alloc, input),
-        Kind::Text => way_rows::line_of_file(alloc, input),
-        Kind::Refusal => way_rows::line_of_refusal(alloc, input),
-        Kind::Closed => way_rows::line_of_closed(alloc, input),
         Kind::Strings => write_rows::line_of_strings(alloc, input),
         Kind::List => write_rows::line_of_list(alloc, input),
         Kind::Root => write_rows::line_of_root(alloc, input),
@@ -74,17 +67,6 @@ fn strings_are_pooled(rt: HostRuntime) -> Result<(), Fail> {
     assert_rows(&rt, rt.alloc(), Kind::Marker, pool_rows::MARKERS)?;
     assert_rows(&rt, rt.alloc(), Kind::Plan, pool_rows::PLANS)?;
     assert_rows(&rt, rt.alloc(), Kind::PlanError, pool_rows::PLAN_ERRORS)
-}
-
-#[test]
-fn texts_have_their_files(rt: HostRuntime) -> Result<(), Fail> {
-    assert_rows(&rt, rt.alloc(), Kind::Text, way_rows::FILES)?;
-    assert_ended(&rt, rt.alloc(), Kind::Refusal, REFUSALS, "\n")
-}
-
-#[test]
-fn closed_groups_are_read_back(rt: HostRuntime) -> Result<(), Fail> {
-    assert_rows(&rt, rt.alloc(), Kind::Closed, way_rows::CLOSED)
 }
 
 #[test]

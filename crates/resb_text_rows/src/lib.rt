@@ -3,11 +3,7 @@
 #![tactic(auto)]
 
 #[cfg(test)]
-mod icu_print_rows;
-#[cfg(test)]
 mod print_rows;
-#[cfg(test)]
-mod report_rows;
 pub mod rows;
 #[cfg(test)]
 mod text_rows;

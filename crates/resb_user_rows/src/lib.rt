@@ -6,8 +6,6 @@
 #![tactic(auto)]
 
 #[cfg(test)]
-mod bundle_rows;
-#[cfg(test)]
 mod page_rows;
 #[cfg(test)]
 mod record_rows;

@@ -1,6 +1,6 @@
 //! The tests of the rows that are lines of text: what answers a row of each kind, and one loop,
 //! which is proved once. The rows and what answers them stand in the other modules.
-use crate::{bundle_rows, record_rows, stream_rows, text_rows};
+use crate::{record_rows, stream_rows, text_rows};
 use std::alloc::Global;
 use std::process::Abort;
 use std::test::Fail;
@@ -12,7 +12,6 @@ enum Kind {
     Zones,
     Run,
     Fault,
-    Bundle,
 }
 
 /// The line of a row of this kind.
@@ -22,7 +21,6 @@ fn answered(alloc: Global, kind: Kind, input: &str) -> Result<String, Fail> {
         Kind::Zones => text_rows::line_of_zones(alloc, input),
         Kind::Run => stream_rows::line_of_run(alloc, input),
         Kind::Fault => stream_rows::line_of_fault(alloc, input),
-        Kind::Bundle => bundle_rows::line_of_bundle(alloc, input),
     }
 }
 
@@ -61,9 +59,4 @@ fn slow_streams_have_their_line(rt: HostRuntime) -> Result<(), Fail> {
 #[test]
 fn faults_end_with_their_status(rt: HostRuntime) -> Result<(), Fail> {
     assert_rows(&rt, rt.alloc(), Kind::Fault, stream_rows::FAULTS)
-}
-
-#[test]
-fn texts_have_their_files_and_json(rt: HostRuntime) -> Result<(), Fail> {
-    assert_rows(&rt, rt.alloc(), Kind::Bundle, bundle_rows::BUNDLES)
 }

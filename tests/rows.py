@@ -1,0 +1,253 @@
+#!/usr/bin/env python3
+"""Rows of texts and files through the built programs `resb_tool` and `resb`.
+
+Each file of tests/rows says in its first lines what its rows are. What stands in
+crates/resb_text_rows/src/rows.rt, for the tests of public calls, is asked of the programs too:
+texts with their trees, and texts with the places where they are refused. All expected values come
+from the rules of texts and of files. The last line is 'N passed, M failed'.
+"""
+import json
+import os
+import re
+import subprocess
+import sys
+import tempfile
+
+TOP = os.path.dirname(os.path.dirname(os.path.abspath(__file__)))
+TOOL = f'{TOP}/crates/resb_tool/out/resb_tool'
+RESB = f'{TOP}/crates/resb_cli/out/resb_cli'
+# what each file begins with
+HEADER = bytes.fromhex('2000da2714000000000002005265734202000000010400000000000000000000')
+REFUSED = 'Parse error while reading text bundle:\nat byte {}: expected {}\n'
+counts = {True: 0, False: 0}
+
+
+def seen(holds, what):
+    """Counts a row, and prints it where it failed."""
+    counts[bool(holds)] += 1
+    if not holds:
+        print(f'FAILED: {what}')
+    return holds
+
+
+def ran(*words, given=b''):
+    """The status, standard output and standard error of a program."""
+    done = subprocess.run(words, input=given, capture_output=True, check=False)
+    return done.returncode, done.stdout, done.stderr
+
+
+def rows_of(name, end=';\n', mark=' =>'):
+    """The rows of a file of tests/rows: what is asked, and what is wanted."""
+    with open(f'{TOP}/tests/rows/{name}', encoding='utf-8', newline='') as it:
+        text = re.sub(r'(?m)^# .*\n', '', it.read())
+    for row in text.split(end)[:-1]:
+        asked, _, wanted = row.partition(mark)
+        yield asked, wanted
+
+
+def shared_rows(name):
+    """The rows of a constant of resb_text_rows: a text and its answer."""
+    with open(f'{TOP}/crates/resb_text_rows/src/rows.rt', encoding='utf-8') as it:
+        text = re.search(rf'pub const {name}: &str = r#"(.*?)"#;', it.read(), re.S)[1]
+    for row in text.split('\n')[:-1]:
+        asked, _, wanted = row.partition(' => ')
+        yield asked, wanted
+
+
+def written(name, content):
+    """Writes a file of the folder, and gives its name."""
+    with open(name, 'wb') as it:
+        it.write(content.encode() if isinstance(content, str) else content)
+    return name
+
+
+def compiled(text, name='b', *words):
+    """The file of a text, by `resb compile`, and what was said."""
+    status, _, said = ran(RESB, 'compile', written(f'{name}.txt', text), *words)
+    if status:
+        return None, said.decode()
+    with open(f'{name}.res', 'rb') as it:
+        return it.read(), said.decode()
+
+
+def json_of(file):
+    """The tree of a file, by `resb dump --json`."""
+    status, out, said = ran(RESB, 'dump', '--json', '-', given=file)
+    return json.loads(out) if status == 0 else said.decode()
+
+
+def is_read_back(file, form=()):
+    """Whether a file's text, as it is printed, is compiled to a file of the same tree and text."""
+    status, text, _ = ran(RESB, 'dump', *form, '-', given=file)
+    again, _ = compiled(text.decode(), 'again', *form)
+    same = ran(RESB, 'dump', *form, '-', given=again or b'')[1] == text
+    return status == 0 and again is not None and same and json_of(again) == json_of(file)
+
+
+def is_same_in_icu(text, file):
+    """Whether a text has one tree in both forms; then it has one file too."""
+    other, _ = compiled(text, 'icu', '--icu')
+    if other is None or json_of(other) != json_of(file):
+        return False
+    return seen(other == file, f"in ICU's form: {text}")
+
+
+def files():
+    """Texts and their files, from both programs; what is compiled is read back."""
+    same = 0
+    for text, wanted in rows_of('files.txt'):
+        digits = HEADER.hex() + ''.join(wanted.split())
+        status, out, _ = ran(TOOL, given=text.encode())
+        seen(status == 0 and out.decode() == digits + '\n', f'resb_tool: {text}')
+        file, _ = compiled(text)
+        if seen(file == bytes.fromhex(digits), f'resb compile: {text}'):
+            seen(is_read_back(file), f'read back: {text}')
+            same += is_same_in_icu(text, file)
+    seen(same > 20, f"texts that have one file in both forms: {same}")
+
+
+def tree_of(words):
+    """A tree as the rows of texts write it, as JSON has it: 'x', [ .. ], { k: .. }, < .. >, ( .. )."""
+    word = words.pop(0)
+    if word in '[({<':
+        end, items = {'[': ']', '(': ')', '{': '}', '<': '>'}[word], []
+        while words[0] != end:
+            key = words.pop(0)[:-1] if word == '{' else None
+            items.append((key, tree_of(words)))
+        words.pop(0)
+        values = [value for _, value in items]
+        if word == '{':
+            return dict(items)
+        if word == '<':
+            return {'binary': bytes(value % 256 for value in values).hex()}
+        return [(value + 2 ** 31) % 2 ** 32 - 2 ** 31 for value in values] if word == '(' else values
+    if word[0] == "'":
+        return word[1:-1]
+    return int(word)
+
+
+def signed(tree):
+    """A tree with its numbers of 28 bits as JSON has them, with their sign."""
+    if isinstance(tree, int):
+        return (tree + 2 ** 27) % 2 ** 28 - 2 ** 27 if tree >= 0 else tree
+    if isinstance(tree, dict) and set(tree) != {'binary'}:
+        return {key: signed(value) for key, value in tree.items()}
+    if isinstance(tree, list) and not all(isinstance(it, int) for it in tree):
+        return [signed(it) for it in tree]
+    return tree
+
+
+def bundles():
+    """Texts and the trees of their files, which are printed and read back, in ICU's form too."""
+    for text, wanted in shared_rows('BUNDLES'):
+        shown = wanted.partition(': ')[2].rpartition(', keys')[0]
+        words = re.findall(r"'[^']*'|[^\s:]*:|[^\s]+", shown)
+        file, said = compiled(text)
+        if not seen(file, f'compile: {text}: {said}'):
+            continue
+        tree, found = tree_of(words), json_of(file)
+        seen(found in (tree, signed(tree)), f'tree of {text}: {found}')
+        seen(is_read_back(file), f'printed: {text}')
+        if ran(RESB, 'dump', '--icu', '-', given=file)[2] == b'':
+            seen(is_read_back(file, ['--icu']), f"printed in ICU's form: {text}")
+
+
+def refusals():
+    """Texts and the places where they are refused."""
+    for text, wanted in shared_rows('REFUSALS'):
+        place, _, expected = wanted.removeprefix('at ').partition(': ')
+        status, out, said = ran(TOOL, given=text.encode())
+        told = REFUSED.format(place, expected)
+        seen((status, out, said.decode()) == (1, b'', told), f'resb_tool: {text}')
+
+
+def nested():
+    """Groups in one another: closed ones, open ones, and deep trees that are printed."""
+    for depth, within, length, count in ((994, '"x" "yz"', 8040, 997),
+                                         (1000000, '', 8000072, 1000001)):
+        file, _ = compiled('b{a' + '{' * depth + within + '}' * depth + '}')
+        said = ran(TOOL, 'check', written('deep.res', file or b''))[1]
+        holds = len(file or b'') == length and said == f'ok {count} resources\n'.encode()
+        seen(holds, f'{depth} closed groups')
+    for depth, within, closing, place, expected in ((994, '"x" "yz"', '}', 1999, "'}'"),
+                                                    (2000, '', '', 2003, 'a resource'),
+                                                    (5000000, '', '', 5000003, 'a resource')):
+        text = 'b{a' + '{' * depth + within + closing * depth
+        said = ran(TOOL, given=text.encode())[2].decode()
+        seen(said == REFUSED.format(place, expected), f'{depth} open groups')
+    file, _ = compiled('b{a' + '{' * 5000 + '}' * 5000 + '}')
+    seen(is_read_back(file), 'a deep tree is printed')
+    seen(is_read_back(file, ['--icu']), "a deep tree is printed in ICU's form")
+
+
+def answers():
+    """Texts through each command of `resb`, or the place where each is refused."""
+    for asked, wanted in rows_of('bundles.txt', mark=' => '):
+        path, limit, text = asked.split(' ', 2)
+        words = ['--icu'] if limit == 'icu' else [] if limit == '0' else ['--limit', limit]
+        file, said = compiled(text, 'b', *words)
+        place = re.fullmatch(r'(.*) (Nowhere|(At|Open)\((\d+)\))', wanted)
+        if place:
+            column = '' if place[2] == 'Nowhere' else f'1:{int(place[4]) + 1}:'
+            inside = ' before the text ends inside this' if place[3] == 'Open' else ''
+            line = f'b.txt:{column} {place[1]}{inside}\n'
+            seen(file is None and said.startswith(line), f'{asked}: {said}')
+            continue
+        count, largest, fallback, shown = wanted.split(' ', 3)
+        fallback = 'fallback' if fallback == 'true' else 'no fallback'
+        line = f'b.res: {count} resources, format 2.0, {fallback}, largest table {largest}\n'
+        seen(ran(RESB, 'check', 'b.res') == (0, line.encode(), b''), f'check: {asked}')
+        kept = ['--limit', limit] if limit.isdigit() and limit != '0' else []
+        out = ran(RESB, 'dump', '--json', 'b.res', *kept)[1].decode()[:-1]
+        seen(shown.startswith(out + ' '), f'dump: {asked}: {out}')
+        found = shown[len(out) + 1:]
+        status, out, said = ran(RESB, 'get', 'b.res', path, *kept)
+        if found == 'nothing':
+            holds = (status, said.decode()) == (1, f'b.res: nothing stands at {path}\n')
+        else:
+            holds = status == 0 and out.decode()[:-1] in (found, found.strip('"'))
+        seen(holds, f'get: {asked}')
+
+
+def file_of(text):
+    """The file of a text in which an apostrophe is a quote; or of the words that are given."""
+    if re.fullmatch('[0-9a-f ]+', text):
+        words = [int(it, 16).to_bytes(4, 'little') for it in text.split()]
+        return HEADER + b''.join(words)
+    return (compiled(text)[0] or b'').replace(b"'", b'"')
+
+
+def printed():
+    """Files and the texts that they are printed as, or why they have none."""
+    for asked, wanted in rows_of('printed.txt', mark=' =>\n'):
+        form, name, text = asked.split(' | ', 2)
+        words = ['--icu'] if form == 'icu' else []
+        file = written(f'{name}.res', file_of(text))
+        status, out, said = ran(RESB, 'dump', *words, file)
+        seen((status, out.decode(), said) == (0, wanted, b''), f'{asked}: {out.decode()}')
+    for asked, wanted in rows_of('causes.txt', mark=' => '):
+        form, name, text = asked.split(' | ', 2)
+        words, what = (['--icu'], "text in ICU's form") if form == 'icu' else ([], 'text')
+        file = written(f'{name}.res', file_of(text))
+        status, out, said = ran(RESB, 'dump', *words, file)
+        line = f'{file}: this has no {what}, since {wanted}; here is its JSON\n'
+        is_json = out == ran(RESB, 'dump', '--json', file)[1]
+        seen(status == 0 and said.decode() == line and is_json, f'{asked}: {said.decode()}')
+
+
+def main():
+    """Asks each row of the programs."""
+    for program in (TOOL, RESB):
+        if not os.access(program, os.X_OK):
+            print(f"{program} isn't built\n0 passed, 1 failed")
+            return 1
+    with tempfile.TemporaryDirectory() as folder:
+        os.chdir(folder)
+        for part in (files, bundles, refusals, nested, answers, printed):
+            part()
+    print(f'{counts[True]} passed, {counts[False]} failed')
+    return 1 if counts[False] else 0
+
+
+if __name__ == '__main__':
+    sys.exit(main())

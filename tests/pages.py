@@ -127,8 +127,11 @@ def refusals(page, text, known):
     count = len(text.split())
     limit = LIMITS.get(page)
     allowed = page in PAGES_OF_RUNS
-    yield "words", ([] if limit and count <= limit else
-                    [f"{page}: {count} words, and at most {limit or 'none'} are allowed"])
+    if limit is None:
+        yield "words", [f"{page}: LIMITS has no number of words for it"]
+    else:
+        yield "words", [f"{page}: {count} words, and at most {limit} are allowed"
+                        ] if count > limit else []
     yield "dates", [f"{page}:{number}: a date: {line.strip()[:60]}"
                     for number, line in enumerate(text.split("\n"), 1)
                     if DATE.search(line) and not (allowed and line.startswith("|"))]

@@ -1,8 +1,8 @@
 #!/usr/bin/env python3
 """The pages: what they show is so, and they keep their rules. The last line counts.
 
-Each block marked `rust` stands in a source of crates/, so that the gate proves it. Each command that
-is shown with its answer (a line that begins with `$`) is run, and answers that. The table of
+Each block marked `rust` stands in a source of crates/, so that the gate proves it. Each command
+that is shown with its answer (a line that begins with `$`) is run, and answers that. The table of
 docs/TRUST.md is the one that trust.py makes, and every definition has its words.
 
 Refused is a page that has more words than its limit, or no limit; a date, but in the rows of a
@@ -72,19 +72,19 @@ def sessions(text):
 def sources():
     """The files in which a name of code may stand."""
     for pattern in ("crates/*/src/**/*.rt", "crates/*/specs/**/*.antt", "crates/*/proofs/**/*.antt",
-                    "crates/*/must-fail/*", "crates/*/wrong-bodies/*", "tests/*", "bench/*", "include/*", "examples/*/*", "crates.txt", "run", "test",
-                    "prove", "resb"):
+                    "crates/*/must-fail/*", "crates/*/wrong-bodies/*", "tests/*", "bench/*",
+                    "include/*", "examples/*/*", "crates.txt", "run", "test", "prove", "resb"):
         for path in TOP.glob(pattern):
             if path.is_file() and path.suffix != ".md" and path != TESTS / "pages.py":
                 yield path
 
 
 def known_names():
-    """Every word of those files, and of their names."""
-    known = set()
+    """Every word of those files and of their paths, and the files' names."""
+    known = {"pages.py"}
     for path in sources():
         known |= set(re.findall(r"\w+", path.read_text(encoding="utf8")))
-        known |= set(re.findall(r"\w+", str(path.relative_to(TOP))))
+        known |= {path.name, *re.findall(r"\w+", str(path.relative_to(TOP)))}
     return known
 
 
@@ -111,14 +111,20 @@ def names(span):
             yield word
 
 
-def is_missing(span):
-    """Whether a piece of code names a file of this repository that isn't there."""
-    found = re.fullmatch(r"(?:crates|docs|tests|bench|include|examples)/[\w./-]+", span)
-    if not found or re.search(r"\b(NAME|MODULE|FUNCTION|CRATE)\b", span):
+def is_missing(span, known):
+    """Whether a piece of code names a file of this repository that isn't there. A path may begin
+    with a crate, and a file of specs/ or proofs/ may go without its ending."""
+    if (FOREIGN | {"NAME", "MODULE", "FUNCTION", "CRATE"}) & set(re.findall(r"\w+", span)):
         return False
-    if FOREIGN & set(re.findall(r"\w+", span)):
+    named = re.fullmatch(r"[\w./-]*?([\w-]+\.(?:antt|rt|rattle|py|sh|edit))", span)
+    if named and named.group(1) not in known:
+        return True
+    found = re.fullmatch(r"(?:(?:crates|docs|tests|bench|include|examples)/|(resb\w*)/)[\w./-]+",
+                         span)
+    if not found:
         return False
-    return not (TOP / span).exists()
+    path = f"crates/{span}" if found.group(1) else span
+    return not any((TOP / f"{path}{ending}").exists() for ending in ("", ".antt", ".rt"))
 
 
 def refusals(page, text, known):
@@ -143,7 +149,8 @@ def refusals(page, text, known):
                     for name in dict.fromkeys(names(span))
                     if name not in known and name not in FOREIGN]
     yield "files", [f"{page}:{number}: no file is named `{span}`"
-                    for number, line in shown for span in spans(line) if is_missing(span)]
+                    for number, line in shown for span in spans(line)
+                    if is_missing(span, known)]
 
 
 def answers(command, wanted, folder):

@@ -8,6 +8,7 @@ it, by crate and file. Words of private functions (specs/Inner) aren't among the
 """
 import pathlib
 import re
+import signal
 import sys
 
 from trust import CRATES, PROOFS, TOP, Specs
@@ -70,4 +71,5 @@ def main():
 
 
 if __name__ == "__main__":
+    signal.signal(signal.SIGPIPE, signal.SIG_DFL)
     sys.exit(main())

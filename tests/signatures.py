@@ -7,6 +7,7 @@ them: it has a sentence for each law itself.
 """
 import pathlib
 import re
+import signal
 import sys
 
 TOP = pathlib.Path(__file__).resolve().parent.parent
@@ -225,4 +226,5 @@ def main():
 
 
 if __name__ == "__main__":
+    signal.signal(signal.SIGPIPE, signal.SIG_DFL)
     sys.exit(main())

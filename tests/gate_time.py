@@ -6,7 +6,7 @@
 
 Kinds are proof, tests, and wrong bodies (with the check that these begin with). Once a second it
 looks at the checks that run below the command, and takes the last that it saw of each, so that a
-check loses up to a second. All else (what the programs and scripts take, and what no look saw) is
+check loses up to a second. A check is a process `rattle` with what it has started. All else (what the programs and scripts take, and what no look saw) is
 the difference to what the system counts of the command. Wrong words end it with status 2; else it
 ends as the command does.
 
@@ -54,23 +54,25 @@ def kind_of(words, folder):
 
 
 def look(top, seen):
-    """Notes the processor seconds of each check that runs below the process `top`."""
-    parents, checks = {}, []
+    """Notes the processor seconds of each check that runs below the process `top`, with those of
+    the processes that it has started."""
+    parents, checks, seconds_of = {}, {}, {}
     for process in filter(str.isdigit, os.listdir('/proc')):
         try:
             words, parent, start, seconds, folder = words_of(process)
         except (OSError, IndexError):
             continue
-        parents[process] = parent
+        parents[process], seconds_of[process, start] = parent, seconds
         if os.path.basename(words[0]) == 'rattle' and '--crate-name' in words:
             crate = words[words.index('--crate-name') + 1]
-            checks.append((process, start, crate, kind_of(words, folder), seconds))
-    for process, start, crate, kind, seconds in checks:
-        at = process
+            checks[process] = crate, kind_of(words, folder)
+    for (process, start), seconds in seconds_of.items():
+        at, check = process, None
         while at in parents and at != str(top):
+            check = checks.get(at, check)
             at = parents[at]
-        if at == str(top):
-            seen[process, start] = crate, kind, seconds
+        if check and at == str(top):
+            seen[process, start] = *check, seconds
 
 
 def run(command):

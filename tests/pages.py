@@ -1,7 +1,14 @@
 #!/usr/bin/env python3
-"""The pages' code: each block marked `rust` stands in a source of crates/, so that the gate proves
-it; each command of a page that is shown with its answer (a line that begins with `$`) is run, and
-answers that; and the tables that scripts make are up to date. The last line counts them."""
+"""The pages: what they show is so, and they keep their rules. The last line counts.
+
+Each block marked `rust` stands in a source of crates/, so that the gate proves it. Each command
+that is shown with its answer (a line that begins with `$`) is run, and answers that. The table of
+docs/TRUST.md is the one that trust.py makes, and every definition has its words.
+
+Refused is a page that has more words than its limit, or no limit; a date, but in the rows of a
+table of runs; a line of prose that is too long; a name of code that no source has; and a file that
+isn't there.
+"""
 import pathlib
 import re
 import subprocess
@@ -9,7 +16,33 @@ import sys
 import tempfile
 
 TOP = pathlib.Path(__file__).resolve().parent.parent
-PAGES = [TOP / "README.md", *sorted((TOP / "docs").glob("*.md"))]
+TESTS = TOP / "tests"
+
+# the most words of each page, by `wc -w`, and of all pages together
+LIMITS = {
+    "README.md": 1000, "CHANGELOG.md": 300, "CONTRIBUTING.md": 1500, "bench/README.md": 2000,
+    "docs/ARCHITECTURE.md": 1600, "docs/DECISIONS.md": 3000, "docs/DIFFERENCES.md": 1900,
+    "docs/FORMAT.md": 1000, "docs/GATE.md": 400, "docs/GRAMMAR.md": 1500,
+    "docs/ICU_TEXTS.md": 2000, "docs/PROGRAM.md": 1450, "docs/PROOFS.md": 1000,
+    "docs/PROVED.md": 2500, "docs/READING.md": 2500, "docs/TESTED.md": 1000, "docs/TRUST.md": 500,
+    "docs/WRITING.md": 750, "docs/ZONEINFO.md": 600,
+}
+ALL_WORDS = 30000
+LONGEST_LINE = 300
+
+# the pages whose tables have rows of runs, each with its date
+PAGES_OF_RUNS = {"docs/GATE.md", "docs/TESTED.md", "bench/README.md"}
+DATE = re.compile(
+    r"\b\d{4}-\d\d-\d\d\b|\b(?:January|February|March|April|May|June|July|August|September|October"
+    r"|November|December)\s+(?:\d{1,2},?\s+)?\d{4}\b")
+
+# names that are not this repository's: the Rust crate's, ICU's, the toolchain's, and those of
+# examples
+FOREIGN = {
+    "non_exhaustive", "PotentialUtf16", "serde", "include_bytes_as_u32", "AlignedAs",
+    "CollationBin", "bnf_rb", "langInfo", "te_IN", "start_lib", "my_reader", "the_lie_it_tells",
+    "IsX", "x_of",
+}
 
 
 def squeezed(text):
@@ -36,39 +69,160 @@ def sessions(text):
         yield commands
 
 
-def main():
-    sources = [squeezed(path.read_text(encoding="utf8"))
-               for path in (TOP / "crates").glob("*/src/**/*.rt")]
-    passed, failed = 0, []
-    for page in PAGES:
-        text = page.read_text(encoding="utf8")
+def sources():
+    """The files in which a name of code may stand."""
+    for pattern in ("crates/*/src/**/*.rt", "crates/*/specs/**/*.antt", "crates/*/proofs/**/*.antt",
+                    "crates/*/must-fail/*", "crates/*/wrong-bodies/*", "tests/*", "bench/*",
+                    "include/*", "examples/*/*", "crates.txt", "run", "test", "prove", "resb"):
+        for path in TOP.glob(pattern):
+            if path.is_file() and path.suffix != ".md" and path != TESTS / "pages.py":
+                yield path
+
+
+def known_names():
+    """Every word of those files and of their paths, and the files' names."""
+    known = {"pages.py"}
+    for path in sources():
+        known |= set(re.findall(r"\w+", path.read_text(encoding="utf8")))
+        known |= {path.name, *re.findall(r"\w+", str(path.relative_to(TOP)))}
+    return known
+
+
+def prose(text):
+    """The lines of a page that are no code, each with its number."""
+    fenced = False
+    for number, line in enumerate(text.split("\n"), 1):
+        if line.startswith("```"):
+            fenced = not fenced
+        elif not fenced and not line.startswith("    "):
+            yield number, line
+
+
+def spans(line):
+    """The pieces of code in a line of prose."""
+    return [found.group(1) or found.group(2)
+            for found in re.finditer(r"``(.+?)``|`([^`]+)`", line)]
+
+
+def names(span):
+    """The words of a piece of code that look like names of code."""
+    for word in re.findall(r"[A-Za-z_]\w*", span):
+        if "_" in word.strip("_") or "::" in span or re.search(r"[a-z0-9][A-Z]", word):
+            yield word
+
+
+def is_missing(span, known):
+    """Whether a piece of code names a file of this repository that isn't there. A path may begin
+    with a crate, and a file of specs/ or proofs/ may go without its ending."""
+    if (FOREIGN | {"NAME", "MODULE", "FUNCTION", "CRATE"}) & set(re.findall(r"\w+", span)):
+        return False
+    named = re.fullmatch(r"[\w./-]*?([\w-]+\.(?:antt|rt|rattle|py|sh|edit))", span)
+    if named and named.group(1) not in known:
+        return True
+    found = re.fullmatch(r"(?:(?:crates|docs|tests|bench|include|examples)/|(resb\w*)/)[\w./-]+",
+                         span)
+    if not found:
+        return False
+    path = f"crates/{span}" if found.group(1) else span
+    return not any((TOP / f"{path}{ending}").exists() for ending in ("", ".antt", ".rt"))
+
+
+def refusals(page, text, known):
+    """What a page is refused for, a list for each rule, named."""
+    shown = list(prose(text))
+    count = len(text.split())
+    limit = LIMITS.get(page)
+    allowed = page in PAGES_OF_RUNS
+    if limit is None:
+        yield "words", [f"{page}: LIMITS has no number of words for it"]
+    else:
+        yield "words", [f"{page}: {count} words, and at most {limit} are allowed"
+                        ] if count > limit else []
+    yield "dates", [f"{page}:{number}: a date: {line.strip()[:60]}"
+                    for number, line in enumerate(text.split("\n"), 1)
+                    if DATE.search(line) and not (allowed and line.startswith("|"))]
+    yield "lines", [f"{page}:{number}: {len(line)} characters, one sentence a line"
+                    for number, line in shown
+                    if len(line) > LONGEST_LINE and not line.startswith("|")]
+    yield "names", [f"{page}:{number}: no source has `{name}`"
+                    for number, line in shown for span in spans(line)
+                    for name in dict.fromkeys(names(span))
+                    if name not in known and name not in FOREIGN]
+    yield "files", [f"{page}:{number}: no file is named `{span}`"
+                    for number, line in shown for span in spans(line)
+                    if is_missing(span, known)]
+
+
+def answers(command, wanted, folder):
+    """What a command answers, if it isn't what is wanted."""
+    run = subprocess.run(["bash", "-c", command], cwd=folder, text=True, stdout=subprocess.PIPE,
+                         stderr=subprocess.STDOUT)
+    return None if run.stdout.rstrip("\n") == "\n".join(wanted) else run.stdout
+
+
+class Count:
+    """How many checks passed, and what the others say."""
+
+    def __init__(self):
+        self.passed, self.failed = 0, []
+
+    def add(self, said):
+        """A check that passed, or what is said of one that failed."""
+        if said:
+            self.failed += [said] if isinstance(said, str) else said
+        else:
+            self.passed += 1
+
+
+def check_rules(count, pages):
+    known = known_names()
+    for page, text in pages.items():
+        for _, said in refusals(page, text, known):
+            count.add(said)
+    words = sum(len(text.split()) for text in pages.values())
+    count.add(words > ALL_WORDS and f"{words} words in all, and at most {ALL_WORDS} are allowed")
+
+
+def check_code(count, pages):
+    code = [squeezed(path.read_text(encoding="utf8"))
+            for path in (TOP / "crates").glob("*/src/**/*.rt")]
+    for page, text in pages.items():
         for block in blocks(text):
-            if any(squeezed(block) in source for source in sources):
-                passed += 1
-            else:
-                failed.append(f"{page.name}: no source has the block\n{block}")
+            count.add(not any(squeezed(block) in source for source in code)
+                      and f"{page}: no source has the block\n{block}")
         for commands in sessions(text):
             with tempfile.TemporaryDirectory() as folder:
                 for name in ("run", "resb"):
                     if (TOP / name).exists():
                         (pathlib.Path(folder) / name).symlink_to(TOP / name)
                 for command, wanted in commands:
-                    run = subprocess.run(["bash", "-c", command], cwd=folder, text=True,
-                                         stdout=subprocess.PIPE, stderr=subprocess.STDOUT)
-                    if run.stdout.rstrip("\n") == "\n".join(wanted):
-                        passed += 1
-                    else:
-                        failed.append(f"{page.name}: {command}\n{run.stdout}")
-    for script in ("trust.py", "signatures.py"):
-        run = subprocess.run([sys.executable, TOP / "tests" / script, "--check"])
-        if run.returncode == 0:
-            passed += 1
-        else:
-            failed.append(script)
-    for each in failed:
+                    other = answers(command, wanted, folder)
+                    count.add(other is not None and f"{page}: {command}\n{other}")
+
+
+def check_tables(count):
+    for words in (["trust.py", "--check"], ["definitions.py", "--missing"], ["signatures.py"]):
+        run = subprocess.run([sys.executable, TESTS / words[0], *words[1:]],
+                             stdout=subprocess.PIPE, text=True)
+        count.add(run.returncode != 0 and " ".join(words) + "\n" + run.stdout)
+
+
+def main():
+    if sys.argv[1:] not in ([], ["--rules"]):
+        print("pages.py: its one word is --rules, by which nothing of the pages is run",
+              file=sys.stderr)
+        return 2
+    paths = [*TOP.glob("*.md"), *(TOP / "docs").glob("*.md"), *(TOP / "bench").glob("*.md")]
+    pages = {str(path.relative_to(TOP)): path.read_text(encoding="utf8") for path in sorted(paths)}
+    count = Count()
+    check_rules(count, pages)
+    check_tables(count)
+    if not sys.argv[1:]:
+        check_code(count, pages)
+    for each in count.failed:
         print("failed: " + each)
-    print(f"{passed} passed, {len(failed)} failed")
-    return 1 if failed else 0
+    print(f"{count.passed} passed, {len(count.failed)} failed")
+    return 1 if count.failed else 0
 
 
 if __name__ == "__main__":

@@ -1,43 +1,52 @@
 #!/usr/bin/env python3
-"""The page of signatures, docs/SIGNATURES.md: every public call of `resb`, a line each, with the
-first sentence of its documentation. It is made from the sources.
+"""Every public call of `resb`, a line each, without its contract and with the first sentence of its
+documentation, made from the sources. The contract stands with the call. `resb::laws` isn't among
+them: it has a sentence for each law itself.
 
-  signatures.py           writes the page
-  signatures.py --check   status 1 where the page isn't what would be written
+  signatures.py           prints them all, a table for each module
 """
 import pathlib
 import re
+import signal
 import sys
 
 TOP = pathlib.Path(__file__).resolve().parent.parent
 CRATES = TOP / "crates"
-PAGE = TOP / "docs" / "SIGNATURES.md"
 HEAD = """# Every public call of `resb`
 
-This page is made from the sources by `tests/signatures.py`, and `./test` compares the two. Each line has a call, without its contract, and the first sentence of its documentation; the contract stands with the call. `resb::laws` isn't listed here: it has a sentence for each law itself.
-
-Most programs need these: `resb::compile`, `resb::text::Reader::read`, `resb::text::print_text`, `resb::binary::from_bytes`, `resb::binary::count_resources`, `resb::binary::Cursor` and `resb::binary::Serializer::to_bytes`.
+Most programs need these: `resb::compile`, `resb::text::Reader::read`, `resb::text::print_text`,
+`resb::binary::from_bytes`, `resb::binary::count_resources`, `resb::binary::Cursor` and
+`resb::binary::Serializer::to_bytes`.
 """
 
 
+def libraries():
+    """The crates that `resb` stands on, by crates.txt, in its order."""
+    stands_on = {}
+    for line in (TOP / "crates.txt").read_text(encoding="utf8").split("\n"):
+        name, _, below = line.split("#")[0].partition(":")
+        if name.split():
+            stands_on[name.split()[0]] = below.split()
+    needed, left = {"resb"}, ["resb"]
+    while left:
+        more = set(stands_on.get(left.pop(), [])) - needed
+        needed |= more
+        left += sorted(more)
+    return [name for name in stands_on if name in needed and name != "resb"]
+
+
 def sources():
-    """The files of the library's crates, by crate, and `resb`'s own laws, of which the headline
-    passes some on."""
-    for line in (TOP / "crates.txt").read_text().split("\n"):
-        name = line.split(":")[0]
-        if name in LIBRARIES:
-            for path in sorted((CRATES / name / "src").rglob("*.rt")):
-                yield name, path
-    yield "resb", CRATES / "resb" / "src" / "laws.rt"
+    """The files of the library's crates, by crate, and those of `resb` that hold what it makes
+    itself: its own laws, of which the headline passes some on."""
+    for name in libraries():
+        for path in sorted((CRATES / name / "src").rglob("*.rt")):
+            yield name, path
+    own = CRATES / "resb" / "src"
+    for path in [own / "laws.rt", *sorted(own.glob("compiling*.rt"))]:
+        yield "resb", path
 
 
-LIBRARIES = ["resb_tree", "resb_draft", "resb_grammar", "resb_icu_grammar",
-             "resb_text", "resb_icu_text",
-             "resb_format", "resb_head", "resb_pool", "resb_print", "resb_icu_print", "resb_walk",
-             "resb_read", "resb_fields", "resb_write"]
-
-
-def exports(path, crate="resb"):
+def exports(path):
     """The names that a module of `resb` passes on, in their order, each with its crate."""
     text = path.read_text(encoding="utf8")
     for found in re.finditer(r"^pub use (\w+)(?:::(\w+))?(?:::(\{[^}]*\}|\w+));", text, re.M):
@@ -197,9 +206,7 @@ def page():
     library = Library()
     text = HEAD
     top = CRATES / "resb" / "src"
-    modules = [("`resb`", top / "compiling.rt"),
-               ("`resb`, ICU's own texts", top / "compiling_icu.rt"),
-               ("`resb::headline`", top / "headline.rt"),
+    modules = [("`resb`", top / "lib.rt"), ("`resb::headline`", top / "headline.rt"),
                ("`resb::bundle`", top / "bundle.rt"), ("`resb::text`", top / "text.rt"),
                ("`resb::binary`", top / "binary.rt")]
     modules += [(f"`resb::binary::{path.stem}`", path)
@@ -211,14 +218,13 @@ def page():
 
 
 def main():
-    if sys.argv[1:] == ["--check"]:
-        if PAGE.read_text(encoding="utf8") != page():
-            print("docs/SIGNATURES.md isn't what tests/signatures.py writes", file=sys.stderr)
-            return 1
-        return 0
-    PAGE.write_text(page(), encoding="utf8")
+    if sys.argv[1:]:
+        print("signatures.py takes no words", file=sys.stderr)
+        return 2
+    print(page(), end="")
     return 0
 
 
 if __name__ == "__main__":
+    signal.signal(signal.SIGPIPE, signal.SIG_DFL)
     sys.exit(main())

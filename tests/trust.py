@@ -11,6 +11,8 @@ import pathlib
 import re
 import sys
 
+from signatures import libraries
+
 TOP = pathlib.Path(__file__).resolve().parent.parent
 CRATES = TOP / "crates"
 PAGE = TOP / "docs" / "TRUST.md"
@@ -266,10 +268,10 @@ def claim_roots(specs, calls):
     roots = []
     for file, function, labels in calls:
         if file == "*":
-            names = exported()
+            names, known = exported(), {*libraries(), "resb"}
             for path in sorted(CRATES.glob("*/src/**/*.rt")):
                 crate = path.relative_to(CRATES).parts[0]
-                if crate in LIBRARIES:
+                if crate in known:
                     roots += roots_of(specs, path, "", [], names)
         else:
             roots += roots_of(specs, CRATES / file, function, labels)
@@ -288,12 +290,6 @@ def law_roots(specs, path):
         for name in re.findall(r"\w+", names):
             roots += roots_of(specs, CRATES / source / "src" / "laws.rt", name, [])
     return roots
-
-
-LIBRARIES = ["resb_tree", "resb_draft", "resb_grammar", "resb_icu_grammar",
-             "resb_text", "resb_icu_text",
-             "resb_print", "resb_icu_print", "resb_format", "resb_head", "resb_layout", "resb_pool",
-             "resb_blocks", "resb_walk", "resb_read", "resb_fields", "resb_write", "resb"]
 
 
 def table(specs):

@@ -37,7 +37,7 @@ number_written (b ∷ bs) =
     then Some (digits_value 10 (b ∷ bs))
     else None
 
--- the number that a name says: digits, behind a `+` perhaps
+-- the number that a name says: decimal digits, behind a `+` perhaps, of a number below 2^64
 abbrev pub number_said : List ℕ → Option ℕ
 number_said name = number_written (without_leading_plus name)
 

@@ -18,7 +18,8 @@ abbrev pub vector_number : ℕ → Data
 vector_number n = number (of_integer (cast_signed w32 n))
 
 abbrev mutual
-  -- the JSON of a tree
+  -- the JSON of a tree: objects by key, arrays, strings, signed numbers, and bytes as an object of
+  -- one member
   pub json_of : Tree → Data
   json_of (tree.string s) = string s
   json_of (tree.array ts) = array (members_json ts)

@@ -20,7 +20,7 @@ abbrev pub has_entries : ℕ → Tree → Bool
 has_entries n (table es) = nat_eq n (length (values_of es)) && texts_ascend (entry_keys es)
 has_entries n _ = false
 
--- what a piece says fits that tree
+-- what a piece says fits that tree: its text, its bytes or numbers, or how many members it has
 abbrev pub is_piece : Piece → Tree → Bool
 is_piece (piece.String s) t = tree_eq (string s.now) t
 is_piece (piece.Integer n) t = tree_eq (integer n) t

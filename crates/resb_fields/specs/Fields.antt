@@ -88,7 +88,8 @@ RefusesNext counts first later (name ∷ names) es left left' e =
     first (last_named name es) left left' e
     ⊎ RefusesLater counts later name names es left left' e
 
--- the record is made of the fields of a table; the table, its entries and the fields are paid
+-- the record is made of the fields of a table; the count is 1, one for each entry, and the fields'
+-- own
 pub record ReadsRecord {F R : Type 0} (reads : List (List ℕ) → List Entry → F → ℕ → Type 0)
     (names : List (List ℕ)) (made : F → R) (p : Place) (r : R) (n : ℕ) : Type 0 where
   pub places : List Entry

@@ -8,13 +8,13 @@ use Rattle.std.specs.Prelude.{Bool, nat_le, slice_index, if◌then◌else◌}
 use Rattle.std.specs.List.{flat_map}
 use Rattle.std.specs.Int.{to_le_bytes, w16}
 
--- an odd byte at the end spells nothing
+-- bytes as little-endian numbers of 16 bits; an odd byte at the end spells nothing
 unfoldable pub units_of : List ℕ → List ℕ
 units_of (a ∷ b ∷ bytes) = (a + 256 * b) ∷ units_of bytes
 units_of (a ∷ []) = []
 units_of [] = []
 
--- up to three bytes at the end spell nothing
+-- bytes as little-endian numbers of 32 bits; up to three bytes at the end spell nothing
 unfoldable pub words_of : List ℕ → List ℕ
 words_of (a ∷ b ∷ c ∷ d ∷ bytes) = (a + 256 * b + 65536 * c + 16777216 * d) ∷ words_of bytes
 words_of (a ∷ b ∷ c ∷ []) = []

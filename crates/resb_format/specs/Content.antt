@@ -107,7 +107,8 @@ empty type =
     else if type == types.int_vector then Some (leaf (int_vector []))
     else None
 
--- what a word leads to, by the type in its upper 4 bits and the value in its lower 28
+-- what a word leads to, by the type in its upper 4 bits and the value in its lower 28: a finished
+-- tree, or the members of a collection, if every field that says them lies inside its block
 unfoldable pub content_at : Parts → ℕ → Option Content
 content_at p w =
     let type = w / 2 ^ 28 in

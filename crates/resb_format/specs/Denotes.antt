@@ -10,8 +10,9 @@ use Rattle.resb_format.specs.Content.{Member, word, unit, leaf, list, entry_list
 
 module _ (p : Parts) where
   mutual
-    -- a word denotes a tree, with a count of resources; nothing else does, so that a cycle denotes
-    -- nothing
+    -- a word denotes the tree of its content, each member its own and each entry's key standing at
+    -- its position, with a count of resources, those of overwritten entries included; nothing else
+    -- does, so that a cycle denotes nothing
     pub data Den : ℕ → Tree → ℕ → Type 0 where
       den_leaf : {w : ℕ} {t : Tree} → content_at p w ≡ Some (leaf t) → Den w t 1
       den_list : {w n : ℕ} {ms : List Member} {ts : List Tree} → content_at p w ≡ Some (list ms)
@@ -40,6 +41,7 @@ module _ (p : Parts) where
 
   mutual
     -- a word reaches one resource, its own; and one more than is reached in its members or entries
+    -- up to the first fault
     pub data Reaches : ℕ → ℕ → Type 0 where
       reaches_one : {w : ℕ} → Reaches w 1
       reaches_list : {w n : ℕ} {ms : List Member} → content_at p w ≡ Some (list ms)

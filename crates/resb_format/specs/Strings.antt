@@ -28,7 +28,9 @@ string_from block u first =
     part block (u + 2) ((first - 0xdfef) * 0x1_0000 + slice_index block (u + 1))
     else part block (u + 3) (slice_index block (u + 1) * 0x1_0000 + slice_index block (u + 2))
 
--- the units of the string that begins at a unit of the 16-bit block, by its first unit
+-- the units of the string that begins at a unit of the 16-bit block, by its first unit: after a
+-- marker as many as it says, all inside the block; else those before the first 0 among the next 41
+-- units inside the block
 unfoldable pub string_at : List ℕ → ℕ → Option (List ℕ)
 string_at block u = string_from block u (slice_index block u)
 
@@ -45,6 +47,7 @@ text_at block u = option_and_then text_of_units (string_at block u)
 abbrev pub if_utf8 : List ℕ → Option (List ℕ)
 if_utf8 bytes = if is_utf8 bytes then Some bytes else None
 
--- the bytes before the first zero byte from k on
+-- the key at a byte of the key block: the bytes before the first zero byte from k on, if they are
+-- UTF-8
 unfoldable pub key_at : List ℕ → ℕ → Option (List ℕ)
 key_at keys k = option_and_then if_utf8 (before_zero (drop k keys))

@@ -33,6 +33,6 @@ marker_len n =
 abbrev pub marker : List ℕ → List ℕ
 marker t = if is_unmarked t then [] else length_marker (length (units t))
 
--- marker, units and the 0 at the end
+-- how many units a record of a text takes: marker, units and the 0 at the end
 abbrev pub size : List ℕ → ℕ
 size t = length (marker t) + length (units t) + 1

@@ -33,7 +33,8 @@ pub record Header (text name : List ℕ) (fallback : Bool) (to : ℕ) : Type 0 w
   pub opens : slice_index text brace ≡ ascii.left_brace
   pub after : Skip text (brace + 1) to
 
--- the text is a bundle of this name, fallback and tree, with these keys discovered
+-- the text is a bundle of this name, fallback and tree, with these keys discovered, each at its
+-- first place alone: a name, perhaps the root's type, `{`, items that are pairs, `}`, and the end
 pub record BundleText (text name : List ℕ) (fallback : Bool) (tree : Tree)
     (keys : List (List ℕ)) : Type 0 where
   pub first : ℕ

@@ -68,7 +68,8 @@ pub data LeafContent (text : List ℕ) (from to : ℕ) : Kind → Tree → Type 
       → LeafContent text from to vector_kind (int_vector ns)
 
 mutual
-  -- the items between two places, with the discardable text after each
+  -- the items between two places, strings and groups, each with a mark that says whether one comma
+  -- follows it, and with the discardable text after each
   pub data Items (text : List ℕ) : ℕ → ℕ → List Item → Type 0 where
     nothing : (at : ℕ) → Items text at at []
     string_item : (from i j to : ℕ) (xs : List Item) (s : List ℕ) → Items text from i xs

@@ -29,7 +29,7 @@ pub record TypeName (text : List ℕ) (from to : ℕ) (name : List ℕ) : Type 0
   pub run : Run is_word text (from + 1) to
   pub means : name ≡ slice_range text (from + 1) to
 
--- a type
+-- the type of a group: `:` directly followed by its name, behind which no word character stands
 pub record GroupType (text : List ℕ) (from to : ℕ) (kind : Kind) : Type 0 where
   pub name : List ℕ
   pub stands : TypeName text from to name
@@ -53,7 +53,8 @@ Stands text at (b ∷ bs) = (slice_get text at ≡ Some b) × Stands text (at + 
 abbrev pub NoFallback : List ℕ → ℕ → Type 0
 NoFallback text at = Stands text at (codes "(nofallback)")
 
--- the root's type, as far as it goes, and whether fallback stays on
+-- the root's type, as far as it goes, and whether fallback stays on: none, `:table`, or
+-- `:table(nofallback)`
 pub data RootType (text : List ℕ) (from to : ℕ) : Bool → Type 0 where
   table_type : TypeName text from to (codes "table") → (NoFallback text to → ⊥)
       → RootType text from to true

@@ -3,6 +3,6 @@
 use Rattle.std.specs.Prelude.{ℕ, List}
 use Rattle.resb_grammar.specs.declared.key_list.KeyList.{KeyList}
 
--- the keys of a list, in its order
+-- the keys of a list, in the order in which each was first listed
 abbrev pub listed_keys : KeyList → List (List ℕ)
 listed_keys l = l.seen.keys

@@ -32,7 +32,8 @@ pub record FirstCloser (text : List ℕ) (from at : ℕ) : Type 0 where
   pub closer : Closer text at
   pub first : (k : ℕ) → from ≤ k → k < at → Closer text k → ⊥
 
--- a comment
+-- a comment: `//` and what follows it up to the line's end, or `/*` and what follows it up to the
+-- first `*/`
 pub data Comment (text : List ℕ) (from to : ℕ) : Type 0 where
   line : slice_index text from ≡ ascii.slash → slice_index text (from + 1) ≡ ascii.slash
       → LineRest text (from + 2) to → Comment text from to
@@ -51,12 +52,13 @@ pub record IsSolid (text : List ℕ) (at : ℕ) : Type 0 where
   pub no_white : is_white (slice_index text at) ≡ false
   pub no_comment : (k : ℕ) → Comment text at k → ⊥
 
--- discardable text, as far as it goes
+-- discardable text, as far as it goes: white characters and comments, and none begins where it ends
 pub record Skip (text : List ℕ) (from to : ℕ) : Type 0 where
   pub blanks : Blanks text from to
   pub solid : IsSolid text to
 
--- a string, with its bytes
+-- a string, with its bytes: a quote, no quote, and a quote; or a longest run of word characters
+-- that isn't empty
 pub data Text (text : List ℕ) (from to : ℕ) (bytes : List ℕ) : Type 0 where
   quoted : (last : ℕ) → slice_index text from ≡ ascii.quote → FirstQuote text (from + 1) last
       → to ≡ last + 1 → bytes ≡ slice_range text (from + 1) last → Text text from to bytes
@@ -80,7 +82,8 @@ abbrev pub negated : ℕ → ℕ
 negated zero = 0
 negated (suc n) = 4294967295 - n
 
--- a number, with its value
+-- a number, with its value: a longest run of digits of at most 2^32 - 1; or `+` and at most 2^31 -
+-- 1; or `-` and at most 2^31, taken modulo 2^32
 pub data Number (text : List ℕ) (from to value : ℕ) : Type 0 where
   unsigned : Digits text from to value → value ≤ 4294967295 → Number text from to value
   plus : slice_index text from ≡ ascii.plus → Digits text (from + 1) to value → value ≤ 2147483647

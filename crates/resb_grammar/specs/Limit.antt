@@ -38,7 +38,10 @@ shape_bytes _ _ = 0
 abbrev pub closing_bytes : Frame → ℕ
 closing_bytes f = shape_bytes (shape_in f.body f.items) f.items
 
--- what a token adds: a string among items, the `{` of a group that holds items, and each `}`
+-- what a token adds: 72 bytes for the `{` of a group that holds items; 192 for a string among
+-- items, and 3 for each of its bytes; 1024 for the `}` of a table that has entries; and for the `}`
+-- of a group that holds none 72, and 3 for each byte of a string, 1 for each byte of a binary, 4
+-- for each number of a vector
 abbrev pub made_by : State → Token → ℕ
 made_by (named name) opening = 72
 made_by (titled title) opening = 72

@@ -81,7 +81,7 @@ pub record IsBlocked (text : List ℕ) (at : ℕ) (s : State) : Type 0 where
   pub no_end : IsEnd text at s → ⊥
   pub no_digits : HasDigits text at s → ⊥
 
--- a reading gets stuck at this place, where this was expected
+-- a reading gets stuck at this place: nothing that may stand there does, and this was expected
 pub data Stuck (text : List ℕ) (at : ℕ) : Expected → Type 0 where
   blocked : (s : State) → IsBlocked text at s → Stuck text at (expectation s (slice_index text at))
   no_pairs : (o : Open) (to : ℕ) (s : List ℕ) → At text at (in_binary o) → Text text at to s

@@ -88,6 +88,6 @@ pub record Denotes (bytes : List ℕ) (t : Tree) (n : ℕ) : Type 0 where
   pub head : IsBundleFile bytes
   pub root : Den (parts_of bytes) (root_word bytes) t n
 
--- half the number of the file's bytes, rounded down
+-- half the number of the file's bytes, rounded down: one resource for each unit of 16 bits
 abbrev pub budget : List ℕ → ℕ
 budget bytes = length bytes / 2

@@ -122,6 +122,6 @@ unfoldable pub file_checks : List ℕ → List (Bool × Refusal)
 file_checks bytes =
     header_checks false bytes ++ (support_checks (drop 4 bytes) ++ body_checks (body_of bytes))
 
--- the first check of a whole file's head that fails
+-- the first check of a whole file's head that fails, with its kind and message
 unfoldable pub file_refusal : List ℕ → Option Refusal
 file_refusal bytes = first_refusal (file_checks bytes)

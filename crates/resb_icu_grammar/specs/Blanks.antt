@@ -52,7 +52,8 @@ pub record IsSolid (text : List ℕ) (at : ℕ) : Type 0 where
   pub no_white : is_white (slice_index text at) ≡ false
   pub no_comment : (k : ℕ) → Comment text at k → ⊥
 
--- blanks, as far as they go
+-- blanks, as far as they go: white characters and comments; `/*` runs to the first `*/` that begins
+-- at least one character behind it
 pub record Skip (text : List ℕ) (from to : ℕ) : Type 0 where
   pub blanks : Blanks text from to
   pub solid : IsSolid text to

@@ -29,7 +29,8 @@ pub record Header (text name : List ℕ) (fallback : Bool) (to : ℕ) : Type 0 w
   pub after : Skip text (brace + 1) to
 
 -- the text is a bundle of this name, fallback and tree, with these keys in order of place, each at
--- its first place alone
+-- its first place alone: perhaps a mark, a name, perhaps the root's type, `{`, entries, `}`, and
+-- the end
 pub record IcuText (text name : List ℕ) (fallback : Bool) (tree : Tree)
     (keys : List (List ℕ)) : Type 0 where
   pub first : ℕ

@@ -20,8 +20,9 @@ hex_number text from (suc n) = hex_number text from n * 16 + hex_value (slice_in
 abbrev pub is_surrogate : ℕ → Bool
 is_surrogate c = nat_le 0xd800 c && nat_le c 0xdfff
 
--- what an escape stands for. A byte that is no ASCII letter or digit stands for itself, so that a
--- character of several bytes does
+-- what a backslash and the bytes behind it stand for: `n`, `r` and `t`, `u` and four hex digits,
+-- `U` and eight. A byte that is no ASCII letter or digit stands for itself, so that a character of
+-- several bytes does
 pub data Escape (text : List ℕ) (at : ℕ) : ℕ → List ℕ → Type 0 where
   -- `\\`, `\"`, `\{`, a backslash at a line's end, `\é` by its first byte
   itself : at < length text → is_ascii_alphanumeric (slice_index text at) ≡ false

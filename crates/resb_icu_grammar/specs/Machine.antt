@@ -55,7 +55,7 @@ BeginsGroup text at =
 abbrev pub reading_at : List Waiting → List (List ℕ) → Standing → ℕ → Reading
 reading_at ws ks s at = record { around = ws; keys = ks; stands = s; at = at }
 
--- one step of a reading
+-- one step of a reading inside a group
 pub data Move (text : List ℕ) (ws : List Waiting) (ks : List (List ℕ))
     : Standing → ℕ → Reading → Type 0 where
   -- a `}` ends an array

@@ -46,7 +46,7 @@ pub data TypeStuck (text : List ℕ) (at : ℕ) : IcuExpected → Type 0 where
   no_tree : (to : ℕ) (name : List ℕ) → TypeName text at to name
       → ((kind : Kind) → Names name kind → ⊥) → TypeStuck text at (instead_of name)
 
--- some numbers, with a comma behind each
+-- some numbers from one place up to another, with a comma behind each
 pub data NumbersSoFar (text : List ℕ) : ℕ → ℕ → Type 0 where
   none_yet : (at : ℕ) → NumbersSoFar text at at
   one_number : (from at i j to v : ℕ) → NumbersSoFar text from at → Number text at i v

@@ -41,8 +41,8 @@ pub record Digits (text : List ℕ) (from to value : ℕ) : Type 0 where
   pub digits : plain.Digits text from to value
   pub no_zero : slice_index text from ≡ ascii.digit_0 → to ≡ from + 1
 
--- a number: at most 4294967295, with a plus at most 2147483647, with a minus at most 2147483648; no
--- word goes on behind it
+-- a number: a word of digits without a leading zero, of at most 4294967295, with a plus at most
+-- 2147483647, with a minus at most 2147483648; no word goes on behind it
 pub data Number (text : List ℕ) (from to : ℕ) : ℕ → Type 0 where
   unsigned : (value : ℕ) → Run is_word text from to → Digits text from to value
       → value ≤ 4294967295 → Number text from to value
@@ -56,7 +56,7 @@ pub record TypeName (text : List ℕ) (from to : ℕ) (name : List ℕ) : Type 0
   pub colon : slice_index text from ≡ ascii.colon
   pub word : Word text (from + 1) to name
 
--- the type of a group
+-- the type of a group: a colon and the word of a type
 pub record GroupType (text : List ℕ) (from to : ℕ) (kind : Kind) : Type 0 where
   pub name : List ℕ
   pub stands : TypeName text from to name

@@ -47,6 +47,6 @@ keys_start = 32
 abbrev pub position_in : List (List ℕ) → List ℕ → Option ℕ
 position_in js k = option_map (λ n. keys_start + n) (last_place k js)
 
--- where a key stands in the file, in bytes from the body's start
+-- where a key stands last among the listed keys that a tree uses, in bytes from the body's start
 abbrev pub key_position : Tree → List (List ℕ) → List ℕ → Option ℕ
 key_position t ks k = position_in (used (keys_of t) ks) k

@@ -128,7 +128,8 @@ pub record ArePlaced (g : Given) (ks : List (List ℕ)) (ps : List ℕ) : Type 0
   pub positions : map g.position ks ≡ map Some ps
 
 mutual
-  -- a tree is laid, with its word: an empty collection, binary or vector is its type with value 0
+  -- behind what is laid, what a tree takes in the 16-bit block and in the tail, members first, and
+  -- its word: an empty collection, binary or vector is its type with value 0
   pub data Lays (g : Given) : Laid → Tree → Laid → ℕ → Type 0 where
     lays_integer : {s : Laid} {n : ℕ} → n < 2 ^ 28 → Lays g s (integer n) s (0x7000_0000 + n)
     lays_string : {s : Laid} {text : List ℕ} {k : ℕ} → g.offset text ≡ Some k → k < 2 ^ 28

@@ -15,6 +15,6 @@ end_last_cmp [] (y ∷ ys) = Greater
 end_last_cmp (x ∷ xs) [] = Less
 end_last_cmp (x ∷ xs) (y ∷ ys) = ordering_then (nat_cmp x y) (end_last_cmp xs ys)
 
--- the order of two texts by their characters from the end
+-- the order of two texts by their characters from the end, the end of a text being the greatest
 abbrev pub suffix_cmp : List ℕ → List ℕ → Ordering
 suffix_cmp s t = end_last_cmp (reverse (chars s)) (reverse (chars t))

@@ -12,7 +12,7 @@ abbrev pub AreBelow : ℕ → List ℕ → Type 0
 AreBelow limit ns = (k : ℕ) → k < length ns → slice_index ns k < limit
 
 abbrev mutual
-  -- some resource may stand for the tree
+  -- some resource may stand for the tree: keys ascend, and numbers and bytes are in their ranges
   pub IsHeld : Tree → Type 0
   IsHeld (string s) = Unit {0}
   IsHeld (array ts) = AreHeld ts

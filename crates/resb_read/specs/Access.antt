@@ -42,7 +42,9 @@ module _ {P X : Type 0} (takes : P → X → ℕ → ℕ → Type 0)
   StepsAfter (Some e) old left new left' result = (result ≡ Err e) × (new ≡ old) × (left' ≡ left)
   StepsAfter None old left new left' result = StepsOver old.rest left new left' result
 
-  -- one step of an access, with what is left of the budget before and after
+  -- one step of an access, with what is left of the budget before and after: the first that is to
+  -- come is taken, or refused and the error kept, or none is left, or a kept error is answered
+  -- again
   abbrev pub StepsBy : AccessOver P → ℕ → AccessOver P → ℕ → Result (Option X) ReadingError → Type 0
   StepsBy old left new left' result = StepsAfter old.failed old left new left' result
 

@@ -5,7 +5,8 @@ use Rattle.resb_read.specs.declared.cursor.Spot.{Spot}
 use Rattle.resb_read.specs.declared.cursor.Spot.TheVariants as spot
 use Rattle.resb_read.specs.declared.cursor.Cursor.{Cursor}
 
--- the parts of a file, and a spot in them
+-- the parts of a file, and a spot in them: a descriptor, a string's unit, a vector's word, or a
+-- key's position
 pub record Place : Type 0 where
   pub parts : Parts
   pub at : Spot

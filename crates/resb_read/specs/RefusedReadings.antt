@@ -25,7 +25,8 @@ use Rattle.resb_read.specs.declared.cursor.Spot.TheVariants as spot
 abbrev pub Takes : Spot → ℕ → ℕ → Type 0
 Takes s left left' = left' ≡ left - cost_at s
 
--- a refusal has this kind and message, and takes what it takes
+-- a refusal has this kind and message, and takes one resource at a descriptor or a unit, if one was
+-- left
 abbrev pub RefusesAs : (Place → ℕ → Refusal) → Place → ℕ → ℕ → ReadingError → Type 0
 RefusesAs refusal p left left' e = Says (refusal p left) e × Takes p.at left left'
 
@@ -65,7 +66,8 @@ TakesSome (spot.Descriptor w) left left' e = TakesOne left left' e
 TakesSome (spot.Unit u) left left' e = TakesOne left left' e
 TakesSome s left left' e = Unit {0}
 
--- a tree is refused: none is denoted there within the budget, or memory is wanted
+-- a tree is refused: none is denoted there within the budget, and a fault is the first one met and
+-- takes one at least; or memory is wanted
 abbrev pub RefusesTree : Place → ℕ → ℕ → ReadingError → Type 0
 RefusesTree p left left' e =
     Refuses (DenPlace p) (ReachesPlace p) left e × Blames (MeetsPlace p) e
@@ -110,7 +112,8 @@ module _ (counts : Place → ℕ → Type 0) (refuses : Place → ℕ → ℕ �
     pub paid : inside + 1 ≡ left
     pub refused : RefusesEach places inside left' e
 
-  -- no members, or the budget is spent; or one of them is refused
+  -- no members, or the budget is spent; or one of them is refused with what those before it leave;
+  -- or memory for the list is wanted
   abbrev pub RefusesSeq : Place → ℕ → ℕ → ReadingError → Type 0
   RefusesSeq p left left' e =
       ((members_at p ≡ None ⊎ left ≡ 0)
@@ -126,7 +129,7 @@ module _ (ck : Place → ℕ → Type 0) (fk : Place → ℕ → ℕ → Reading
     pub paid : here + spent ≡ left
     pub refused : RefusesThere cv fv p.1 here left' e
 
-  -- the key is refused, before the value is looked at; or else the value
+  -- the key is refused, before the value is looked at; or else the value, with what the key leaves
   abbrev pub RefusesKeyOrValue : Place × Place → ℕ → ℕ → ReadingError → Type 0
   RefusesKeyOrValue p left left' e =
       RefusesThere ck fk p.0 left left' e ⊎ RefusesValue p left left' e
@@ -156,7 +159,8 @@ module _ (ck : Place → ℕ → Type 0) (fk : Place → ℕ → ℕ → Reading
     pub paid : inside + 1 ≡ left
     pub refused : RefusesEachEntry places inside left' e
 
-  -- no entries, or the budget is spent; or one of them is refused
+  -- no entries, or the budget is spent; or one of them is refused with what those before it leave;
+  -- or memory for the map is wanted
   abbrev pub RefusesMap : Place → ℕ → ℕ → ReadingError → Type 0
   RefusesMap p left left' e =
       ((entries_at p ≡ None ⊎ left ≡ 0)

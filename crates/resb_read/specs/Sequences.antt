@@ -88,7 +88,8 @@ abbrev pub CountsEach : (Place → ℕ → Type 0) → List Place → ℕ → Ty
 CountsEach counts [] n = n ≡ 0
 CountsEach counts (p ∷ ps) n = (a : ℕ) × (b : ℕ) × counts p a × CountsEach counts ps b × (n ≡ a + b)
 
--- a sequence, whose members are read to xs
+-- a sequence, each of whose members is read by its own relation, to xs; the count is one more than
+-- theirs
 pub record ReadsSeq {X : Type 0} (reads : Place → X → ℕ → Type 0) (p : Place) (xs : List X)
     (n : ℕ) : Type 0 where
   pub places : List Place

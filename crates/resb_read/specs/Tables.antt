@@ -91,7 +91,7 @@ AscendAbove low [] = Unit {0}
 AscendAbove low (e ∷ es) =
     (t : List ℕ × ℕ) × (key_of e ≡ Some t) × IsBelow low t.0 × AscendAbove t.0 es
 
--- each key is a text, and above the one before
+-- each key is a text, and above the one before, byte by byte
 abbrev pub Ascend : List (Place × Place) → Type 0
 Ascend [] = Unit {0}
 Ascend (e ∷ es) = (t : List ℕ × ℕ) × (key_of e ≡ Some t) × AscendAbove t.0 es

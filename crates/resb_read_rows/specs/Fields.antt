@@ -11,9 +11,11 @@ use Rattle.resb_read.specs.Sequences.{entries_at}
 abbrev pub Entry : Type 0
 Entry = Place × Place
 
+-- the entry's key is this name, and its value is read as x
 abbrev pub ReadsField : {X : Type 0} → List ℕ → (Place → X → ℕ → Type 0) → Entry → X → ℕ → Type 0
 ReadsField name reads e x n = (k : ℕ) × (a : ℕ) × ReadsKey e.0 name k × reads e.1 x a × (n ≡ k + a)
 
+-- the entry's key is this name, and some value is read there
 abbrev pub CountsField : List ℕ → (Place → ℕ → Type 0) → Entry → ℕ → Type 0
 CountsField name counts e n = (k : ℕ) × (a : ℕ) × ReadsKey e.0 name k × counts e.1 a × (n ≡ k + a)
 
@@ -22,6 +24,7 @@ abbrev pub CountsFirst : List ℕ → (Place → ℕ → Type 0) → List Entry 
 CountsFirst name counts [] n = ⊥
 CountsFirst name counts (e ∷ es) n = CountsField name counts e n
 
+-- a table of the entries i and v alone, in this order, which are read so
 pub record ReadsBoth {I V : Type 0} (ri : Place → I → ℕ → Type 0) (rv : Place → V → ℕ → Type 0)
     (p : Place) (i : I) (v : V) (n : ℕ) : Type 0 where
   pub at_i : Entry
@@ -33,6 +36,7 @@ pub record ReadsBoth {I V : Type 0} (ri : Place → I → ℕ → Type 0) (rv : 
   pub read_v : ReadsField (codes "v") rv at_v v of_v
   pub count : n ≡ 1 + (of_i + of_v)
 
+-- a table of the entries i and v alone, in this order, each of which some value is read of
 pub record CountsBoth (ci cv : Place → ℕ → Type 0) (p : Place) (n : ℕ) : Type 0 where
   pub at_i : Entry
   pub at_v : Entry
@@ -43,8 +47,10 @@ pub record CountsBoth (ci cv : Place → ℕ → Type 0) (p : Place) (n : ℕ) :
   pub read_v : CountsField (codes "v") cv at_v of_v
   pub count : n ≡ 1 + (of_i + of_v)
 
+-- a number of 32 bits with a sign is read
 abbrev pub ReadsI32 : Place → ℤ → ℕ → Type 0
 ReadsI32 = ReadsSigned (negsuc (2 ^ 31 - 1)) (pos (2 ^ 31 - 1))
 
+-- some number of 32 bits with a sign is read
 abbrev pub CountsI32 : Place → ℕ → Type 0
 CountsI32 = CountsSigned (negsuc (2 ^ 31 - 1)) (pos (2 ^ 31 - 1))

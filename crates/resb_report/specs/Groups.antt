@@ -72,7 +72,8 @@ groups_behind (Some p) g = behind_piece p g
 abbrev pub outside : Nesting
 outside = record { last = None; inner = record { is_array = false; items = [] }; around = [] }
 
--- the groups that are open behind so many bytes
+-- the groups that are open behind so many bytes, from the inside out: whether each is `:array`, and
+-- what stood right in it
 abbrev pub groups_at : List ℕ → ℕ → Nesting
 groups_at text zero = outside
 groups_at text (suc n) = groups_behind (piece_at text n) (groups_at text n)

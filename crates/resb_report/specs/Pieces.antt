@@ -81,6 +81,7 @@ piece_in mode.Quotes text n =
     if slice_index text n == quote then Some (quoted_at text n) else None
 piece_in _ text n = None
 
--- the piece whose last byte stands at a place
+-- the piece whose last byte stands at a place: a string with its place, the name of a type (a word
+-- right behind a `:` or a `(`), `{`, `}` or `,`; none in a comment
 abbrev pub piece_at : List ℕ → ℕ → Option TextPiece
 piece_at text n = piece_in (mode_at text n) text n

@@ -21,7 +21,7 @@ keyed_trees (entry k t es) = (k, t) ∷ keyed_trees es
 abbrev pub get : List ℕ → Entries → Option Tree
 get q es = fin.find text_cmp q (keyed_trees es)
 
--- the keys strictly ascend
+-- the keys of entries strictly ascend by their bytes
 abbrev pub IsMap : Entries → Type 0
 IsMap es = T (fin.is_sorted text_cmp (keyed_trees es))
 

@@ -27,7 +27,8 @@ table_piece (e ∷ es) = filled_table
 
 module _ (p : Parts) where
   mutual
-    -- a resource, and behind it what its members hold
+    -- what a reading of a word goes through, in the order of the file: a resource, and behind it
+    -- what its members hold. Entries that are replaced later are among them
     pub data Holds : ℕ → List Piece → Type 0 where
       holds_leaf : {w : ℕ} {t : Tree} → content_at p w ≡ Some (leaf t) → Holds w (leaf_piece t ∷ [])
       holds_list : {w : ℕ} {ms : List Member} {xs : List Piece} → content_at p w ≡ Some (list ms)

@@ -34,7 +34,7 @@ WrittenInOrder =
     (bytes : List ℕ) (t : Tree) (fallback : Bool) (ks : List (List ℕ))
     (w : Written bytes t fallback ks) → IsInOrder w
 
--- of bytes
+-- two written files of a bundle and a list of keys are the same bytes
 abbrev pub OneFile : Type 0
 OneFile =
     (a b : List ℕ) (t : Tree) (fallback : Bool) (ks : List (List ℕ)) → EachFits 8 a → EachFits 8 b

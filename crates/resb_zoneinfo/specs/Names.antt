@@ -17,7 +17,7 @@ IsNameAt names name k =
 abbrev pub NoneBefore : List Utf16View → List ℕ → ℕ → Type 0
 NoneBefore names name end = (k : ℕ) → k < end → IsNameAt names name k → ⊥
 
--- the first place of this name
+-- the first place at which this name stands, unit by unit
 pub record IsNumberOf (names : List Utf16View) (name : List ℕ) (number : ℕ) : Type 0 where
   pub there : IsNameAt names name number
   pub first : NoneBefore names name number

@@ -29,7 +29,7 @@ unfoldable pub break_count : List ℕ → ℕ → ℕ → ℕ
 break_count us i zero = 0
 break_count us i (suc n) = break_count us i n + break_at us (i + n)
 
--- each number of the list is that of the breaks before its 64 times as manieth unit
+-- the list has how many breaks stand before each 64th unit, from the first unit on
 abbrev pub AreCounted : List ℕ → List ℕ → Type 0
 AreCounted us ns =
     (k : ℕ) → k < length ns → slice_index ns k ≡ break_count us 0 (64 * k)

@@ -15,6 +15,6 @@ width_of u = if is_high_surrogate u || is_low_surrogate u then 2 else len_utf8 u
 abbrev pub text_width : List ℕ → ℕ
 text_width us = sum_by width_of us
 
--- each number of the list is the width of the units before its 64 times as manieth unit
+-- the list has how many bytes the units before each 64th unit take, from the first unit on
 abbrev pub AreSummed : List ℕ → List ℕ → Type 0
 AreSummed us ns = (k : ℕ) → k < length ns → slice_index ns k ≡ text_width (take (64 * k) us)

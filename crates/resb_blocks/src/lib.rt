@@ -1,5 +1,6 @@
-//! What is found once of a file's blocks, so that no string or key is looked at again for each
+//! An index over a file's blocks, made once, so that no string or key is looked at again for each
 //! descriptor that leads to it: breaks between units, long tails of keys, and the widths of units.
+//! What descriptors lead to is found in the crates above.
 #![tactic(auto)]
 
 mod breaks;

@@ -11,8 +11,8 @@ ghost use Rattle.resb_walk.specs.Inner.Members.{member_of};
 use crate::members::{Member, Rest, Standing};
 use crate::standing::{key_at, member_at, text_at};
 use crate::strings::{marked, string_index};
-use resb_format::{BinaryDeserializerError, FileBlocks};
 use resb_blocks::{Breaks, LongTails, SHORT_TAIL};
+use resb_format::{BinaryDeserializerError, FileBlocks};
 use resb_tree::NoMemory;
 use std::alloc::Global;
 

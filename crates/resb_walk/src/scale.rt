@@ -10,8 +10,8 @@ use crate::standing::{key_at, standing_at, text_at};
 use crate::strings::{marked, string_index};
 use crate::sums::Sums;
 use crate::units::text_len;
-use resb_format::FileBlocks;
 use resb_blocks::{LongTails, Widths};
+use resb_format::FileBlocks;
 use resb_tree::NoMemory;
 use std::alloc::Global;
 

@@ -96,7 +96,8 @@ fn block_text(units: &[u8], unit: usize) -> Result<&[u8], BinaryDeserializerErro
     if let Some(bytes) = plain_text(units, unit) {
         return Ok(bytes);
     }
-    let bytes = string_at(units, unit)?.as_bytes();
+    let text = string_at(units, unit)?;
+    let bytes = text.as_bytes();
     if !is_well_formed(bytes) {
         return Err(not_utf16());
     }

@@ -66,9 +66,9 @@ pub use Rattle.resb_head.specs.Head
 pub use Rattle.resb_head.specs.HeadChecks
 pub use Rattle.resb_head.specs.HeadReading
 pub use Rattle.resb_head.specs.Laws as HeadLaws
-pub use Rattle.resb_shared.specs.Links
-pub use Rattle.resb_shared.specs.Wide
-pub use Rattle.resb_shared.specs.Laws as SharedLaws
+pub use Rattle.resb_blocks.specs.Links
+pub use Rattle.resb_blocks.specs.Wide
+pub use Rattle.resb_blocks.specs.Laws as BlocksLaws
 pub use Rattle.resb_walk.specs.BlockRefusals
 pub use Rattle.resb_walk.specs.Meets
 pub use Rattle.resb_walk.specs.Refusals

@@ -88,11 +88,11 @@ pub use resb_read::laws::one_weight;
 // A file's tree weighs no more than what is read of it, and the same where no entry is replaced.
 pub use resb_read::laws::trees_weigh_no_more;
 // Units of a block are well-formed exactly by their two ends and their neighbours.
-pub use resb_shared::laws::ranges_by_links;
+pub use resb_blocks::laws::ranges_by_links;
 // A place in a key has a key exactly where a character begins.
-pub use resb_shared::laws::keys_in_keys;
+pub use resb_blocks::laws::keys_in_keys;
 // A text has as many bytes of UTF-8 as its units take, one by one.
-pub use resb_shared::laws::widths_of_texts;
+pub use resb_blocks::laws::widths_of_texts;
 // Two readings of one place give one value.
 pub use resb_read::laws::one_value;
 // What is found for a name is the value of the last entry of that name.

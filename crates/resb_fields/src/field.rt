@@ -64,9 +64,7 @@ impl<'de, T: Deserialize<'de>> Field<'de> for T {
         at: Option<Cursor<'de>>,
         walk: &mut Walk,
     ) -> Result<T, ReadingError<'m>> {
-        let Some(value) = at else {
-            return Err(BinaryDeserializerError::unknown("field missing"));
-        };
+        let value = at.ok_or(BinaryDeserializerError::unknown("field missing"))?;
         T::deserialize(alloc, value, walk)
     }
 }

@@ -5,7 +5,7 @@ use Rattle.std.proofs.Common.{sym, ◌∙◌, ap, arith}
 use Rattle.std.proofs.lemmas.List.{map_more, map_push}
 use Rattle.std.proofs.lemmas.List.Elements.{All-nil, All-cons}
 use Rattle.std.proofs.lemmas.List.Sums.{sum_by-append, sum_by-cons}
-use Rattle.std.proofs.lemmas.Bool.{leb-true, le-leb, lt-leb}
+use Rattle.std.proofs.lemmas.Bool.{leb-true, le-leb}
 use Rattle.std.specs.Prelude.{nat_le}
 use Rattle.resb_format.specs.Units.{units}
 use Rattle.resb_pool.specs.Plan.{nows, first_too_long, texts_size}
@@ -40,10 +40,6 @@ module _ (s : List ℕ) (ss : List (List ℕ)) where
   first_more o = ap (λ b. cond b (first_too_long ss) (Some (length (units s))))
       (le-leb (length (units s)) 4294967295 o)
 
-  first_here : 4294967295 < length (units s) → first_too_long (s ∷ ss) ≡ Some (length (units s))
-  first_here o = ap (λ b. cond b (first_too_long ss) (Some (length (units s))))
-      (lt-leb (length (units s)) 4294967295 o)
-
 pub first_after : (ss rs : List (List ℕ)) → first_too_long ss ≡ None
     → first_too_long (ss ++ rs) ≡ first_too_long rs
 first_after [] rs h = refl
@@ -51,12 +47,19 @@ first_after (s ∷ ss) rs h = first_cases s ss (first_too_long (s ∷ ss ++ rs) 
     (λ o k. first_more s (ss ++ rs) o ∙ first_after ss rs k)
 
 pub first_push : (ss : List (List ℕ)) (s : List ℕ) → first_too_long ss ≡ None
-    → length (units s) ≤ 4294967295 → first_too_long (ss ++ s ∷ []) ≡ None
-first_push ss s h o = first_after ss (s ∷ []) h ∙ first_more s [] o
+    → first_too_long (s ∷ []) ≡ None → first_too_long (ss ++ s ∷ []) ≡ None
+first_push ss s h o = first_after ss (s ∷ []) h ∙ o
 
-pub first_found : (ss : List (List ℕ)) (s : List ℕ) (rs : List (List ℕ)) → first_too_long ss ≡ None
-    → 4294967295 < length (units s) → first_too_long (ss ++ s ∷ rs) ≡ Some (length (units s))
-first_found ss s rs h o = first_after ss (s ∷ rs) h ∙ first_here s rs o
+pub first_found : (ss : List (List ℕ)) (s : List ℕ) (rs : List (List ℕ)) (n : ℕ)
+    → first_too_long ss ≡ None → first_too_long (s ∷ []) ≡ Some n
+    → first_too_long (ss ++ s ∷ rs) ≡ Some n
+first_found ss s rs n h o =
+    first_after ss (s ∷ rs) h ∙ by (nat_le (length (units s)) 4294967295) o
+  where
+    by : (b : Bool) → cond b None (Some (length (units s))) ≡ Some n
+        → cond b (first_too_long rs) (Some (length (units s))) ≡ Some n
+    by true e = absurd (let z : None ≡ Some n = e in cc)
+    by false e = e
 
 pub none_too_long : (ss : List (List ℕ)) → first_too_long ss ≡ None
     → All (λ s. length (units s) ≤ 4294967295) ss

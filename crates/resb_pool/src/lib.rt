@@ -15,4 +15,5 @@ mod suffix_order;
 mod texts;
 
 pub use error::PlanError;
+pub use measure::{SIZE_LIMIT, excessive_len};
 pub use offsets::Plan;

@@ -1,6 +1,6 @@
 //! How many units a text and its record take, and whether strings are too long or too large to
 //! plan. Which texts get a record is said in `containers`.
-ghost use Rattle.std.specs.Prelude.{◌≡◌, ◌+◌, ◌<◌, ◌≤◌, ◌^◌, None, MatchOption, length, nat_le};
+ghost use Rattle.std.specs.Prelude.{◌≡◌, ◌+◌, ◌∷◌, ◌<◌, ◌≤◌, ◌^◌, [], None, length, nat_le};
 ghost use Rattle.std.specs.Prelude.{IfOk, OnOk, IfErr};
 ghost use Rattle.resb_format.specs.Units as text_units;
 ghost use Rattle.resb_format.specs.Units.{units, size};
@@ -13,8 +13,9 @@ use resb_format::{MAX_UNMARKED, marker_units, utf16_len};
 /// The most units of a string, which its marker can say.
 const LONGEST: usize = 4_294_967_295;
 
-/// From this size of the strings on they are not planned.
-pub(crate) const SIZE_LIMIT: usize = 0x1000_0000;
+/// From this size of the strings on they are not planned, and from this plain size on no file is
+/// written, so that the place of each part of a file fits the 28 bits of a descriptor.
+pub const SIZE_LIMIT: usize = 0x1000_0000;
 
 /// How many units a text takes.
 #[derive(Clone, Copy)]
@@ -59,9 +60,8 @@ impl Measure {
 
 /// The number of units of a text that has more than 4294967295. They are counted only where its
 /// bytes are as many.
-fn excessive_len(text: &str) -> Option<usize>
-    ensures { MatchOption result (length (units text.now) ≤ 4294967295)
-        (λ n. (n ≡ length (units text.now)) × (4294967295 < n)) }
+pub fn excessive_len(text: &str) -> Option<usize>
+    ensures { result ≡ first_too_long (text.now ∷ []) }
 {
     if text.len() <= LONGEST {
         return None;

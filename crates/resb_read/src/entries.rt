@@ -176,11 +176,10 @@ fn entries_at<'de>(
             return Err(BinaryDeserializerError::resource_type_mismatch("expected table resource"));
         }
     }
-    match standing_at(file, word) {
-        Ok(Standing::Table(rest)) => Ok(rest),
+    match standing_at(file, word)? {
+        Standing::Table(rest) => Ok(rest),
         // Nothing else stands at a word of these types.
-        Ok(Standing::List(_) | Standing::Leaf(_)) => Err(past_end()),
-        Err(error) => Err(error),
+        Standing::List(_) | Standing::Leaf(_) => Err(past_end()),
     }
 }
 

@@ -26,10 +26,7 @@ pub fn option_utf_16<'de>(
         (λ o n. IsSomeAnd o (λ v. ReadsView 2 p (unit_bytes v) n))
         (CountsView 2 p) walk.old walk.new result }
 {
-    match at.units(walk) {
-        Ok(view) => Ok(Some(view)),
-        Err(error) => Err(error),
-    }
+    Ok(Some(at.units(walk)?))
 }
 
 /// The bytes here as words. Refused where their number is no multiple of 4.
@@ -42,10 +39,7 @@ pub fn option_u32<'de>(
         (λ o n. IsSomeAnd o (λ v. ReadsView 4 p (word_bytes v) n))
         (CountsView 4 p) walk.old walk.new result }
 {
-    match at.words(walk) {
-        Ok(view) => Ok(Some(view)),
-        Err(error) => Err(error),
-    }
+    Ok(Some(at.words(walk)?))
 }
 
 /// The bytes here as signed numbers. Refused where their number is no multiple of 4.
@@ -58,10 +52,8 @@ pub fn option_i32<'de>(
         (λ o n. IsSomeAnd o (λ v. ReadsView 4 p (number_bytes v) n))
         (CountsView 4 p) walk.old walk.new result }
 {
-    match at.words(walk) {
-        Ok(words) => Ok(Some(cast_u32_to_i32_slice(words))),
-        Err(error) => Err(error),
-    }
+    let words = at.words(walk)?;
+    Ok(Some(cast_u32_to_i32_slice(words)))
 }
 
 /// The bytes here as pairs of signed numbers. Refused where their number is no multiple of 8.
@@ -86,10 +78,7 @@ pub fn option_i32_tuple<'de>(
         (λ o n. IsSomeAnd o (λ v. ReadsView 8 p (pair_bytes v) n))
         (CountsView 8 p) walk.old walk.new result }
 {
-    match at.pairs(walk) {
-        Ok(view) => Ok(Some(view)),
-        Err(error) => Err(error),
-    }
+    Ok(Some(at.pairs(walk)?))
 }
 
 /// The members of the sequence here, each as 16-bit units.

@@ -86,9 +86,7 @@ pub fn measure(alloc: Global, bytes: &[u8]) -> Result<Measured, BinaryDeserializ
     let before = walk.left();
     root.count_resource(alloc, &mut walk)?;
     let resources = before - walk.left();
-    let Ok(sums) = root.sums(alloc, resources) else {
-        return Err(BinaryDeserializerError::out_of_memory());
-    };
+    let sums = root.sums(alloc, resources)?;
     Ok(Measured { resources, sums })
 }
 

@@ -126,10 +126,7 @@ impl<'de> KeyDeserializer<'de> {
             Reads (RefusesKey p) (λ s n. ReadsKey p s.now n)
             (CountsKey p) 0 0 result }
     {
-        match key_at(self.file, self.position) {
-            Ok(text) => Ok(text),
-            Err(error) => Err(error),
-        }
+        key_at(self.file, self.position)
     }
 }
 
@@ -152,10 +149,7 @@ impl<'de> IntVectorDeserializer<'de> {
             result }
     {
         let mut walk = Walk::new(0);
-        match self.at().read_i8(&mut walk) {
-            Ok(number) => Ok(number),
-            Err(error) => Err(error),
-        }
+        self.at().read_i8(&mut walk)
     }
 
     /// Reads the number, as one from -2^15 to 2^15 - 1.
@@ -166,10 +160,7 @@ impl<'de> IntVectorDeserializer<'de> {
             result }
     {
         let mut walk = Walk::new(0);
-        match self.at().read_i16(&mut walk) {
-            Ok(number) => Ok(number),
-            Err(error) => Err(error),
-        }
+        self.at().read_i16(&mut walk)
     }
 
     /// Reads the number, as one from -2^31 to 2^31 - 1.
@@ -180,10 +171,7 @@ impl<'de> IntVectorDeserializer<'de> {
             result }
     {
         let mut walk = Walk::new(0);
-        match self.at().read_i32(&mut walk) {
-            Ok(number) => Ok(number),
-            Err(error) => Err(error),
-        }
+        self.at().read_i32(&mut walk)
     }
 
     /// Reads the number, as one from -2^63 to 2^63 - 1.
@@ -194,10 +182,7 @@ impl<'de> IntVectorDeserializer<'de> {
             result }
     {
         let mut walk = Walk::new(0);
-        match self.at().read_i64(&mut walk) {
-            Ok(number) => Ok(number),
-            Err(error) => Err(error),
-        }
+        self.at().read_i64(&mut walk)
     }
 
     /// Reads the number, as one from 0 to 2^8 - 1.
@@ -206,10 +191,7 @@ impl<'de> IntVectorDeserializer<'de> {
             Reads (RefusesNumber p) (ReadsUnsigned high p) (CountsUnsigned high p) 0 0 result }
     {
         let mut walk = Walk::new(0);
-        match self.at().read_u8(&mut walk) {
-            Ok(number) => Ok(number),
-            Err(error) => Err(error),
-        }
+        self.at().read_u8(&mut walk)
     }
 
     /// Reads the number, as one from 0 to 2^16 - 1.
@@ -218,10 +200,7 @@ impl<'de> IntVectorDeserializer<'de> {
             Reads (RefusesNumber p) (ReadsUnsigned high p) (CountsUnsigned high p) 0 0 result }
     {
         let mut walk = Walk::new(0);
-        match self.at().read_u16(&mut walk) {
-            Ok(number) => Ok(number),
-            Err(error) => Err(error),
-        }
+        self.at().read_u16(&mut walk)
     }
 
     /// Reads the number, as one from 0 to 2^32 - 1.
@@ -230,10 +209,7 @@ impl<'de> IntVectorDeserializer<'de> {
             Reads (RefusesNumber p) (ReadsUnsigned high p) (CountsUnsigned high p) 0 0 result }
     {
         let mut walk = Walk::new(0);
-        match self.at().read_u32(&mut walk) {
-            Ok(number) => Ok(number),
-            Err(error) => Err(error),
-        }
+        self.at().read_u32(&mut walk)
     }
 
     /// Reads the number, as one from 0 to 2^64 - 1.
@@ -242,9 +218,6 @@ impl<'de> IntVectorDeserializer<'de> {
             Reads (RefusesNumber p) (ReadsUnsigned high p) (CountsUnsigned high p) 0 0 result }
     {
         let mut walk = Walk::new(0);
-        match self.at().read_u64(&mut walk) {
-            Ok(number) => Ok(number),
-            Err(error) => Err(error),
-        }
+        self.at().read_u64(&mut walk)
     }
 }

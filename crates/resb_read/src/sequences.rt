@@ -131,12 +131,11 @@ fn members_at<'de>(
             return Err(BinaryDeserializerError::resource_type_mismatch("expected array resource"));
         }
     }
-    match standing_at(file, word) {
-        Ok(Standing::List(members)) => Ok(Elements::Members(members)),
-        Ok(Standing::Leaf(Leaf::Numbers(numbers))) => Ok(Elements::Numbers(numbers)),
+    match standing_at(file, word)? {
+        Standing::List(members) => Ok(Elements::Members(members)),
+        Standing::Leaf(Leaf::Numbers(numbers)) => Ok(Elements::Numbers(numbers)),
         // Nothing else stands at a word of these types.
-        Ok(Standing::Table(_) | Standing::Leaf(_)) => Err(past_end()),
-        Err(error) => Err(error),
+        Standing::Table(_) | Standing::Leaf(_) => Err(past_end()),
     }
 }
 

@@ -49,10 +49,8 @@ fn units_at(block: &[u8], unit: usize) -> Result<&[u8], BinaryDeserializerError>
         MatchResult result (λ b. there ≡ Some b.now) (λ _. there ≡ None) }
     ensures says { IfErr result (Says (invalid (string_message (units_of block.now) unit))) }
 {
-    match string_at(block, unit) {
-        Ok(view) => Ok(whole_units(view.as_bytes())),
-        Err(error) => Err(error),
-    }
+    let view = string_at(block, unit)?;
+    Ok(whole_units(view.as_bytes()))
 }
 
 /// The bytes of items of so many bytes each, behind their count.
@@ -67,13 +65,8 @@ fn counted_at(
         MatchResult result (λ b. there ≡ Some b.now) (λ _. there ≡ None) }
     ensures says { IfErr result (Says end_of_input) }
 {
-    let Some(count) = some_word(file.body, value) else {
-        return Err(past_end());
-    };
-    let Some(bytes) = some_bytes(file.body, 4 * value + 4, each * count as usize) else {
-        return Err(past_end());
-    };
-    Ok(bytes)
+    let count = some_word(file.body, value).ok_or(past_end())?;
+    some_bytes(file.body, 4 * value + 4, each * count as usize).ok_or(past_end())
 }
 
 /// The bytes of what stands at a descriptor.
@@ -141,10 +134,7 @@ impl<'de> Cursor<'de> {
             walk.old walk.new result }
     {
         match self.at {
-            Spot::Key(position) => match key_at(self.file, position) {
-                Ok(key) => Ok(key),
-                Err(error) => Err(error),
-            },
+            Spot::Key(position) => key_at(self.file, position),
             Spot::Descriptor(_) | Spot::Unit(_) | Spot::Word(_) => {
                 Err(refused_here(self.at, walk))
             }
@@ -160,28 +150,15 @@ impl<'de> Cursor<'de> {
     {
         match self.at {
             Spot::Descriptor(word) => {
-                if let Err(spent) = walk.pay() {
-                    return Err(spent);
-                }
-                match described(self.file, word) {
-                    Ok(bytes) => Ok(bytes),
-                    Err(error) => Err(error),
-                }
+                walk.pay()?;
+                described(self.file, word)
             }
             Spot::Unit(unit) => {
-                if let Err(spent) = walk.pay() {
-                    return Err(spent);
-                }
+                walk.pay()?;
                 let (block, unit) = text_place(self.file, index_of(self.file, unit));
-                match units_at(block, unit) {
-                    Ok(bytes) => Ok(bytes),
-                    Err(error) => Err(error),
-                }
+                units_at(block, unit)
             }
-            Spot::Key(position) => match key_at(self.file, position) {
-                Ok(key) => Ok(key.as_bytes()),
-                Err(error) => Err(error),
-            },
+            Spot::Key(position) => Ok(key_at(self.file, position)?.as_bytes()),
             Spot::Word(_) => Err(elsewhere()),
         }
     }

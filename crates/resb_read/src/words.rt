@@ -34,12 +34,11 @@ pub fn lay_words(
     ensures room { 4 * length words.now ≤ vec_capacity buffer.old → IsOk result }
 {
     buffer.clear();
-    let Some(size) = words.len().checked_mul(4) else {
-        return Err(BinaryDeserializerError::out_of_memory());
-    };
-    if buffer.reserve_exact(size).is_err() {
-        return Err(BinaryDeserializerError::out_of_memory());
-    }
+    let size = words
+        .len()
+        .checked_mul(4)
+        .ok_or(BinaryDeserializerError::out_of_memory())?;
+    buffer.reserve_exact(size)?;
     for word in words {
         if buffer.extend_from_slice(&word.to_le_bytes()).is_err() {
             buffer.clear();

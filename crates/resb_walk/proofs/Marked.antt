@@ -7,8 +7,8 @@ use Rattle.resb_format.specs.Bytes.{part}
 use Rattle.resb_format.specs.Strings.{string_from, string_at, text_at, text_of_units}
 use Rattle.resb_format.proofs.StringsIn.{at_marker}
 use Rattle.resb_format.proofs.Inside.{part_in}
-use Rattle.resb_shared.specs.Wide.{text_width}
-use Rattle.resb_shared.proofs.WideLemmas.{text_is_wide}
+use Rattle.resb_blocks.specs.Wide.{text_width}
+use Rattle.resb_blocks.proofs.WideLemmas.{text_is_wide}
 
 pub marked_by_one : (us : List ℕ) (u first : ℕ) → first ≡ get_or us u 0 → 0xdc00 ≤ first
     → first ≤ 0xdfee → u + 1 + (first - 0xdc00) ≤ length us

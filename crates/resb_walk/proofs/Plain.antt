@@ -22,7 +22,7 @@ use Rattle.resb_walk.specs.Inner.Members.{text_of_bytes}
 use Rattle.resb_walk.proofs.Placed.{text_some}
 use Rattle.resb_walk.proofs.Surrogates.{char_alone, no_units_no_chars, plain_unit_first}
 use Rattle.resb_walk.proofs.Surrogates.{nothing_is_unpaired}
-use Rattle.resb_shared.proofs.Surrogates.{lone_some}
+use Rattle.resb_blocks.proofs.Surrogates.{lone_some}
 use Rattle.resb_walk.proofs.Lists.{front_below}
 
 -- ASCII units are their characters

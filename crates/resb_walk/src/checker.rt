@@ -3,7 +3,7 @@
 ghost use Rattle.std.specs.Prelude.{◌≡◌, ℕ, List, Some, IfOk, IfSome, IsTrue};
 ghost use Rattle.std.specs.Option.{ForSome};
 ghost use Rattle.resb_format.specs.Lookups.{key_in, text_in};
-ghost use Rattle.resb_shared.specs.Blocks.{breaks_block, tails_keys};
+ghost use Rattle.resb_blocks.specs.Blocks.{breaks_block, tails_keys};
 ghost use Rattle.resb_format.specs.Parts.{parts_in};
 ghost use Rattle.resb_walk.specs.Inner.Counting.{LooksKey, LooksText, LooksAt};
 ghost use Rattle.resb_walk.specs.Inner.Members.{member_of};
@@ -11,8 +11,8 @@ ghost use Rattle.resb_walk.specs.Inner.Members.{member_of};
 use crate::members::{Member, Rest, Standing};
 use crate::standing::{key_at, member_at, text_at};
 use crate::strings::{marked, string_index};
+use resb_blocks::{Breaks, LongTails, SHORT_TAIL};
 use resb_format::{BinaryDeserializerError, FileBlocks};
-use resb_shared::{Breaks, LongTails, SHORT_TAIL};
 use resb_tree::NoMemory;
 use std::alloc::Global;
 

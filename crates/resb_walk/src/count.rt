@@ -40,9 +40,7 @@ pub struct Outer {
 pub(crate) fn keep(inner: Inner<'_>) -> Result<Outer, NoMemory>
     ensures { IfOk result (KeepsOuter inner.entry) }
 {
-    let Ok(left) = u32::try_from(inner.rest.len()) else {
-        return Err(NoMemory);
-    };
+    let left = u32::try_from(inner.rest.len()).map_err(|_| NoMemory)?;
     Ok(Outer {
         word: inner.word,
         left,

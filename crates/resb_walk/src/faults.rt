@@ -15,14 +15,6 @@ pub fn past_end() -> BinaryDeserializerError
     BinaryDeserializerError::end_of_input()
 }
 
-/// The upper 4 bits of a descriptor name no type.
-pub fn unknown_type() -> BinaryDeserializerError
-    ensures says { IsInvalid result (codes "unrecognized value for ResourceReprType") }
-    ensures fault { IsFault result }
-{
-    BinaryDeserializerError::invalid_data("unrecognized value for ResourceReprType")
-}
-
 /// A string of the older formats, or an alias.
 pub fn unsupported_type() -> BinaryDeserializerError
     ensures says { IsRefusal result UnsupportedFormat (codes "resource type is not supported") }
@@ -64,7 +56,7 @@ pub(crate) fn key_not_utf8() -> BinaryDeserializerError
 }
 
 /// No more resources may be read.
-pub(crate) fn budget_spent() -> BinaryDeserializerError
+pub fn budget_spent() -> BinaryDeserializerError
     ensures { IsSpent result }
 {
     BinaryDeserializerError::invalid_data("resource budget spent")

@@ -64,10 +64,10 @@ pub fn advance<'a, 'm, M: Make<'a>>(
             None => Ok(Progress::Done(M::end_list(made))),
         },
         Open::Table(rest, made) => match rest.split() {
-            Some((position, member, rest)) => match key_at(file, position) {
-                Ok(key) => Ok(Progress::Wants(member, Waiting::Table(rest, made, key))),
-                Err(error) => Err(error),
-            },
+            Some((position, member, rest)) => {
+                let key = key_at(file, position)?;
+                Ok(Progress::Wants(member, Waiting::Table(rest, made, key)))
+            }
             None => Ok(Progress::Done(M::end_table(alloc, made)?)),
         },
     }

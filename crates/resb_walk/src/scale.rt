@@ -1,7 +1,7 @@
 //! How long the keys and strings of a file are, and the sums of one piece after another. No key and
 //! no string is looked at twice as a whole. Going from member to member is the business of `weigh`.
 ghost use Rattle.std.specs.Prelude.{◌≡◌, ℕ, List, length, Some, IfOk};
-ghost use Rattle.resb_shared.specs.Blocks.{widths_block, tails_keys};
+ghost use Rattle.resb_blocks.specs.Blocks.{widths_block, tails_keys};
 
 use crate::count::Inner;
 use crate::members::{Member, Rest, Standing};
@@ -10,8 +10,8 @@ use crate::standing::{key_at, standing_at, text_at};
 use crate::strings::{marked, string_index};
 use crate::sums::Sums;
 use crate::units::text_len;
+use resb_blocks::{LongTails, Widths};
 use resb_format::FileBlocks;
-use resb_shared::{LongTails, Widths};
 use resb_tree::NoMemory;
 use std::alloc::Global;
 

@@ -68,19 +68,10 @@ fn block_key(keys: &[u8], at: usize) -> Result<&str, BinaryDeserializerError>
         (λ e. (strings.key_at keys.now at ≡ None) × IsFault e) }
     ensures says { IfErr result (Says (block_key_refusal keys.now at)) }
 {
-    let Some((_, tail)) = cut_at(keys, at) else {
-        return Err(key_past_end());
-    };
-    let Some(end) = first_zero(tail) else {
-        return Err(key_unterminated());
-    };
-    let Some((front, _)) = cut_at(tail, end) else {
-        return Err(key_unterminated());
-    };
-    match str::from_utf8(front) {
-        Ok(text) => Ok(text),
-        Err(_) => Err(key_not_utf8()),
-    }
+    let (_, tail) = cut_at(keys, at).ok_or(key_past_end())?;
+    let end = first_zero(tail).ok_or(key_unterminated())?;
+    let (front, _) = cut_at(tail, end).ok_or(key_unterminated())?;
+    str::from_utf8(front).map_err(|_| key_not_utf8())
 }
 
 /// The key at a position, in bytes from the body's start, or of the pool.
@@ -105,17 +96,12 @@ fn block_text(units: &[u8], unit: usize) -> Result<&[u8], BinaryDeserializerErro
     if let Some(bytes) = plain_text(units, unit) {
         return Ok(bytes);
     }
-    match string_at(units, unit) {
-        Ok(view) => {
-            let bytes = view.as_bytes();
-            if is_well_formed(bytes) {
-                Ok(bytes)
-            } else {
-                Err(not_utf16())
-            }
-        }
-        Err(error) => Err(error),
+    let text = string_at(units, unit)?;
+    let bytes = text.as_bytes();
+    if !is_well_formed(bytes) {
+        return Err(not_utf16());
     }
+    Ok(bytes)
 }
 
 /// The units of the string with an index, own or the pool's, which are a text.
@@ -160,10 +146,10 @@ pub fn member_at(
 {
     match member {
         Member::Word(word) => standing_at(file, word),
-        Member::Unit(unit) => match text_at(file, index_of(file, unit)) {
-            Ok(text) => Ok(Standing::Leaf(Leaf::Text(text))),
-            Err(error) => Err(error),
-        },
+        Member::Unit(unit) => {
+            let text = text_at(file, index_of(file, unit))?;
+            Ok(Standing::Leaf(Leaf::Text(text)))
+        }
     }
 }
 
@@ -206,12 +192,8 @@ fn binary_at(file: FileBlocks<'_>, value: usize) -> Result<Standing<'_>, BinaryD
         (λ e. (at.binary_at p value ≡ None) × IsFault e) }
     ensures says { IfErr result (Says reading.end_of_input) }
 {
-    let Some(count) = some_word(file.body, value) else {
-        return Err(past_end());
-    };
-    let Some(bytes) = some_bytes(file.body, 4 * value + 4, count as usize) else {
-        return Err(past_end());
-    };
+    let count = some_word(file.body, value).ok_or(past_end())?;
+    let bytes = some_bytes(file.body, 4 * value + 4, count as usize).ok_or(past_end())?;
     Ok(Standing::Leaf(Leaf::Binary(bytes)))
 }
 
@@ -226,12 +208,8 @@ fn int_vector_at(
         (λ e. (at.int_vector_at p value ≡ None) × IsFault e) }
     ensures says { IfErr result (Says reading.end_of_input) }
 {
-    let Some(count) = some_word(file.body, value) else {
-        return Err(past_end());
-    };
-    let Some(numbers) = some_words(file.body, value + 1, count as usize) else {
-        return Err(past_end());
-    };
+    let count = some_word(file.body, value).ok_or(past_end())?;
+    let numbers = some_words(file.body, value + 1, count as usize).ok_or(past_end())?;
     Ok(Standing::Leaf(Leaf::Numbers(numbers)))
 }
 
@@ -243,12 +221,8 @@ fn array_at(file: FileBlocks<'_>, value: usize) -> Result<Standing<'_>, BinaryDe
         (λ e. (at.array_at p value ≡ None) × IsFault e) }
     ensures says { IfErr result (Says reading.end_of_input) }
 {
-    let Some(count) = some_word(file.body, value) else {
-        return Err(past_end());
-    };
-    let Some(members) = some_words(file.body, value + 1, count as usize) else {
-        return Err(past_end());
-    };
+    let count = some_word(file.body, value).ok_or(past_end())?;
+    let members = some_words(file.body, value + 1, count as usize).ok_or(past_end())?;
     Ok(Standing::List(Members::Words(members)))
 }
 
@@ -260,12 +234,8 @@ fn array16_at(file: FileBlocks<'_>, value: usize) -> Result<Standing<'_>, Binary
         (λ e. (at.array16_at p value ≡ None) × IsFault e) }
     ensures says { IfErr result (Says reading.end_of_input) }
 {
-    let Some(count) = some_unit(file.block, value) else {
-        return Err(past_end());
-    };
-    let Some(members) = some_units(file.block, value + 1, usize::from(count)) else {
-        return Err(past_end());
-    };
+    let count = some_unit(file.block, value).ok_or(past_end())?;
+    let members = some_units(file.block, value + 1, usize::from(count)).ok_or(past_end())?;
     Ok(Standing::List(Members::Units(members)))
 }
 
@@ -277,16 +247,10 @@ fn table_at(file: FileBlocks<'_>, value: usize) -> Result<Standing<'_>, BinaryDe
         (λ e. (at.table_at p value ≡ None) × IsFault e) }
     ensures says { IfErr result (Says reading.end_of_input) }
 {
-    let Some(count) = some_unit(file.body, 2 * value) else {
-        return Err(past_end());
-    };
+    let count = some_unit(file.body, 2 * value).ok_or(past_end())?;
     let count = usize::from(count);
-    let Some(keys) = some_units(file.body, 2 * value + 1, count) else {
-        return Err(past_end());
-    };
-    let Some(members) = some_words(file.body, value + count / 2 + 1, count) else {
-        return Err(past_end());
-    };
+    let keys = some_units(file.body, 2 * value + 1, count).ok_or(past_end())?;
+    let members = some_words(file.body, value + count / 2 + 1, count).ok_or(past_end())?;
     Ok(Standing::Table(TableParts {
         keys: Positions::Halves(keys),
         members: Members::Words(members),
@@ -301,16 +265,10 @@ fn table16_at(file: FileBlocks<'_>, value: usize) -> Result<Standing<'_>, Binary
         (λ e. (at.table16_at p value ≡ None) × IsFault e) }
     ensures says { IfErr result (Says reading.end_of_input) }
 {
-    let Some(count) = some_unit(file.block, value) else {
-        return Err(past_end());
-    };
+    let count = some_unit(file.block, value).ok_or(past_end())?;
     let count = usize::from(count);
-    let Some(keys) = some_units(file.block, value + 1, count) else {
-        return Err(past_end());
-    };
-    let Some(members) = some_units(file.block, value + 1 + count, count) else {
-        return Err(past_end());
-    };
+    let keys = some_units(file.block, value + 1, count).ok_or(past_end())?;
+    let members = some_units(file.block, value + 1 + count, count).ok_or(past_end())?;
     Ok(Standing::Table(TableParts {
         keys: Positions::Halves(keys),
         members: Members::Units(members),
@@ -325,16 +283,10 @@ fn table32_at(file: FileBlocks<'_>, value: usize) -> Result<Standing<'_>, Binary
         (λ e. (at.table32_at p value ≡ None) × IsFault e) }
     ensures says { IfErr result (Says reading.end_of_input) }
 {
-    let Some(count) = some_word(file.body, value) else {
-        return Err(past_end());
-    };
+    let count = some_word(file.body, value).ok_or(past_end())?;
     let count = count as usize;
-    let Some(keys) = some_words(file.body, value + 1, count) else {
-        return Err(past_end());
-    };
-    let Some(members) = some_words(file.body, value + 1 + count, count) else {
-        return Err(past_end());
-    };
+    let keys = some_words(file.body, value + 1, count).ok_or(past_end())?;
+    let members = some_words(file.body, value + 1 + count, count).ok_or(past_end())?;
     Ok(Standing::Table(TableParts {
         keys: Positions::Wholes(keys),
         members: Members::Words(members),

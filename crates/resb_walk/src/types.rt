@@ -6,7 +6,7 @@ ghost use Rattle.resb_format.specs.Types.{is_read_type};
 ghost use Rattle.resb_walk.specs.BlockRefusals.{Says, unread_type_refusal};
 ghost use Rattle.resb_walk.specs.Refusals.{IsFault};
 
-use crate::faults::{unknown_type, unsupported_type};
+use crate::faults::unsupported_type;
 use resb_format::{BinaryDeserializerError, ResDescriptor, ResourceReprType};
 
 /// The type and the value in a descriptor's word. Refused are strings of the older formats,
@@ -20,9 +20,7 @@ pub fn readable(word: u32) -> Result<(ResourceReprType, u32), BinaryDeserializer
     ensures says { IfErr result (Says (unread_type_refusal (word / 2 ^ 28))) }
     ensures fault { IfErr result IsFault }
 {
-    let Ok(descriptor) = ResDescriptor::try_from(word) else {
-        return Err(unknown_type());
-    };
+    let descriptor = ResDescriptor::try_from(word)?;
     match descriptor.resource_type() {
         ResourceReprType::_String | ResourceReprType::_Alias => Err(unsupported_type()),
         kind => Ok((kind, descriptor.value())),

@@ -10,8 +10,8 @@ ghost use Rattle.std.specs.String.{string_bytes};
 ghost use Rattle.resb_format.specs.Bytes.{units_of};
 ghost use Rattle.resb_walk.specs.Inner.Members.{text_of_bytes};
 
+use resb_blocks::{is_high, is_low};
 use resb_format::bytes::{first_four_units, first_unit, unit_at};
-use resb_shared::{is_high, is_low};
 use resb_tree::NoMemory;
 use std::alloc::Global;
 

@@ -11,11 +11,10 @@ ghost use Rattle.resb_write.specs.Inner.Gathered.{Gathered};
 ghost use Rattle.resb_write.specs.Inner.Nodes.{IsNode};
 
 use crate::nodes::{Node, Nodes};
-use resb_format::utf16_len;
+use resb_pool::excessive_len;
 use std::alloc::{AllocError, Global};
 
-/// The greatest number of 32 bits: the most units of a string, and members of an array, binary or
-/// vector.
+/// The greatest number of 32 bits: the most members of an array, binary or vector.
 const GREATEST: usize = 0xffff_ffff;
 
 /// What resources hold.
@@ -133,16 +132,4 @@ impl<'t> Contents<'t> {
         self.largest_table = self.largest_table.max(count);
         self.add_size(count.saturating_mul(4));
     }
-}
-
-/// The number of units of a text that has more than 4294967295. They are counted only where its
-/// bytes are as many.
-fn excessive_len(text: &str) -> Option<usize>
-    ensures { result ≡ first_too_long (text.now ∷ []) }
-{
-    if text.len() <= GREATEST {
-        return None;
-    }
-    let count = utf16_len(text);
-    if count > GREATEST { Some(count) } else { None }
 }

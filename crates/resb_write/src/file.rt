@@ -16,9 +16,9 @@ use std::alloc::{AllocError, Global};
 /// The header and its padding, in bytes.
 const HEADER_SIZE: usize = 32;
 
-/// What a file is put together from.
+/// The parts that a file is put together from.
 #[derive(Clone, Copy)]
-pub(crate) struct Pieces<'c> {
+pub(crate) struct FileParts<'c> {
     pub(crate) root: u32,
     pub(crate) largest_table: u32,
     pub(crate) is_locale_fallback_enabled: bool,
@@ -78,14 +78,14 @@ fn append_units(file: &mut Vec<u8>, units: &[u16]) -> Result<(), AllocError>
 }
 
 /// The index of a file: its parts in words.
-fn index_of(pieces: &Pieces<'_>) -> BinIndex
-    requires fits { FitsFile pieces.now }
-    ensures { index_words result ≡ index_words_of pieces.now }
+fn index_of(parts: &FileParts<'_>) -> BinIndex
+    requires fits { FitsFile parts.now }
+    ensures { index_words result ≡ index_words_of parts.now }
 {
-    let keys_end = KEYS_START / 4 + block_length(pieces.keys) / 4;
-    let block_end = keys_end + pieces.bodies.units.len().div_ceil(2);
-    let end = (block_end + pieces.bodies.tail.len() / 4) as u32;
-    let attributes = if pieces.is_locale_fallback_enabled {
+    let keys_end = KEYS_START / 4 + block_length(parts.keys) / 4;
+    let block_end = keys_end + parts.bodies.units.len().div_ceil(2);
+    let end = (block_end + parts.bodies.tail.len() / 4) as u32;
+    let attributes = if parts.is_locale_fallback_enabled {
         0
     } else {
         1
@@ -95,28 +95,28 @@ fn index_of(pieces: &Pieces<'_>) -> BinIndex
         keys_end: keys_end as u32,
         resources_end: end,
         bundle_end: end,
-        largest_table_entry_count: pieces.largest_table,
+        largest_table_entry_count: parts.largest_table,
         bundle_attributes: Some(attributes),
         data_16_bit_end: Some(block_end as u32),
         pool_checksum: None,
     }
 }
 
-/// The file of these pieces.
-pub(crate) fn assemble(alloc: Global, pieces: &Pieces<'_>) -> Result<Vec<u8>, NoMemory>
-    requires fits { FitsFile pieces.now }
-    ensures file { IfOk result (λ file. file.items ≡ file_with pieces.now) }
+/// The file of these parts.
+pub(crate) fn assemble(alloc: Global, parts: &FileParts<'_>) -> Result<Vec<u8>, NoMemory>
+    requires fits { FitsFile parts.now }
+    ensures file { IfOk result (λ file. file.items ≡ file_with parts.now) }
     ensures fits { OnOk result ((k : ℕ)
-        → slice_index pieces.now.bodies.now.units.items k < 2 ^ 16) }
-    ensures words { OnOk result (pieces.now.root < 2 ^ 32) }
+        → slice_index parts.now.bodies.now.units.items k < 2 ^ 16) }
+    ensures words { OnOk result (parts.now.root < 2 ^ 32) }
 {
-    let index = index_of(pieces);
+    let index = index_of(parts);
     let mut file = Vec::with_capacity(alloc, HEADER_SIZE + 4 * index.resources_end as usize)?;
     append_header(&mut file)?;
-    file.extend_from_slice(&pieces.root.to_le_bytes())?;
+    file.extend_from_slice(&parts.root.to_le_bytes())?;
     index.append_to(&mut file)?;
-    append_block(&mut file, pieces.keys)?;
-    append_units(&mut file, &pieces.bodies.units)?;
-    file.extend_from_slice(&pieces.bodies.tail)?;
+    append_block(&mut file, parts.keys)?;
+    append_units(&mut file, &parts.bodies.units)?;
+    file.extend_from_slice(&parts.bodies.tail)?;
     Ok(file)
 }

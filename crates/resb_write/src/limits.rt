@@ -11,11 +11,8 @@ ghost use Rattle.resb_write.specs.Inner.Sizes.{IsTooMuch};
 use crate::contents::Contents;
 use crate::error::BinarySerializerError;
 use resb_format::utf16_len;
+use resb_pool::SIZE_LIMIT;
 use resb_tree::Key;
-
-/// From this plain size on a file is refused, so that the place of every part of a file that is
-/// written fits the 28 bits of a descriptor.
-const SIZE_LIMIT: usize = 0x1000_0000;
 
 /// The bytes of listed keys and one more for each, or the greatest number, if that is less.
 fn listed_size(list: &[Key<'_>]) -> usize

@@ -82,11 +82,7 @@ pub(crate) fn node_of<'t>(resource: &'t Resource<'_>) -> Node<'t>
     match resource {
         Resource::String(text) => Node::String(text.as_str()),
         Resource::Array(items) => Node::Array(items.len()),
-        Resource::Table(table) => {
-            // `keys` is called for its clause that the keys ascend.
-            let _keys = table.keys();
-            Node::Table(table.len())
-        }
+        Resource::Table(table) => Node::Table(table.len()),
         Resource::Binary(bytes) => Node::Binary(bytes.as_slice()),
         Resource::Integer(number) => Node::Integer(u32::from(*number)),
         Resource::IntVector(numbers) => Node::IntVector(numbers),

@@ -16,7 +16,7 @@ ghost use Rattle.resb_layout.specs.Written.{Written};
 use crate::contents::Contents;
 use crate::drafts::{NumberedPieces, draft_keys};
 use crate::error::BinarySerializerError;
-use crate::file::{Pieces, assemble};
+use crate::file::{FileParts, assemble};
 use crate::key_block::{KEYS_START, KeyBlock, block_length};
 use crate::limits::check_sizes;
 use crate::nodes::{Nodes, nodes_of, table_keys};
@@ -51,7 +51,18 @@ impl Serializer {
         ensures err { IfErr result (λ e. RefusesWriting (root_of bundle.now)
             keys_in_discovery_order.now (fault_of e)) }
     {
-        write(alloc, bundle, keys_in_discovery_order)
+        let order = in_laying_order(alloc, bundle.root())?;
+        let keys = table_keys(alloc, &order)?;
+        let nodes = nodes_of(alloc, &order)?;
+        drop(order);
+        let is_locale_fallback_enabled = bundle.is_locale_fallback_enabled;
+        write_order(
+            alloc,
+            &nodes,
+            keys,
+            is_locale_fallback_enabled,
+            keys_in_discovery_order,
+        )
     }
 
     /// The `.res` file of a bundle whose root is given as a draft: what `to_bytes` gives, and what
@@ -68,49 +79,23 @@ impl Serializer {
         ensures err { IfErr result (λ e. RefusesWriting (draft_tree root.entry)
             keys_in_discovery_order.now (fault_of e)) }
     {
-        write_draft(
+        if root.stands_in_order(alloc)? {
+            return write_standing(
+                alloc,
+                root,
+                is_locale_fallback_enabled,
+                keys_in_discovery_order,
+            );
+        }
+        let order = root.in_laying_order(alloc)?;
+        write_by_number(
             alloc,
             root,
+            order,
             is_locale_fallback_enabled,
             keys_in_discovery_order,
         )
     }
-}
-
-/// The file of a bundle, whose resources are put into laying order first.
-fn write(
-    alloc: Global,
-    bundle: &ResourceBundle<'_>,
-    list: &[Key<'_>],
-) -> Result<Vec<u8>, BinarySerializerError>
-    ensures ok { IfOk result (λ v. Written v.items (root_of bundle.now)
-        bundle.now.is_locale_fallback_enabled list.now) }
-    ensures err { IfErr result (λ e. RefusesWriting (root_of bundle.now) list.now (fault_of e)) }
-{
-    let order = in_laying_order(alloc, bundle.root())?;
-    let keys = table_keys(alloc, &order)?;
-    let nodes = nodes_of(alloc, &order)?;
-    drop(order);
-    write_order(alloc, &nodes, keys, bundle.is_locale_fallback_enabled, list)
-}
-
-/// The file of a draft, which is put into laying order first where it doesn't stand in it.
-fn write_draft(
-    alloc: Global,
-    root: Draft<'_>,
-    is_locale_fallback_enabled: bool,
-    list: &[Key<'_>],
-) -> Result<Vec<u8>, BinarySerializerError>
-    requires { is_ready root ≡ true }
-    ensures ok { IfOk result (λ v. Written v.items (draft_tree root.entry)
-        is_locale_fallback_enabled list.now) }
-    ensures err { IfErr result (λ e. RefusesWriting (draft_tree root.entry) list.now (fault_of e)) }
-{
-    if root.stands_in_order(alloc)? {
-        return write_standing(alloc, root, is_locale_fallback_enabled, list);
-    }
-    let order = root.in_laying_order(alloc)?;
-    write_by_number(alloc, root, order, is_locale_fallback_enabled, list)
 }
 
 /// The file of a draft whose pieces and keys stand in laying order. Its other lists go first.
@@ -200,12 +185,12 @@ pub(crate) fn write_order<N: Nodes>(
     let (bodies, word) = lay_bodies(alloc, &sites, pool, keys_end, order)?;
     drop(positions);
     drop(offsets);
-    let pieces = Pieces {
+    let parts = FileParts {
         root: word,
         largest_table,
         is_locale_fallback_enabled,
         keys: &keys,
         bodies: &bodies,
     };
-    Ok(assemble(alloc, &pieces)?)
+    Ok(assemble(alloc, &parts)?)
 }

@@ -10,7 +10,7 @@ use Rattle.resb_format.specs.Bytes.{units_as_bytes}
 use Rattle.resb_layout.specs.KeyBlock.{key_bytes, padded}
 use Rattle.resb_layout.specs.WrittenHead.{written_header}
 use Rattle.resb_layout.specs.Written.{even}
-use Rattle.resb_write.specs.declared.file.Pieces.{Pieces}
+use Rattle.resb_write.specs.declared.file.FileParts.{FileParts}
 
 -- the 7 fields of the index, where the key block, the 16-bit block and the tail have k, b and d
 -- words
@@ -28,23 +28,23 @@ file_of root largest fallback keys us tail =
     written_header ++ (words (root ∷ fields_of largest fallback keys us tail)
     ++ (keys ++ (units_as_bytes us ++ tail)))
 
-abbrev pub keys_in_file : Pieces → List ℕ
+abbrev pub keys_in_file : FileParts → List ℕ
 keys_in_file c = padded (key_bytes (nows c.keys.now))
 
-abbrev pub units_in_file : Pieces → List ℕ
+abbrev pub units_in_file : FileParts → List ℕ
 units_in_file c = even c.bodies.now.units.items
 
-abbrev pub index_words_of : Pieces → List ℕ
+abbrev pub index_words_of : FileParts → List ℕ
 index_words_of c =
     fields_of c.largest_table c.is_locale_fallback_enabled (keys_in_file c) (units_in_file c)
     c.bodies.now.tail.items
 
-abbrev pub file_with : Pieces → List ℕ
+abbrev pub file_with : FileParts → List ℕ
 file_with c =
     file_of c.root c.largest_table c.is_locale_fallback_enabled (keys_in_file c) (units_in_file c)
     c.bodies.now.tail.items
 
-pub record FitsFile (c : Pieces) : Type 0 where
+pub record FitsFile (c : FileParts) : Type 0 where
   pub keys : length (key_bytes (nows c.keys.now)) < 2 ^ 28
   pub units : length c.bodies.now.units.items < 2 ^ 28
   pub tail : length c.bodies.now.tail.items < 2 ^ 30

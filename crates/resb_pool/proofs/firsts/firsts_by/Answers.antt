@@ -101,3 +101,23 @@ pub returns : goal.returns
 returns c = all_first (nows c.args.strings.now) c.args.hashes.now c.requires.hashes
     c.loop-item.firsts.items (c.loop-item.invariant.len ∙ sym (length-nows c.args.strings.now))
     (λ q d l. c.loop-item.invariant.each q d (omega (arith, l, c.loop-item-test.false)))
+
+pub bounds-strings-item : goal.bounds-strings-item
+bounds-strings-item c = omega (
+  arith,
+  (c.requires.hashes.each c.loop-item.item-index no_hash c.loop-item-test.true).0,
+  length-nows c.args.strings.now,
+)
+
+pub bounds-strings-first : goal.bounds-strings-first
+bounds-strings-first c =
+    omega (arith, c.loop-item.invariant.run.within, length-nows c.args.strings.now)
+
+pub index_mut-requires : goal.index_mut-requires
+index_mut-requires c = omega (
+  arith,
+  (c.requires.hashes.each c.loop-item.item-index no_hash c.loop-item-test.true).0,
+  length-nows c.args.strings.now,
+  c.loop-item.invariant.len,
+  c.loop-item.firsts.ok.0,
+)

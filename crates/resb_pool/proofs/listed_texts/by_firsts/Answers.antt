@@ -1,9 +1,11 @@
 use Rattle.std.proofs.Common.{◌≡◌, ◌≤◌, ◌<◌, suc, length, take, drop, get_or, refl, sym}
 use Rattle.std.proofs.Common.{◌∙◌, ap, subst, arith}
-use Rattle.std.proofs.lemmas.Bool.{leb-true}
+use Rattle.std.proofs.lemmas.Bool.{leb-true, leb-false}
+use Rattle.std.proofs.lemmas.List.{take_all}
 use Rattle.std.proofs.lemmas.Result.{err_from_is_err_and}
 use Rattle.resb_format.specs.Units.{units}
 use Rattle.resb_pool.specs.Plan.{nows, texts_size, too_large, no_memory}
+use Rattle.resb_pool.specs.Inner.Placing.{AreTexts, AreTurns}
 use Rattle.resb_pool.proofs.Interning.{length-nows, text_nows}
 use Rattle.resb_pool.proofs.TextLoops.{blank, nows-take, nows-split, texts_size-push}
 use Rattle.resb_pool.proofs.TextLoops.{texts_size-most}
@@ -138,3 +140,63 @@ loop-number-preserved c =
       );
       small = c.in_ok-size.ensures.small;
     }
+
+pub list_next-requires-clause-short : goal.list_next-requires-clause-short
+list_next-requires-clause-short c =
+    leb-false 268435456 (length (units c.index-text.result.now.now))
+    (sym c.is_vast.ensures ∙ c.if-is_vast.false)
+
+pub size_with-requires-clause-count : goal.size_with-requires-clause-count
+size_with-requires-clause-count c = omega (
+  arith,
+  c.in_ok-unit_count.ensures.count,
+  leb-false 268435456 (length (units c.index-text.result.now.now))
+      (sym c.is_vast.ensures ∙ c.if-is_vast.false),
+)
+
+pub returns-clause-texts : goal.returns-clause-texts
+returns-clause-texts c =
+    let xs = c.args.strings.items in
+    let i = c.loop-number.number in
+    let ms = c.loop-number.list.measures.items in
+    let full : take i xs ≡ xs = take_all i xs (omega (
+      arith,
+      c.loop-number-test.false,
+      c.len-string_count.ensures,
+      c.args.strings.ok,
+    )) in
+    subst (λ z. AreTexts (nows z) (nows c.truncate.new.self.items) ms) full
+    (subst (λ z. AreTexts (nows (take i xs)) (nows z) ms) (sym c.truncate.ensures.items)
+    c.loop-number.invariant.listing.texts)
+
+pub returns-clause-turns : goal.returns-clause-turns
+returns-clause-turns c =
+    let xs = c.args.strings.items in
+    let i = c.loop-number.number in
+    let order = c.loop-number.list.order.items in
+    let v = c.loop-number.invariant.listing in
+    let long : length xs ≤ i = omega (
+      arith,
+      c.loop-number-test.false,
+      c.len-string_count.ensures,
+      c.args.strings.ok,
+    ) in
+    subst (λ z. AreTurns (nows xs) (nows c.truncate.new.self.items) z)
+    (take_all i order (omega (arith, long, v.order_len)))
+    (subst (λ z. AreTurns (nows z) (nows c.truncate.new.self.items) (take i order))
+    (take_all i xs long)
+    (subst (λ z. AreTurns (nows (take i xs)) (nows z) (take i order))
+    (sym c.truncate.ensures.items) v.turns))
+
+pub returns-clause-small : goal.returns-clause-small
+returns-clause-small c =
+    let xs = c.args.strings.items in
+    let i = c.loop-number.number in
+    let full : take i xs ≡ xs = take_all i xs (omega (
+      arith,
+      c.loop-number-test.false,
+      c.len-string_count.ensures,
+      c.args.strings.ok,
+    )) in
+    let e : texts_size (nows (take i xs)) ≡ texts_size (nows xs) = ap (λ z. texts_size (nows z)) full in
+    omega (arith, e, c.loop-number.invariant.size, c.loop-number.invariant.small)

@@ -1,6 +1,4 @@
-use Rattle.std.proofs.Common.{◌≡◌, Some, suc, take, drop, length, get_or, sym, ◌∙◌, ap}
-use Rattle.std.proofs.Common.{arith}
-use Rattle.resb_format.specs.Units.{units}
+use Rattle.std.proofs.Common.{suc, take, drop, get_or, sym, ◌∙◌, ap}
 use Rattle.resb_pool.specs.Plan.{nows, first_too_long, too_long}
 use Rattle.resb_pool.proofs.TextLoops.{blank, nows-take, nows-split, first_push, first_found}
 use Rattle.resb_pool.proofs.measure.check_lengths.Goals as goal
@@ -9,11 +7,10 @@ pub returns-in-Some-clause-err : goal.returns-in-Some-clause-err
 returns-in-Some-clause-err c =
     let xs = c.args.strings.now in
     let i = c.loop-text.text-index in
-    let e : first_too_long (nows xs) ≡ Some (length (units (get_or xs i blank).now)) =
-    ap first_too_long (nows-split xs i blank c.loop-text-test.true)
+    too_long {n = c.in-Some.count}
+    (ap first_too_long (nows-split xs i blank c.loop-text-test.true)
     ∙ first_found (nows (take i xs)) (get_or xs i blank).now (nows (drop (suc i) xs))
-    c.loop-text.invariant (omega (arith, c.in-Some.ensures.0, c.in-Some.ensures.1)) in
-    too_long {n = c.in-Some.count} (e ∙ ap Some (sym c.in-Some.ensures.0))
+    c.in-Some.count c.loop-text.invariant (sym c.in-Some.ensures))
 
 pub loop-text-preserved : goal.loop-text-preserved
 loop-text-preserved c =
@@ -21,4 +18,4 @@ loop-text-preserved c =
     let i = c.loop-text.text-index in
     ap first_too_long (nows-take xs i blank c.loop-text-test.true)
     ∙ first_push (nows (take i xs)) (get_or xs i blank).now c.loop-text.invariant
-    c.in_default.ensures
+    (sym c.in_default.ensures)

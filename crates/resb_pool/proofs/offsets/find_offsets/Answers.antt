@@ -1,4 +1,4 @@
-use Rattle.std.proofs.Common.{arith}
+use Rattle.std.proofs.Common.{◌≡◌, ◌∙◌, length, arith}
 use Rattle.resb_pool.specs.declared.measure.Measure.{Measure}
 use Rattle.resb_pool.proofs.offsets.find_offsets.Goals as goal
 
@@ -13,3 +13,17 @@ pub overflow_add-ends : goal.overflow_add-ends
 overflow_add-ends c =
     let h = c.requires.close c.loop-index.index no_measure c.loop-index-test.true in
     omega (arith, h.small)
+
+pub overflow_sub-ends : goal.overflow_sub-ends
+overflow_sub-ends c =
+    let h = c.requires.close c.loop-index.index no_measure c.loop-index-test.true in
+    h.reaches
+
+pub returns : goal.returns
+returns c =
+    let l : c.loop-index.index ≡ length c.args.containers.now =
+    omega (arith, c.loop-index-test.false, c.loop-index.auto.index-end) in
+    record {
+      len = c.loop-index.invariant.len ∙ l;
+      each = λ i d h. c.loop-index.invariant.each i d (omega (arith, h, l));
+    }

@@ -133,3 +133,37 @@ returns-clause-records c =
     records_all T rs (subst (λ d. AreRecordsAmong T d rs) (take_all c.loop-index.index T
     (omega (arith, c.loop-index-test.false, c.requires.containers.len)))
     c.loop-index.invariant.records)
+
+pub loop-index-init : goal.loop-index-init
+loop-index-init c =
+    let T = nows c.args.texts.now in
+    let none = c.in_ok-records.ensures.items in
+    record {
+      records = subst (λ l. AreRecordsAmong T [] (record_texts T l)) (sym none)
+          (record {
+            once = tt;
+            sound = λ s h. absurd (omega (arith, h.1));
+            complete = λ s r h. absurd (omega (arith, h.1));
+          });
+      each = subst (All (IsRecordOf T c.args.sums.now)) (sym none)
+          (λ k d l. absurd (omega (arith, l)));
+    }
+
+pub bounds-texts-index : goal.bounds-texts-index
+bounds-texts-index c = omega (
+  arith,
+  c.loop-index-test.true,
+  c.requires.containers.len,
+  length-nows c.args.texts.now,
+)
+
+pub bounds-measures-index : goal.bounds-measures-index
+bounds-measures-index c =
+    omega (arith, c.loop-index-test.true, c.requires.containers.len, c.requires.sums.measured)
+
+pub bounds-sums-index : goal.bounds-sums-index
+bounds-sums-index c =
+    omega (arith, c.loop-index-test.true, c.requires.containers.len, c.requires.sums.len)
+
+pub returns-clause-each : goal.returns-clause-each
+returns-clause-each c = c.loop-index.invariant.each

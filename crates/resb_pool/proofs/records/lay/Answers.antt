@@ -1,11 +1,11 @@
-use Rattle.std.proofs.Common.{◌≡◌, ◌+◌, ℕ, List, ◌++◌, ◌∷◌, length, take, get_or, sym, ◌∙◌, ap}
-use Rattle.std.proofs.Common.{arith, rules}
+use Rattle.std.proofs.Common.{◌≡◌, ◌+◌, ◌≤◌, ℕ, zero, suc, List, [], ◌++◌, ◌∷◌, length, take}
+use Rattle.std.proofs.Common.{get_or, replicate, refl, sym, ◌∙◌, ap, subst, arith, rules}
 use Rattle.std.specs.List.{sum_by, flat_map}
-use Rattle.std.proofs.lemmas.List.{length-set}
-use Rattle.resb_format.specs.Units.{size}
+use Rattle.std.proofs.lemmas.List.{length-set, length-replicate, take_all}
+use Rattle.resb_format.specs.Units.{units, size}
 use Rattle.resb_pool.specs.Plan.{nows}
 use Rattle.resb_pool.specs.Pool.{record_units}
-use Rattle.resb_pool.specs.Inner.Placing.{record_text, record_texts}
+use Rattle.resb_pool.specs.Inner.Placing.{record_text, record_texts, AreEnds}
 use Rattle.resb_pool.specs.declared.records.Record.{Record}
 use Rattle.resb_pool.proofs.InOrder.{length-records, texts-take, ends_put, closes_at}
 use Rattle.resb_pool.proofs.InOrder.{units_up_to_record, records-push}
@@ -24,6 +24,11 @@ push_record-requires-clause-short c =
       c.requires.counts i no_record c.loop-place-test.true,
       c.requires.short,
     )
+
+blank_there : (n i : ℕ) → ◌≡◌ {A = ℕ} (get_or (replicate n 0) i 0) 0
+blank_there zero i = refl
+blank_there (suc n) zero = refl
+blank_there (suc n) (suc i) = blank_there n i
 
 before : (us : List ℕ) (qs : List (List ℕ)) → us ≡ 0 ∷ flat_map record_units qs
     → length us ≡ 1 + sum_by size qs
@@ -72,3 +77,49 @@ loop-place-preserved c =
             n,
           )));
     }
+
+pub loop-place-init : goal.loop-place-init
+loop-place-init c =
+    let zeros : c.in_ok-ends.ends.items ≡ replicate (length c.args.texts.now) 0 =
+    c.in_ok-ends.ensures.items_if_clones_equal (λ y e. e) in
+    record {
+      units = c.in_ok-push.ensures.items
+          ∙ ap (λ l. l ++ 0 ∷ []) c.in_ok-units.ensures.items;
+      utf8 = c.record_text_at-next.utf8;
+      next = λ d l. c.record_text_at-next.ensures d l;
+      len = ap length zeros ∙ length-replicate (length c.args.texts.now) 0;
+      ends = record {
+        closes = λ k d l. absurd (omega (arith, l));
+        others = λ i _. ap (λ l. get_or l i 0) zeros ∙ blank_there (length c.args.texts.now) i;
+      };
+    }
+
+pub push_record-requires-clause-count : goal.push_record-requires-clause-count
+push_record-requires-clause-count c =
+    let lt = c.loop-place-test.true in
+    c.requires.counts c.loop-place.place no_record lt
+    ∙ ap (λ t. length (units t)) (sym (c.loop-place.invariant.next no_record lt))
+
+pub index_mut-requires : goal.index_mut-requires
+index_mut-requires c = omega (
+  arith,
+  c.loop-place.ends.ok.0,
+  c.loop-place.invariant.len,
+  c.requires.within c.loop-place.place no_record c.loop-place-test.true,
+)
+
+all_taken : (rs : List Record) (i : ℕ) → length rs ≤ i → take i rs ≡ rs
+all_taken rs i l = take_all i rs l
+
+pub returns-clause-units : goal.returns-clause-units
+returns-clause-units c =
+    c.loop-place.invariant.units
+    ∙ ap (λ rs. 0 ∷ flat_map record_units (record_texts (nows c.args.texts.now) rs))
+    (all_taken c.args.records.now c.loop-place.place (omega (arith, c.loop-place-test.false)))
+
+pub returns-clause-ends : goal.returns-clause-ends
+returns-clause-ends c =
+    let rs = c.args.records.now in
+    subst (λ done. AreEnds (nows c.args.texts.now) rs done c.loop-place.ends.items)
+    (all_taken rs c.loop-place.place (omega (arith, c.loop-place-test.false)))
+    c.loop-place.invariant.ends

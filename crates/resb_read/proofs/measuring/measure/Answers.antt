@@ -33,14 +33,16 @@ returns c =
     let (t, n, d, paid) = c.in_ok-count_resource.ensures.read in
     let before : c.left-before.result ≡ c.in_ok-root.walk = c.left-before.ensures in
     let after : c.left.result ≡ c.count_resource.new.walk = c.left.ensures in
-    let held = c.in-Ok.ensures in
+    let held = c.in_ok-sums.ensures in
     rw (
       before,
       after,
     )
     (measured_root c.args.bytes.now (place_of c.in_ok-root.root) c.in_ok-root.walk
-    c.count_resource.new.walk t n c.in-Ok.sums held.0 h.0 h.1 h.2 d paid held.1 held.2)
+    c.count_resource.new.walk t n c.in_ok-sums.sums held.0 h.0 h.1 h.2 d paid held.1 held.2)
 
-pub returns-in_default : goal.returns-in_default
-returns-in_default c =
-    memory_refuses c.args.bytes.now _ c.in_ok-root.ensures.0 c.out_of_memory.ensures
+pub returns-in_err-sums : goal.returns-in_err-sums
+returns-in_err-sums c =
+    let e = err_from_is_err_and c.from_residual-in_err-sums.result
+    c.from_residual-in_err-sums.ensures.1 in
+    rw e.1 (memory_refuses c.args.bytes.now _ c.in_ok-root.ensures.0 e.2)

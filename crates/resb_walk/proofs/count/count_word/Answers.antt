@@ -1,4 +1,5 @@
-use Rattle.std.proofs.Common.{◌≡◌, ◌≤◌, ℕ, [], Ok, Err, Some, None, subst, arith, ◌∙◌, refl}
+use Rattle.std.proofs.Common.{◌≡◌, ◌≤◌, ℕ, [], Ok, Err, Some, None, length, subst, ap, arith, ◌∙◌, refl}
+use Rattle.std.proofs.lemmas.List.{length_push}
 use Rattle.std.proofs.lemmas.Result.{err_from_is_err_and}
 use Rattle.resb_format.specs.Content.{word}
 use Rattle.resb_format.specs.Parts.{parts_in}
@@ -7,7 +8,7 @@ use Rattle.resb_walk.specs.Inner.Counting.{EntersMember}
 use Rattle.resb_walk.specs.Inner.Members.{member_of}
 use Rattle.resb_walk.specs.Meets.{Meets, Blames}
 use Rattle.resb_walk.specs.declared.count.Inner.{Inner}
-use Rattle.resb_walk.proofs.Lift.{word_refused}
+use Rattle.resb_walk.proofs.Lift.{word_den, word_refused}
 use Rattle.resb_walk.proofs.Paths.{counting_first, counting_falls, counting_taken}
 use Rattle.resb_walk.proofs.Paths.{counting_refused, counting_enters, counting_enters_falls}
 use Rattle.resb_walk.proofs.Paths.{counting_last}
@@ -24,6 +25,20 @@ returns-in_err-inner-clause-answers c =
       h.0,
       word_refused (parts_in c.args.file) c.args.word c.args.walk.now c.in_err-inner.field-0.0 h.1,
     )
+
+pub returns-in_err-inner-clause-meets : goal.returns-in_err-inner-clause-meets
+returns-in_err-inner-clause-meets c =
+    let e = err_from_is_err_and c.from_residual.result c.from_residual.ensures.1 in
+    rw (e.1, e.2) (subst (λ f. Blames (Meets (parts_in f) (word c.args.word))
+    c.in_err-inner.field-0.0) c.new-checker.ensures c.in_err-inner.ensures.meets)
+
+pub returns-in_default-clause-answers : goal.returns-in_default-clause-answers
+returns-in_default-clause-answers c =
+    let all = subst (λ o. EntersMember (parts_in c.new-checker.result.file) (word c.args.word)
+    c.args.walk.now c.begin.new.walk (Ok o)) c.in_default.is c.in_ok-inner.ensures.enters in
+    let h = subst (λ f. EntersMember (parts_in f) (word c.args.word) c.args.walk.now
+    c.begin.new.walk (Ok None)) c.new-checker.ensures all in
+    (h.0, 1, word_den (parts_in c.args.file) h.1, tt, h.2)
 
 pub rounds-init : goal.rounds-init
 rounds-init c =
@@ -192,6 +207,13 @@ rounds-preserved-in_ok-inner-in-Some-2 c =
           c.rounds.walk i.1 k c.in_ok-inner-in-Some-2.inner m c.enter.new.outer.items
           c.enter.new.walk refl awaits (entered i.1.inner awaits),
     )
+
+pub rounds-smaller : goal.rounds-smaller
+rounds-smaller c = omega (
+  arith,
+  ap length c.in-Some-pop.ensures.items,
+  length_push c.pop.new.self.items c.in-Some-pop.waiting,
+)
 
 pub rounds-preserved : goal.rounds-preserved
 rounds-preserved c =

@@ -36,7 +36,7 @@ returns-in-Table c =
       is = e;
       many = sym (values_long es) ∙ sym c.len-in-Table.ensures.len;
       ascend = subst (IsStrictlySortedBy text_cmp) (sym (entry_keys-entries_view es))
-          c.keys-keys.ensures.ordered;
+          c.len-in-Table.ensures.ordered;
     }
 
 pub returns-in-Binary : goal.returns-in-Binary

@@ -1,7 +1,16 @@
+-- A draft stands in laying order, or is laid by its numbers.
+use Rattle.std.proofs.Common.{sym, subst}
+use Rattle.std.proofs.lemmas.Result.{err_from_is_err_and}
+use Rattle.resb_layout.specs.TreeFaults.{RefusesWriting, no_memory}
 use Rattle.resb_write.proofs.serializer.Serializer.draft_to_bytes.Goals as goal
 
-pub returns-clause-ok : goal.returns-clause-ok
-returns-clause-ok c = c.write_draft.ensures.ok
+pub returns-in_err-order-clause-err : goal.returns-in_err-order-clause-err
+returns-in_err-order-clause-err c =
+    let p = err_from_is_err_and c.from_residual-in_err-order.result
+    c.from_residual-in_err-order.ensures.1 in
+    rw p.1 (subst (RefusesWriting _ c.args.keys_in_discovery_order.now) (sym p.2) no_memory)
 
-pub returns-clause-err : goal.returns-clause-err
-returns-clause-err c = c.write_draft.ensures.err
+pub returns-in_err-stands_in_order-clause-err : goal.returns-in_err-stands_in_order-clause-err
+returns-in_err-stands_in_order-clause-err c =
+    let p = err_from_is_err_and c.from_residual.result c.from_residual.ensures.1 in
+    rw p.1 (subst (RefusesWriting _ c.args.keys_in_discovery_order.now) (sym p.2) no_memory)

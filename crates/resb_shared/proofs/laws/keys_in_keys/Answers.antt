@@ -1,8 +1,0 @@
-use Rattle.resb_shared.proofs.TailLaws.{end_of_tail, cut_of_tail}
-use Rattle.resb_shared.proofs.laws.keys_in_keys.Goals as goal
-
-pub returns : goal.returns
-returns c keys t from k e l = (
-  end_of_tail keys t from k e,
-  λ s g. cut_of_tail keys t s from k e l g,
-)

@@ -1,5 +1,0 @@
-use Rattle.resb_shared.proofs.WideLemmas.{text_is_wide}
-use Rattle.resb_shared.proofs.laws.widths_of_texts.Goals as goal
-
-pub returns : goal.returns
-returns c = text_is_wide

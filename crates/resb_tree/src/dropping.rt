@@ -41,8 +41,8 @@ pub(crate) fn drop_all(mut pending: Vec<Resource<'_>>) {
 }
 
 impl<'a> Resource<'a> {
-    /// Puts the members that have others inside on the list, and drops the others; or until one
-    /// finds no room on the list, which is handed back.
+    /// Puts the members that have others inside on the list, and drops those that have none, until
+    /// no member is left, or one finds no room on the list: it is handed back.
     #[tactic(auto, using(crate::proofs::DroppingLemmas::drop_steps))]
     fn move_members(&mut self, pending: &mut Vec<Resource<'a>>) -> Option<Resource<'a>>
         ensures all { MatchOption result (count self.new ≡ 1)
@@ -79,8 +79,8 @@ impl<'a> Resource<'a> {
     }
 }
 
-/// Puts the items that have others inside on the list, and drops the others; or until one finds no
-/// room on the list, which is handed back.
+/// Puts the items that have others inside on the list, and drops those that have none, until no
+/// item is left, or one finds no room on the list: it is handed back.
 #[tactic(auto, using(crate::proofs::DroppingLemmas::drop_steps))]
 fn move_items<'a>(
     items: &mut Vec<Resource<'a>>,
@@ -102,8 +102,8 @@ fn move_items<'a>(
     None
 }
 
-/// Puts the values that have others inside on the list, and drops the others; or until one finds no
-/// room on the list, which is handed back.
+/// Puts the values that have others inside on the list, and drops those that have none, until no
+/// value is left, or one finds no room on the list: it is handed back.
 #[tactic(auto, using(crate::proofs::DroppingLemmas::drop_steps))]
 pub(crate) fn move_values<'a>(
     table: &mut Table<'a>,
@@ -125,8 +125,8 @@ pub(crate) fn move_values<'a>(
     None
 }
 
-/// Puts a resource that has others inside on the list, and drops any other. Hands back one that the
-/// list has no room for.
+/// Puts a resource that has others inside on the list, and drops one that has none. Hands back one
+/// that the list has no room for.
 #[tactic(auto, using(crate::proofs::DroppingLemmas::drop_steps))]
 fn set_aside<'a>(pending: &mut Vec<Resource<'a>>, resource: Resource<'a>) -> Option<Resource<'a>>
     ensures { MatchOption result

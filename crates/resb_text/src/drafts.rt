@@ -1,5 +1,5 @@
 //! Closed groups as pieces of a draft, members first.
-//! What a draft stands for is said in `resb_draft`, which makes it; trees are made in `items`.
+//! What a draft stands for is said in `resb_draft`, which makes it; trees are made in `trees`.
 ghost use Rattle.std.specs.Prelude.{true, ◌≡◌, ◌+◌, ◌≤◌, map, length, IfOk, OnOk, drop};
 ghost use Rattle.std.specs.Prelude.{Bool, None};
 ghost use Rattle.resb_tree.specs.Borrowing.{all_true};

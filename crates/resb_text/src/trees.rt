@@ -149,27 +149,28 @@ impl<'a> TakesEntries<'a> for Vec<(Key<'a>, Resource<'a>)> {
     }
 }
 
-/// Puts the entry of a group, if a key waits for one. Gives the key that waits from here on.
+/// Puts the entry of a group, if a key waits for one. Leaves the key that waits from here on.
 fn put_term<'a, E: TakesEntries<'a>>(
     entries: &mut E,
-    waiting: Option<&'a str>,
+    waiting: &mut Option<&'a str>,
     term: Term<'a, Resource<'a>>,
-) -> Result<Option<&'a str>, NoMemory>
-    ensures ok { IfOk result (λ next. (f : Bool) (xs : List SeenItem)
-        → E.map_with entries.new (pairs_after (waiting_key next) xs)
+) -> Result<(), NoMemory>
+    ensures ok { OnOk result ((f : Bool) (xs : List SeenItem)
+        → E.map_with entries.new (pairs_after (waiting_key waiting.new) xs)
         ≡ E.map_with entries.old
-        (pairs_after (waiting_key waiting.entry) (code_term_seen term.entry f ∷ xs))) }
+        (pairs_after (waiting_key waiting.old) (code_term_seen term.entry f ∷ xs))) }
     ensures borrowed { OnOk result (term_borrowed term.entry ≡ true
         → E.are_borrowed entries.old ≡ true → E.are_borrowed entries.new ≡ true) }
 {
     match term {
-        Term::String(text) => Ok(Some(text)),
-        Term::Group(resource) => {
-            if let Some(key) = waiting {
-                entries.put(key, resource)?;
-            }
-            Ok(None)
+        Term::String(text) => {
+            *waiting = Some(text);
+            Ok(())
         }
+        Term::Group(resource) => match waiting.take() {
+            Some(key) => entries.put(key, resource),
+            None => Ok(()),
+        },
     }
 }
 
@@ -189,7 +190,7 @@ fn put_terms<'a, E: TakesEntries<'a>>(
     let mut waiting: Option<&'a str> = None;
     for item in items {
         ticks.tick();
-        waiting = put_term(entries, waiting, item.term)?;
+        put_term(entries, &mut waiting, item.term)?;
     }
     Ok(())
 }

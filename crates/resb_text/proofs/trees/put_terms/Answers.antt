@@ -31,7 +31,7 @@ loop-item-preserved g c =
     let steps = c.in-Some.ensures.steps.0 in
     let one = ap length steps in
     let counted = c.tick.ensures in
-    let put = c.in_ok-waiting.ensures in
+    let put = c.in_ok-put_term.ensures in
     record {
       made = put.ok item.comma (map seen_in_code rest)
           ∙ ap (λ xs. g.E.TakesEntries.map_with c.loop-item.entries

@@ -5,33 +5,35 @@
 --     MakesMore text limit    a reading comes to a token by which more than the limit is made
 use Rattle.std.specs.Prelude.{◌≡◌, ℕ, ◌+◌, ◌*◌, ◌<◌, ◌≤◌, List, ◌∷◌, length}
 use Rattle.resb_tree.specs.Tree.{Tree, string, binary, int_vector}
+use Rattle.resb_tree.specs.Weights.{resource_weight, table_weight, entry_weight, text_byte_weight}
+use Rattle.resb_tree.specs.Weights.{number_weight}
 use Rattle.resb_grammar.specs.Items.{Item, Shape, a_table}
 use Rattle.resb_grammar.specs.GroupTypes.{Kind, array_kind, table_kind}
 use Rattle.resb_grammar.specs.Machine.{Token, a_text, opening, closing, Frame, Title, State, named}
 use Rattle.resb_grammar.specs.Machine.{titled, inside, typed, filled, in_vector, finished, shape_in}
 use Rattle.resb_grammar.specs.Machine.{Path, begun, went, Move}
 
--- a string among items: 192, since it may be the key of an entry, and 3 for each of its bytes
+-- a string among items: an entry, since it may be the key of one, and its bytes
 abbrev pub string_bytes : List ℕ → ℕ
-string_bytes s = 192 + 3 * length s
+string_bytes s = entry_weight + text_byte_weight * length s
 
--- a group that holds no items: 72, and 3 for each byte of a string, 1 for each byte of a binary, 4
--- for each number of a vector
+-- a group that holds no items: a resource, and the bytes of a string, 1 for each byte of a binary,
+-- and the numbers of a vector
 abbrev pub leaf_bytes : Tree → ℕ
-leaf_bytes (string s) = 72 + 3 * length s
-leaf_bytes (binary s) = 72 + length s
-leaf_bytes (int_vector ns) = 72 + 4 * length ns
-leaf_bytes _ = 72
+leaf_bytes (string s) = resource_weight + text_byte_weight * length s
+leaf_bytes (binary s) = resource_weight + length s
+leaf_bytes (int_vector ns) = resource_weight + number_weight * length ns
+leaf_bytes _ = resource_weight
 
--- the `{` behind a type: 72 for a group that holds items
+-- the `{` behind a type: a resource, for a group that holds items
 abbrev pub begun_bytes : Kind → ℕ
-begun_bytes array_kind = 72
-begun_bytes table_kind = 72
+begun_bytes array_kind = resource_weight
+begun_bytes table_kind = resource_weight
 begun_bytes _ = 0
 
--- items of this shape, once their `}` stands: 1024 for a table that has entries
+-- items of this shape, once their `}` stands: a table that has entries
 abbrev pub shape_bytes : Shape → List Item → ℕ
-shape_bytes a_table (x ∷ xs) = 1024
+shape_bytes a_table (x ∷ xs) = table_weight
 shape_bytes _ _ = 0
 
 -- the `}` of a group that holds items
@@ -43,10 +45,10 @@ closing_bytes f = shape_bytes (shape_in f.body f.items) f.items
 -- of a group that holds none 72, and 3 for each byte of a string, 1 for each byte of a binary, 4
 -- for each number of a vector
 abbrev pub made_by : State → Token → ℕ
-made_by (named name) opening = 72
-made_by (titled title) opening = 72
+made_by (named name) opening = resource_weight
+made_by (titled title) opening = resource_weight
 made_by (inside o) (a_text s) = string_bytes s
-made_by (inside o) opening = 72
+made_by (inside o) opening = resource_weight
 made_by (inside o) closing = closing_bytes o.frame
 made_by (typed kind o) opening = begun_bytes kind
 made_by (filled t o) closing = leaf_bytes t

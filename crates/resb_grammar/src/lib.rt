@@ -14,4 +14,4 @@ pub use expected::Expected;
 pub use group_kind::{Kind, kind_named};
 pub use hex_pairs::bytes_of_hex;
 pub use key_list::KeyList;
-pub use runs::{blanks_end, digits_end, negated};
+pub use runs::{blanks_end, digits_end, is_word, negated};

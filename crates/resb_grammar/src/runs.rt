@@ -1,6 +1,7 @@
-//! Where a run of blanks or of digits ends among bytes, and minus a number modulo 2 ^ 32.
-//! The readers of both text forms count their turns beside it. Words aren't read here: the two
-//! forms have them of other characters.
+//! Where a run of blanks or of digits ends among bytes, which bytes a word has in the plain form,
+//! and minus a number modulo 2 ^ 32.
+//! The readers of both text forms count their turns beside it. ICU's own form has words of other
+//! characters.
 ghost use Rattle.std.specs.Prelude.{◌≡◌, ◌+◌, ◌-◌, ◌<◌, ◌≤◌, min, length, IsTrue};
 ghost use Rattle.resb_grammar.specs.ByteRuns as spec;
 ghost use Rattle.resb_grammar.specs.ByteRuns.{Each, Run, is_digit};
@@ -12,6 +13,14 @@ fn is_white(b: u8) -> bool
     ensures { result ≡ spec.is_white b }
 {
     b == b' ' || b == b'\t' || b == b'\r' || b == b'\n'
+}
+
+/// Whether a byte may stand in a word of the plain form, a string without quotes: an ASCII letter
+/// or digit, or the dash.
+pub fn is_word(b: u8) -> bool
+    ensures { result ≡ spec.is_word b }
+{
+    b.is_ascii_alphanumeric() || b == b'-'
 }
 
 /// Where the run of blanks ends.

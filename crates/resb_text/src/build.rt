@@ -1,5 +1,5 @@
 //! What the reader makes of groups once they are closed.
-//! The open groups stand in `frames`. Trees are made in `items`, pieces of a draft in `drafts`.
+//! The open groups stand in `frames`. Trees are made in `trees`, pieces of a draft in `drafts`.
 ghost use Rattle.std.specs.Prelude.{◌≡◌, ◌+◌, ◌≤◌, Bool, true, map, length};
 ghost use Rattle.std.specs.Prelude.{IfOk};
 ghost use Rattle.resb_tree.specs.Tree.{Tree, string, array, table, trees_of, map_of};

@@ -1,5 +1,5 @@
 //! Closed groups as pieces of a draft, members first.
-//! What a draft stands for is said in `resb_draft`, which makes it; trees are made in `items`.
+//! What a draft stands for is said in `resb_draft`, which makes it; trees are made in `trees`.
 ghost use Rattle.std.specs.Prelude.{true, ◌≡◌, ◌+◌, ◌≤◌, map, length, IfOk, OnOk, drop};
 ghost use Rattle.std.specs.Prelude.{Bool, None};
 ghost use Rattle.resb_tree.specs.Borrowing.{all_true};
@@ -100,25 +100,26 @@ fn push_members<'a>(
     Ok(())
 }
 
-/// Puts the entry of a group, if a key waits for one, behind the draft's keys and members. Gives
+/// Puts the entry of a group, if a key waits for one, behind the draft's keys and members. Leaves
 /// the key that waits from here on.
 fn push_term<'a>(
     draft: &mut Draft<'a>,
-    waiting: Option<&'a str>,
+    waiting: &mut Option<&'a str>,
     term: &Term<'a, u32>,
-) -> Result<Option<&'a str>, NoMemory>
-    ensures next { IfOk result (λ next. next ≡ key_after term.now) }
+) -> Result<(), NoMemory>
+    ensures next { OnOk result (waiting.new ≡ key_after term.now) }
     ensures entries { OnOk result (PutsBehind draft.old
-        (entry_of_term waiting.entry term.now) draft.new) }
+        (entry_of_term waiting.old term.now) draft.new) }
 {
     match term {
-        Term::String(text) => Ok(Some(*text)),
-        Term::Group(number) => {
-            if let Some(key) = waiting {
-                draft.push_entry(key, *number)?;
-            }
-            Ok(None)
+        Term::String(text) => {
+            *waiting = Some(*text);
+            Ok(())
         }
+        Term::Group(number) => match waiting.take() {
+            Some(key) => draft.push_entry(key, *number),
+            None => Ok(()),
+        },
     }
 }
 
@@ -135,7 +136,7 @@ fn push_entries<'a>(
     let mut waiting: Option<&'a str> = None;
     for item in items {
         ticks.tick();
-        waiting = push_term(draft, waiting, &item.term)?;
+        push_term(draft, &mut waiting, &item.term)?;
     }
     Ok(())
 }

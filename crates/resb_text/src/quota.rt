@@ -5,13 +5,7 @@ ghost use Rattle.resb_tree.specs.View.{tree_of};
 ghost use Rattle.resb_grammar.specs.Limit as limit;
 ghost use Rattle.resb_text.specs.Inner.Quota.{TakesBytes, RunsOver};
 
-use resb_tree::{NoMemory, Resource};
-
-/// A resource of its own.
-pub(crate) const GROUP_BYTES: u128 = 72;
-
-/// A table that has entries, beside what it is as a resource and what its entries take.
-pub(crate) const TABLE_BYTES: u128 = 1024;
+use resb_tree::{NoMemory, Resource, weights};
 
 /// How many bytes were made, how many may be, and whether more were asked for.
 #[derive(Drop)]
@@ -53,7 +47,7 @@ impl Quota {
 pub(crate) fn string_bytes(text: &str) -> u128
     ensures { result ≡ limit.string_bytes text.now }
 {
-    192 + 3 * text.len() as u128
+    weights::ENTRY + weights::TEXT_BYTE * text.len() as u128
 }
 
 /// What a group that holds no items makes.
@@ -61,9 +55,13 @@ pub(crate) fn leaf_bytes(resource: &Resource<'_>) -> u128
     ensures { result ≡ limit.leaf_bytes (tree_of resource.now) }
 {
     match resource {
-        Resource::String(text) => GROUP_BYTES + 3 * text.as_str().len() as u128,
-        Resource::Binary(bytes) => GROUP_BYTES + bytes.len() as u128,
-        Resource::IntVector(numbers) => GROUP_BYTES + 4 * numbers.len() as u128,
-        Resource::Array(_) | Resource::Table(_) | Resource::Integer(_) => GROUP_BYTES,
+        Resource::String(text) => {
+            weights::RESOURCE + weights::TEXT_BYTE * text.as_str().len() as u128
+        }
+        Resource::Binary(bytes) => weights::RESOURCE + bytes.len() as u128,
+        Resource::IntVector(numbers) => {
+            weights::RESOURCE + weights::NUMBER * numbers.len() as u128
+        }
+        Resource::Array(_) | Resource::Table(_) | Resource::Integer(_) => weights::RESOURCE,
     }
 }

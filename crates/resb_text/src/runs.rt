@@ -5,14 +5,8 @@ ghost use Rattle.std.specs.Prelude.{◌≡◌, ℕ, ◌+◌, ◌<◌, ◌≤◌,
 ghost use Rattle.resb_grammar.specs.ByteRuns as spec;
 ghost use Rattle.resb_grammar.specs.ByteRuns.{Run};
 
+use resb_grammar::is_word;
 use std::simd::prelude::*;
-
-/// Whether a byte may stand in a string without quotes.
-fn is_word(b: u8) -> bool
-    ensures { result ≡ spec.is_word b }
-{
-    b.is_ascii_alphabetic() || b.is_ascii_digit() || b == b'-'
-}
 
 /// Where the run of word characters ends.
 pub(crate) fn word_end(bytes: &[u8], from: usize) -> usize

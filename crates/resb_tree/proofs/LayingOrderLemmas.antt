@@ -66,6 +66,21 @@ pub trees_in-push : (old new : List (Bor Resource)) (r : Bor Resource) → new �
     → trees_in new ≡ trees_in old ++ tree_of r.now ∷ []
 trees_in-push old new r e = ap trees_in e ∙ map_push (λ (x : Bor Resource). tree_of x.now) old r
 
+trees_in-append : (xs ys : List (Bor Resource)) → trees_in (xs ++ ys) ≡ trees_in xs ++ trees_in ys
+trees_in-append [] ys = refl
+trees_in-append (x ∷ xs) ys = ap (λ l. tree_of x.now ∷ l) (trees_in-append xs ys)
+
+trees_in-now : (xs : List (Bor Resource)) → trees_in xs ≡ map tree_of (map (λ r. r.now) xs)
+trees_in-now [] = refl
+trees_in-now (x ∷ xs) = ap (λ l. tree_of x.now ∷ l) (trees_in-now xs)
+
+-- resources that stand in a list are put behind others
+pub trees_in-extend : (old xs new : List (Bor Resource)) (rs : List Resource)
+    → map (λ r. r.now) xs ≡ rs → new ≡ old ++ xs → trees_in new ≡ trees_in old ++ map tree_of rs
+trees_in-extend old xs new rs e f =
+    ap trees_in f ∙ trees_in-append old xs
+    ∙ ap (λ l. trees_in old ++ l) (trees_in-now xs ∙ ap (map tree_of) e)
+
 -- a resource is taken off, and what is inside it put on
 pub replaced : (front old new seen seen' : List Tree) (t : Tree) (all : List Tree)
     → old ≡ front ++ t ∷ [] → new ≡ front ++ children t → seen' ≡ seen ++ t ∷ []
@@ -102,7 +117,7 @@ replaced_counts front old new t e f =
     )
 
 pub values_view : (es : List (List ℕ × Resource))
-    → values_of (entries_view es) ≡ map (λ e. tree_of e.1) es
+    → values_of (entries_view es) ≡ map tree_of (map (λ e. e.1) es)
 values_view [] = refl
 values_view (e ∷ es) = ap (λ l. tree_of e.1 ∷ l) (values_view es)
 

@@ -1,14 +1,10 @@
 //! The drop of a resource by a list of what is still to be dropped, so that no depth of a tree ends
 //! the process.
-//! A resource is dropped by a call of its own only where that list can't grow, and a leaf of a
-//! table.
-ghost use Rattle.std.specs.Prelude.{◌≡◌, ◌+◌, ◌≤◌, max, [], MatchResult, IsTrue, ◌↔◌, IfErr, OnOk};
-ghost use Rattle.std.specs.Prelude.{None};
-ghost use Rattle.resb_tree.specs.Tree.{no_trees, array, tree_count, trees_count};
-ghost use Rattle.resb_tree.specs.Inner.Dropping.{IsNoCollection, depth, depth_of};
-ghost use Rattle.resb_tree.specs.View.{tree_of, items_view};
-ghost use Rattle.std.specs.BTreeMap.{get, values};
-ghost use Rattle.std.specs.List.{All};
+//! A resource is dropped by a call of its own only where that list can't grow.
+ghost use Rattle.std.specs.Prelude.{◌≡◌, ◌+◌, ◌≤◌, None, [], MatchOption, MatchResult, OnOk, IfErr};
+ghost use Rattle.std.specs.Prelude.{IsTrue};
+ghost use Rattle.resb_tree.specs.Inner.Dropping.{count, counts, table_count};
+ghost use Rattle.std.specs.BTreeMap.{get};
 ghost use Rattle.std.specs.Ordering.{nat_cmp};
 ghost use Rattle.std.specs.Cmp.Lexicographic.{slice_cmp};
 
@@ -17,13 +13,6 @@ use crate::resource::{Resource, Table};
 use std::alloc::Global;
 use std::default::MadeWith;
 use std::mem;
-
-/// What a resource has inside that may be deep.
-pub(crate) enum Inside<'a> {
-    Nothing,
-    List(Vec<Resource<'a>>),
-    Entries(Table<'a>),
-}
 
 /// An empty array on this allocator.
 impl<'a> MadeWith<Global> for Resource<'a> {
@@ -42,72 +31,122 @@ impl<'a> MadeWith<Global> for Resource<'a> {
 #[tactic(auto, using(crate::proofs::DroppingLemmas::drop_steps))]
 #[cycle(dropping)]
 pub(crate) fn drop_all(mut pending: Vec<Resource<'_>>) {
-    'pending: while let Some(resource) = pending.pop() {
-        match resource.into_inside() {
-            Inside::Nothing => {}
-            Inside::List(mut items) => {
-                'items: while let Some(item) = items.pop() {
-                    if let Err(item) = set_aside(&mut pending, item) {
-                        drop(item);
-                    }
-                }
-                items.destroy_empty();
-            }
-            Inside::Entries(table) if has_leaves_alone(&table) => drop(table),
-            Inside::Entries(mut table) => {
-                'entries: while let Some((_, item)) = table.pop_last() {
-                    if let Err(item) = set_aside(&mut pending, item) {
-                        drop(item);
-                    }
-                }
-                table.destroy_empty();
-            }
+    'pending: while let Some(mut resource) = pending.pop() {
+        'members: while let Some(refused) = resource.move_members(&mut pending) {
+            drop(refused);
         }
+        resource.drop_empty();
     }
     pending.destroy_empty();
 }
 
-/// Whether no member of the table is an array or a table.
-pub(crate) fn has_leaves_alone(table: &Table<'_>) -> bool
-    ensures { IsTrue result ↔ All (λ r. IsNoCollection (tree_of r)) (values table.now) }
-{
-    table.values().all(|resource| is_leaf(resource))
-}
-
-/// Whether a resource is no array and no table.
-fn is_leaf(resource: &Resource<'_>) -> bool
-    ensures { IsTrue result ↔ IsNoCollection (tree_of resource.now) }
-{
-    !matches!(resource, Resource::Array(_) | Resource::Table(_))
-}
-
-/// Drops a leaf, and puts any other resource on the list. Hands back one that the list has no room
-/// for.
-#[tactic(auto, using(crate::proofs::DroppingLemmas::drop_steps))]
-pub(crate) fn set_aside<'a>(
-    pending: &mut Vec<Resource<'a>>,
-    resource: Resource<'a>,
-) -> Result<(), Resource<'a>>
-    ensures err { IfErr result (λ r. r ≡ resource.entry) }
-    ensures count { trees_count (items_view pending.new.items)
-        ≤ trees_count (items_view pending.old.items) + tree_count (tree_of resource.entry) }
-    ensures depth { depth_of pending.new.items
-        ≤ max (depth_of pending.old.items) (depth resource.entry) }
-{
-    let deep = match resource.into_inside() {
-        Inside::Nothing => return Ok(()),
-        Inside::List(items) => Resource::Array(items),
-        Inside::Entries(table) => Resource::Table(table),
-    };
-    match pending.push(deep) {
-        Ok(()) => Ok(()),
-        Err(refused) => Err(refused.value),
+impl<'a> Resource<'a> {
+    /// Puts the members that have others inside on the list, and drops those that have none, until
+    /// no member is left, or one finds no room on the list: it is handed back.
+    #[tactic(auto, using(crate::proofs::DroppingLemmas::drop_steps))]
+    fn move_members(&mut self, pending: &mut Vec<Resource<'a>>) -> Option<Resource<'a>>
+        ensures all { MatchOption result (count self.new ≡ 1)
+            (λ r. count r + count self.new ≤ count self.old) }
+        ensures count { MatchOption result
+            (counts pending.new.items + count self.new
+            ≤ counts pending.old.items + count self.old)
+            (λ r. count r + counts pending.new.items + count self.new
+            ≤ counts pending.old.items + count self.old) }
+    {
+        match self {
+            Resource::Array(items) => move_items(items, pending),
+            Resource::Table(table) => move_values(table, pending),
+            Resource::String(_)
+            | Resource::Binary(_)
+            | Resource::Integer(_)
+            | Resource::IntVector(_) => None,
+        }
     }
+
+    /// Whether a resource has no others inside.
+    #[tactic(auto, using(crate::proofs::DroppingLemmas::drop_steps))]
+    fn has_no_members(&self) -> bool
+        ensures { IsTrue result → count self.now ≡ 1 }
+    {
+        match self {
+            Resource::Array(items) => items.is_empty(),
+            Resource::Table(table) => table.is_empty(),
+            Resource::String(_)
+            | Resource::Binary(_)
+            | Resource::Integer(_)
+            | Resource::IntVector(_) => true,
+        }
+    }
+}
+
+/// Puts the items that have others inside on the list, and drops those that have none, until no
+/// item is left, or one finds no room on the list: it is handed back.
+#[tactic(auto, using(crate::proofs::DroppingLemmas::drop_steps))]
+fn move_items<'a>(
+    items: &mut Vec<Resource<'a>>,
+    pending: &mut Vec<Resource<'a>>,
+) -> Option<Resource<'a>>
+    ensures all { MatchOption result (items.new.items ≡ [])
+        (λ r. count r + counts items.new.items ≤ counts items.old.items) }
+    ensures count { MatchOption result
+        (counts pending.new.items + counts items.new.items
+        ≤ counts pending.old.items + counts items.old.items)
+        (λ r. count r + counts pending.new.items + counts items.new.items
+        ≤ counts pending.old.items + counts items.old.items) }
+{
+    'items: while let Some(item) = items.pop() {
+        if let Some(refused) = set_aside(pending, item) {
+            return Some(refused);
+        }
+    }
+    None
+}
+
+/// Puts the values that have others inside on the list, and drops those that have none, until no
+/// value is left, or one finds no room on the list: it is handed back.
+#[tactic(auto, using(crate::proofs::DroppingLemmas::drop_steps))]
+pub(crate) fn move_values<'a>(
+    table: &mut Table<'a>,
+    pending: &mut Vec<Resource<'a>>,
+) -> Option<Resource<'a>>
+    ensures all { MatchOption result (table.new.entries ≡ [])
+        (λ r. count r + table_count table.new ≤ table_count table.old) }
+    ensures count { MatchOption result
+        (counts pending.new.items + table_count table.new
+        ≤ counts pending.old.items + table_count table.old)
+        (λ r. count r + counts pending.new.items + table_count table.new
+        ≤ counts pending.old.items + table_count table.old) }
+{
+    'entries: while let Some((_, value)) = table.pop_last() {
+        if let Some(refused) = set_aside(pending, value) {
+            return Some(refused);
+        }
+    }
+    None
+}
+
+/// Puts a resource that has others inside on the list, and drops one that has none. Hands back one
+/// that the list has no room for.
+#[tactic(auto, using(crate::proofs::DroppingLemmas::drop_steps))]
+fn set_aside<'a>(pending: &mut Vec<Resource<'a>>, resource: Resource<'a>) -> Option<Resource<'a>>
+    ensures { MatchOption result
+        (counts pending.new.items ≤ counts pending.old.items + count resource.entry)
+        (λ r. (r ≡ resource.entry) × (pending.new.items ≡ pending.old.items)) }
+{
+    if resource.has_no_members() {
+        resource.drop_empty();
+        return None;
+    }
+    if pending.reserve(1).is_err() {
+        return Some(resource);
+    }
+    pending.push_reserved(resource);
+    None
 }
 
 /// An empty list on the table's allocator, with the child put back at its key. Without memory the
 /// child is handed back.
-#[tactic(auto, using(crate::proofs::DroppingLemmas::insert_depth))]
+#[tactic(auto, using(crate::proofs::DroppingLemmas::insert_count))]
 pub(crate) fn list_beside<'a>(
     table: &mut Table<'a>,
     key: Key<'a>,
@@ -116,17 +155,13 @@ pub(crate) fn list_beside<'a>(
     requires { get (slice_cmp nat_cmp) table.old key ≡ None }
     ensures list { MatchResult result (λ v. v.items ≡ []) (λ r. r ≡ child.entry) }
     ensures table { OnOk result
-        (depth_of (values table.new) ≤ max (depth_of (values table.old)) (depth child.entry)) }
+        (table_count table.new ≤ table_count table.old + count child.entry) }
     ensures same { IfErr result (λ r. table.new.entries ≡ table.old.entries) }
 {
     match table.entry(key) {
         Ok(entry) => {
-            let place = entry.or_default();
-            let made = mem::replace(place, child);
-            match made.into_inside() {
-                Inside::List(list) => Ok(list),
-                _ => unreachable!(),
-            }
+            let made = mem::replace(entry.or_default(), child);
+            Ok(made.into_items())
         }
         Err(_) => Err(child),
     }

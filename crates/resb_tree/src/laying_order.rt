@@ -1,11 +1,11 @@
 //! The resources of a tree in the order in which they are laid: members before their collection.
 //! What is laid for each is not said here. No function calls itself, so that a tree may be of any
 //! depth.
-ghost use Rattle.std.specs.Prelude.{◌≡◌, ◌++◌, [], map, reverse, IfOk, OnOk};
+ghost use Rattle.std.specs.Prelude.{◌≡◌, ◌++◌, [], reverse, IfOk, OnOk};
 ghost use Rattle.resb_tree.specs.View.{tree_of};
 ghost use Rattle.resb_tree.specs.LayingOrder.{laying_order, children, trees_in};
 
-use crate::resource::{Resource, Table};
+use crate::resource::Resource;
 use std::alloc::{AllocError, Global};
 
 /// The resources of a tree in laying order: members before their collection.
@@ -51,37 +51,9 @@ fn push_children<'t, 'a>(
         ≡ trees_in pending.old.items ++ children (tree_of resource.now)) }
 {
     match resource {
-        Resource::Array(items) => push_members(pending, items),
-        Resource::Table(table) => push_values(pending, table),
+        Resource::Array(items) => pending.extend(items.iter()),
+        Resource::Table(table) => pending.extend(table.values()),
         Resource::String(_) | Resource::Binary(_) | Resource::Integer(_) | Resource::IntVector(_) =>
             Ok(()),
     }
-}
-
-/// Appends the members of an array.
-fn push_members<'t, 'a>(
-    pending: &mut Vec<&'t Resource<'a>>,
-    members: &'t [Resource<'a>],
-) -> Result<(), AllocError>
-    ensures { OnOk result (trees_in pending.new.items
-        ≡ trees_in pending.old.items ++ map tree_of members.now) }
-{
-    for member in members {
-        pending.push(member)?;
-    }
-    Ok(())
-}
-
-/// Appends the values of a table.
-fn push_values<'t, 'a>(
-    pending: &mut Vec<&'t Resource<'a>>,
-    table: &'t Table<'a>,
-) -> Result<(), AllocError>
-    ensures { OnOk result (trees_in pending.new.items
-        ≡ trees_in pending.old.items ++ map (λ e. tree_of e.1) table.now.entries) }
-{
-    for (_key, value) in table.iter() {
-        pending.push(value)?;
-    }
-    Ok(())
 }

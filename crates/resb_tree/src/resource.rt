@@ -7,7 +7,7 @@ ghost use Rattle.std.specs.Ordering.{nat_cmp};
 ghost use Rattle.resb_tree.specs.Equality as test;
 ghost use Rattle.resb_tree.specs.View.{tree_of, items_view, entries_view};
 
-use crate::dropping::{Inside, drop_all, has_leaves_alone, list_beside, set_aside};
+use crate::dropping::{drop_all, list_beside, move_values};
 use crate::int28::Int28;
 use crate::key::Key;
 use crate::no_memory::NoMemory;
@@ -34,6 +34,10 @@ pub enum Resource<'a> {
 
 /// Resources by key, in the order of the keys' UTF-8 bytes.
 pub type Table<'a> = BTreeMap<Key<'a>, Resource<'a>>;
+
+/// Up to so many entries are put into a table one by one. To list more of them, for
+/// `table_at_once`, takes less time where their keys ascend, as they do in most texts and files.
+pub const FEW_ENTRIES: usize = 8;
 
 /// The table of these entries, made at once. A later one of an equal key replaces the earlier one.
 /// Its sort stays out of a reader's loop.
@@ -65,18 +69,17 @@ impl Drop for Resource<'_> {
     #[tactic(auto, using(crate::proofs::DroppingLemmas::drop_steps))]
     #[cycle(dropping)]
     fn drop(self) {
-        match self.into_inside() {
-            Inside::Nothing => {}
-            Inside::List(items) => drop_all(items),
-            Inside::Entries(table) if has_leaves_alone(&table) => drop(table),
-            Inside::Entries(mut table) => {
+        match self {
+            Resource::Array(items) => drop_all(items),
+            Resource::Table(mut table) => {
                 'entries: while let Some((key, last)) = table.pop_last() {
                     match list_beside(&mut table, key, last) {
                         Ok(mut pending) => {
-                            'moving: while let Some((_, item)) = table.pop_last() {
-                                if let Err(item) = set_aside(&mut pending, item) {
-                                    drop(item);
-                                }
+                            'values: while let Some(refused) = move_values(
+                                &mut table,
+                                &mut pending,
+                            ) {
+                                drop(refused);
                             }
                             drop_all(pending);
                         }
@@ -85,24 +88,43 @@ impl Drop for Resource<'_> {
                 }
                 table.destroy_empty();
             }
+            Resource::String(_)
+            | Resource::Binary(_)
+            | Resource::Integer(_)
+            | Resource::IntVector(_) => {}
         }
     }
 }
 
 impl<'a> Resource<'a> {
-    ghost use Rattle.resb_tree.specs.Inner.Dropping.{InsideOf};
+    ghost use Rattle.std.specs.Prelude.{◌≡◌, []};
+    ghost use Rattle.resb_tree.specs.Tree.{no_trees, array};
+    ghost use Rattle.resb_tree.specs.View.{tree_of};
+    ghost use Rattle.resb_tree.specs.Inner.Dropping.{count};
 
-    /// Drops what can't be deep, and gives the rest.
-    pub(crate) fn into_inside(self) -> Inside<'a>
-        ensures { InsideOf self.entry result }
+    /// Drops a resource that has no others inside.
+    #[tactic(auto, using(crate::proofs::DroppingLemmas::drop_steps))]
+    pub(crate) fn drop_empty(self)
+        requires { count self ≡ 1 }
     {
         match self {
-            Resource::Array(items) => Inside::List(items),
-            Resource::Table(table) => Inside::Entries(table),
+            Resource::Array(items) => items.destroy_empty(),
+            Resource::Table(table) => table.destroy_empty(),
             Resource::String(_)
             | Resource::Binary(_)
             | Resource::Integer(_)
-            | Resource::IntVector(_) => Inside::Nothing,
+            | Resource::IntVector(_) => {}
+        }
+    }
+
+    /// The list of an empty array.
+    pub(crate) fn into_items(self) -> Vec<Resource<'a>>
+        requires { tree_of self ≡ array no_trees }
+        ensures { result.items ≡ [] }
+    {
+        match self {
+            Resource::Array(items) => items,
+            _ => unreachable!(),
         }
     }
 }

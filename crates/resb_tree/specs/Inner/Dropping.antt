@@ -1,28 +1,18 @@
--- What a resource has inside, and how deep it is.
-use Rattle.std.specs.Prelude.{◌≡◌, ℕ}
-use Rattle.resb_tree.specs.Tree.{Tree, array, table}
-use Rattle.resb_tree.specs.View.{tree_of}
-use Rattle.resb_tree.specs.declared.resource.Resource.{Resource, Array, Table, size-Resource}
-use Rattle.resb_tree.specs.declared.dropping.Inside.{Inside}
-use Rattle.resb_tree.specs.declared.dropping.Inside.TheVariants.{Nothing, List, Entries}
-use Rattle.std.specs.Prelude as std
-use denote.Param.Weighed.{most}
+-- How many resources are still to be dropped.
+use Rattle.std.specs.Prelude.{ℕ, List}
+use Rattle.std.specs.BTreeMap.{BTreeMap}
+use Rattle.resb_tree.specs.Tree.{tree_count, trees_count, entries_count}
+use Rattle.resb_tree.specs.View.{tree_of, items_view, entries_view}
+use Rattle.resb_tree.specs.declared.resource.Resource.{Resource}
 
--- no array and no table
-abbrev pub IsNoCollection : Tree → Type 0
-IsNoCollection (array ts) = ⊥
-IsNoCollection (table es) = ⊥
-IsNoCollection t = Unit {0}
+-- how many resources a resource is, itself included
+abbrev pub count : Resource → ℕ
+count r = tree_count (tree_of r)
 
-abbrev pub InsideOf : Resource → Inside → Type 0
-InsideOf r Nothing = IsNoCollection (tree_of r)
-InsideOf r (List v) = r ≡ Array v
-InsideOf r (Entries m) = r ≡ Table m
+-- how many resources a list has, with all that are inside
+abbrev pub counts : List Resource → ℕ
+counts rs = trees_count (items_view rs)
 
--- how many levels a resource has
-abbrev pub depth : Resource → ℕ
-depth = size-Resource
-
--- the greatest depth in a list
-abbrev pub depth_of : std.List Resource → ℕ
-depth_of = most size-Resource
+-- how many resources a table has inside
+abbrev pub table_count : BTreeMap (List ℕ) Resource → ℕ
+table_count m = entries_count (entries_view m.entries)

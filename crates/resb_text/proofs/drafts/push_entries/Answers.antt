@@ -40,7 +40,7 @@ loop-item-preserved c =
     let item = get_or items at d in
     let split = drop_more items at d (omega arith) in
     let counted = c.tick.ensures in
-    let pushed = c.in_ok-waiting.ensures in
+    let pushed = c.in_ok-push_term.ensures in
     record {
       pieces = pushed.entries.2 ∙ i.pieces;
       members = pushed_more (λ (e : Bor (List ℕ) × ℕ). e.1) c.loop-item.draft.members.items _

@@ -6,7 +6,7 @@ use Rattle.resb_tree.proofs.AtOnce.{made_view}
 use Rattle.resb_tree.proofs.ViewLemmas.{tree_of_table}
 use Rattle.resb_text.specs.Inner.Shown.{seen_in_code, shown_pairs, entries_borrowed}
 use Rattle.resb_text.proofs.BorrowedLemmas.{borrowed_table, made_borrowed}
-use Rattle.resb_text.proofs.items.table_of_list.Goals as goal
+use Rattle.resb_text.proofs.trees.table_of_list.Goals as goal
 
 pub returns-clause-made : goal.returns-clause-made
 returns-clause-made c = λ h.

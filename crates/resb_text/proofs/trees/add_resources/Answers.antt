@@ -5,7 +5,7 @@ use Rattle.resb_text.specs.Borrowed.{borrows_strings}
 use Rattle.std.specs.Vec.Iter.{into_iter_items}
 use Rattle.resb_text.specs.Inner.Shown.{seen_in_code, shown_tree, shown_borrowed}
 use Rattle.resb_text.proofs.ShownLemmas.{term_tree_shown, term_borrowed_shown, shown_one_more}
-use Rattle.resb_text.proofs.items.add_resources.Goals as goal
+use Rattle.resb_text.proofs.trees.add_resources.Goals as goal
 
 pub loop-item-preserved : goal.loop-item-preserved
 loop-item-preserved c =

@@ -6,7 +6,7 @@ use Rattle.resb_tree.specs.Borrowing.{all_true}
 use Rattle.resb_text.specs.Inner.Shown.{seen_in_code, pairs_after, shown_pairs, shown_borrowed}
 use Rattle.resb_text.specs.Inner.Shown.{waiting_key}
 use Rattle.resb_text.proofs.ShownLemmas.{no_pairs_left, term_borrowed_shown}
-use Rattle.resb_text.proofs.items.put_terms.Goals as goal
+use Rattle.resb_text.proofs.trees.put_terms.Goals as goal
 
 pub returns-clause-ok : goal.returns-clause-ok
 returns-clause-ok g c =
@@ -31,7 +31,7 @@ loop-item-preserved g c =
     let steps = c.in-Some.ensures.steps.0 in
     let one = ap length steps in
     let counted = c.tick.ensures in
-    let put = c.in_ok-waiting.ensures in
+    let put = c.in_ok-put_term.ensures in
     record {
       made = put.ok item.comma (map seen_in_code rest)
           ∙ ap (λ xs. g.E.TakesEntries.map_with c.loop-item.entries

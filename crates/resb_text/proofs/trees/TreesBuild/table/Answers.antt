@@ -6,7 +6,7 @@ use Rattle.resb_tree.specs.View.{entries_view}
 use Rattle.resb_tree.proofs.ViewLemmas.{tree_of_table}
 use Rattle.resb_text.specs.Inner.Shown.{seen_in_code, shown_pairs, shown_borrowed, entries_borrowed}
 use Rattle.resb_text.proofs.BorrowedLemmas.{borrowed_table}
-use Rattle.resb_text.proofs.items.TreesBuild.table.Goals as goal
+use Rattle.resb_text.proofs.trees.TreesBuild.table.Goals as goal
 
 pub returns-then-len-gt-FEW_ENTRIES-clause-made : goal.returns-then-len-gt-FEW_ENTRIES-clause-made
 returns-then-len-gt-FEW_ENTRIES-clause-made c = λ h.

@@ -10,10 +10,11 @@ pub mod laws;
 mod laying_order;
 mod no_memory;
 mod resource;
+pub mod weights;
 
 pub use bundle::ResourceBundle;
 pub use int28::Int28;
 pub use key::Key;
 pub use laying_order::{LayingOrder, in_laying_order};
 pub use no_memory::NoMemory;
-pub use resource::{Resource, Table, table_at_once};
+pub use resource::{FEW_ENTRIES, Resource, Table, table_at_once};

@@ -35,6 +35,10 @@ pub enum Resource<'a> {
 /// Resources by key, in the order of the keys' UTF-8 bytes.
 pub type Table<'a> = BTreeMap<Key<'a>, Resource<'a>>;
 
+/// Up to so many entries are put into a table one by one. To list more of them, for
+/// `table_at_once`, takes less time where their keys ascend, as they do in most texts and files.
+pub const FEW_ENTRIES: usize = 8;
+
 /// The table of these entries, made at once. A later one of an equal key replaces the earlier one.
 /// Its sort stays out of a reader's loop.
 #[inline(never)]

@@ -9,5 +9,5 @@ mod tails;
 mod widths;
 
 pub use breaks::{Breaks, is_high, is_low};
-pub use tails::{LongTails, SHORT_TAIL, Tail};
+pub use tails::{LongTails, SHORT_TAIL, Tail, first_zero};
 pub use widths::Widths;

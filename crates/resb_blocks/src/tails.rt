@@ -30,7 +30,7 @@ pub struct LongTails<'a> {
 }
 
 /// The number of the first zero byte.
-fn first_zero(bytes: &[u8]) -> Option<usize>
+pub fn first_zero(bytes: &[u8]) -> Option<usize>
     ensures { result ≡ position (λ b. b == 0) bytes.now }
 {
     bytes.iter().position(|b| *b == 0)

@@ -22,5 +22,5 @@ pub use error::{BinaryDeserializerError, ErrorKind, ReadingError};
 pub use file_blocks::{FileBlocks, PoolBlocks};
 pub use repr_type::ResourceReprType;
 pub use resb_tree::{Int28, Key, NoMemory, Resource, ResourceBundle, Table};
-pub use units::{MAX_UNMARKED, is_unmarked, marker_units, string_at, utf16_len};
+pub use units::{MAX_UNMARKED, is_unmarked, marked_part, marker_units, string_at, utf16_len};
 pub use views::{I32Pair, I32View, PairView, Utf16View, WordView};

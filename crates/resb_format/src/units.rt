@@ -37,8 +37,34 @@ pub fn string_at(block: &[u8], unit: usize) -> Result<Utf16View<'_>, BinaryDeser
     }
 }
 
-/// The string after the marker that begins with this unit.
+/// Where the units of the string begin whose marker begins with this unit, and how many units it
+/// has. Refused, as the end of the input, is a marker that does not lie inside the block.
 #[tactic(auto, using(crate::proofs::StringsIn::marker_unit_missing))]
+pub fn marked_part(
+    block: &[u8],
+    unit: usize,
+    first: u16,
+) -> Result<(usize, usize), BinaryDeserializerError>
+    requires inside { unit < length block.now / 2 }
+    requires marker { 0xdc00 ≤ first }
+    requires low { first ≤ 0xdfff }
+    ensures { let us = units_of block.now in
+        MatchResult result (λ r. strings.string_from us unit first ≡ part us r.0 r.1)
+        (λ e. (strings.string_from us unit first ≡ None) × IsEndOfInput e) }
+{
+    let first = usize::from(first);
+    if first <= 0xdfee {
+        return Ok((unit + 1, first - 0xdc00));
+    }
+    let second = usize::from(some_unit(block, unit + 1)?);
+    if first <= 0xdffe {
+        return Ok((unit + 2, (first - 0xdfef) * 0x1_0000 + second));
+    }
+    let third = usize::from(some_unit(block, unit + 2)?);
+    Ok((unit + 3, second * 0x1_0000 + third))
+}
+
+/// The string after the marker that begins with this unit.
 fn marked(block: &[u8], unit: usize, first: u16) -> Result<Utf16View<'_>, BinaryDeserializerError>
     requires inside { unit < length block.now / 2 }
     requires marker { 0xdc00 ≤ first }
@@ -48,16 +74,8 @@ fn marked(block: &[u8], unit: usize, first: u16) -> Result<Utf16View<'_>, Binary
         (λ e. (strings.string_from us unit first ≡ None)
         × IsEndOfInput e) }
 {
-    let first = usize::from(first);
-    if first <= 0xdfee {
-        return cut(block, unit + 1, first - 0xdc00);
-    }
-    let second = usize::from(some_unit(block, unit + 1)?);
-    if first <= 0xdffe {
-        return cut(block, unit + 2, (first - 0xdfef) * 0x1_0000 + second);
-    }
-    let third = usize::from(some_unit(block, unit + 2)?);
-    cut(block, unit + 3, second * 0x1_0000 + third)
+    let (from, count) = marked_part(block, unit, first)?;
+    cut(block, from, count)
 }
 
 /// The string up to the first 0, which stands among its first 41 units.

@@ -93,6 +93,26 @@ fn list_next<'a>(list: &mut Listing<'a>, text: &'a str, number: usize) -> Result
     Ok(unit_count)
 }
 
+/// The texts of a list, once all strings have their index there.
+fn listed<'a>(list: Listing<'a>) -> ListedTexts<'a>
+    ensures texts { result.texts.items ≡ take list.entry.count list.entry.strings.items }
+    ensures measures { result.measures.items ≡ list.entry.measures.items }
+    ensures order { result.order.items ≡ list.entry.order.items }
+{
+    let Listing {
+        strings: mut texts,
+        count,
+        measures,
+        order,
+    } = list;
+    texts.truncate(count);
+    ListedTexts {
+        texts,
+        measures,
+        order,
+    }
+}
+
 /// The distinct texts of strings whose first copies are known, in the room of both. Refused are
 /// strings whose units and 16 for each come to 2^28 or more.
 pub(crate) fn by_firsts<'a>(
@@ -126,16 +146,5 @@ pub(crate) fn by_firsts<'a>(
         let unit_count = list_next(&mut list, text, number)?;
         size = size_with(size, unit_count)?;
     }
-    let Listing {
-        strings: mut texts,
-        count,
-        measures,
-        order,
-    } = list;
-    texts.truncate(count);
-    Ok(ListedTexts {
-        texts,
-        measures,
-        order,
-    })
+    Ok(listed(list))
 }

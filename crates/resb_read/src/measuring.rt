@@ -12,7 +12,7 @@ ghost use Rattle.resb_read.specs.Resources.{HoldsPlace};
 use crate::cursor::{Cursor, Spot};
 use crate::whole_files::tree_from_bytes;
 use resb_format::{BinaryDeserializerError, Resource};
-use resb_tree::NoMemory;
+use resb_tree::{NoMemory, weights};
 use resb_walk::{Sums, weigh_word};
 use std::alloc::Global;
 
@@ -37,7 +37,11 @@ impl Measured {
         let texts = u128::from(self.sums.text_bytes?);
         let numbers = u128::from(self.sums.numbers?);
         let resources = self.resources as u128;
-        let bytes = 72 * resources + 1024 * tables + 192 * entries + 3 * texts + 4 * numbers;
+        let bytes = weights::RESOURCE * resources
+            + weights::TABLE * tables
+            + weights::ENTRY * entries
+            + weights::TEXT_BYTE * texts
+            + weights::NUMBER * numbers;
         if bytes >= 1 << 64 {
             return None;
         }

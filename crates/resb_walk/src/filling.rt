@@ -9,13 +9,9 @@ ghost use Rattle.resb_tree.specs.View.{tree_of, entries_view};
 ghost use Rattle.resb_walk.specs.Borrows.{Borrows, entries_borrow};
 ghost use Rattle.resb_walk.specs.Inner.Filling.{Gathers};
 
-use resb_tree::{Key, NoMemory, Resource, Table, table_at_once};
+use resb_tree::{FEW_ENTRIES, Key, NoMemory, Resource, Table, table_at_once};
 use std::alloc::Global;
 use std::collections::BTreeMap;
-
-/// Up to so many entries are put into a map one by one. To list more of them, and to make the map
-/// of the list, takes less time where their keys ascend, as they do in the files of this format.
-const FEW_ENTRIES: usize = 8;
 
 /// A table's entries so far.
 #[derive(Drop)]

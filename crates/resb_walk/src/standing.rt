@@ -1,6 +1,6 @@
 //! What stands at a word, at a unit of the 16-bit block, and at a key's position.
 //! Bytes are looked at in `resb_format::bytes` alone.
-ghost use Rattle.std.specs.Prelude.{◌≡◌, ◌≢◌, ◌<◌, ◌^◌, position, ◌==◌, Some, None, true};
+ghost use Rattle.std.specs.Prelude.{◌≡◌, ◌≢◌, ◌<◌, ◌^◌, Some, None, true};
 ghost use Rattle.std.specs.Prelude.{MatchResult, IfErr, IfSome};
 ghost use Rattle.resb_format.specs.Bytes.{units_of};
 ghost use Rattle.resb_format.specs.Strings as strings;
@@ -24,17 +24,11 @@ use crate::members::{Leaf, Member, Members, Positions, Standing, TableParts};
 use crate::places::{index_of, key_place, text_place};
 use crate::types::readable;
 use crate::units::is_well_formed;
+use resb_blocks::first_zero;
 use resb_format::bytes::{
     cut_at, some_bytes, some_unit, some_units, some_word, some_words, unit_at,
 };
 use resb_format::{BinaryDeserializerError, FileBlocks, MAX_UNMARKED, ResourceReprType, string_at};
-
-/// The number of the first zero byte.
-fn first_zero(bytes: &[u8]) -> Option<usize>
-    ensures { result ≡ position (λ b. b == 0) bytes.now }
-{
-    bytes.iter().position(|b| *b == 0)
-}
 
 /// The units of the string at a unit of the block, where it has no marker and no surrogate, as most
 /// have: one look at each unit finds the 0 behind it and that it is a text.

@@ -13,30 +13,21 @@ use crate::members::Member;
 use crate::places::index_of;
 use crate::types::readable;
 use resb_format::bytes::unit_at;
-use resb_format::{FileBlocks, ResourceReprType};
+use resb_format::{FileBlocks, ResourceReprType, marked_part};
 
 /// Where the units of the string at a unit begin, and how many there are, where it has a marker.
 pub fn marked(block: &[u8], unit: usize) -> Option<(usize, usize)>
     ensures { let us = units_of block.now in IfSome result (λ r. r.0 + r.1 ≤ length us
         → string_at us unit ≡ Some (take r.1 (drop r.0 us))) }
 {
-    let units = block.len() / 2;
-    if unit >= units || units - unit < 4 {
+    if unit >= block.len() / 2 {
         return None;
     }
-    let first = usize::from(unit_at(block, unit));
+    let first = unit_at(block, unit);
     if first < 0xdc00 || first > 0xdfff {
         return None;
     }
-    if first <= 0xdfee {
-        return Some((unit + 1, first - 0xdc00));
-    }
-    let second = usize::from(unit_at(block, unit + 1));
-    if first <= 0xdffe {
-        return Some((unit + 2, (first - 0xdfef) * 0x1_0000 + second));
-    }
-    let third = usize::from(unit_at(block, unit + 2));
-    Some((unit + 3, second * 0x1_0000 + third))
+    marked_part(block, unit, first).ok()
 }
 
 /// The index of the string to which a member leads, if that is what it does.

@@ -52,10 +52,7 @@ impl<'k> KeyBlock<'k> {
     {
         let (distinct, numbers) = tree_keys.into_parts();
         let keys = used_keys(alloc, &distinct, list)?;
-        let last = last_positions(alloc, &keys)?;
-        let names = distinct.keys().as_slice();
-        check_keys(names, &last)?;
-        let places = positions_of(alloc, names, &last)?;
+        let places = positions_in(alloc, distinct.keys().as_slice(), &keys)?;
         let positions = values_at(&places, numbers);
         Ok(KeyBlock { keys, positions })
     }
@@ -163,6 +160,24 @@ fn positions_of(
         found.push(positions.get(*key).copied().unwrap_or(0))?;
     }
     Ok(found)
+}
+
+/// Where keys of tables stand in the block of used keys, each at its last occurrence, up to the
+/// greatest number of 32 bits. Refuses the first fault of a key.
+fn positions_in(
+    alloc: Global,
+    names: &[&str],
+    keys: &[&str],
+) -> Result<Vec<u32>, BinarySerializerError>
+    ensures faultless { OnOk result (key_fault (nows names.now) (nows keys.now) ≡ None) }
+    ensures positions { IfOk result (λ v. v.items
+        ≡ map (λ k. unwrap_or (near_position_in (nows keys.now) k) 0) (nows names.now)) }
+    ensures err { IfErr result (λ e. (fault_of e ≡ out_of_memory)
+        ⊎ (key_fault (nows names.now) (nows keys.now) ≡ Some (fault_of e))) }
+{
+    let last = last_positions(alloc, keys)?;
+    check_keys(names, &last)?;
+    Ok(positions_of(alloc, names, &last)?)
 }
 
 /// The value at each of these indexes, put in its place.

@@ -1,7 +1,7 @@
 //! Writes a bundle, or a draft of one: its faults in their order, and then the parts of the file,
 //! one after another.
 //! Each part is made in a module or crate of its own.
-ghost use Rattle.std.specs.Prelude.{◌≡◌, true, map, IfOk, IfErr};
+ghost use Rattle.std.specs.Prelude.{◌≡◌, ◌+◌, ◌<◌, ◌^◌, true, map, IfOk, IfErr};
 ghost use Rattle.resb_tree.specs.Borrowing.{all_true};
 ghost use Rattle.resb_tree.specs.Tree.{Tree};
 ghost use Rattle.resb_tree.specs.Bundle.{root_of};
@@ -9,7 +9,11 @@ ghost use Rattle.resb_tree.specs.LayingOrder.{laying_order, keys_of};
 ghost use Rattle.resb_draft.specs.Drafts.{draft_tree, is_ready, tree_at, is_whole, texts};
 ghost use Rattle.resb_draft.specs.Pieces.{are_pieces};
 ghost use Rattle.resb_write.specs.FaultOf.{fault_of};
+ghost use Rattle.resb_pool.specs.Plan.{nows};
+ghost use Rattle.resb_write.specs.Inner.Gathered.{Gathered};
+ghost use Rattle.resb_write.specs.Inner.NearPositions.{IsKeyBlock};
 ghost use Rattle.resb_write.specs.Inner.Numbered.{NumbersKeys};
+ghost use Rattle.resb_layout.specs.PlainSize.{list_size, resources_size};
 ghost use Rattle.resb_layout.specs.TreeFaults.{RefusesWriting};
 ghost use Rattle.resb_layout.specs.Written.{Written};
 
@@ -155,6 +159,29 @@ fn write_by_number(
     write_order(alloc, &numbered, keys, is_locale_fallback_enabled, list)
 }
 
+/// What a tree holds and the block of its keys, once none of the refusals holds; the first of them
+/// that does is answered. The tree's resources are given in laying order, and beside them the keys
+/// of its tables.
+fn checked<'t, 'k, N: Nodes>(
+    alloc: Global,
+    order: &'t N,
+    tree_keys: NumberedKeys<'_>,
+    list: &'k [Key<'_>],
+) -> Result<(Contents<'t>, KeyBlock<'k>), BinarySerializerError>
+    requires { (t : Tree) × N.fit order.now (laying_order t) × NumbersKeys tree_keys (keys_of t) }
+    ensures ok { IfOk result (λ r. (t : Tree) → N.fit order.now (laying_order t)
+        → NumbersKeys tree_keys.entry (keys_of t) → Gathered (laying_order t) r.0
+        × IsKeyBlock (keys_of t) list.now (nows r.1.keys.items) r.1.positions.items
+        × (list_size list.now + resources_size (laying_order t) < 2 ^ 28)) }
+    ensures err { IfErr result (λ e. (t : Tree) → N.fit order.now (laying_order t)
+        → NumbersKeys tree_keys.entry (keys_of t) → RefusesWriting t list.now (fault_of e)) }
+{
+    let contents = Contents::gather(alloc, order)?;
+    let block = KeyBlock::new(alloc, tree_keys, list)?;
+    check_sizes(&contents, list)?;
+    Ok((contents, block))
+}
+
 /// The refusals in their order, and then the file of a tree, whose resources are given in laying
 /// order, and beside them the keys of its tables.
 pub(crate) fn write_order<N: Nodes>(
@@ -172,9 +199,8 @@ pub(crate) fn write_order<N: Nodes>(
     ensures err { IfErr result (λ e. (t : Tree) → N.fit order.now (laying_order t)
         → NumbersKeys tree_keys.entry (keys_of t) → RefusesWriting t list.now (fault_of e)) }
 {
-    let contents = Contents::gather(alloc, order)?;
-    let KeyBlock { keys, positions } = KeyBlock::new(alloc, tree_keys, list)?;
-    check_sizes(&contents, list)?;
+    let (contents, block) = checked(alloc, order, tree_keys, list)?;
+    let KeyBlock { keys, positions } = block;
     let largest_table = contents.largest_table as u32;
     let Strings { pool, offsets } = Strings::plan(alloc, contents.texts)?;
     let keys_end = KEYS_START + block_length(&keys);

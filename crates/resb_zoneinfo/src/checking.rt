@@ -43,10 +43,7 @@ impl<'de> ZoneData<'de> {
         ensures said { IfOk result (IsChecked self.now file.now) }
         ensures refused { IfErr result (IsZoneFault self.now file.now) }
     {
-        let types: &'de [u8] = match self.types {
-            Some(types) => types,
-            None => &[],
-        };
+        let types: &'de [u8] = self.types.unwrap_or(&[]);
         if !self.transitions.are(types.len()) {
             return Err(ZoneError::Count);
         }
@@ -73,19 +70,12 @@ impl<'de> ZoneData<'de> {
         let Some(name) = &self.final_rule else {
             return Ok(None);
         };
-        let Some(raw) = self.final_raw else {
-            return Err(ZoneError::NoFinalRaw);
-        };
-        let Some(first) = self.final_year else {
-            return Err(ZoneError::NoFinalYear);
-        };
+        let raw = self.final_raw.ok_or(ZoneError::NoFinalRaw)?;
+        let first = self.final_year.ok_or(ZoneError::NoFinalYear)?;
         if first < 1970 {
             return Err(ZoneError::FinalYear);
         }
-        let rule = match file.rule_named(name.as_str()) {
-            Ok(rule) => rule,
-            Err(error) => return Err(error),
-        };
+        let rule = file.rule_named(name.as_str())?;
         let year = u64::from(first.unsigned_abs());
         Ok(Some(FinalYears { year, raw, rule }))
     }

@@ -59,17 +59,10 @@ impl Edge {
         ensures said { IfOk result (SaysEdge month day weekday time clock) }
         ensures refused { IfErr result (IsEdgeFault month day weekday time clock) }
     {
-        let Some(month) = natural(month, 11) else {
-            return Err(RuleError::Month);
-        };
+        let month = natural(month, 11).ok_or(RuleError::Month)?;
         let day = day_of(month, day, weekday)?;
-        let Some(seconds) = natural(time, 86_400) else {
-            return Err(RuleError::Time);
-        };
-        let Some(clock) = natural(clock, 2) else {
-            return Err(RuleError::Clock);
-        };
-        let clock = match clock {
+        let seconds = natural(time, 86_400).ok_or(RuleError::Time)?;
+        let clock = match natural(clock, 2).ok_or(RuleError::Clock)? {
             0 => Clock::Wall,
             1 => Clock::Standard,
             _ => Clock::Universal,

@@ -11,16 +11,11 @@ pub(crate) fn value_at<T>(members: &[Linked<T>], number: usize) -> Result<&T, Zo
     ensures said { IfOk result (λ t. LeadsTo members.now number t.now) }
     ensures refused { IfErr result (LeadsNowhere members.now number) }
 {
-    let Some(first) = members.get(number) else {
-        return Err(ZoneError::NoZone);
-    };
-    let link = match first {
+    let link = match members.get(number).ok_or(ZoneError::NoZone)? {
         Linked::Value(value) => return Ok(value),
         Linked::Link(link) => *link,
     };
-    let Ok(other) = usize::try_from(link) else {
-        return Err(ZoneError::Link);
-    };
+    let other = usize::try_from(link).map_err(|_| ZoneError::Link)?;
     match members.get(other) {
         Some(Linked::Value(value)) => Ok(value),
         _ => Err(ZoneError::Link),

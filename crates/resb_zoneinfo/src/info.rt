@@ -20,9 +20,7 @@ impl<'de> ZoneInfo<'de> {
         let Some(number) = number_of(&self.names, name.as_bytes()) else {
             return Err(ZoneError::NoZone);
         };
-        match value_at(&self.zones, number) {
-            Ok(table) => table.0.checked(self),
-            Err(error) => Err(error),
-        }
+        let table = value_at(&self.zones, number)?;
+        table.0.checked(self)
     }
 }

@@ -31,14 +31,8 @@ impl<'de, T: Deserialize<'de>> Deserialize<'de> for Linked<T> {
         walk: &mut Walk,
     ) -> Result<Linked<T>, ReadingError<'m>> {
         match at.resource_type()? {
-            ResourceReprType::Int => match i32::deserialize(alloc, at, walk) {
-                Ok(number) => Ok(Linked::Link(number)),
-                Err(error) => Err(error),
-            },
-            _ => {
-                let value = T::deserialize(alloc, at, walk)?;
-                Ok(Linked::Value(value))
-            }
+            ResourceReprType::Int => Ok(Linked::Link(i32::deserialize(alloc, at, walk)?)),
+            _ => Ok(Linked::Value(T::deserialize(alloc, at, walk)?)),
         }
     }
 }

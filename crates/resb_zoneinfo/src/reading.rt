@@ -34,10 +34,7 @@ impl<'de> ZoneInfo<'de> {
             walk.new) }
     {
         let table = at.read_table(walk)?;
-        match ZoneInfo::from_table(alloc, table, walk) {
-            Ok(info) => Ok(info),
-            Err(error) => Err(error),
-        }
+        ZoneInfo::from_table(alloc, table, walk)
     }
 
     /// Reads the values of the five keys of a table.

@@ -158,16 +158,18 @@ pub returns-clause-texts : goal.returns-clause-texts
 returns-clause-texts c =
     let xs = c.args.strings.items in
     let i = c.loop-number.number in
-    let ms = c.loop-number.list.measures.items in
+    let l = c.loop-number.list in
+    let made = c.listed.ensures in
     let full : take i xs ≡ xs = take_all i xs (omega (
       arith,
       c.loop-number-test.false,
       c.len-string_count.ensures,
       c.args.strings.ok,
     )) in
-    subst (λ z. AreTexts (nows z) (nows c.truncate.new.self.items) ms) full
-    (subst (λ z. AreTexts (nows (take i xs)) (nows z) ms) (sym c.truncate.ensures.items)
-    c.loop-number.invariant.listing.texts)
+    subst (AreTexts (nows xs) (nows c.listed.result.texts.items)) (sym made.measures)
+    (subst (λ z. AreTexts (nows z) (nows c.listed.result.texts.items) l.measures.items) full
+    (subst (λ z. AreTexts (nows (take i xs)) (nows z) l.measures.items) (sym made.texts)
+    c.loop-number.invariant.listing.texts))
 
 pub returns-clause-turns : goal.returns-clause-turns
 returns-clause-turns c =
@@ -181,12 +183,13 @@ returns-clause-turns c =
       c.len-string_count.ensures,
       c.args.strings.ok,
     ) in
-    subst (λ z. AreTurns (nows xs) (nows c.truncate.new.self.items) z)
-    (take_all i order (omega (arith, long, v.order_len)))
-    (subst (λ z. AreTurns (nows z) (nows c.truncate.new.self.items) (take i order))
+    let made = c.listed.ensures in
+    subst (AreTurns (nows xs) (nows c.listed.result.texts.items))
+    (take_all i order (omega (arith, long, v.order_len)) ∙ sym made.order)
+    (subst (λ z. AreTurns (nows z) (nows c.listed.result.texts.items) (take i order))
     (take_all i xs long)
-    (subst (λ z. AreTurns (nows (take i xs)) (nows z) (take i order))
-    (sym c.truncate.ensures.items) v.turns))
+    (subst (λ z. AreTurns (nows (take i xs)) (nows z) (take i order)) (sym made.texts)
+    v.turns))
 
 pub returns-clause-small : goal.returns-clause-small
 returns-clause-small c =

@@ -39,6 +39,20 @@ ordered-requires-clause-sums c =
     (sums_are g.0 T c.args.measures.now g.2 g.1 c.args.containers.now c.requires.containers sums
     c.in_ok-sums.ensures)
 
+pub lay-requires-clause-counts : goal.lay-requires-clause-counts
+lay-requires-clause-counts c =
+    let T = nows c.args.texts.now in
+    let each = subst (λ (z : List Record). All (IsRecordOf T c.deref.result.now) z)
+    (sym c.deref-2.ensures.value) c.in_ok-records.ensures.each in
+    λ k d l. (each k d l).units_is
+
+pub lay-requires-clause-within : goal.lay-requires-clause-within
+lay-requires-clause-within c =
+    let T = nows c.args.texts.now in
+    let each = subst (λ (z : List Record). All (IsRecordOf T c.deref.result.now) z)
+    (sym c.deref-2.ensures.value) c.in_ok-records.ensures.each in
+    λ k d l. omega (arith, (each k d l).within, length-nows c.args.texts.now)
+
 pub lay-requires-clause-short : goal.lay-requires-clause-short
 lay-requires-clause-short c =
     let T = nows c.args.texts.now in

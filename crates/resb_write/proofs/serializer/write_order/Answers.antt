@@ -17,41 +17,23 @@ use Rattle.resb_write.proofs.Room.{units_room, bytes_room, used_room, length-pad
 use Rattle.resb_write.proofs.Known.{near_offsets}
 use Rattle.resb_write.proofs.Blocks.{laying_order_long}
 use Rattle.resb_write.proofs.FilesLemmas.{largest_room, Made, written}
-use Rattle.resb_write.proofs.Refusals.{key_refused, size_refused, plan_refused}
+use Rattle.resb_write.proofs.Refusals.{plan_refused}
 use Rattle.resb_write.proofs.serializer.write_order.Goals as goal
 use Rattle.resb_write.proofs.serializer.write_order.Goals.{After-deref-3}
 
 pub returns-in_err-contents-clause-err : goal.returns-in_err-contents-clause-err
 returns-in_err-contents-clause-err g c =
     let p = err_from_is_err_and c.from_residual.result c.from_residual.ensures.1 in
-    rw p.1 (λ t f k. subst (RefusesWriting t c.args.list.now) (sym p.2) no_memory)
-
-pub returns-in_err-keys-clause-err : goal.returns-in_err-keys-clause-err
-returns-in_err-keys-clause-err g c =
-    let p = err_from_is_err_and c.from_residual-in_err-keys.result
-    c.from_residual-in_err-keys.ensures.1 in
-    rw (p.1, p.2) (λ t f k.
-    let gathered = c.in_ok-contents.ensures (laying_order t) f in
-    key_refused t c.args.list.now (keys_of t) _ refl (c.in_err-keys.ensures.err (keys_of t) k))
-
-pub returns-in_err-check_sizes-clause-err : goal.returns-in_err-check_sizes-clause-err
-returns-in_err-check_sizes-clause-err g c =
-    let p = err_from_is_err_and c.from_residual-in_err-check_sizes.result
-    c.from_residual-in_err-check_sizes.ensures.1 in
-    rw (p.1, p.2) (λ t f k.
-    let b = c.in_ok-keys.ensures.ok (keys_of t) k in
-    let gathered = c.in_ok-contents.ensures (laying_order t) f in
-    size_refused t c.args.list.now (keys_of t) _ refl b.keys b.faultless _
-    (c.in_err-check_sizes.ensures.err (laying_order t) gathered))
+    rw (p.1, p.2) c.in_err-contents.ensures.err
 
 pub returns-in_err-pool-clause-err : goal.returns-in_err-pool-clause-err
 returns-in_err-pool-clause-err g c =
     let p = err_from_is_err_and c.from_residual-in_err-pool.result
     c.from_residual-in_err-pool.ensures.1 in
     rw p.1 (λ t f k.
-    let gathered = c.in_ok-contents.ensures (laying_order t) f in
+    let gathered = (c.in_ok-contents.ensures.ok t f k).0 in
     let texts = gathered.texts_are in
-    let small = c.in_ok-check_sizes.ensures.ok (laying_order t) gathered in
+    let small = (c.in_ok-contents.ensures.ok t f k).2 in
     subst (RefusesWriting t c.args.list.now) (sym p.2)
     (plan_refused t c.args.list.now (nows c.in_ok-contents.contents.texts.items) _ texts small
     c.in_err-pool.ensures.err))
@@ -59,10 +41,10 @@ returns-in_err-pool-clause-err g c =
 pub block_length-keys_end-requires : goal.block_length-keys_end-requires
 block_length-keys_end-requires g c =
     let t = c.requires.0 in
-    let gathered = c.in_ok-contents.ensures (laying_order t) c.requires.1 in
-    let small = c.in_ok-check_sizes.ensures.ok (laying_order t) gathered in
+    let gathered = (c.in_ok-contents.ensures.ok t c.requires.1 c.requires.2).0 in
+    let small = (c.in_ok-contents.ensures.ok t c.requires.1 c.requires.2).2 in
     let js = ap nows c.deref.ensures.value
-    ∙ (c.in_ok-keys.ensures.ok (keys_of t) c.requires.2).keys in
+    ∙ (c.in_ok-contents.ensures.ok t c.requires.1 c.requires.2).1.keys in
     omega (
       arith,
       small,
@@ -74,10 +56,10 @@ block_length-keys_end-requires g c =
 pub overflow_add-keys_end : goal.overflow_add-keys_end
 overflow_add-keys_end g c =
     let t = c.requires.0 in
-    let gathered = c.in_ok-contents.ensures (laying_order t) c.requires.1 in
-    let small = c.in_ok-check_sizes.ensures.ok (laying_order t) gathered in
+    let gathered = (c.in_ok-contents.ensures.ok t c.requires.1 c.requires.2).0 in
+    let small = (c.in_ok-contents.ensures.ok t c.requires.1 c.requires.2).2 in
     let js = ap nows c.deref.ensures.value
-    ∙ (c.in_ok-keys.ensures.ok (keys_of t) c.requires.2).keys in
+    ∙ (c.in_ok-contents.ensures.ok t c.requires.1 c.requires.2).1.keys in
     omega (
       arith,
       small,
@@ -93,15 +75,15 @@ numbered : (g : _) (c : After-deref-3 g) (base : ℕ) (t : Tree)
     → g.N.Nodes.fit c.args.order.now (laying_order t)
     → NumbersKeys c.args.tree_keys (keys_of t)
     → GivesInTurn (record {
-      position = position_in (nows c.in_ok-keys.field-0.keys.items);
+      position = position_in (nows c.in_ok-contents.block.keys.items);
       offset = c.in_ok-pool.ensures.ok.offset;
       base = base;
     }) c.deref-2.result.now c.deref-3.result.now (laying_order t)
 numbered g c base t f us =
-    let gathered = c.in_ok-contents.ensures (laying_order t) f in
+    let gathered = (c.in_ok-contents.ensures.ok t f us).0 in
     let pooled = c.in_ok-pool.ensures.ok in
-    let b = c.in_ok-keys.ensures.ok (keys_of t) us in
-    let js = nows c.in_ok-keys.field-0.keys.items in
+    let b = (c.in_ok-contents.ensures.ok t f us).1 in
+    let js = nows c.in_ok-contents.block.keys.items in
     let texts = gathered.texts_are in
     let offsets = pooled.offsets ∙ ap (map Some) (sym c.deref-3.ensures.value) in
     record {
@@ -116,12 +98,12 @@ pub lay_bodies-requires-clause-tree : goal.lay_bodies-requires-clause-tree
 lay_bodies-requires-clause-tree g c =
     let r = c.requires in
     let t = r.0 in
-    let gathered = c.in_ok-contents.ensures (laying_order t) r.1 in
+    let gathered = (c.in_ok-contents.ensures.ok t r.1 r.2).0 in
     let us = c.in_ok-pool.field-0.pool.items in
     let pooled = c.in_ok-pool.ensures.ok in
-    let small = c.in_ok-check_sizes.ensures.ok (laying_order t) gathered in
+    let small = (c.in_ok-contents.ensures.ok t r.1 r.2).2 in
     let js = ap nows c.deref.ensures.value
-    ∙ (c.in_ok-keys.ensures.ok (keys_of t) c.requires.2).keys in
+    ∙ (c.in_ok-contents.ensures.ok t c.requires.1 c.requires.2).1.keys in
     let texts = gathered.texts_are in
     let pool = pool_room (nows c.in_ok-contents.contents.texts.items) us pooled.offset
     pooled.plan in
@@ -155,17 +137,17 @@ returns-in_err-bodies-clause-err g c =
 pub overflow_cast-largest_table : goal.overflow_cast-largest_table
 overflow_cast-largest_table g c =
     let t = c.requires.0 in
-    let gathered = c.in_ok-contents.ensures (laying_order t) c.requires.1 in
-    let small = c.in_ok-check_sizes.ensures.ok (laying_order t) gathered in
+    let gathered = (c.in_ok-contents.ensures.ok t c.requires.1 c.requires.2).0 in
+    let small = (c.in_ok-contents.ensures.ok t c.requires.1 c.requires.2).2 in
     omega (arith, small, gathered.largest_is, largest_room (laying_order t))
 
 pub assemble-requires : goal.assemble-requires
 assemble-requires g c =
     let t = c.requires.0 in
-    let gathered = c.in_ok-contents.ensures (laying_order t) c.requires.1 in
-    let small = c.in_ok-check_sizes.ensures.ok (laying_order t) gathered in
+    let gathered = (c.in_ok-contents.ensures.ok t c.requires.1 c.requires.2).0 in
+    let small = (c.in_ok-contents.ensures.ok t c.requires.1 c.requires.2).2 in
     let js = ap nows c.deref-4.ensures.value
-    ∙ (c.in_ok-keys.ensures.ok (keys_of t) c.requires.2).keys in
+    ∙ (c.in_ok-contents.ensures.ok t c.requires.1 c.requires.2).1.keys in
     let room = c.in_ok-bodies.ensures.fits in
     let k = length-padded (key_bytes (nows c.deref.result.now)) in
     record {
@@ -190,15 +172,15 @@ returns-in_err-assemble-clause-err g c =
 
 pub returns-clause-ok : goal.returns-clause-ok
 returns-clause-ok g c = λ t f k.
-    let gathered = c.in_ok-contents.ensures (laying_order t) f in
+    let gathered = (c.in_ok-contents.ensures.ok t f k).0 in
     let ks = c.args.list.now in
     let pooled = c.in_ok-pool.ensures.ok in
     let pool = c.in_ok-pool.field-0.pool.items in
-    let b = c.in_ok-keys.ensures.ok (keys_of t) k in
-    let js = nows c.in_ok-keys.field-0.keys.items in
+    let b = (c.in_ok-contents.ensures.ok t f k).1 in
+    let js = nows c.in_ok-contents.block.keys.items in
     let laid = laid_of c.in_ok-bodies.bodies in
     let texts = gathered.texts_are in
-    let small = c.in_ok-check_sizes.ensures.ok (laying_order t) gathered in
+    let small = (c.in_ok-contents.ensures.ok t f k).2 in
     let end : ℕ = 32 + c.block_length-keys_end.result + 2 *
     (length c.in_ok-bodies.bodies.units.items + length c.in_ok-bodies.bodies.units.items % 2) in
     let room = c.in_ok-bodies.ensures.fits in

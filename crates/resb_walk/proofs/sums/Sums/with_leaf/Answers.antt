@@ -1,8 +1,9 @@
-use Rattle.std.proofs.Common.{refl, length, arith, ◌/◌, ◌≡◌}
+use Rattle.std.proofs.Common.{refl, sym, length, arith, ◌/◌, ◌≡◌}
 use Rattle.std.specs.Prelude.{sum_by}
 use Rattle.resb_format.specs.Bytes.{words_of}
 use Rattle.resb_format.proofs.Spelled.{words_length}
 use Rattle.resb_tree.specs.Tree.{binary, int_vector}
+use Rattle.resb_walk.specs.Inner.Members.{text_of_bytes}
 use Rattle.resb_walk.specs.Pieces.{leaf_piece}
 use Rattle.resb_walk.specs.Sums.{table_count_in, entry_count_in, key_bytes_in, text_bytes_in}
 use Rattle.resb_walk.specs.Sums.{binary_bytes_in, number_count_in}
@@ -39,3 +40,7 @@ returns-in-Numbers c xs h =
           more_sum number_count_in xs x (length bs / 4) _ len
           (c.plus-in-Numbers.ensures (sum_by number_count_in xs) h.numbers);
     })
+
+pub returns-in-Text : goal.returns-in-Text
+returns-in-Text c xs h = rw c.in-Text.is (c.with_text.ensures xs
+    (text_of_bytes c.in-Text.units.now) h (sym c.text_len.ensures))

@@ -11,33 +11,33 @@ returns-in_default-clause-refused c =
     (subst (λ name. HasNoName c.deref.result.now name) c.as_bytes.ensures.value
     c.in_default.ensures))
 
-pub returns-in-Ok-clause-said : goal.returns-in-Ok-clause-said
-returns-in-Ok-clause-said c =
+pub returns-clause-said : goal.returns-clause-said
+returns-clause-said c =
     let named = subst (λ names. IsNumberOf names c.args.name.now c.in-Some.number)
     c.deref.ensures.value
     (subst (λ name. IsNumberOf c.deref.result.now name c.in-Some.number)
     c.as_bytes.ensures.value c.in-Some.ensures) in
-    let leads = subst (λ zones. LeadsTo zones c.in-Some.number c.in-Ok.table.now)
-    c.deref-2.ensures.value c.in-Ok.ensures.said in
+    let leads = subst (λ zones. LeadsTo zones c.in-Some.number c.in_ok-table.table.now)
+    c.deref-2.ensures.value c.in_ok-table.ensures.said in
     IfOk-weaker c.checked.result _ _
     (λ z is.
     record {
       number = c.in-Some.number;
       named = named;
-      fields = c.in-Ok.table.now.0;
-      leads = (c.in-Ok.table.now, leads, refl);
+      fields = c.in_ok-table.table.now.0;
+      leads = (c.in_ok-table.table.now, leads, refl);
       is = is;
     })
     c.checked.ensures.said
 
-pub returns-in-Ok-clause-refused : goal.returns-in-Ok-clause-refused
-returns-in-Ok-clause-refused c =
+pub returns-clause-refused : goal.returns-clause-refused
+returns-clause-refused c =
     let named = subst (λ names. IsNumberOf names c.args.name.now c.in-Some.number)
     c.deref.ensures.value
     (subst (λ name. IsNumberOf c.deref.result.now name c.in-Some.number)
     c.as_bytes.ensures.value c.in-Some.ensures) in
-    let leads = subst (λ zones. LeadsTo zones c.in-Some.number c.in-Ok.table.now)
-    c.deref-2.ensures.value c.in-Ok.ensures.said in
+    let leads = subst (λ zones. LeadsTo zones c.in-Some.number c.in_ok-table.table.now)
+    c.deref-2.ensures.value c.in_ok-table.ensures.said in
     IfErr-weaker c.checked.result _ _
     (λ e fault.
     inr
@@ -45,8 +45,8 @@ returns-in-Ok-clause-refused c =
     record {
       number = c.in-Some.number;
       named = named;
-      fields = c.in-Ok.table.now.0;
-      leads = (c.in-Ok.table.now, leads, refl);
+      fields = c.in_ok-table.table.now.0;
+      leads = (c.in_ok-table.table.now, leads, refl);
       fault = fault;
     }))
     c.checked.ensures.refused

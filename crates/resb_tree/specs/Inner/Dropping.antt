@@ -1,9 +1,15 @@
--- How many resources are still to be dropped.
+-- How many resources are still to be dropped, and which trees are no collections.
 use Rattle.std.specs.Prelude.{ℕ, List}
 use Rattle.std.specs.BTreeMap.{BTreeMap}
-use Rattle.resb_tree.specs.Tree.{tree_count, trees_count, entries_count}
+use Rattle.resb_tree.specs.Tree.{Tree, array, table, tree_count, trees_count, entries_count}
 use Rattle.resb_tree.specs.View.{tree_of, items_view, entries_view}
 use Rattle.resb_tree.specs.declared.resource.Resource.{Resource}
+
+-- no array and no table
+abbrev pub IsNoCollection : Tree → Type 0
+IsNoCollection (array ts) = ⊥
+IsNoCollection (table es) = ⊥
+IsNoCollection t = Unit {0}
 
 -- how many resources a resource is, itself included
 abbrev pub count : Resource → ℕ

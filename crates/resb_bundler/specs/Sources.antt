@@ -11,10 +11,10 @@ use Rattle.resb_text.specs.declared.error.TextParserError.{TextParserError}
 use Rattle.resb_icu_grammar.specs.declared.expected.IcuExpected.{IcuExpected}
 use Rattle.resb_icu_grammar.specs.declared.expected.IcuExpected.TheVariants as icu_expect
 use Rattle.resb_icu_text.specs.declared.error.IcuTextError.{IcuTextError}
-use Rattle.resb.specs.Compiling.{IsRefused}
-use Rattle.resb.specs.CompilingIcu.{IsIcuRefused}
-use Rattle.resb.specs.declared.compiling_icu.IcuCompileError.TheVariants as icu
-use Rattle.resb.specs.declared.compiling.CompileError.TheVariants.{Reading, Writing}
+use Rattle.resb_compile.specs.Compiling.{IsRefused}
+use Rattle.resb_compile.specs.CompilingIcu.{IsIcuRefused}
+use Rattle.resb_compile.specs.declared.compiling_icu.IcuCompileError.TheVariants as icu
+use Rattle.resb_compile.specs.declared.compiling.CompileError.TheVariants.{Reading, Writing}
 use Rattle.resb_bundler.specs.declared.compiling.Blame.{Blame}
 use Rattle.resb_bundler.specs.declared.compiling.Blame.TheVariants.{At, Open, Nowhere}
 use Rattle.resb_bundler.specs.declared.error.SourceError.{SourceError}

@@ -1,8 +1,8 @@
 //! The file of a text that is given as bytes, and where a person is to look if there is none.
 ghost use Rattle.std.specs.Prelude.{◌≡◌, IsUtf8, IfOk, IfErr};
 ghost use Rattle.resb_grammar.specs.Limit.{MadeWithin};
-ghost use Rattle.resb.specs.Compiling.{IsCompiled};
-ghost use Rattle.resb.specs.CompilingIcu.{IsIcuCompiled};
+ghost use Rattle.resb_compile.specs.Compiling.{IsCompiled};
+ghost use Rattle.resb_compile.specs.CompilingIcu.{IsIcuCompiled};
 ghost use Rattle.resb_bundler.specs.Sources as sources;
 ghost use Rattle.resb_bundler.specs.Sources.{IsNoSource, IsNoIcuSource, IsNoSourceWithin, blame_of};
 

@@ -7,7 +7,7 @@ use Rattle.std.specs.Prelude.{◌≡◌, ◌≤◌, ◌<◌, ◌⊎◌, ℕ, Lis
 use Rattle.std.specs.Prelude.{Result, Ok, Err, Option, Some, None, IsUtf8, replicate}
 use Rattle.std.specs.Str.Lossy.{utf8_valid_len}
 use Rattle.resb_grammar.specs.Limit.{MadeWithin, MakesMore}
-use Rattle.resb.specs.Compiling.{IsCompiled, IsRefused}
+use Rattle.resb_compile.specs.Compiling.{IsCompiled, IsRefused}
 use Rattle.resb_read.specs.Roots.{AnswersCount}
 use Rattle.resb_bundler.specs.Files.{HasNoKeys}
 use Rattle.resb_bundler.specs.Summary.{HasNoSummary}

@@ -13,9 +13,9 @@ use Rattle.resb_layout.specs.WritingFault as fault
 use Rattle.resb_write.specs.FaultOf.{fault_of}
 use Rattle.resb_print.specs.declared.error.PrintError.{PrintError}
 use Rattle.resb_print.specs.declared.error.PrintError.TheVariants as print
-use Rattle.resb.specs.declared.compiling.CompileError.{CompileError}
-use Rattle.resb.specs.declared.compiling.CompileError.TheVariants as compiling
-use Rattle.resb.specs.Compiling as compile
+use Rattle.resb_compile.specs.declared.compiling.CompileError.{CompileError}
+use Rattle.resb_compile.specs.declared.compiling.CompileError.TheVariants as compiling
+use Rattle.resb_compile.specs.Compiling as compile
 use Rattle.resb_c.specs.declared.fault.Fault.{Fault}
 use Rattle.resb_c.specs.declared.fault.Fault.TheVariants.{TooShort, NotUtf8, Compiling, Reading}
 use Rattle.resb_c.specs.declared.fault.Fault.TheVariants.{UsesPool, Larger, LargerText, Printing}

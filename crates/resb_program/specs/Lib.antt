@@ -1,7 +1,7 @@
 -- The words of the contracts: what the program is asked, what it writes, and why it fails; and what
 -- the crates below say of files and texts.
 pub use Rattle.hex.specs.Hex
-pub use Rattle.resb.specs.Compiling
+pub use Rattle.resb_compile.specs.Compiling
 pub use Rattle.resb.specs.View
 pub use Rattle.resb_format.specs.Error
 pub use Rattle.resb_head.specs.File

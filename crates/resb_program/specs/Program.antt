@@ -19,8 +19,8 @@ use Rattle.resb_read.specs.Resources.{DenPlace}
 use Rattle.resb_read.specs.Roots.{HoldsAtRoot, RefusesRoot, AnswersCount}
 use Rattle.resb.specs.View.{tree_of}
 use Rattle.resb.specs.declared.bundle.Resource.{Resource}
-use Rattle.resb.specs.Compiling as compiling
-use Rattle.resb.specs.Compiling.{IsCompiled, IsRefused}
+use Rattle.resb_compile.specs.Compiling as compiling
+use Rattle.resb_compile.specs.Compiling.{IsCompiled, IsRefused}
 use Rattle.resb_program.specs.declared.fault.ToolError.{ToolError}
 use Rattle.resb_program.specs.declared.fault.ToolError.TheVariants.{Input, Output, NotUtf8}
 use Rattle.resb_program.specs.declared.fault.ToolError.TheVariants.{Compiling, Checking, Memory}

@@ -4,7 +4,7 @@ ghost use Rattle.std.specs.Prelude.{◌≡◌, ◌≢◌, ◌⊎◌, ℕ, List, 
 ghost use Rattle.std.specs.Prelude.{Ok, true, IfOk, OnOk, IfErr, IfSome, IsUtf8, IsOkUnless};
 ghost use Rattle.std.specs.Io.KnownBytes.{Appends, Consumes, IsAtEnd, Keeps};
 ghost use Rattle.hex.specs.Hex.{encode_lower};
-ghost use Rattle.resb.specs.Compiling.{IsCompiled};
+ghost use Rattle.resb_compile.specs.Compiling.{IsCompiled};
 ghost use Rattle.resb_program.specs.Program.{IsNoInput, Writes, HasReason};
 ghost use Rattle.resb_read.specs.Roots.{AnswersTree};
 ghost use Rattle.resb_program.specs.Program.{CountsFile, ReadsCounted, Agrees, HasCount};

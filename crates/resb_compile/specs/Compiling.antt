@@ -15,10 +15,10 @@ use Rattle.resb_layout.specs.TreeFaults.{RefusesWriting}
 use Rattle.resb_layout.specs.WritingFault as fault
 use Rattle.resb_write.specs.FaultOf.{fault_of}
 use Rattle.resb_write.specs.declared.error.BinarySerializerError.{BinarySerializerError}
-use Rattle.resb.specs.declared.compiling.CompileError.{CompileError}
-use Rattle.resb.specs.declared.compiling.CompileError.TheVariants.{Reading, Writing}
-use Rattle.resb.specs.declared.compiling.CompileWithinError.{CompileWithinError}
-use Rattle.resb.specs.declared.compiling.CompileWithinError.TheVariants as within
+use Rattle.resb_compile.specs.declared.compiling.CompileError.{CompileError}
+use Rattle.resb_compile.specs.declared.compiling.CompileError.TheVariants.{Reading, Writing}
+use Rattle.resb_compile.specs.declared.compiling.CompileWithinError.{CompileWithinError}
+use Rattle.resb_compile.specs.declared.compiling.CompileWithinError.TheVariants as within
 
 -- the bundle that a text is
 pub record IsBundle (text : List ℕ) : Type 0 where

@@ -1,7 +1,7 @@
 //! From a text of ICU's form to the bytes of its file: that form's reader, and then the writer with
 //! the discovered keys. The way from a text of the other form is in `compiling`.
 ghost use Rattle.std.specs.Prelude.{Some, IfOk, IfErr};
-ghost use Rattle.resb.specs.CompilingIcu.{IsIcuCompiled, IsIcuRefused, message_of};
+ghost use Rattle.resb_compile.specs.CompilingIcu.{IsIcuCompiled, IsIcuRefused, message_of};
 
 use resb_icu_text::{IcuReader, IcuTextError};
 use resb_write::{BinarySerializerError, Serializer};
@@ -33,7 +33,7 @@ impl Error for IcuCompileError {}
 
 impl From<IcuTextError> for IcuCompileError {
     ghost use Rattle.std.specs.Prelude.{◌≡◌};
-    ghost use Rattle.resb.specs.declared.compiling_icu.IcuCompileError.TheVariants.{Reading};
+    ghost use Rattle.resb_compile.specs.declared.compiling_icu.IcuCompileError.TheVariants.{Reading};
 
     ghost from_gives = { λ e made. made ≡ Reading e };
 
@@ -44,7 +44,7 @@ impl From<IcuTextError> for IcuCompileError {
 
 impl From<BinarySerializerError> for IcuCompileError {
     ghost use Rattle.std.specs.Prelude.{◌≡◌};
-    ghost use Rattle.resb.specs.declared.compiling_icu.IcuCompileError.TheVariants.{Writing};
+    ghost use Rattle.resb_compile.specs.declared.compiling_icu.IcuCompileError.TheVariants.{Writing};
 
     ghost from_gives = { λ e made. made ≡ Writing e };
 

@@ -3,8 +3,8 @@ use Rattle.resb_draft.specs.Drafts.{draft_tree}
 use Rattle.resb_layout.specs.Written.{Written}
 use Rattle.resb_layout.specs.TreeFaults.{RefusesWriting}
 use Rattle.resb_write.specs.FaultOf.{fault_of}
-use Rattle.resb.proofs.Reasons.{unwritable}
-use Rattle.resb.proofs.compiling.compile_within.Goals as goal
+use Rattle.resb_compile.proofs.Reasons.{unwritable}
+use Rattle.resb_compile.proofs.compiling.compile_within.Goals as goal
 
 pub returns-in-Ok-draft_to_bytes-clause-ok : goal.returns-in-Ok-draft_to_bytes-clause-ok
 returns-in-Ok-draft_to_bytes-clause-ok c =

@@ -3,8 +3,8 @@
 //! What a text and a file are, and each half of the way, is in the crates below.
 ghost use Rattle.std.specs.Prelude.{Some, IfOk, IfErr};
 ghost use Rattle.resb_grammar.specs.Limit.{MadeWithin};
-ghost use Rattle.resb.specs.Compiling.{IsCompiled, IsRefused, IsRefusedWithin, message_of};
-ghost use Rattle.resb.specs.Compiling.{within_message_of};
+ghost use Rattle.resb_compile.specs.Compiling.{IsCompiled, IsRefused, IsRefusedWithin, message_of};
+ghost use Rattle.resb_compile.specs.Compiling.{within_message_of};
 
 use resb_text::{LimitError, Reader, TextParserError};
 use resb_write::{BinarySerializerError, Serializer};
@@ -36,7 +36,7 @@ impl Error for CompileError {}
 
 impl From<TextParserError> for CompileError {
     ghost use Rattle.std.specs.Prelude.{◌≡◌};
-    ghost use Rattle.resb.specs.declared.compiling.CompileError.TheVariants.{Reading};
+    ghost use Rattle.resb_compile.specs.declared.compiling.CompileError.TheVariants.{Reading};
 
     ghost from_gives = { λ e made. made ≡ Reading e };
 
@@ -47,7 +47,7 @@ impl From<TextParserError> for CompileError {
 
 impl From<BinarySerializerError> for CompileError {
     ghost use Rattle.std.specs.Prelude.{◌≡◌};
-    ghost use Rattle.resb.specs.declared.compiling.CompileError.TheVariants.{Writing};
+    ghost use Rattle.resb_compile.specs.declared.compiling.CompileError.TheVariants.{Writing};
 
     ghost from_gives = { λ e made. made ≡ Writing e };
 

@@ -10,16 +10,16 @@ use Rattle.resb_layout.specs.TreeFaults.{RefusesWriting, no_memory, at_the_first
 use Rattle.resb_write.proofs.Listed.{not_unlisted as no_fault, not_memory, not_large}
 use Rattle.resb_write.specs.FaultOf.{fault_of}
 use Rattle.resb_write.specs.declared.error.BinarySerializerError.{BinarySerializerError}
-use Rattle.resb.specs.Compiling.{IsRefused, IsUnwritable}
-use Rattle.resb.specs.declared.compiling.CompileError.{CompileError}
-use Rattle.resb.specs.declared.compiling.CompileError.TheVariants.{Writing}
+use Rattle.resb_compile.specs.Compiling.{IsRefused, IsUnwritable}
+use Rattle.resb_compile.specs.declared.compiling.CompileError.{CompileError}
+use Rattle.resb_compile.specs.declared.compiling.CompileError.TheVariants.{Writing}
 use Rattle.resb_grammar.proofs.Listed.{listed}
 use Rattle.resb_icu_grammar.specs.Bundle.{IcuText}
 use Rattle.resb_icu_grammar.proofs.Listed.{listed as icu_listed}
 use Rattle.resb_icu_text.specs.declared.error.IcuTextError.{IcuTextError}
-use Rattle.resb.specs.CompilingIcu.{IsIcuRefused, IsIcuUnreadable, IsIcuUnwritable}
-use Rattle.resb.specs.declared.compiling_icu.IcuCompileError.{IcuCompileError}
-use Rattle.resb.specs.declared.compiling_icu.IcuCompileError.TheVariants as icu
+use Rattle.resb_compile.specs.CompilingIcu.{IsIcuRefused, IsIcuUnreadable, IsIcuUnwritable}
+use Rattle.resb_compile.specs.declared.compiling_icu.IcuCompileError.{IcuCompileError}
+use Rattle.resb_compile.specs.declared.compiling_icu.IcuCompileError.TheVariants as icu
 
 -- a tree whose keys are listed is not refused for one that isn't
 pub never_unlisted : (t : Tree) (ks : List (List ℕ))

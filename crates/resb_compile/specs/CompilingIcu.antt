@@ -13,8 +13,8 @@ use Rattle.resb_layout.specs.TreeFaults.{RefusesWriting}
 use Rattle.resb_layout.specs.WritingFault as fault
 use Rattle.resb_write.specs.FaultOf.{fault_of}
 use Rattle.resb_write.specs.declared.error.BinarySerializerError.{BinarySerializerError}
-use Rattle.resb.specs.declared.compiling_icu.IcuCompileError.{IcuCompileError}
-use Rattle.resb.specs.declared.compiling_icu.IcuCompileError.TheVariants.{Reading, Writing}
+use Rattle.resb_compile.specs.declared.compiling_icu.IcuCompileError.{IcuCompileError}
+use Rattle.resb_compile.specs.declared.compiling_icu.IcuCompileError.TheVariants.{Reading, Writing}
 
 -- the bundle that a text of ICU's form is
 pub record IsIcuBundle (text : List ℕ) : Type 0 where

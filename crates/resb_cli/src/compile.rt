@@ -3,51 +3,18 @@
 use crate::progress::Progress;
 use crate::say::{complain, refuse, warn};
 use crate::streams::{is_same_file, read_input, write_output};
-use crate::words::limit_of;
-use clap::ArgMatches;
 use resb_bundler::{SourceError, compile_icu_source, compile_source, compile_source_within};
+use resb_words::CompileWords;
 use std::collections::BTreeSet;
 use std::path::Path;
 
-/// What the words ask of each text.
-#[derive(Clone, Copy)]
-struct Wanted<'w> {
-    /// The file of the one text.
-    output: Option<&'w str>,
-    /// The folder for the files.
-    folder: Option<&'w str>,
-    /// Whether the texts are in ICU's own form.
-    icu: bool,
-    /// The most bytes that reading a text may make.
-    limit: Option<u64>,
-}
-
 /// Compiles each text. One that fails doesn't stop the others; the status says whether one did.
-pub(crate) fn compile(rt: &HostRuntime, matches: &ArgMatches<'_>) -> u8 {
+pub(crate) fn compile(rt: &HostRuntime, wanted: &CompileWords<'_>) -> u8 {
     let mut status = 0;
-    let limit = match limit_of(rt, matches) {
-        Ok(limit) => limit,
-        Err(status) => return status,
-    };
-    let wanted = Wanted {
-        output: matches.get_str("OUT"),
-        folder: matches.get_str("DIR"),
-        icu: matches.get_flag("ICU"),
-        limit,
-    };
-    let texts = matches.get_strs("FILE").unwrap_or(&[]);
-    if wanted.output.is_some() && texts.len() > 1 {
-        complain(
-            rt,
-            "resb",
-            "--output is for one text; --directory is for several",
-        );
-        return 2;
-    }
-    let mut progress = Progress::new(rt, texts.len());
+    let mut progress = Progress::new(rt, wanted.texts.len());
     let mut taken = BTreeSet::new(rt.alloc());
-    for text in texts.iter().copied() {
-        status = status.max(compile_one(rt, text, &wanted, &mut taken));
+    for name in wanted.texts.iter().copied() {
+        status = status.max(compile_one(rt, name, wanted, &mut taken));
         progress.one_more(rt);
     }
     progress.end(rt);
@@ -58,7 +25,7 @@ pub(crate) fn compile(rt: &HostRuntime, matches: &ArgMatches<'_>) -> u8 {
 fn compile_one(
     rt: &HostRuntime,
     name: &str,
-    wanted: &Wanted<'_>,
+    wanted: &CompileWords<'_>,
     taken: &mut BTreeSet<String>,
 ) -> u8 {
     let Some(output) = output_of(rt, name, wanted.output, wanted.folder) else {
@@ -86,7 +53,7 @@ fn compile_one(
             1
         }
         Ok(file) => {
-            if !wanted.icu
+            if !wanted.is_icu
                 && let Ok(text) = str::from_utf8(source.as_slice())
             {
                 warn(rt, name, text);
@@ -97,8 +64,8 @@ fn compile_one(
 }
 
 /// The bytes of a text's file, where reading the text keeps within the limit, if there is one.
-fn file_of(rt: &HostRuntime, source: &[u8], wanted: &Wanted<'_>) -> Result<Vec<u8>, SourceError> {
-    if wanted.icu {
+fn file_of(rt: &HostRuntime, source: &[u8], wanted: &CompileWords<'_>) -> Result<Vec<u8>, SourceError> {
+    if wanted.is_icu {
         return compile_icu_source(rt.alloc(), source);
     }
     match wanted.limit {

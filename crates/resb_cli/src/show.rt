@@ -3,8 +3,6 @@
 use crate::progress::Progress;
 use crate::say::{complain, say_no_text};
 use crate::streams::{read_input, write_output};
-use crate::words::limit_of;
-use clap::ArgMatches;
 use resb::binary::{FormatVersion, measure};
 use resb::bundle::{Resource, ResourceBundle};
 use resb::text::{
@@ -13,13 +11,13 @@ use resb::text::{
 use resb_bundler::{
     Found, JsonError, Summary, count_file, find, json_text, read_file, read_file_within, summary_of,
 };
+use resb_words::{DumpWords, GetWords};
 use std::borrow::CowStr;
 use std::path::Path;
 
 /// Says of each file what it is, a line each.
-pub(crate) fn check(rt: &HostRuntime, matches: &ArgMatches<'_>) -> u8 {
+pub(crate) fn check(rt: &HostRuntime, names: &[&str]) -> u8 {
     let mut status = 0;
-    let names = matches.get_strs("FILE").unwrap_or(&[]);
     let mut progress = Progress::new(rt, names.len());
     for name in names.iter().copied() {
         status = status.max(check_one(rt, name));
@@ -133,17 +131,16 @@ fn settled(answer: Result<u8, u8>) -> u8 {
 }
 
 /// Prints a file's text, or its JSON where it has none.
-pub(crate) fn dump(rt: &HostRuntime, matches: &ArgMatches<'_>) -> u8 {
-    settled(dump_file(rt, matches))
+pub(crate) fn dump(rt: &HostRuntime, wanted: &DumpWords<'_>) -> u8 {
+    settled(dump_file(rt, wanted))
 }
 
 /// The same: the status, or that of a file without a tree.
-fn dump_file(rt: &HostRuntime, matches: &ArgMatches<'_>) -> Result<u8, u8> {
-    let name = matches.get_str("FILE").ok_or(2)?;
-    let limit = limit_of(rt, matches)?;
+fn dump_file(rt: &HostRuntime, wanted: &DumpWords<'_>) -> Result<u8, u8> {
+    let name = wanted.file;
     let file = input(rt, name)?;
-    let tree = tree(rt, name, file.as_slice(), limit)?;
-    if matches.get_flag("json") {
+    let tree = tree(rt, name, file.as_slice(), wanted.limit)?;
+    if wanted.is_json {
         return Ok(show_json(rt, name, &tree));
     }
     let has_fallback = match summary_of(file.as_slice()) {
@@ -153,7 +150,7 @@ fn dump_file(rt: &HostRuntime, matches: &ArgMatches<'_>) -> Result<u8, u8> {
     let stem = Path::new(name).file_stem().unwrap_or("bundle");
     let bundle_name = if name == "-" { "bundle" } else { stem };
     let bundle = ResourceBundle::new(CowStr::Borrowed(bundle_name), tree, has_fallback);
-    if matches.get_flag("ICU") {
+    if wanted.is_icu {
         return Ok(show_icu(rt, name, &bundle));
     }
     Ok(match print_text(rt.alloc(), &bundle) {
@@ -199,17 +196,15 @@ fn show_json(rt: &HostRuntime, name: &str, resource: &Resource<'_>) -> u8 {
 }
 
 /// Prints what stands at a path: a string as it is, a number with its sign, all else as JSON.
-pub(crate) fn get(rt: &HostRuntime, matches: &ArgMatches<'_>) -> u8 {
-    settled(get_found(rt, matches))
+pub(crate) fn get(rt: &HostRuntime, wanted: &GetWords<'_>) -> u8 {
+    settled(get_found(rt, wanted))
 }
 
 /// The same: the status, or that of a file without a tree.
-fn get_found(rt: &HostRuntime, matches: &ArgMatches<'_>) -> Result<u8, u8> {
-    let name = matches.get_str("FILE").ok_or(2)?;
-    let path = matches.get_str("PATH").ok_or(2)?;
-    let limit = limit_of(rt, matches)?;
+fn get_found(rt: &HostRuntime, wanted: &GetWords<'_>) -> Result<u8, u8> {
+    let (name, path) = (wanted.file, wanted.path);
     let file = input(rt, name)?;
-    let tree = tree(rt, name, file.as_slice(), limit)?;
+    let tree = tree(rt, name, file.as_slice(), wanted.limit)?;
     let Ok(names) = path.split('/').collect::<Vec<&str>>(rt.alloc()) else {
         return Ok(refuse_memory(rt, name));
     };

@@ -197,8 +197,9 @@ def page():
     library = Library()
     text = HEAD
     top = CRATES / "resb" / "src"
-    modules = [("`resb`", top / "compiling.rt"),
-               ("`resb`, ICU's own texts", top / "compiling_icu.rt"),
+    compile = CRATES / "resb_compile" / "src"
+    modules = [("`resb`", compile / "compiling.rt"),
+               ("`resb`, ICU's own texts", compile / "compiling_icu.rt"),
                ("`resb::headline`", top / "headline.rt"),
                ("`resb::bundle`", top / "bundle.rt"), ("`resb::text`", top / "text.rt"),
                ("`resb::binary`", top / "binary.rt")]

@@ -293,7 +293,8 @@ def law_roots(specs, path):
 LIBRARIES = ["resb_tree", "resb_draft", "resb_grammar", "resb_icu_grammar",
              "resb_text", "resb_icu_text",
              "resb_print", "resb_icu_print", "resb_format", "resb_head", "resb_layout", "resb_pool",
-             "resb_shared", "resb_walk", "resb_read", "resb_fields", "resb_write", "resb"]
+             "resb_shared", "resb_walk", "resb_read", "resb_fields", "resb_write", "resb_compile",
+             "resb"]
 
 
 def table(specs):

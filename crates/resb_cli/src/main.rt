@@ -1,6 +1,5 @@
 //! The program `resb` that people call: compile, check, dump, get.
-//! What its words ask for is in `resb_words`, what it does with bytes in `resb_bundler`, and what it
-//! says of texts in `resb_report`.
+//! What its words ask for is in `resb_words`, and what it does with bytes in `resb_program`.
 #![tactic(auto)]
 
 mod compile;
@@ -31,8 +30,7 @@ fn words_of<R: Env + AllocGlobal>(rt: &R) -> io::Result<Vec<String>> {
 /// and streams that fail.
 fn perform(rt: &HostRuntime) -> u8 {
     let Ok(words) = words_of(rt) else {
-        say::complain(rt, "resb", "its words cannot be read");
-        return 2;
+        return say::fail(rt, "resb", "its words cannot be read");
     };
     match request_of(rt.alloc(), words.as_slice()) {
         Ok(request) => perform_request(rt, &request),

@@ -6,8 +6,6 @@
 mod icu_print_rows;
 #[cfg(test)]
 mod print_rows;
-#[cfg(test)]
-mod report_rows;
 pub mod rows;
 #[cfg(test)]
 mod text_rows;

@@ -1,10 +1,9 @@
 //! What the program `resb` does with the bytes of a text and of its file, within a limit.
 //! The tests are in `rows`.
 use resb::bundle::Resource;
-use resb_bundler::{
-    Blame, FileError, Found, SourceError, compile_icu_source, compile_source,
-    compile_source_within, count_file, find, json_text, read_file, read_file_within, summary_of,
-    where_to_look,
+use resb_program::{
+    Blame, Found, SourceError, compile_icu_source, compile_source, compile_source_within,
+    count_file, find, json_text, read_bundle, where_to_look,
 };
 use std::alloc::Global;
 use std::test::Fail;
@@ -55,14 +54,6 @@ fn file_of(alloc: Global, text: &str, limit: u64) -> Result<Vec<u8>, SourceError
     compile_source_within(alloc, text.as_bytes(), limit)
 }
 
-/// The tree of a file.
-fn tree_of<'f>(alloc: Global, file: &'f [u8], limit: u64) -> Result<Resource<'f>, FileError> {
-    if limit == 0 {
-        return read_file(alloc, file);
-    }
-    read_file_within(alloc, file, limit)
-}
-
 /// The line of a row.
 pub(crate) fn line_of_bundle(alloc: Global, input: &str) -> Result<String, Fail> {
     let (path, rest) = input.split_once(' ').ok_or("a row without a path")?;
@@ -91,12 +82,12 @@ fn line_of_refusal(alloc: Global, text: &str, error: SourceError) -> Result<Stri
 
 /// The line of a file.
 fn line_of_file(alloc: Global, file: &[u8], limit: u64, path: &str) -> Result<String, Fail> {
-    let summary = summary_of(file)?;
-    let count = count_file(alloc, file)?;
+    let (count, summary) = count_file(alloc, file)?;
     let (largest, fallback) = (summary.largest_table, summary.has_fallback);
-    let tree = tree_of(alloc, file, limit)?;
-    let json = json_of(alloc, &tree)?;
-    let found = found_of(alloc, &tree, path)?;
+    let limit = (limit != 0).then_some(limit);
+    let bundle = read_bundle(alloc, "b", file, limit)?;
+    let json = json_of(alloc, bundle.root())?;
+    let found = found_of(alloc, bundle.root(), path)?;
     Ok(format!(in alloc; "{count} {largest} {fallback} {json} {found}")?)
 }
 

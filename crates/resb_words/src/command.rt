@@ -5,30 +5,46 @@ use std::alloc::{AllocError, Global};
 
 /// The program's words.
 pub(crate) fn program<'a>(alloc: Global) -> Result<Command<'a>, AllocError> {
-    Command::new(alloc, "resb")
+    let program = Command::new(alloc, "resb")
         .version("0.2.0")
         .about("Compiles ICU resource bundles, checks them, and shows what is in them.")
         .subcommand_required(true)
-        .arg_required_else_help(true)
-        .subcommand(compile(alloc)?)?
-        .subcommand(check(alloc)?)?
-        .subcommand(dump(alloc)?)?
-        .subcommand(get(alloc)?)
+        .arg_required_else_help(true);
+    let program = with(program, compile(alloc))?;
+    let program = with(program, check(alloc))?;
+    let program = with(program, dump(alloc))?;
+    with(program, get(alloc))
+}
+
+/// A command with one more below it.
+fn with<'a>(
+    command: Command<'a>,
+    below: Result<Command<'a>, AllocError>,
+) -> Result<Command<'a>, AllocError> {
+    command.subcommand(below?)
+}
+
+/// A command with one argument more.
+fn with_arg<'a>(
+    command: Command<'a>,
+    arg: Result<Arg<'a>, AllocError>,
+) -> Result<Command<'a>, AllocError> {
+    command.arg(arg?)
 }
 
 /// Texts to files.
 fn compile<'a>(alloc: Global) -> Result<Command<'a>, AllocError> {
-    Command::new(alloc, "compile")
+    let command = Command::new(alloc, "compile")
         .about("Compiles texts of bundles into .res files")
         .after_help("Example: resb compile root.txt de.txt -d out")
         .arg(several(alloc, "Texts of bundles; '-' is standard input"))?
-        .arg(output(alloc))?
-        .arg(folder(alloc)?)?
-        .arg(icu_texts(alloc)?)?
-        .arg(limit(
-            alloc,
-            "Refuses a text whose reading takes more bytes of memory than this",
-        ))
+        .arg(output(alloc))?;
+    let command = with_arg(command, folder(alloc))?;
+    let command = with_arg(command, icu_texts(alloc))?;
+    command.arg(limit(
+        alloc,
+        "Refuses a text whose reading takes more bytes of memory than this",
+    ))
 }
 
 /// What is said of files.
@@ -41,13 +57,13 @@ fn check<'a>(alloc: Global) -> Result<Command<'a>, AllocError> {
 
 /// Files to texts.
 fn dump<'a>(alloc: Global) -> Result<Command<'a>, AllocError> {
-    Command::new(alloc, "dump")
+    let command = Command::new(alloc, "dump")
         .about("Prints the text of a .res file, or JSON where it has none")
         .after_help("Example: resb dump out/root.res")
         .arg(file(alloc, "A .res file; '-' is standard input"))?
-        .arg(json(alloc))?
-        .arg(icu_text(alloc)?)?
-        .arg(tree_limit(alloc))
+        .arg(json(alloc))?;
+    let command = with_arg(command, icu_text(alloc))?;
+    command.arg(tree_limit(alloc))
 }
 
 /// One thing of a file.

@@ -1,3 +1,2 @@
 -- For this crate alone.
-mod Reasons
 mod ReadBack

@@ -28,7 +28,7 @@ use Rattle.resb_read.specs.Reading.{LacksOrMemory}
 use Rattle.resb_read.specs.Resources.{ReadsTree, CountsTree}
 use Rattle.resb_read.specs.Roots.{HoldsAtRoot}
 use Rattle.resb_layout.specs.Written.{Written}
-use Rattle.resb.specs.Compiling.{IsCompiled}
+use Rattle.resb_compile.specs.Compiling.{IsCompiled}
 
 -- what reading a file as a tree promises: a tree at the root, paid for, or memory, or no such tree
 abbrev pub ReadsRoot : List ℕ → Result Resource ReadingError → Type 0

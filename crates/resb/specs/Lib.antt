@@ -111,7 +111,7 @@ pub use Rattle.resb_layout.specs.WrittenHead
 pub use Rattle.resb_layout.specs.Written
 pub use Rattle.resb_write.specs.FaultOf
 pub use Rattle.resb_write.specs.Laws as WriteLaws
-pub mod Compiling
-pub mod CompilingIcu
+pub use Rattle.resb_compile.specs.Compiling
+pub use Rattle.resb_compile.specs.CompilingIcu
 pub mod Headline
 pub mod Laws

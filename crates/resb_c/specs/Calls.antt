@@ -7,10 +7,9 @@ use Rattle.std.specs.Prelude.{◌≡◌, ◌≤◌, ◌<◌, ◌⊎◌, ℕ, Lis
 use Rattle.std.specs.Prelude.{Result, Ok, Err, Option, Some, None, IsUtf8, replicate}
 use Rattle.std.specs.Str.Lossy.{utf8_valid_len}
 use Rattle.resb_grammar.specs.Limit.{MadeWithin, MakesMore}
-use Rattle.resb.specs.Compiling.{IsCompiled, IsRefused}
+use Rattle.resb_compile.specs.Compiling.{IsCompiled, IsRefused}
 use Rattle.resb_read.specs.Roots.{AnswersCount}
-use Rattle.resb_bundler.specs.Files.{HasNoKeys}
-use Rattle.resb_bundler.specs.Summary.{HasNoSummary}
+use Rattle.resb_program.specs.Files.{HasNoKeys}
 use Rattle.resb_c.specs.Faults.{number_of, place_of, message_of}
 use Rattle.resb_c.specs.declared.fault.Fault.{Fault}
 use Rattle.resb_c.specs.declared.fault.Fault.TheVariants.{TooShort, NotUtf8, Compiling, Reading}
@@ -46,12 +45,6 @@ CompilesWithin text limit old new (Ok n) =
 CompilesWithin text limit old new (Err LargerText) =
     IsUtf8 text × MakesMore text limit × (MadeWithin text limit → ⊥) × (new ≡ old)
 CompilesWithin text limit old new (Err fault) = CompilesInto text old new (Err fault)
-
--- the file uses the keys of a pool bundle, or its head is refused
-abbrev pub HasNoOwnSummary : List ℕ → Fault → Type 0
-HasNoOwnSummary file UsesPool = HasNoKeys file
-HasNoOwnSummary file (Reading e) = HasNoSummary file e
-HasNoOwnSummary file _ = ⊥
 
 -- the number of resources of the file's tree, the reader's refusal, or that the file has no keys
 abbrev pub CountsFile : List ℕ → Result ℕ Fault → Type 0

@@ -1,20 +1,16 @@
 -- What printing a file's tree to a buffer answers.
 --     IsBundleToDump file name limit b  the bundle is the file's tree, under that name
 --     DumpsInto file name limit old new r    what printing it to a buffer answers, and leaves there
-use Rattle.std.specs.Prelude.{◌≡◌, ◌⊎◌, ℕ, List, false, Result, Ok, Err}
+use Rattle.std.specs.Prelude.{◌≡◌, ◌⊎◌, ℕ, List, Some, Result, Ok, Err}
 use Rattle.resb_tree.specs.Bundle.{name_of, root_of}
-use Rattle.resb_tree.specs.View.{tree_of}
 use Rattle.resb_tree.specs.declared.bundle.ResourceBundle.{ResourceBundle}
-use Rattle.resb_tree.specs.declared.resource.Resource.{Resource}
 use Rattle.resb_grammar.specs.BundleText.{BundleText}
 use Rattle.resb_print.specs.Laws.{HasNoText}
 use Rattle.resb_print.specs.declared.error.PrintError.{PrintError}
 use Rattle.resb_print.specs.declared.error.PrintError.TheVariants.{OutOfMemory}
-use Rattle.resb_read.specs.Measuring.{TreeWithin, TakesMore}
+use Rattle.resb_read.specs.Measuring.{TakesMore}
 use Rattle.resb_read.specs.Roots.{AnswersTree}
-use Rattle.resb_bundler.specs.Files.{HasNoKeys}
-use Rattle.resb_bundler.specs.Summary.{Summarizes, HasNoSummary}
-use Rattle.resb_bundler.specs.declared.summary.Summary.{Summary}
+use Rattle.resb_program.specs.Files.{HasNoKeys, IsOwnBundle}
 use Rattle.resb_c.specs.Calls.{Fills, IsNotUtf8}
 use Rattle.resb_c.specs.declared.fault.Fault.{Fault}
 use Rattle.resb_c.specs.declared.fault.Fault.TheVariants.{TooShort, NotUtf8, Reading, UsesPool}
@@ -22,21 +18,14 @@ use Rattle.resb_c.specs.declared.fault.Fault.TheVariants.{Larger, Printing}
 
 -- the bundle has this name, the file's tree, which takes no more bytes than the limit, and the
 -- fallback flag of the file's head
-pub record IsBundleToDump (file name : List ℕ) (limit : ℕ) (b : ResourceBundle) : Type 0 where
-  pub tree : Resource
-  pub summary : Summary
-  pub reads : TreeWithin file limit (Ok tree)
-  pub summarizes : Summarizes file summary
-  pub own : summary.uses_pool ≡ false
-  pub named : name_of b ≡ name
-  pub root : root_of b ≡ tree_of tree
-  pub flag : b.is_locale_fallback_enabled ≡ summary.has_fallback
+abbrev pub IsBundleToDump : List ℕ → List ℕ → ℕ → ResourceBundle → Type 0
+IsBundleToDump file name limit b = IsOwnBundle file name (Some limit) b
 
--- the file has no keys of its own, its head is refused, the reader refuses it, or its tree takes
--- more bytes than the limit
+-- the file has no keys of its own, the reader refuses it, or its tree takes more bytes than the
+-- limit
 abbrev pub HasNoBundle : List ℕ → ℕ → Fault → Type 0
 HasNoBundle file limit UsesPool = HasNoKeys file
-HasNoBundle file limit (Reading e) = HasNoSummary file e ⊎ AnswersTree file (Err e)
+HasNoBundle file limit (Reading e) = AnswersTree file (Err e)
 HasNoBundle file limit Larger = TakesMore file limit
 HasNoBundle file limit _ = ⊥
 

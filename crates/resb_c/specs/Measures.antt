@@ -1,14 +1,13 @@
 -- What measuring a file answers, and the numbers that the caller gets of it.
 --     MeasuresFile file r     what measuring a file answers
 --     ShowsSums r c           the numbers that the caller gets of an answer
-use Rattle.std.specs.Prelude.{◌≡◌, ◌⊎◌, ◌-◌, ◌^◌, ℕ, List, Option, unwrap_or, Result, Ok, Err}
+use Rattle.std.specs.Prelude.{◌≡◌, ◌-◌, ◌^◌, ℕ, List, Option, unwrap_or, Result, Ok, Err}
 use Rattle.resb_walk.specs.Pieces.{Piece}
 use Rattle.resb_walk.specs.Sums.{fitting}
 use Rattle.resb_walk.specs.TreeBytes.{tree_bytes}
 use Rattle.resb_read.specs.Measuring.{IsMeasured, AnswersMeasure}
 use Rattle.resb_read.specs.declared.measuring.Measured.{Measured}
-use Rattle.resb_bundler.specs.Files.{HasNoKeys}
-use Rattle.resb_bundler.specs.Summary.{HasNoSummary}
+use Rattle.resb_program.specs.Files.{HasNoKeys}
 use Rattle.resb_c.specs.declared.fault.Fault.{Fault}
 use Rattle.resb_c.specs.declared.fault.Fault.TheVariants.{Reading, UsesPool}
 use Rattle.resb_c.specs.declared.measured.ResbMeasured.{ResbMeasured}
@@ -17,7 +16,7 @@ use Rattle.resb_c.specs.declared.measured.ResbMeasured.{ResbMeasured}
 abbrev pub MeasuresFile : List ℕ → Result Measured Fault → Type 0
 MeasuresFile file (Ok m) = AnswersMeasure file (Ok m)
 MeasuresFile file (Err UsesPool) = HasNoKeys file
-MeasuresFile file (Err (Reading e)) = HasNoSummary file e ⊎ AnswersMeasure file (Err e)
+MeasuresFile file (Err (Reading e)) = AnswersMeasure file (Err e)
 MeasuresFile file (Err _) = ⊥
 
 -- a sum, or the greatest number of 64 bits where it doesn't fit

@@ -3,9 +3,11 @@
 ghost use Rattle.std.specs.Prelude.{◌≡◌};
 ghost use Rattle.resb_c.specs.Faults.{message_of, number_of, place_of};
 
-use resb::CompileError;
-use resb::binary::{BinaryDeserializerError, ErrorKind};
-use resb::text::{Expected, PrintError};
+use resb_compile::CompileError;
+use resb_format::{BinaryDeserializerError, ErrorKind};
+use resb_grammar::Expected;
+use resb_print::PrintError;
+use resb_program::FileError;
 use std::error::Error;
 use std::fmt;
 
@@ -94,3 +96,18 @@ impl fmt::Display for Fault {
 }
 
 impl Error for Fault {}
+
+impl From<FileError> for Fault {
+    ghost use Rattle.std.specs.Prelude.{◌≡◌};
+    ghost use Rattle.resb_c.specs.Faults.{file_fault};
+
+    ghost from_gives = { λ e made. made ≡ file_fault e };
+
+    fn from(e: FileError) -> Fault {
+        match e {
+            FileError::UsesPool => Fault::UsesPool,
+            FileError::Larger { .. } => Fault::Larger,
+            FileError::Reading(e) => Fault::Reading(e),
+        }
+    }
+}

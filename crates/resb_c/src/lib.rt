@@ -5,7 +5,7 @@
 
 ghost use Rattle.std.specs.Prelude.{◌≡◌, ℕ, Result, length, min};
 ghost use Rattle.resb_read.specs.declared.measuring.Measured.{Measured};
-ghost use Rattle.resb_report.specs.Location.{line_at, column_at};
+ghost use Rattle.resb_program.specs.Location.{line_at, column_at};
 ghost use Rattle.resb_c.specs.Calls.{CompilesInto, CompilesWithin, CountsFile, Reports};
 ghost use Rattle.resb_c.specs.Dumping.{DumpsInto};
 ghost use Rattle.resb_c.specs.Measures.{MeasuresFile, ShowsSums, resources_of};
@@ -20,7 +20,7 @@ use crate::report::report;
 pub use fault::Fault;
 pub use measured::ResbMeasured;
 pub use report::ResbError;
-use resb_report::location_of;
+use resb_program::location_of;
 use std::alloc::Global;
 
 /// Compiles a bundle's text to the front of `out`. `length` gets the file's length, for

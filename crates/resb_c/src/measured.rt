@@ -4,7 +4,7 @@ ghost use Rattle.std.specs.Prelude.{◌≡◌};
 ghost use Rattle.resb_c.specs.Measures.{ShowsSums, shown_sum};
 
 use crate::fault::Fault;
-use resb::binary::Measured;
+use resb_read::Measured;
 
 /// What a file's tree adds up to. A sum that doesn't fit in 64 bits is the greatest number that
 /// does.

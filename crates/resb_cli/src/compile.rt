@@ -1,53 +1,20 @@
 //! The command `compile`: each text to a file of its own.
-//! What a text's file is, and why it has none, is in `resb_bundler`.
+//! What a text's file is, and why it has none, is in `resb_program`.
 use crate::progress::Progress;
-use crate::say::{complain, refuse, warn};
+use crate::say::{fail, refuse, warn};
 use crate::streams::{is_same_file, read_input, write_output};
-use crate::words::limit_of;
-use clap::ArgMatches;
-use resb_bundler::{SourceError, compile_icu_source, compile_source, compile_source_within};
+use resb_program::{SourceError, compile_icu_source, compile_source, compile_source_within};
+use resb_words::CompileWords;
 use std::collections::BTreeSet;
 use std::path::Path;
 
-/// What the words ask of each text.
-#[derive(Clone, Copy)]
-struct Wanted<'w> {
-    /// The file of the one text.
-    output: Option<&'w str>,
-    /// The folder for the files.
-    folder: Option<&'w str>,
-    /// Whether the texts are in ICU's own form.
-    icu: bool,
-    /// The most bytes that reading a text may make.
-    limit: Option<u64>,
-}
-
 /// Compiles each text. One that fails doesn't stop the others; the status says whether one did.
-pub(crate) fn compile(rt: &HostRuntime, matches: &ArgMatches<'_>) -> u8 {
+pub(crate) fn compile(rt: &HostRuntime, wanted: &CompileWords<'_>) -> u8 {
     let mut status = 0;
-    let limit = match limit_of(rt, matches) {
-        Ok(limit) => limit,
-        Err(status) => return status,
-    };
-    let wanted = Wanted {
-        output: matches.get_str("OUT"),
-        folder: matches.get_str("DIR"),
-        icu: matches.get_flag("ICU"),
-        limit,
-    };
-    let texts = matches.get_strs("FILE").unwrap_or(&[]);
-    if wanted.output.is_some() && texts.len() > 1 {
-        complain(
-            rt,
-            "resb",
-            "--output is for one text; --directory is for several",
-        );
-        return 2;
-    }
-    let mut progress = Progress::new(rt, texts.len());
+    let mut progress = Progress::new(rt, wanted.texts.len());
     let mut taken = BTreeSet::new(rt.alloc());
-    for text in texts.iter().copied() {
-        status = status.max(compile_one(rt, text, &wanted, &mut taken));
+    for name in wanted.texts.iter().copied() {
+        status = status.max(compile_one(rt, name, wanted, &mut taken));
         progress.one_more(rt);
     }
     progress.end(rt);
@@ -58,47 +25,67 @@ pub(crate) fn compile(rt: &HostRuntime, matches: &ArgMatches<'_>) -> u8 {
 fn compile_one(
     rt: &HostRuntime,
     name: &str,
-    wanted: &Wanted<'_>,
+    wanted: &CompileWords<'_>,
     taken: &mut BTreeSet<String>,
 ) -> u8 {
-    let Some(output) = output_of(rt, name, wanted.output, wanted.folder) else {
-        complain(rt, name, "this has no name for a file; say one by --output");
-        return 2;
-    };
+    match opened(rt, name, wanted, taken) {
+        Ok((output, source)) => compile_to(rt, name, source.as_slice(), output.as_str(), wanted),
+        Err(cause) => fail(rt, name, cause),
+    }
+}
+
+/// The name of a text's file, and the text's bytes, or what to say.
+fn opened(
+    rt: &HostRuntime,
+    name: &str,
+    wanted: &CompileWords<'_>,
+    taken: &mut BTreeSet<String>,
+) -> Result<(String, Vec<u8>), &'static str> {
+    let output = output_of(rt, name, wanted.output, wanted.folder).ok_or(
+        "this has no name for a file; say one by --output",
+    )?;
     if is_same_file(rt, name, output.as_str()) {
-        complain(rt, name, "the file would take the place of its own text");
-        return 2;
+        return Err("the file would take the place of its own text");
     }
     if is_taken(rt, taken, output.as_str()) {
-        complain(rt, name, "another of these texts has its file");
-        return 2;
+        return Err("another of these texts has its file");
     }
-    let source = match read_input(rt, name) {
-        Ok(source) => source,
-        Err(cause) => {
-            complain(rt, name, cause);
-            return 2;
-        }
-    };
-    match file_of(rt, source.as_slice(), wanted) {
+    let source = read_input(rt, name)?;
+    Ok((output, source))
+}
+
+/// Compiles the bytes of a text to a file of that name, and answers the status.
+fn compile_to(
+    rt: &HostRuntime,
+    name: &str,
+    source: &[u8],
+    output: &str,
+    wanted: &CompileWords<'_>,
+) -> u8 {
+    match file_of(rt, source, wanted) {
         Err(e) => {
-            refuse(rt, name, source.as_slice(), &e);
+            refuse(rt, name, source, &e);
             1
         }
         Ok(file) => {
-            if !wanted.icu
-                && let Ok(text) = str::from_utf8(source.as_slice())
-            {
-                warn(rt, name, text);
+            if !wanted.is_icu {
+                warn(rt, name, source);
             }
-            write_one(rt, output.as_str(), file.as_slice())
+            match write_output(rt, output, file.as_slice()) {
+                Ok(()) => 0,
+                Err(cause) => fail(rt, output, cause),
+            }
         }
     }
 }
 
 /// The bytes of a text's file, where reading the text keeps within the limit, if there is one.
-fn file_of(rt: &HostRuntime, source: &[u8], wanted: &Wanted<'_>) -> Result<Vec<u8>, SourceError> {
-    if wanted.icu {
+fn file_of(
+    rt: &HostRuntime,
+    source: &[u8],
+    wanted: &CompileWords<'_>,
+) -> Result<Vec<u8>, SourceError> {
+    if wanted.is_icu {
         return compile_icu_source(rt.alloc(), source);
     }
     match wanted.limit {
@@ -115,17 +102,6 @@ fn is_taken(rt: &HostRuntime, taken: &mut BTreeSet<String>, output: &str) -> boo
     match taken.insert(output) {
         Ok(is_new) => !is_new,
         Err(_) => false,
-    }
-}
-
-/// Writes a file, and answers its status.
-fn write_one(rt: &HostRuntime, name: &str, bytes: &[u8]) -> u8 {
-    match write_output(rt, name, bytes) {
-        Ok(()) => 0,
-        Err(cause) => {
-            complain(rt, name, cause);
-            2
-        }
     }
 }
 

@@ -1,8 +1,10 @@
 //! What is said on standard error: the place, the cause, the line round it, and warnings.
 //! What the causes are called is theirs to print.
-use resb::text::PathStep;
-use resb_bundler::{Blame, SourceError, where_to_look};
-use resb_report::{Reason, location_of, pointed_line, warnings};
+use resb_print::PathStep;
+use resb_program::{
+    Blame, Reason, SourceError, Warning, location_of, pointed_line, text_of, warnings,
+    where_to_look,
+};
 use std::alloc::{AllocError, Global};
 use std::fmt::Display;
 
@@ -12,6 +14,12 @@ const MOST_WARNINGS: usize = 20;
 /// Says one line.
 pub(crate) fn complain<R: Eprint>(rt: &R, name: &str, cause: &str) {
     let _ = eprintln!(rt; "{name}: {cause}");
+}
+
+/// Says what failed of a file or a stream, and gives the status of that.
+pub(crate) fn fail<R: Eprint>(rt: &R, name: &str, cause: &str) -> u8 {
+    complain(rt, name, cause);
+    2
 }
 
 /// Says why a bundle has no text of a form, and the path to the cause, if that is inside it.
@@ -103,35 +111,42 @@ fn point<R: Eprint + AllocGlobal>(rt: &R, source: &[u8], place: usize) {
 }
 
 /// Says what another reader takes otherwise in a text that was compiled.
-pub(crate) fn warn<R: Eprint + AllocGlobal>(rt: &R, name: &str, text: &str) {
+pub(crate) fn warn<R: Eprint + AllocGlobal>(rt: &R, name: &str, source: &[u8]) {
+    let Ok(text) = text_of(source) else {
+        return;
+    };
     let Ok(found) = warnings(rt.alloc(), text) else {
         return;
     };
-    let source = text.as_bytes();
     for warning in found.iter().take(MOST_WARNINGS) {
-        let at = location_of(source, warning.place);
-        let (line, column) = (at.line, at.column);
-        let _ = match warning.reason {
-            Reason::RepeatedKey(first) => {
-                let before = location_of(source, first);
-                let (line_before, column_before) = (before.line, before.column);
-                eprintln!(rt;
-                    "{name}:{line}:{column}: warning: this key stands at \
-                    {line_before}:{column_before} too; genrb refuses that"
-                )
-            }
-            Reason::Backslash => eprintln!(rt;
-                "{name}:{line}:{column}: warning: this \
-                backslash is a character here, and an escape for genrb"
-            ),
-            Reason::StringsInRow => eprintln!(rt;
-                "{name}:{line}:{column}: warning: this \
-                string is an item of its own here; genrb joins it to the one before"
-            ),
-        };
+        warn_of(rt, name, source, warning);
     }
     if found.len() > MOST_WARNINGS {
         let more = found.len() - MOST_WARNINGS;
         let _ = eprintln!(rt; "{name}: {more} more warnings");
     }
+}
+
+/// Says one warning.
+fn warn_of<R: Eprint>(rt: &R, name: &str, source: &[u8], warning: &Warning) {
+    let at = location_of(source, warning.place);
+    let (line, column) = (at.line, at.column);
+    let _ = match warning.reason {
+        Reason::RepeatedKey(first) => {
+            let before = location_of(source, first);
+            let (line_before, column_before) = (before.line, before.column);
+            eprintln!(rt;
+                "{name}:{line}:{column}: warning: this key stands at \
+                {line_before}:{column_before} too; genrb refuses that"
+            )
+        }
+        Reason::Backslash => eprintln!(rt;
+            "{name}:{line}:{column}: warning: this \
+            backslash is a character here, and an escape for genrb"
+        ),
+        Reason::StringsInRow => eprintln!(rt;
+            "{name}:{line}:{column}: warning: this \
+            string is an item of its own here; genrb joins it to the one before"
+        ),
+    };
 }

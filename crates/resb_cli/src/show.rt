@@ -1,25 +1,21 @@
 //! The commands `check`, `dump` and `get`: what is said of a file, and what is shown of it.
-//! What a file is, and why it isn't read, is in `resb_bundler`.
+//! What a file is, and why it isn't read, is in `resb_program`.
 use crate::progress::Progress;
-use crate::say::{complain, say_no_text};
+use crate::say::{complain, fail, say_no_text};
 use crate::streams::{read_input, write_output};
-use crate::words::limit_of;
-use clap::ArgMatches;
-use resb::binary::{FormatVersion, measure};
-use resb::bundle::{Resource, ResourceBundle};
-use resb::text::{
-    IcuPrintError, PrintError, cause_path, icu_cause_path, print_icu_text, print_text,
+use resb_head::FormatVersion;
+use resb_icu_print::{IcuPrintError, icu_cause_path, print_icu_text};
+use resb_print::{PrintError, cause_path, print_text};
+use resb_program::{
+    FileError, Found, JsonError, Summary, count_file, find, json_text, read_bundle, summary_of,
 };
-use resb_bundler::{
-    Found, JsonError, Summary, count_file, find, json_text, read_file, read_file_within, summary_of,
-};
-use std::borrow::CowStr;
+use resb_tree::{Resource, ResourceBundle};
+use resb_words::{DumpWords, GetWords};
 use std::path::Path;
 
 /// Says of each file what it is, a line each.
-pub(crate) fn check(rt: &HostRuntime, matches: &ArgMatches<'_>) -> u8 {
+pub(crate) fn check(rt: &HostRuntime, names: &[&str]) -> u8 {
     let mut status = 0;
-    let names = matches.get_strs("FILE").unwrap_or(&[]);
     let mut progress = Progress::new(rt, names.len());
     for name in names.iter().copied() {
         status = status.max(check_one(rt, name));
@@ -29,36 +25,33 @@ pub(crate) fn check(rt: &HostRuntime, matches: &ArgMatches<'_>) -> u8 {
     status
 }
 
-/// The bytes of a file, or the status, once it is said what is wrong.
-fn input(rt: &HostRuntime, name: &str) -> Result<Vec<u8>, u8> {
-    read_input(rt, name).map_err(|cause| {
-        complain(rt, name, cause);
-        2
-    })
-}
-
 /// Says of one file what it is.
 fn check_one(rt: &HostRuntime, name: &str) -> u8 {
     let file = match input(rt, name) {
         Ok(file) => file,
         Err(status) => return status,
     };
-    let summary = summary_of(file.as_slice());
-    match (count_file(rt.alloc(), file.as_slice()), summary) {
-        (Ok(count), Ok(summary)) => say_summary(rt, name, count, &summary),
-        (Ok(_), Err(e)) => {
-            let _ = eprintln!(rt; "{name}: {e}");
-            1
-        }
-        (Err(e), summary) => {
-            let version = summary.ok().and_then(|summary| foreign(summary.version));
-            let _ = match version {
-                Some(version) => eprintln!(rt; "{name}: format version {version}: {e}"),
-                None => eprintln!(rt; "{name}: {e}"),
-            };
-            1
-        }
+    match count_file(rt.alloc(), file.as_slice()) {
+        Ok((count, summary)) => say_summary(rt, name, count, &summary),
+        Err(e) => refuse(rt, name, file.as_slice(), &e),
     }
+}
+
+/// The bytes of a file, or the status, once it is said what is wrong.
+fn input(rt: &HostRuntime, name: &str) -> Result<Vec<u8>, u8> {
+    read_input(rt, name).map_err(|cause| fail(rt, name, cause))
+}
+
+/// Says why a file isn't read, and of which version it is, where that one isn't read.
+fn refuse(rt: &HostRuntime, name: &str, file: &[u8], e: &FileError) -> u8 {
+    let version = summary_of(file)
+        .ok()
+        .and_then(|summary| foreign(summary.version));
+    let _ = match version {
+        Some(version) => eprintln!(rt; "{name}: format version {version}: {e}"),
+        None => eprintln!(rt; "{name}: {e}"),
+    };
+    1
 }
 
 /// The spelling of a version that isn't read.
@@ -86,43 +79,30 @@ fn say_summary(rt: &HostRuntime, name: &str, count: usize, summary: &Summary) ->
         "{name}: {count} resources, format 2.0, {fallback}, largest table \
         {largest}{pool}"
     );
-    match line {
-        Ok(()) => 0,
-        Err(_) => {
-            complain(rt, "resb", "standard output cannot be written");
-            2
-        }
-    }
+    status_of(rt, line.is_ok())
 }
 
-/// The tree of a file, or the status, once it is said why there is none.
-fn tree<'f>(
+/// The status of what was written to standard output, or not, once that is said.
+fn status_of(rt: &HostRuntime, is_written: bool) -> u8 {
+    if is_written {
+        return 0;
+    }
+    fail(rt, "resb", "standard output cannot be written")
+}
+
+/// A file's bundle, or the status, once it is said why there is none.
+fn bundle_of<'f>(
     rt: &HostRuntime,
-    name: &str,
+    name: &'f str,
     file: &'f [u8],
     limit: Option<u64>,
-) -> Result<Resource<'f>, u8> {
-    let read = match limit {
-        Some(limit) => read_file_within(rt.alloc(), file, limit),
-        None => read_file(rt.alloc(), file),
-    };
-    read.map_err(|e| {
-        let sizes = limit.and_then(|limit| larger(rt, file, limit));
-        let _ = match sizes {
-            Some((bytes, limit)) => eprintln!(rt;
-                "{name}: the tree takes {bytes} bytes, more than the limit of {limit}"
-            ),
-            None => eprintln!(rt; "{name}: {e}"),
-        };
+) -> Result<ResourceBundle<'f>, u8> {
+    let stem = Path::new(name).file_stem().unwrap_or("bundle");
+    let bundle_name = if name == "-" { "bundle" } else { stem };
+    read_bundle(rt.alloc(), bundle_name, file, limit).map_err(|e| {
+        let _ = eprintln!(rt; "{name}: {e}");
         1
     })
-}
-
-/// The bytes that a file's tree takes, and the limit, where it takes more.
-fn larger(rt: &HostRuntime, file: &[u8], limit: u64) -> Option<(u64, u64)> {
-    let measured = measure(rt.alloc(), file).ok()?;
-    let bytes = measured.tree_bytes()?;
-    (bytes > limit).then_some((bytes, limit))
 }
 
 /// The status of what was done, or of what kept it from being done.
@@ -133,37 +113,34 @@ fn settled(answer: Result<u8, u8>) -> u8 {
 }
 
 /// Prints a file's text, or its JSON where it has none.
-pub(crate) fn dump(rt: &HostRuntime, matches: &ArgMatches<'_>) -> u8 {
-    settled(dump_file(rt, matches))
+pub(crate) fn dump(rt: &HostRuntime, wanted: &DumpWords<'_>) -> u8 {
+    settled(dump_file(rt, wanted))
 }
 
 /// The same: the status, or that of a file without a tree.
-fn dump_file(rt: &HostRuntime, matches: &ArgMatches<'_>) -> Result<u8, u8> {
-    let name = matches.get_str("FILE").ok_or(2)?;
-    let limit = limit_of(rt, matches)?;
+fn dump_file(rt: &HostRuntime, wanted: &DumpWords<'_>) -> Result<u8, u8> {
+    let name = wanted.file;
     let file = input(rt, name)?;
-    let tree = tree(rt, name, file.as_slice(), limit)?;
-    if matches.get_flag("json") {
-        return Ok(show_json(rt, name, &tree));
+    let bundle = bundle_of(rt, name, file.as_slice(), wanted.limit)?;
+    if wanted.is_json {
+        return Ok(show_json(rt, name, bundle.root()));
     }
-    let has_fallback = match summary_of(file.as_slice()) {
-        Ok(summary) => summary.has_fallback,
-        Err(_) => true,
-    };
-    let stem = Path::new(name).file_stem().unwrap_or("bundle");
-    let bundle_name = if name == "-" { "bundle" } else { stem };
-    let bundle = ResourceBundle::new(CowStr::Borrowed(bundle_name), tree, has_fallback);
-    if matches.get_flag("ICU") {
+    if wanted.is_icu {
         return Ok(show_icu(rt, name, &bundle));
     }
-    Ok(match print_text(rt.alloc(), &bundle) {
+    Ok(show_text(rt, name, &bundle))
+}
+
+/// Prints a bundle's text, or its JSON where it has none.
+fn show_text(rt: &HostRuntime, name: &str, bundle: &ResourceBundle<'_>) -> u8 {
+    match print_text(rt.alloc(), bundle) {
         Ok(text) => show(rt, text.as_str()),
         Err(PrintError::OutOfMemory) => refuse_memory(rt, name),
         Err(e) => {
-            say_no_text(rt, name, "text", e, cause_path(rt.alloc(), &bundle));
+            say_no_text(rt, name, "text", e, cause_path(rt.alloc(), bundle));
             show_json(rt, name, bundle.root())
         }
-    })
+    }
 }
 
 /// Prints a bundle's text in ICU's form, or its JSON where it has none.
@@ -199,21 +176,19 @@ fn show_json(rt: &HostRuntime, name: &str, resource: &Resource<'_>) -> u8 {
 }
 
 /// Prints what stands at a path: a string as it is, a number with its sign, all else as JSON.
-pub(crate) fn get(rt: &HostRuntime, matches: &ArgMatches<'_>) -> u8 {
-    settled(get_found(rt, matches))
+pub(crate) fn get(rt: &HostRuntime, wanted: &GetWords<'_>) -> u8 {
+    settled(get_found(rt, wanted))
 }
 
 /// The same: the status, or that of a file without a tree.
-fn get_found(rt: &HostRuntime, matches: &ArgMatches<'_>) -> Result<u8, u8> {
-    let name = matches.get_str("FILE").ok_or(2)?;
-    let path = matches.get_str("PATH").ok_or(2)?;
-    let limit = limit_of(rt, matches)?;
+fn get_found(rt: &HostRuntime, wanted: &GetWords<'_>) -> Result<u8, u8> {
+    let (name, path) = (wanted.file, wanted.path);
     let file = input(rt, name)?;
-    let tree = tree(rt, name, file.as_slice(), limit)?;
+    let bundle = bundle_of(rt, name, file.as_slice(), wanted.limit)?;
     let Ok(names) = path.split('/').collect::<Vec<&str>>(rt.alloc()) else {
         return Ok(refuse_memory(rt, name));
     };
-    Ok(match find(&tree, names.as_slice()) {
+    Ok(match find(bundle.root(), names.as_slice()) {
         None => {
             let _ = eprintln!(rt; "{name}: nothing stands at {path}");
             1
@@ -239,13 +214,7 @@ fn show_found(rt: &HostRuntime, name: &str, found: Found<'_, '_>) -> u8 {
         }
         Found::Resource(resource) => return show_json(rt, name, resource),
     };
-    match shown {
-        Ok(()) => 0,
-        Err(_) => {
-            complain(rt, "resb", "standard output cannot be written");
-            2
-        }
-    }
+    status_of(rt, shown.is_ok())
 }
 
 /// Says that memory was refused.
@@ -258,9 +227,6 @@ fn refuse_memory(rt: &HostRuntime, name: &str) -> u8 {
 fn show(rt: &HostRuntime, text: &str) -> u8 {
     match write_output(rt, "-", text.as_bytes()) {
         Ok(()) => 0,
-        Err(cause) => {
-            complain(rt, "resb", cause);
-            2
-        }
+        Err(cause) => fail(rt, "resb", cause),
     }
 }

@@ -1,1 +1,7 @@
--- Nothing: the check proves this crate by itself.
+-- For this crate alone, and for `zones` in it.
+mod Costs
+mod Steps
+mod Fronts
+mod Takings
+mod ZonesLemmas
+mod Lists

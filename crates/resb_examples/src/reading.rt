@@ -1,6 +1,6 @@
 //! Reading without a type of one's own: by the given types, by look-ups of keys, and by a plain
 //! function over cursors.
-//! A type of one's own is shown in `records`, and one with relations of its own by `resb_zones`.
+//! A type of one's own is shown in `records`, and one with relations of its own in `zones`.
 use resb::binary::{BinaryDeserializerError, Cursor, from_bytes};
 use std::alloc::Global;
 use std::collections::BTreeMap;

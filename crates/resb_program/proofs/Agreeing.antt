@@ -1,7 +1,7 @@
 -- Checking a file beside reading its tree.
 use Rattle.std.proofs.Common.{ℕ, List, ◌≡◌, ◌≤◌, ◌+◌, inl, inr, Result, Ok, Err}
 use Rattle.std.proofs.Common.{sym, subst, arith}
-use Rattle.resb.specs.Tree.{Tree}
+use Rattle.resb_tree.specs.Tree.{Tree}
 use Rattle.resb_head.specs.File.{parts_of, Denotes, budget}
 use Rattle.resb_format.proofs.Denoting.{unique, reached_at_most}
 use Rattle.resb_format.specs.declared.error.ReadingError.{ReadingError}
@@ -10,10 +10,10 @@ use Rattle.resb_read.specs.RefusedReadings.{RefusesTree}
 use Rattle.resb_read.specs.Roots.{AnswersCount, AnswersTree, RefusesRoot, RefusesFile}
 use Rattle.resb_read.proofs.OneRefusal.{one_refusal}
 use Rattle.resb_read.proofs.Rooted.{no_bundle}
-use Rattle.resb.specs.View.{tree_of}
-use Rattle.resb.specs.declared.bundle.Resource.{Resource}
+use Rattle.resb_tree.specs.View.{tree_of}
+use Rattle.resb_tree.specs.declared.resource.Resource.{Resource}
 use Rattle.resb_program.specs.Program.{ReadsCounted, Agrees, HasCount, IsCounted}
-use Rattle.resb_program.specs.declared.fault.ToolError.TheVariants.{Checking}
+use Rattle.resb_program.specs.declared.errors.ToolError.TheVariants.{Checking}
 
 -- what a type answers at the root, where it is a tree
 refused_tree : (bytes : List ℕ) (e : ReadingError) → RefusesRoot RefusesTree bytes e

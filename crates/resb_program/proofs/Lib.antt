@@ -1,4 +1,10 @@
--- For this crate alone.
-mod HexText
-mod Lists
+-- Nothing is passed on.
 mod Agreeing
+mod FindingLemmas
+mod Heads
+mod HexText
+mod JsonLemmas
+mod KeysLemmas
+mod Lists
+mod Numbers
+mod PiecesLemmas

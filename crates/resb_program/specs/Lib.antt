@@ -1,8 +1,10 @@
--- The words of the contracts: what the program is asked, what it writes, and why it fails; and what
--- the crates below say of files and texts.
+-- The words of the contracts: a text's file and why there is none, what a file's head says and
+-- what is had of it, JSON, paths, and what a person is told of a place of a text; what the program
+-- is asked, what it writes, and why it fails; and what the crates below say of files and texts.
+-- `Inner` has words of private functions.
 pub use Rattle.hex.specs.Hex
-pub use Rattle.resb.specs.Compiling
-pub use Rattle.resb.specs.View
+pub use Rattle.resb_compile.specs.Compiling
+pub use Rattle.resb_tree.specs.View
 pub use Rattle.resb_format.specs.Error
 pub use Rattle.resb_head.specs.File
 pub use Rattle.resb_head.specs.HeadChecks
@@ -11,3 +13,15 @@ pub use Rattle.resb_read.specs.Resources
 pub use Rattle.resb_read.specs.Roots
 pub mod Commands
 pub mod Program
+pub mod Summary
+pub mod Sources
+pub mod Json
+pub mod Finding
+pub mod Files
+pub mod Location
+pub mod Braces
+pub mod Excerpt
+pub mod Pieces
+pub mod Groups
+pub mod Warnings
+pub mod Inner

@@ -17,13 +17,13 @@ use Rattle.resb_format.specs.declared.error.ReadingError.{ReadingError}
 use Rattle.resb_read.specs.RefusedReadings.{RefusesTree}
 use Rattle.resb_read.specs.Resources.{DenPlace}
 use Rattle.resb_read.specs.Roots.{HoldsAtRoot, RefusesRoot, AnswersCount}
-use Rattle.resb.specs.View.{tree_of}
-use Rattle.resb.specs.declared.bundle.Resource.{Resource}
-use Rattle.resb.specs.Compiling as compiling
-use Rattle.resb.specs.Compiling.{IsCompiled, IsRefused}
-use Rattle.resb_program.specs.declared.fault.ToolError.{ToolError}
-use Rattle.resb_program.specs.declared.fault.ToolError.TheVariants.{Input, Output, NotUtf8}
-use Rattle.resb_program.specs.declared.fault.ToolError.TheVariants.{Compiling, Checking, Memory}
+use Rattle.resb_tree.specs.View.{tree_of}
+use Rattle.resb_tree.specs.declared.resource.Resource.{Resource}
+use Rattle.resb_compile.specs.Compiling as compiling
+use Rattle.resb_compile.specs.Compiling.{IsCompiled, IsRefused}
+use Rattle.resb_program.specs.declared.errors.ToolError.{ToolError}
+use Rattle.resb_program.specs.declared.errors.ToolError.TheVariants.{Input, Output, NotUtf8}
+use Rattle.resb_program.specs.declared.errors.ToolError.TheVariants.{Compiling, Checking, Memory}
 
 -- the text has a file, and the writer gained the file's hex digits and a line feed
 pub record Writes (input : List ℕ) (old new : Option (List ℕ)) : Type 0 where

@@ -1,14 +1,38 @@
-//! What the program does, over any reader and writer: what its words ask for, the streams, and why
-//! it fails. How a program keeps the memory that it gives back is in `memory`.
-//! The process's own streams, words and files are named in the program `resb_tool` alone.
+//! What programs do with bundles: a text's file and where to look in one that is refused, what a
+//! file's head says, JSON, paths, what a person is told of a place of a text; and the streams and
+//! words of the program `resb_tool`. How a program keeps the memory that it gives back is in
+//! `memory`. The process's own streams, words and files are named in the programs alone.
 #![tactic(auto)]
 
+mod braces;
 mod command;
-mod fault;
+mod errors;
+mod excerpt;
+mod files;
+mod groups;
+mod json;
+mod location;
 mod memory;
+mod path;
+mod sources;
 mod streams;
+mod summary;
+mod text_pieces;
+mod warning;
 
+pub use braces::{innermost_icu_open, innermost_open};
 pub use command::{Command, command_of};
-pub use fault::ToolError;
+pub use errors::{FileError, SourceError, ToolError};
+pub use excerpt::pointed_line;
+pub use files::{check_file, count_file, measure_file, read_bundle};
+pub use json::{JsonError, json_text};
+pub use location::{Location, location_of};
 pub use memory::keep_freed_memory;
-pub use streams::{check_file, compile_text, read_all, run};
+pub use path::{Found, find};
+pub use sources::{
+    Blame, compile_icu_source, compile_source, compile_source_within, compile_text, text_of,
+    where_to_look,
+};
+pub use streams::{read_all, run};
+pub use summary::{Summary, summary_of};
+pub use warning::{Reason, Warning, warnings};

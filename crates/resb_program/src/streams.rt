@@ -1,47 +1,15 @@
-//! What the program does with the bytes of a reader or a file.
-//! Why it fails is said in `fault`.
+//! The streams: all that a reader has left, and a file in hex digits to a writer.
+//! What a text's file is, is in `sources`, and why a program fails in `errors`.
 ghost use Rattle.std.specs.Prelude.{◌≡◌, ◌≢◌, ◌⊎◌, ℕ, List, [], ◌∷◌, ◌++◌, length, ◌<◌, ◌≤◌};
 ghost use Rattle.std.specs.Prelude.{Ok, true, IfOk, OnOk, IfErr, IfSome, IsUtf8, IsOkUnless};
 ghost use Rattle.std.specs.Io.KnownBytes.{Appends, Consumes, IsAtEnd, Keeps};
 ghost use Rattle.hex.specs.Hex.{encode_lower};
-ghost use Rattle.resb.specs.Compiling.{IsCompiled};
-ghost use Rattle.resb_program.specs.Program.{IsNoInput, Writes, HasReason};
-ghost use Rattle.resb_read.specs.Roots.{AnswersTree};
-ghost use Rattle.resb_program.specs.Program.{CountsFile, ReadsCounted, Agrees, HasCount};
-ghost use Rattle.resb_program.specs.Program.{IsCounted};
+ghost use Rattle.resb_program.specs.Program.{Writes, HasReason};
 
-use crate::fault::ToolError;
+use crate::errors::ToolError;
+use crate::sources::compile_text;
 use std::alloc::Global;
 use std::io::{ErrorKind, Read, Write};
-
-/// The bytes of the `.res` file of a bundle's text, which is given as bytes.
-pub fn compile_text(alloc: Global, input: &[u8]) -> Result<Vec<u8>, ToolError>
-    ensures ok { IfOk result (λ file. IsUtf8 input.now × IsCompiled input.now file.items) }
-    ensures err { IfErr result (IsNoInput input.now) }
-{
-    let Ok(text) = str::from_utf8(input) else {
-        return Err(ToolError::NotUtf8);
-    };
-    match resb::compile(alloc, text) {
-        Ok(file) => Ok(file),
-        Err(e) => Err(ToolError::Compiling(e)),
-    }
-}
-
-/// The number of resources of a file's tree, which is not made. (`resb::binary::count_resources`.)
-pub fn check_file(alloc: Global, file: &[u8]) -> Result<usize, ToolError>
-    ensures counts { CountsFile file.now result }
-    // The answer is that of `from_bytes_counted::<Resource>`, by kind and message, want of memory
-    // aside.
-    ensures as_read { (r : _) → ReadsCounted file.now r → Agrees HasCount result r }
-    // It is that of `tree_from_bytes` in the same way.
-    ensures as_tree { (r : _) → AnswersTree file.now r → Agrees (IsCounted file.now) result r }
-{
-    match resb::binary::count_resources(alloc, file) {
-        Ok(count) => Ok(count),
-        Err(e) => Err(ToolError::Checking(e)),
-    }
-}
 
 /// One read. It answers whether the reader is at its end. A read that was interrupted adds nothing.
 fn read_some<R: Read>(

@@ -1,7 +1,7 @@
 //! Trees with lists of keys, and their files or refusals, as the format's rules ask for them. Each
 //! row is an input and its answer, in lines, up to a `;`: a row more costs no proof.
 use crate::answers::{assert_said, digits, same};
-use resb::compile;
+use resb_compile::compile;
 use resb_read::from_bytes;
 use resb_text::Reader;
 use resb_tree::{Int28, Key, Resource, ResourceBundle, Table};

@@ -1,8 +1,8 @@
 //! The worked rows of what stands on `resb`: records, the zone table, ICU's time zones, the code of
 //! the pages, and what the programs do over bytes and over any reader and writer. Texts, files and
 //! streams, with the answers that the rules ask for.
-//! Only tests stand here, so that `resb_zones`, `resb_zoneinfo`, `resb_program` and `resb_bundler`
-//! are not proved twice.
+//! Only tests stand here, so that `resb_examples`, `resb_zoneinfo` and `resb_program` are not
+//! proved twice.
 #![tactic(auto)]
 
 #[cfg(test)]

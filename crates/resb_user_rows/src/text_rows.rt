@@ -3,7 +3,7 @@
 //! `zone_rows`.
 use resb::binary::{from_bytes, from_bytes_counted};
 use resb::compile;
-use resb_zones::ZoneTable;
+use resb_examples::zones::ZoneTable;
 use std::alloc::{AllocError, Global};
 use std::test::Fail;
 

@@ -2,7 +2,7 @@
 //! zone.
 //! What a text can say is in `text_rows`.
 use resb::binary::{ErrorKind, from_bytes, from_bytes_counted};
-use resb_zones::ZoneTable;
+use resb_examples::zones::ZoneTable;
 use std::alloc::{AllocError, Global};
 use std::test::Fail;
 

@@ -5,7 +5,7 @@ use Rattle.std.specs.Io.KnownBytes.{Appends}
 use Rattle.std.proofs.lemmas.Result.{on_ok_weaker}
 use Rattle.std.proofs.lemmas.Option.{IfSome_then}
 use Rattle.hex.specs.Hex.{encode_lower}
-use Rattle.resb.specs.Compiling.{IsCompiled}
+use Rattle.resb_compile.specs.Compiling.{IsCompiled}
 use Rattle.resb_program.proofs.streams.run.Goals as goal
 
 pub returns-clause-ok : goal.returns-clause-ok

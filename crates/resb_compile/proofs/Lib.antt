@@ -1,0 +1,2 @@
+-- For this crate alone.
+mod Reasons

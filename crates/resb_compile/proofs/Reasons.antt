@@ -1,0 +1,78 @@
+-- A bundle text's tree is not refused for a key that isn't listed.
+use Rattle.std.proofs.Common.{◌≡◌, ℕ, List, Result, Ok, Err, sym, subst}
+use Rattle.std.specs.Result.{IsErrAnd, IfErr}
+use Rattle.std.specs.Prelude.{codes, Bool, true, Contains}
+use Rattle.resb_tree.specs.Tree.{Tree}
+use Rattle.resb_tree.specs.Keys.{is_key}
+use Rattle.resb_grammar.specs.BundleText.{BundleText}
+use Rattle.resb_layout.specs.WritingFault.{WritingFault, unexpected}
+use Rattle.resb_layout.specs.TreeFaults.{RefusesWriting, no_memory, at_the_first, too_large}
+use Rattle.resb_write.proofs.Listed.{not_unlisted as no_fault, not_memory, not_large}
+use Rattle.resb_write.specs.FaultOf.{fault_of}
+use Rattle.resb_write.specs.declared.error.BinarySerializerError.{BinarySerializerError}
+use Rattle.resb_compile.specs.Compiling.{IsRefused, IsUnwritable}
+use Rattle.resb_compile.specs.declared.compiling.CompileError.{CompileError}
+use Rattle.resb_compile.specs.declared.compiling.CompileError.TheVariants.{Writing}
+use Rattle.resb_grammar.proofs.Listed.{listed}
+use Rattle.resb_icu_grammar.specs.Bundle.{IcuText}
+use Rattle.resb_icu_grammar.proofs.Listed.{listed as icu_listed}
+use Rattle.resb_icu_text.specs.declared.error.IcuTextError.{IcuTextError}
+use Rattle.resb_compile.specs.CompilingIcu.{IsIcuRefused, IsIcuUnreadable, IsIcuUnwritable}
+use Rattle.resb_compile.specs.declared.compiling_icu.IcuCompileError.{IcuCompileError}
+use Rattle.resb_compile.specs.declared.compiling_icu.IcuCompileError.TheVariants as icu
+
+-- a tree whose keys are listed is not refused for one that isn't
+pub never_unlisted : (t : Tree) (ks : List (List ℕ))
+    → ((k : List ℕ) → is_key k t ≡ true → Contains ks k) → (f : WritingFault)
+    → RefusesWriting t ks f
+    → f ≡ unexpected (codes "key not present in position map") → ⊥
+never_unlisted t ks l f no_memory e = not_memory t ks l e
+never_unlisted t ks l f (at_the_first h) e = no_fault t ks l f h e
+never_unlisted t ks l f (too_large h m) e = not_large t ks l e
+
+-- a bundle whose tree the writer refuses
+pub unwritable : (text name : List ℕ) (fallback : Bool) (t : Tree) (ks : List (List ℕ))
+    (e : BinarySerializerError) → BundleText text name fallback t ks
+    → RefusesWriting t ks (fault_of e)
+    → IsUnwritable text e
+unwritable text name fallback t ks e b h = record {
+  bundle = record { name = name; fallback = fallback; tree = t; keys = ks; is = b };
+  refused = h;
+  listed = never_unlisted t ks (listed text name fallback t ks b) (fault_of e) h;
+}
+
+-- what the writer refuses for a reason is refused for it
+pub writing_refused : {X : Type 0} (text name : List ℕ) (fallback : Bool) (t : Tree)
+    (ks : List (List ℕ)) (e : BinarySerializerError)
+    → BundleText text name fallback t ks → RefusesWriting t ks (fault_of e)
+    → (r : Result X CompileError) → IsErrAnd r (λ made. made ≡ Writing e) → IfErr r (IsRefused text)
+writing_refused text name fallback t ks e b h (Ok x) is = tt
+writing_refused text name fallback t ks e b h (Err made) is =
+    subst (IsRefused text) (sym is) (unwritable text name fallback t ks e b h)
+
+-- a bundle in ICU's form whose tree the writer refuses
+icu_unwritable : (text name : List ℕ) (fallback : Bool) (t : Tree) (ks : List (List ℕ))
+    (e : BinarySerializerError) → IcuText text name fallback t ks → RefusesWriting t ks (fault_of e)
+    → IsIcuUnwritable text e
+icu_unwritable text name fallback t ks e b h = record {
+  bundle = record { name = name; fallback = fallback; tree = t; keys = ks; is = b };
+  refused = h;
+  listed = never_unlisted t ks (icu_listed text name fallback t ks b) (fault_of e) h;
+}
+
+-- what the writer refuses for a reason is refused for it
+pub icu_writing_refused : {X : Type 0} (text name : List ℕ) (fallback : Bool) (t : Tree)
+    (ks : List (List ℕ)) (e : BinarySerializerError)
+    → IcuText text name fallback t ks → RefusesWriting t ks (fault_of e)
+    → (r : Result X IcuCompileError) → IsErrAnd r (λ made. made ≡ icu.Writing e)
+    → IfErr r (IsIcuRefused text)
+icu_writing_refused text name fallback t ks e b h (Ok x) is = tt
+icu_writing_refused text name fallback t ks e b h (Err made) is =
+    subst (IsIcuRefused text) (sym is) (icu_unwritable text name fallback t ks e b h)
+
+-- what the reader refuses is refused for its reason
+pub icu_reading_refused : {X : Type 0} (text : List ℕ) (e : IcuTextError) → IsIcuUnreadable text e
+    → (r : Result X IcuCompileError) → IsErrAnd r (λ made. made ≡ icu.Reading e)
+    → IfErr r (IsIcuRefused text)
+icu_reading_refused text e h (Ok x) is = tt
+icu_reading_refused text e h (Err made) is = subst (IsIcuRefused text) (sym is) h

@@ -1,0 +1,66 @@
+-- What a compiled text is, and why a text isn't compiled.
+--     IsCompiled text bytes   the bytes are a file of the bundle that the text is
+--     IsRefused text e        the error has its reason in the text
+--     message_of e            the text that it prints as
+--     IsRefusedWithin text limit e, within_message_of e   the same within a limit of bytes
+use Rattle.std.specs.Prelude.{◌≡◌, ◌≢◌, ◌⊎◌, ℕ, List, Bool, codes}
+use Rattle.resb_tree.specs.Tree.{Tree}
+use Rattle.resb_grammar.specs.BundleText.{BundleText}
+use Rattle.resb_text.specs.Answer.{Fails, IsNoBundle}
+use Rattle.resb_text.specs.Refusal as refusal
+use Rattle.resb_text.specs.declared.error.TextParserError.{TextParserError}
+use Rattle.resb_grammar.specs.Limit.{MadeWithin, MakesMore}
+use Rattle.resb_layout.specs.Written.{Written}
+use Rattle.resb_layout.specs.TreeFaults.{RefusesWriting}
+use Rattle.resb_layout.specs.WritingFault as fault
+use Rattle.resb_write.specs.FaultOf.{fault_of}
+use Rattle.resb_write.specs.declared.error.BinarySerializerError.{BinarySerializerError}
+use Rattle.resb_compile.specs.declared.compiling.CompileError.{CompileError}
+use Rattle.resb_compile.specs.declared.compiling.CompileError.TheVariants.{Reading, Writing}
+use Rattle.resb_compile.specs.declared.compiling.CompileWithinError.{CompileWithinError}
+use Rattle.resb_compile.specs.declared.compiling.CompileWithinError.TheVariants as within
+
+-- the bundle that a text is
+pub record IsBundle (text : List ℕ) : Type 0 where
+  pub name : List ℕ
+  pub fallback : Bool
+  pub tree : Tree
+  pub keys : List (List ℕ)
+  pub is : BundleText text name fallback tree keys
+
+-- the text is a bundle, and the bytes are a written file of its tree, flag and keys
+pub record IsCompiled (text bytes : List ℕ) : Type 0 where
+  pub bundle : IsBundle text
+  pub file : Written bytes bundle.tree bundle.fallback bundle.keys
+
+-- a bundle whose tree the writer refuses for this reason, which is no undiscovered key
+pub record IsUnwritable (text : List ℕ) (e : BinarySerializerError) : Type 0 where
+  pub bundle : IsBundle text
+  pub refused : RefusesWriting bundle.tree bundle.keys (fault_of e)
+  pub listed : fault_of e ≢ fault.unexpected (codes "key not present in position map")
+
+-- memory was wanted, or the text is no bundle, and a reading gets stuck at the error's place
+pub record IsUnreadable (text : List ℕ) (e : TextParserError) : Type 0 where
+  pub fails : Fails text e
+  pub no_bundle : (e ≡ refusal.want_of_memory) ⊎ IsNoBundle text
+
+-- why a text isn't compiled: the reader refuses it, or the writer refuses its tree
+abbrev pub IsRefused : List ℕ → CompileError → Type 0
+IsRefused text (Reading e) = IsUnreadable text e
+IsRefused text (Writing e) = IsUnwritable text e
+
+-- what the error prints: the text of the error inside
+abbrev pub message_of : CompileError → List ℕ
+message_of (Reading e) = refusal.message_of e
+message_of (Writing e) = fault.message_of (fault_of e)
+
+-- why a text isn't compiled within a limit: for what it is refused without one; or a reading comes
+-- to a token by which more bytes than the limit are made, and the whole reading is not within it
+abbrev pub IsRefusedWithin : List ℕ → ℕ → CompileWithinError → Type 0
+IsRefusedWithin text limit (within.Text e) = IsRefused text e
+IsRefusedWithin text limit within.Larger = MakesMore text limit × (MadeWithin text limit → ⊥)
+
+-- what that error prints
+abbrev pub within_message_of : CompileWithinError → List ℕ
+within_message_of (within.Text e) = message_of e
+within_message_of within.Larger = codes "text larger than the limit"

@@ -1,0 +1,70 @@
+//! From a text of ICU's form to the bytes of its file: that form's reader, and then the writer with
+//! the discovered keys. The way from a text of the other form is in `compiling`.
+ghost use Rattle.std.specs.Prelude.{Some, IfOk, IfErr};
+ghost use Rattle.resb_compile.specs.CompilingIcu.{IsIcuCompiled, IsIcuRefused, message_of};
+
+use resb_icu_text::{IcuReader, IcuTextError};
+use resb_write::{BinarySerializerError, Serializer};
+use std::alloc::Global;
+use std::error::Error;
+use std::fmt;
+
+/// Why a text of ICU's form has no file. It prints as the error inside.
+#[derive(Debug, Drop)]
+pub enum IcuCompileError {
+    /// The text is no bundle, or memory was wanted while it was read.
+    Reading(IcuTextError),
+    /// The tree has no file, or memory was wanted while it was written.
+    Writing(BinarySerializerError),
+}
+
+impl fmt::Display for IcuCompileError {
+    ghost output = { λ e. Some (message_of e) };
+
+    fn fmt<W: fmt::Write>(&self, f: &mut fmt::Formatter<W>) -> fmt::Result {
+        match self {
+            IcuCompileError::Reading(e) => write!(f, "{e}"),
+            IcuCompileError::Writing(e) => write!(f, "{e}"),
+        }
+    }
+}
+
+impl Error for IcuCompileError {}
+
+impl From<IcuTextError> for IcuCompileError {
+    ghost use Rattle.std.specs.Prelude.{◌≡◌};
+    ghost use Rattle.resb_compile.specs.declared.compiling_icu.IcuCompileError.TheVariants.{Reading};
+
+    ghost from_gives = { λ e made. made ≡ Reading e };
+
+    fn from(e: IcuTextError) -> IcuCompileError {
+        IcuCompileError::Reading(e)
+    }
+}
+
+impl From<BinarySerializerError> for IcuCompileError {
+    ghost use Rattle.std.specs.Prelude.{◌≡◌};
+    ghost use Rattle.resb_compile.specs.declared.compiling_icu.IcuCompileError.TheVariants.{Writing};
+
+    ghost from_gives = { λ e made. made ≡ Writing e };
+
+    fn from(e: BinarySerializerError) -> IcuCompileError {
+        IcuCompileError::Writing(e)
+    }
+}
+
+/// The bytes of the `.res` file of a bundle's text in ICU's own form, which `genrb` reads.
+/// `docs/ICU_TEXTS.md` says what that form is.
+pub fn compile_icu(alloc: Global, text: &str) -> Result<Vec<u8>, IcuCompileError>
+    // The text is a bundle in ICU's form, and the file denotes its tree, with its flag in the index
+    // and its keys in the key block.
+    ensures ok { IfOk result (λ file. IsIcuCompiled text.now file.items) }
+    // A reading gets stuck at the error's place, where its item was expected, and the text is no
+    // bundle in ICU's form; or the writer refuses its tree for a named reason; or memory was
+    // wanted.
+    ensures err { IfErr result (IsIcuRefused text.now) }
+{
+    let (bundle, keys) = IcuReader::read(alloc, text)?;
+    let file = Serializer::to_bytes(alloc, &bundle, keys.as_slice())?;
+    Ok(file)
+}

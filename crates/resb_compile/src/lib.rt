@@ -1,0 +1,9 @@
+//! From a text to the bytes of its file, in either form: `compile`, `compile_within`, `compile_icu`.
+//! Texts are read, and files written, in the crates below; nothing here reads a file.
+#![tactic(auto)]
+
+mod compiling;
+mod compiling_icu;
+
+pub use compiling::{CompileError, CompileWithinError, compile, compile_within};
+pub use compiling_icu::{IcuCompileError, compile_icu};

@@ -1,0 +1,77 @@
+-- A file that is read has a head that says something; and a tree that takes more than a limit.
+use Rattle.std.proofs.Common.{ℕ, List, ◌≡◌, ◌≤◌, ◌+◌, ◌*◌, ◌++◌, min, length, drop, inl, inr, arith}
+use Rattle.std.proofs.Common.{Option, Some, None, Result, Ok, Err, Bool, true, false, refl, ◌↔◌, is_some}
+use Rattle.std.specs.Result.{IsErrAnd, MatchResult}
+use Rattle.resb_format.specs.Error.{refusal_of}
+use Rattle.resb_format.specs.declared.error.ReadingError.{ReadingError}
+use Rattle.resb_head.specs.File.{IsBundleFile, body_of, field_count}
+use Rattle.resb_head.specs.HeadChecks.{header_refusal, header_checks, support_checks, body_checks}
+use Rattle.resb_head.specs.HeadChecks.{file_refusal, file_checks, index_refusal, first_refusal}
+use Rattle.resb_head.proofs.FileSteps.{bundle_file_passes, first_refusal-both, index_answers}
+use Rattle.resb_program.specs.Summary.{HasNoSummary}
+use Rattle.resb_walk.specs.Pieces.{Piece}
+use Rattle.resb_walk.specs.Sums.{fitting}
+use Rattle.resb_walk.specs.TreeBytes.{tree_bytes}
+use Rattle.resb_read.specs.Measuring.{AnswersMeasure, IsMeasured}
+use Rattle.resb_read.specs.declared.measuring.Measured.{Measured}
+use Rattle.resb_program.specs.Files.{IsOwnHead, IsOver}
+use Rattle.resb_program.specs.declared.summary.Summary.{Summary}
+
+-- the checks of the header, of what is supported, and of the body pass in a bundle file
+passes : (bytes : List ℕ) → IsBundleFile bytes
+    → (header_refusal false bytes ≡ None) × (first_refusal (body_checks (body_of bytes)) ≡ None)
+unfolding file_refusal file_checks header_refusal
+passes bytes h =
+    let all : file_refusal bytes ≡ None = (bundle_file_passes bytes).1 h in
+    let p = first_refusal-both (header_checks false bytes)
+    (support_checks (drop 4 bytes) ++ body_checks (body_of bytes)) all in
+    let q = first_refusal-both (support_checks (drop 4 bytes)) (body_checks (body_of bytes)) p.1 in
+    (p.0, q.1)
+
+-- so the head of a bundle file is not refused
+pub never_refused : (bytes : List ℕ) (e : ReadingError) → IsBundleFile bytes → HasNoSummary bytes e
+    → ⊥
+never_refused bytes e h (inl header) = let p = (passes bytes h).0 in absurd (cc)
+never_refused bytes e h (inr (inl (short, _))) =
+    let inside : 4 * (1 + min (field_count bytes) 8) ≤ length (body_of bytes) = h.index_inside in
+    absurd (omega arith)
+never_refused bytes e h (inr (inr index)) =
+    let inside : 4 * (1 + min (field_count bytes) 8) ≤ length (body_of bytes) = h.index_inside in
+    let long : 4 ≤ length (body_of bytes) = omega arith in
+    let p = (passes bytes h).1 in
+    let q = index_answers (body_of bytes) (refusal_of e) long index in
+    absurd (cc)
+
+-- so there is one
+pub has_head : (bytes : List ℕ) (head : Option Summary) → IsOwnHead bytes head → IsBundleFile bytes
+    → is_some head ≡ true
+has_head bytes (Some s) own h = refl
+has_head bytes None (e, refused) h = absurd (never_refused bytes e h refused)
+
+-- what is handed on with another error is there
+pub handed : {T E D : Type 0} (P : E → D → Type 0) (r : Result T E) (s : Result T D) (x : T)
+    → MatchResult r (λ y. s ≡ Ok y) (λ e. IsErrAnd s (P e)) → s ≡ Ok x → r ≡ Ok x
+handed P (Ok y) s x m w = cc
+handed P (Err e) (Ok z) x m w = absurd m
+handed P (Err e) (Err d) x m w = absurd (cc)
+
+-- a tree that isn't within a limit takes more bytes
+pub is_over : (bytes : List ℕ) (limit : ℕ) (m : Measured) (n : Option ℕ) (within : Bool)
+    → AnswersMeasure bytes (Ok m)
+    → ((xs : List Piece) → IsMeasured m xs → (within ≡ true) ↔ (tree_bytes xs ≤ limit))
+    → ((xs : List Piece) → IsMeasured m xs → n ≡ fitting (tree_bytes xs)) → within ≡ false
+    → IsOver bytes limit n
+is_over bytes limit m n within (t, xs, d, fits, holds, is) test taken over = record {
+  more = record {
+    tree = t;
+    count = m.resources;
+    holding = xs;
+    denotes = d;
+    within = fits;
+    holds = holds;
+    more =
+        let never : tree_bytes xs ≤ limit → ⊥ = λ h. absurd (cc ((test xs is).1 h)) in
+        omega (arith, never);
+  };
+  said = taken xs is;
+}

@@ -1,0 +1,154 @@
+-- The keys of a group beside what the code keeps, and the first places of keys.
+use Rattle.std.proofs.Common.{◌≡◌, ℕ, Bool, true, false, cond, List, [], ◌∷◌, ◌++◌, Option, Some}
+use Rattle.std.proofs.Common.{None, refl, sym, ◌∙◌, ap, append_assoc, nat_eq}
+use Rattle.std.specs.Prelude.{map}
+use Rattle.std.specs.Option.{option_map}
+use Rattle.std.specs.Cmp.Lexicographic.{pointwise, bytes_decides}
+use Rattle.std.proofs.lemmas.Option.{none-some}
+use Rattle.resb_program.specs.Pieces.{PlacedText}
+use Rattle.resb_program.specs.Groups.{GroupItem, string_item, group_item, comma_item, OpenGroup}
+use Rattle.resb_program.specs.Groups.{pair_keys}
+use Rattle.resb_program.specs.Warnings.{first_place, of_key, of_keys, of_some_keys, of_group}
+use Rattle.resb_program.specs.Inner.Looks.{Pairing, pairs, key, other, pairing_of, pairing_behind}
+use Rattle.resb_program.specs.Inner.Looks.{Level, level_of}
+use Rattle.resb_program.specs.Inner.Looks.{pairing_in, placed_text_of, level_of_code}
+use Rattle.resb_program.specs.declared.warning.Warning.{Warning}
+use Rattle.resb_program.specs.declared.groups.Shape.{Shape}
+use Rattle.resb_program.specs.declared.groups.Shape.TheVariants as shape
+use Rattle.resb_program.specs.declared.groups.Group.{Group as CodeGroup}
+use Rattle.resb_program.proofs.Lists.{either_way}
+
+abbrev keys_if : Pairing → Option (List PlacedText)
+keys_if (pairs ks) = Some ks
+keys_if (key ks s) = None
+keys_if other = None
+
+group_after_string : (s : PlacedText) (l : Pairing)
+    → option_map (λ ks. ks ++ s ∷ []) (keys_if l)
+    ≡ keys_if (pairing_behind group_item (pairing_behind (string_item s) l))
+group_after_string s (pairs ks) = refl
+group_after_string s (key ks t) = refl
+group_after_string s other = refl
+
+group_after_group : (l : Pairing)
+    → None ≡ keys_if (pairing_behind group_item (pairing_behind group_item l))
+group_after_group (pairs ks) = refl
+group_after_group (key ks t) = refl
+group_after_group other = refl
+
+string_last : (s : PlacedText) (l : Pairing) → None ≡ keys_if (pairing_behind (string_item s) l)
+string_last s (pairs ks) = refl
+string_last s (key ks t) = refl
+string_last s other = refl
+
+pub keys_by_pairing : (xs : List GroupItem) → pair_keys xs ≡ keys_if (pairing_of xs)
+keys_by_pairing [] = refl
+keys_by_pairing (string_item s ∷ xs) = string_last s (pairing_of xs)
+keys_by_pairing (comma_item ∷ xs) = refl
+keys_by_pairing (group_item ∷ []) = refl
+keys_by_pairing (group_item ∷ comma_item ∷ xs) = refl
+keys_by_pairing (group_item ∷ group_item ∷ xs) = group_after_group (pairing_of xs)
+keys_by_pairing (group_item ∷ string_item s ∷ xs) =
+    ap (option_map (λ ks. ks ++ s ∷ [])) (keys_by_pairing xs) ∙ group_after_string s (pairing_of xs)
+
+-- the warnings of a group by what the code keeps of it
+abbrev pub of_level : Level → List Warning
+of_level l = cond l.is_array [] (of_some_keys (keys_if l.pairing))
+
+pub group_by_level : (l : Level) (g : OpenGroup) → l ≡ level_of g → of_level l ≡ of_group g
+group_by_level l g e =
+    ap of_level e ∙ ap (λ ks. cond g.is_array [] (of_some_keys ks)) (sym (keys_by_pairing g.items))
+
+pub tells_pairs : (c : CodeGroup) (g : OpenGroup) → level_of_code c ≡ level_of g
+    → c.is_array ≡ false
+    → c.shape ≡ shape.Pairs → of_keys [] (map placed_text_of c.keys.items) ≡ of_group g
+tells_pairs c g e a s =
+    let ks = map placed_text_of c.keys.items in
+    sym (ap (λ b. cond b [] (of_some_keys (keys_if (pairing_in c.shape ks)))) a
+    ∙ ap (λ sh. of_some_keys (keys_if (pairing_in sh ks))) s)
+    ∙ group_by_level (level_of_code c) g e
+
+pub tells_others : (c : CodeGroup) (g : OpenGroup) → level_of_code c ≡ level_of g
+    → (c.shape ≡ shape.Pairs → ⊥) → [] ≡ of_group g
+tells_others c g e s =
+    sym (ap (λ ks. cond c.is_array [] (of_some_keys ks))
+    (none c.shape s) ∙ all_none c.is_array) ∙ group_by_level (level_of_code c) g e
+  where
+    ks : List PlacedText
+    ks = map placed_text_of c.keys.items
+
+    none : (sh : Shape) → (sh ≡ shape.Pairs → ⊥) → keys_if (pairing_in sh ks) ≡ None
+    none shape.Pairs f = absurd (f refl)
+    none (shape.Key k) f = refl
+    none shape.Other f = refl
+
+    all_none : (b : Bool) → cond b [] (of_some_keys None) ≡ []
+    all_none true = refl
+    all_none false = refl
+
+abbrev place_if : Bool → ℕ → Option ℕ → Option ℕ
+place_if b n (Some m) = Some m
+place_if true n None = Some n
+place_if false n None = None
+
+first_place-snoc : (q : List ℕ) (ks : List PlacedText) (k : PlacedText)
+    → first_place q (ks ++ k ∷ [])
+    ≡ place_if (pointwise nat_eq q k.bytes) k.place (first_place q ks)
+first_place-snoc q [] k = by (pointwise nat_eq q k.bytes)
+  where
+    by : (b : Bool) → cond b (Some k.place) None ≡ place_if b k.place None
+    by true = refl
+    by false = refl
+first_place-snoc q (j ∷ ks) k =
+    by (pointwise nat_eq q j.bytes) (first_place-snoc q ks k)
+  where
+    by : (b : Bool)
+        → first_place q (ks ++ k ∷ []) ≡ place_if (pointwise nat_eq q k.bytes) k.place
+        (first_place q ks)
+        → cond b (Some j.place) (first_place q (ks ++ k ∷ []))
+        ≡ place_if (pointwise nat_eq q k.bytes) k.place (cond b (Some j.place) (first_place q ks))
+    by true e = refl
+    by false e = e
+
+-- a key that stands before has its first place there
+pub first_stays : (q : List ℕ) (ks : List PlacedText) (k : PlacedText) (n : ℕ)
+    → first_place k.bytes ks ≡ Some n → first_place q (ks ++ k ∷ []) ≡ first_place q ks
+first_stays q ks k n h =
+    first_place-snoc q ks k ∙ by (pointwise nat_eq q k.bytes) refl (first_place q ks) refl
+  where
+    by : (b : Bool) → pointwise nat_eq q k.bytes ≡ b → (o : Option ℕ) → first_place q ks ≡ o
+        → place_if b k.place o ≡ o
+    by b e (Some m) f = refl
+    by false e None f = refl
+    by true e None f =
+        absurd (none-some n (sym f
+        ∙ ap (λ s. first_place s ks) ((bytes_decides q k.bytes).0 e) ∙ h))
+
+-- a key that doesn't stand before has its first place here
+pub first_moves : (q : List ℕ) (ks : List PlacedText) (k : PlacedText)
+    → first_place k.bytes ks ≡ None
+    → first_place q (ks ++ k ∷ [])
+    ≡ cond (pointwise nat_eq k.bytes q) (Some k.place) (first_place q ks)
+first_moves q ks k h =
+    first_place-snoc q ks k
+    ∙ by (pointwise nat_eq q k.bytes) refl (first_place q ks) refl
+    ∙ ap (λ b. cond b (Some k.place) (first_place q ks)) (either_way q k.bytes)
+  where
+    by : (b : Bool) → pointwise nat_eq q k.bytes ≡ b → (o : Option ℕ) → first_place q ks ≡ o
+        → place_if b k.place o ≡ cond b (Some k.place) o
+    by false e None f = refl
+    by false e (Some m) f = refl
+    by true e None f = refl
+    by true e (Some m) f =
+        absurd (none-some m (sym h
+        ∙ ap (λ s. first_place s ks) (sym ((bytes_decides q k.bytes).0 e)) ∙ f))
+
+-- one key more is told of
+pub keys_told : (found more all : List Warning) (before ks : List PlacedText) (k : PlacedText)
+    → found ++ of_keys before (k ∷ ks) ≡ all
+    → more ≡ found ++ of_key k.place (first_place k.bytes before)
+    → more ++ of_keys (before ++ k ∷ []) ks ≡ all
+keys_told found more all before ks k h e =
+    ap (λ l. l ++ of_keys (before ++ k ∷ []) ks) e
+    ∙ append_assoc found (of_key k.place (first_place k.bytes before))
+    (of_keys (before ++ k ∷ []) ks) ∙ h

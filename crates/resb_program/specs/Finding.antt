@@ -1,0 +1,77 @@
+-- What stands at a path of names in a tree.
+--     number_said name     the number that a name says, if it says one
+--     found_inside s name  what stands inside, under one name
+--     found_at s names     what stands at a path of names
+use Rattle.std.specs.Prelude.{ℕ, zero, suc, ◌^◌, nat_lt, Bool, true, ◌&&◌, List, [], ◌∷◌}
+use Rattle.std.specs.Prelude.{Option, Some, None, option_map, slice_get, if◌then◌else◌}
+use Rattle.std.specs.Option.{option_and_then}
+use Rattle.std.specs.Char.{is_digit}
+use Rattle.std.specs.Str.{bytes_eq}
+use Rattle.std.specs.Str.Parse.{digits_value, without_leading_plus}
+use Rattle.resb_tree.specs.Tree.{Tree, string, array, table, binary, integer, int_vector, Trees}
+use Rattle.resb_tree.specs.Tree.{no_trees, more_trees, Entries, no_entries, entry}
+use Rattle.resb_tree.specs.View.{tree_of}
+use Rattle.resb_program.specs.declared.path.Found.{Found}
+use Rattle.resb_program.specs.declared.path.Found.TheVariants as found
+
+-- what a path leads to: a tree, or a number of a vector
+pub data Spot : Type 0 where
+  tree_spot : Tree → Spot
+  number_spot : ℕ → Spot
+
+-- what the program's answer stands for
+abbrev pub spot_of : Found → Spot
+spot_of (found.Resource r) = tree_spot (tree_of r.now)
+spot_of (found.Number n) = number_spot n
+
+-- each byte is a decimal digit
+abbrev pub are_digits : List ℕ → Bool
+are_digits [] = true
+are_digits (b ∷ bs) = is_digit b 10 && are_digits bs
+
+-- the number that digits write, if it is less than 2^64
+abbrev pub number_written : List ℕ → Option ℕ
+number_written [] = None
+number_written (b ∷ bs) =
+    if are_digits (b ∷ bs) && nat_lt (digits_value 10 (b ∷ bs)) (2 ^ 64)
+    then Some (digits_value 10 (b ∷ bs))
+    else None
+
+-- the number that a name says: decimal digits, behind a `+` perhaps, of a number below 2^64
+abbrev pub number_said : List ℕ → Option ℕ
+number_said name = number_written (without_leading_plus name)
+
+-- the tree of the first entry of this name; a table has each key once
+abbrev pub value_named : List ℕ → Entries → Option Tree
+value_named name no_entries = None
+value_named name (entry k t es) = if bytes_eq k name then Some t else value_named name es
+
+-- the tree of this number, from 0
+abbrev pub tree_at : Trees → ℕ → Option Tree
+tree_at no_trees n = None
+tree_at (more_trees t ts) zero = Some t
+tree_at (more_trees t ts) (suc n) = tree_at ts n
+
+-- the member of an array that has the number that a name says
+abbrev pub member_said : Trees → List ℕ → Option Tree
+member_said ts name = option_and_then (tree_at ts) (number_said name)
+
+-- the number of a vector that has the number that a name says
+abbrev pub element_said : List ℕ → List ℕ → Option ℕ
+element_said ns name = option_and_then (slice_get ns) (number_said name)
+
+-- what stands inside a tree under one name: in a table the tree of the entry of this name, in an
+-- array or a vector what has this number; and nothing inside all else
+abbrev pub found_inside : Spot → List ℕ → Option Spot
+found_inside (tree_spot (table es)) name = option_map tree_spot (value_named name es)
+found_inside (tree_spot (array ts)) name = option_map tree_spot (member_said ts name)
+found_inside (tree_spot (int_vector ns)) name = option_map number_spot (element_said ns name)
+found_inside (tree_spot (string s)) name = None
+found_inside (tree_spot (binary bs)) name = None
+found_inside (tree_spot (integer n)) name = None
+found_inside (number_spot n) name = None
+
+-- what stands at a path of names, one inside the other
+abbrev pub found_at : Spot → List (List ℕ) → Option Spot
+found_at s [] = Some s
+found_at s (name ∷ names) = option_and_then (λ t. found_at t names) (found_inside s name)

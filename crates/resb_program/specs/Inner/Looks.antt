@@ -1,0 +1,102 @@
+-- What the code keeps of the groups that are open, beside their items.
+use Rattle.std.specs.Prelude.{◌≡◌, ◌<◌, ◌≤◌, ℕ, Bool, List, [], ◌∷◌, ◌++◌, map}
+use Rattle.std.specs.Option.{option_map}
+use Rattle.resb_program.specs.Braces.{mode_at}
+use Rattle.resb_program.specs.Pieces.{PlacedText, TextPiece, a_string, a_type, opening, closing}
+use Rattle.resb_program.specs.Pieces.{a_comma}
+use Rattle.resb_program.specs.Pieces.{word_start, quote_before}
+use Rattle.resb_program.specs.Groups.{GroupItem, string_item, group_item, OpenGroup, Nesting}
+use Rattle.resb_program.specs.Groups.{groups_at, names_array, with_one_more}
+use Rattle.resb_program.specs.Warnings.{has_backslash, warned}
+use Rattle.resb_program.specs.declared.braces.Mode.TheVariants as modes
+use Rattle.resb_program.specs.declared.text_pieces.StringAt.{StringAt}
+use Rattle.resb_program.specs.declared.text_pieces.Piece.{Piece as CodePiece}
+use Rattle.resb_program.specs.declared.text_pieces.Piece.TheVariants as piece
+use Rattle.resb_program.specs.declared.text_pieces.Pieces.{Pieces}
+use Rattle.resb_program.specs.declared.groups.Shape.{Shape}
+use Rattle.resb_program.specs.declared.groups.Shape.TheVariants as shape
+use Rattle.resb_program.specs.declared.groups.Group.{Group as CodeGroup}
+use Rattle.resb_program.specs.declared.groups.Groups.{Groups as CodeGroups}
+use Rattle.resb_program.specs.declared.warning.Scan.{Scan}
+
+abbrev pub placed_text_of : StringAt → PlacedText
+placed_text_of s = record { bytes = s.content.now; place = s.place }
+
+abbrev pub text_piece_of : CodePiece → TextPiece
+text_piece_of (piece.String s) = a_string (placed_text_of s)
+text_piece_of (piece.Type name) = a_type name.now
+text_piece_of piece.Open = opening
+text_piece_of piece.Close = closing
+text_piece_of piece.Comma = a_comma
+
+-- the code has passed so many bytes
+pub record Passed (p : Pieces) (n : ℕ) : Type 0 where
+  pub mode : p.mode ≡ mode_at p.text.now n
+  pub word : p.word ≡ word_start p.text.now n
+  pub quote : p.quote ≡ quote_before p.text.now n
+  pub backslash : p.has_backslash ≡ has_backslash p.text.now n
+  pub word_fits : p.word ≤ n
+  pub quote_fits : p.mode ≡ modes.Quotes → p.quote < n
+
+-- what items are: pairs with these keys; the same, and then a key; anything else
+pub data Pairing : Type 0 where
+  pairs : List PlacedText → Pairing
+  key : List PlacedText → PlacedText → Pairing
+  other : Pairing
+
+abbrev pub pairing_behind : GroupItem → Pairing → Pairing
+pairing_behind (string_item s) (pairs ks) = key ks s
+pairing_behind group_item (key ks s) = pairs (ks ++ s ∷ [])
+pairing_behind _ _ = other
+
+abbrev pub pairing_of : List GroupItem → Pairing
+pairing_of [] = pairs []
+pairing_of (x ∷ xs) = pairing_behind x (pairing_of xs)
+
+abbrev pub pairing_in : Shape → List PlacedText → Pairing
+pairing_in shape.Pairs ks = pairs ks
+pairing_in (shape.Key s) ks = key ks (placed_text_of s)
+pairing_in shape.Other ks = other
+
+pub record Level : Type 0 where
+  pub is_array : Bool
+  pub pairing : Pairing
+
+abbrev pub level_of_code : CodeGroup → Level
+level_of_code g =
+    record { is_array = g.is_array; pairing = pairing_in g.shape (map placed_text_of g.keys.items) }
+
+abbrev pub level_of : OpenGroup → Level
+level_of g = record { is_array = g.is_array; pairing = pairing_of g.items }
+
+-- groups from the inside out, as the code lists them: the innermost last
+abbrev pub levels_of : List OpenGroup → List Level
+levels_of [] = []
+levels_of (g ∷ gs) = levels_of gs ++ level_of g ∷ []
+
+-- the code's groups are these
+pub record ShowsNesting (c : CodeGroups) (g : Nesting) : Type 0 where
+  pub last : option_map text_piece_of c.last ≡ g.last
+  pub inner : level_of_code c.inner ≡ level_of g.inner
+  pub around : map level_of_code c.around.items ≡ levels_of g.around
+
+-- a group began, behind these
+pub record IsOpened (c : CodeGroups) (g : Nesting) : Type 0 where
+  pub inner : level_of_code c.inner
+      ≡ level_of (record { is_array = names_array g.last; items = [] })
+  pub around : map level_of_code c.around.items ≡ levels_of (g.inner ∷ g.around)
+
+-- the innermost group ended
+abbrev pub IsClosed : CodeGroups → OpenGroup → List OpenGroup → Type 0
+IsClosed c inner [] =
+    (level_of_code c.inner ≡ level_of inner) × (map level_of_code c.around.items ≡ [])
+IsClosed c inner (outer ∷ around) =
+    (level_of_code c.inner ≡ level_of (with_one_more group_item outer))
+    × (map level_of_code c.around.items ≡ levels_of around)
+
+-- the code has read so many bytes of a text
+pub record HasScanned (s : Scan) (whole : List ℕ) (n : ℕ) : Type 0 where
+  pub text : s.pieces.text.now ≡ whole
+  pub passed : Passed s.pieces n
+  pub shows : ShowsNesting s.groups (groups_at whole n)
+  pub found : s.found.items ≡ warned whole n

@@ -1,0 +1,122 @@
+//! A resource as JSON: objects by key, arrays, strings, signed numbers, and bytes as hex digits.
+//! What a text of the text form looks like is in `resb_print`.
+ghost use Rattle.std.specs.Prelude.{◌≡◌, map, IfOk, string_bytes};
+ghost use Rattle.serde_json.specs.Written.{compact_text};
+ghost use Rattle.serde_json.specs.View.{view, items_of};
+ghost use Rattle.resb_tree.specs.Tree as tree;
+ghost use Rattle.resb_tree.specs.View.{tree_of, items_view, entries_view};
+ghost use Rattle.resb_program.specs.Json.{json_of, json_in, vector_number};
+
+use resb_tree::{Resource, Table};
+use serde_json::{Map, Value};
+use std::alloc::{AllocError, AllocFailed, Global};
+
+/// How deep arrays and tables may nest: no deeper can readers of JSON be trusted to go.
+const MAX_DEPTH: usize = 120;
+
+/// Why a resource has no JSON.
+#[derive(Clone, Copy, Debug, PartialEq, Eq)]
+pub enum JsonError {
+    /// Arrays and tables nest more than 120 deep.
+    TooDeep,
+    /// A request for memory was refused.
+    OutOfMemory,
+}
+
+impl From<AllocError> for JsonError {
+    fn from(_: AllocError) -> JsonError {
+        JsonError::OutOfMemory
+    }
+}
+
+impl<T: Drop> From<AllocFailed<T>> for JsonError {
+    fn from(_: AllocFailed<T>) -> JsonError {
+        JsonError::OutOfMemory
+    }
+}
+
+/// The JSON of a resource, without blanks.
+#[tactic(auto, using(crate::proofs::JsonLemmas::plain))]
+pub fn json_text(alloc: Global, resource: &Resource<'_>) -> Result<String, JsonError>
+    ensures { IfOk result (λ s. string_bytes s ≡ compact_text (json_of (tree_of resource.now))) }
+{
+    let value = value_of(alloc, resource, MAX_DEPTH)?;
+    Ok(value.to_string(alloc)?)
+}
+
+/// The value of a resource whose arrays and tables nest no deeper than this.
+#[cycle(json)]
+fn value_of(alloc: Global, resource: &Resource<'_>, depth: usize) -> Result<Value, JsonError>
+    ensures { IfOk result (λ v. view v ≡ json_of (tree_of resource.now)) }
+{
+    match resource {
+        Resource::String(text) => Ok(Value::String(String::from_str(alloc, text.as_str())?)),
+        Resource::Integer(number) => Ok(Value::from(i32::from(*number))),
+        Resource::IntVector(numbers) => numbers_of(alloc, numbers.as_slice()),
+        Resource::Binary(bytes) => binary_of(alloc, bytes.as_slice()),
+        Resource::Array(members) => array_of(alloc, members.as_slice(), depth),
+        Resource::Table(entries) => object_of(alloc, entries, depth),
+    }
+}
+
+/// Signed numbers.
+fn numbers_of(alloc: Global, numbers: &[u32]) -> Result<Value, JsonError>
+    ensures { IfOk result (λ v. view v ≡ json_of (tree.int_vector numbers.now)) }
+{
+    let mut values = Vec::new(alloc);
+    for number in numbers {
+        values.push(Value::from(number.cast_signed()))?;
+    }
+    Ok(Value::Array(values))
+}
+
+/// Bytes, as an object of one member with their hex digits.
+fn binary_of(alloc: Global, bytes: &[u8]) -> Result<Value, JsonError>
+    ensures { IfOk result (λ v. view v ≡ json_of (tree.binary bytes.now)) }
+{
+    let digits = hex::encode(alloc, bytes)?;
+    let mut members = Map::new(alloc);
+    serde_json::put(&mut members, alloc, "binary", Value::String(digits))?;
+    Ok(Value::Object(members))
+}
+
+/// The values of an array's members, one level further in.
+#[cycle(json)]
+fn values_of(alloc: Global, members: &[Resource<'_>], depth: usize) -> Result<Vec<Value>, JsonError>
+    ensures { IfOk result (λ vs. map view vs.items ≡ map json_in members.now) }
+{
+    if depth == 0 {
+        return Err(JsonError::TooDeep);
+    }
+    let mut values = Vec::new(alloc);
+    for member in members {
+        values.push(value_of(alloc, member, depth - 1)?)?;
+    }
+    Ok(values)
+}
+
+/// The members of an array.
+#[cycle(json)]
+#[tactic(auto, using(crate::proofs::JsonLemmas::members_are))]
+fn array_of(alloc: Global, members: &[Resource<'_>], depth: usize) -> Result<Value, JsonError>
+    ensures { IfOk result (λ v. view v ≡ json_of (tree.array (items_view members.now))) }
+{
+    let values = values_of(alloc, members, depth)?;
+    Ok(Value::Array(values))
+}
+
+/// The entries of a table, one level further in.
+#[cycle(json)]
+fn object_of(alloc: Global, entries: &Table<'_>, depth: usize) -> Result<Value, JsonError>
+    ensures { IfOk result (λ v. view v ≡ json_of (tree.table (entries_view entries.now.entries))) }
+{
+    if depth == 0 {
+        return Err(JsonError::TooDeep);
+    }
+    let mut members = Map::new(alloc);
+    for (key, resource) in entries.iter() {
+        let value = value_of(alloc, resource, depth - 1)?;
+        serde_json::put(&mut members, alloc, key.as_str(), value)?;
+    }
+    Ok(Value::Object(members))
+}

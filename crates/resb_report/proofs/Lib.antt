@@ -1,5 +1,0 @@
--- Nothing is passed on.
-mod PiecesLemmas
-mod KeysLemmas
-mod Numbers
-mod Lists

@@ -1,6 +1,0 @@
--- The text was read up to the place.
-use Rattle.resb_report.specs.Inner.Looks.{HasScanned}
-use Rattle.resb_report.proofs.warning.warnings.Given as goal
-
-abbrev pub invariant-bytes : goal.invariant-bytes
-invariant-bytes l = HasScanned l.scan l.text l.at

@@ -1,0 +1,150 @@
+//! The words that the program knows: its commands, their arguments and their help.
+//! What is read from words that were given is in `request`.
+use clap::{Arg, ArgAction, Command};
+use std::alloc::{AllocError, Global};
+
+/// The program's words.
+pub(crate) fn program<'a>(alloc: Global) -> Result<Command<'a>, AllocError> {
+    let program = Command::new(alloc, "resb")
+        .version("0.2.0")
+        .about("Compiles ICU resource bundles, checks them, and shows what is in them.")
+        .subcommand_required(true)
+        .arg_required_else_help(true);
+    let program = with(program, compile(alloc))?;
+    let program = with(program, check(alloc))?;
+    let program = with(program, dump(alloc))?;
+    with(program, get(alloc))
+}
+
+/// A command with one more below it.
+fn with<'a>(
+    command: Command<'a>,
+    below: Result<Command<'a>, AllocError>,
+) -> Result<Command<'a>, AllocError> {
+    command.subcommand(below?)
+}
+
+/// A command with one argument more.
+fn with_arg<'a>(
+    command: Command<'a>,
+    arg: Result<Arg<'a>, AllocError>,
+) -> Result<Command<'a>, AllocError> {
+    command.arg(arg?)
+}
+
+/// Texts to files.
+fn compile<'a>(alloc: Global) -> Result<Command<'a>, AllocError> {
+    let command = Command::new(alloc, "compile")
+        .about("Compiles texts of bundles into .res files")
+        .after_help("Example: resb compile root.txt de.txt -d out")
+        .arg(several(alloc, "Texts of bundles; '-' is standard input"))?
+        .arg(output(alloc))?;
+    let command = with_arg(command, folder(alloc))?;
+    let command = with_arg(command, icu_texts(alloc))?;
+    command.arg(limit(
+        alloc,
+        "Refuses a text whose reading takes more bytes of memory than this",
+    ))
+}
+
+/// What is said of files.
+fn check<'a>(alloc: Global) -> Result<Command<'a>, AllocError> {
+    Command::new(alloc, "check")
+        .about("Checks .res files, a line for each")
+        .after_help("Example: resb check out/root.res out/de.res")
+        .arg(several(alloc, "A .res file; '-' is standard input"))
+}
+
+/// Files to texts.
+fn dump<'a>(alloc: Global) -> Result<Command<'a>, AllocError> {
+    let command = Command::new(alloc, "dump")
+        .about("Prints the text of a .res file, or JSON where it has none")
+        .after_help("Example: resb dump out/root.res")
+        .arg(file(alloc, "A .res file; '-' is standard input"))?
+        .arg(json(alloc))?;
+    let command = with_arg(command, icu_text(alloc))?;
+    command.arg(tree_limit(alloc))
+}
+
+/// One thing of a file.
+fn get<'a>(alloc: Global) -> Result<Command<'a>, AllocError> {
+    Command::new(alloc, "get")
+        .about("Prints what stands at a path in a .res file")
+        .after_help("Example: resb get out/zones.res zones/Pole/base")
+        .arg(file(alloc, "A .res file; '-' is standard input"))?
+        .arg(path(alloc))?
+        .arg(tree_limit(alloc))
+}
+
+/// The argument of a file.
+fn file<'a>(alloc: Global, help: &'a str) -> Arg<'a> {
+    Arg::new(alloc, "FILE").help(help).required(true)
+}
+
+/// The argument of several files.
+fn several<'a>(alloc: Global, help: &'a str) -> Arg<'a> {
+    file(alloc, help).action(ArgAction::Append).num_args(1..)
+}
+
+/// The file of the one text.
+fn output<'a>(alloc: Global) -> Arg<'a> {
+    Arg::new(alloc, "OUT")
+        .short('o')
+        .long("output")
+        .help("The file of the one text; '-' is standard output")
+}
+
+/// The folder for the files of texts.
+fn folder<'a>(alloc: Global) -> Result<Arg<'a>, AllocError> {
+    Arg::new(alloc, "DIR")
+        .short('d')
+        .long("directory")
+        .help("The folder for the files, in place of that of each text")
+        .conflicts_with("OUT")
+}
+
+/// Whether texts are in ICU's own form.
+fn icu_texts<'a>(alloc: Global) -> Result<Arg<'a>, AllocError> {
+    Arg::new(alloc, "ICU")
+        .long("icu")
+        .help("The texts are in ICU's own form, which genrb reads")
+        .action(ArgAction::SetTrue)
+        .conflicts_with("BYTES")
+}
+
+/// Whether a text is printed in ICU's own form.
+fn icu_text<'a>(alloc: Global) -> Result<Arg<'a>, AllocError> {
+    Arg::new(alloc, "ICU")
+        .long("icu")
+        .help("Prints the text in ICU's own form, which genrb reads")
+        .action(ArgAction::SetTrue)
+        .conflicts_with("json")
+}
+
+/// Whether JSON is printed.
+fn json<'a>(alloc: Global) -> Arg<'a> {
+    Arg::new(alloc, "json")
+        .long("json")
+        .help("Prints JSON in place of a text")
+        .action(ArgAction::SetTrue)
+}
+
+/// The path to the thing that is shown.
+fn path<'a>(alloc: Global) -> Arg<'a> {
+    Arg::new(alloc, "PATH")
+        .help("Keys and numbers of members, from 0, such as zones/Pole/pairs/0")
+        .required(true)
+}
+
+/// The most bytes that something may take.
+fn limit<'a>(alloc: Global, help: &'a str) -> Arg<'a> {
+    Arg::new(alloc, "BYTES").long("limit").help(help)
+}
+
+/// The most bytes that a tree may take.
+fn tree_limit<'a>(alloc: Global) -> Arg<'a> {
+    limit(
+        alloc,
+        "Refuses a file whose tree takes more bytes of memory than this",
+    )
+}

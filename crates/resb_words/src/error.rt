@@ -1,0 +1,64 @@
+//! Why words ask for nothing that is done: a mistake, or a wish for help.
+//! What words ask for otherwise is in `request`.
+ghost use Rattle.std.specs.Prelude.{◌≤◌};
+
+use clap::Error;
+use std::alloc::{AllocError, AllocFailed};
+
+/// Why the words ask for nothing that is done.
+#[derive(Debug, Drop)]
+pub enum WordsError {
+    /// `clap` refuses the words, or they ask for help or for the version.
+    Words(Error),
+    /// No command stands there.
+    NoCommand,
+    /// What stands behind `--limit` is no number of bytes.
+    NoNumber,
+    /// `--output` names one file, for several texts.
+    SeveralTexts,
+    /// A request for memory was refused.
+    Memory,
+}
+
+impl WordsError {
+    /// The status that the program ends with: 0 for help and the version, else 2.
+    pub fn status(&self) -> u8
+        ensures { result ≤ 2 }
+    {
+        match self {
+            WordsError::Words(e) if e.exit_code() == 0 => 0,
+            _ => 2,
+        }
+    }
+
+    /// Prints it: help and the version on standard output, all else on standard error.
+    pub fn print<R: Print + Eprint>(&self, rt: &R) {
+        let _ = match self {
+            WordsError::Words(e) => e.print(rt),
+            WordsError::NoCommand => eprintln!(rt; "resb: no command"),
+            WordsError::NoNumber => eprintln!(rt; "resb: --limit is a number of bytes"),
+            WordsError::SeveralTexts => {
+                eprintln!(rt; "resb: --output is for one text; --directory is for several")
+            }
+            WordsError::Memory => eprintln!(rt; "resb: out of memory"),
+        };
+    }
+}
+
+impl From<Error> for WordsError {
+    fn from(e: Error) -> WordsError {
+        WordsError::Words(e)
+    }
+}
+
+impl From<AllocError> for WordsError {
+    fn from(_: AllocError) -> WordsError {
+        WordsError::Memory
+    }
+}
+
+impl<T: Drop> From<AllocFailed<T>> for WordsError {
+    fn from(_: AllocFailed<T>) -> WordsError {
+        WordsError::Memory
+    }
+}

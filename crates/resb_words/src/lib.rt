@@ -1,0 +1,10 @@
+//! What the words behind the name `resb` ask for, or what to say of them, by the library `clap`.
+//! What is done then, and the files and streams that the words name, are the program's.
+#![tactic(auto)]
+
+mod command;
+mod error;
+mod request;
+
+pub use error::WordsError;
+pub use request::{CompileWords, DumpWords, GetWords, Request, request_of};

@@ -1,0 +1,135 @@
+//! What words ask for: the command, the files, and what is wished of them.
+//! The words that the program knows are in `command`, and why they may be refused in `error`.
+ghost use Rattle.std.specs.Prelude.{◌≡◌};
+
+use crate::command::program;
+use crate::error::WordsError;
+use clap::ArgMatches;
+use std::alloc::Global;
+
+/// What the words ask for.
+#[derive(Debug, Drop)]
+pub enum Request<'w> {
+    /// `compile`: each text to a file of its own.
+    Compile(CompileWords<'w>),
+    /// `check`: a line of each of these files.
+    Check(Vec<&'w str>),
+    /// `dump`: a file's text.
+    Dump(DumpWords<'w>),
+    /// `get`: one thing of a file.
+    Get(GetWords<'w>),
+}
+
+/// What is asked of texts. The name `-` is standard input, and standard output.
+#[derive(Debug, Drop)]
+pub struct CompileWords<'w> {
+    /// The names of the texts.
+    pub texts: Vec<&'w str>,
+    /// The name of the file of the one text.
+    pub output: Option<&'w str>,
+    /// The folder for the files.
+    pub folder: Option<&'w str>,
+    /// Whether the texts are in ICU's own form.
+    pub is_icu: bool,
+    /// The most bytes that reading a text may make.
+    pub limit: Option<u64>,
+}
+
+/// What is asked of a file whose text is printed.
+#[derive(Clone, Copy, Debug)]
+pub struct DumpWords<'w> {
+    /// The file's name; `-` is standard input.
+    pub file: &'w str,
+    /// Whether JSON is printed.
+    pub is_json: bool,
+    /// Whether the text is printed in ICU's own form.
+    pub is_icu: bool,
+    /// The most bytes that the file's tree may take.
+    pub limit: Option<u64>,
+}
+
+/// What is asked of a file of which one thing is printed.
+#[derive(Clone, Copy, Debug)]
+pub struct GetWords<'w> {
+    /// The file's name; `-` is standard input.
+    pub file: &'w str,
+    /// Keys and numbers of members, with a slash between two of them.
+    pub path: &'w str,
+    /// The most bytes that the file's tree may take.
+    pub limit: Option<u64>,
+}
+
+/// What the words ask for, of which the first is the program's own name.
+pub fn request_of<'w>(alloc: Global, words: &'w [String]) -> Result<Request<'w>, WordsError> {
+    let matches = program(alloc)?.try_get_matches_from(words)?;
+    asked(alloc, &matches)
+}
+
+/// What is asked by the words of a command.
+fn asked<'w>(alloc: Global, matches: &ArgMatches<'w>) -> Result<Request<'w>, WordsError> {
+    match matches.subcommand() {
+        Some(("compile", matches)) => compile(alloc, matches),
+        Some(("check", matches)) => Ok(Request::Check(names(alloc, matches)?)),
+        Some(("dump", matches)) => dump(matches),
+        Some((_, matches)) => get(matches),
+        None => Err(WordsError::NoCommand),
+    }
+}
+
+/// What is asked of texts.
+fn compile<'w>(alloc: Global, matches: &ArgMatches<'w>) -> Result<Request<'w>, WordsError> {
+    let limit = limit(matches)?;
+    let output = matches.get_str("OUT");
+    let texts = names(alloc, matches)?;
+    if output.is_some() && texts.len() > 1 {
+        return Err(WordsError::SeveralTexts);
+    }
+    Ok(Request::Compile(CompileWords {
+        texts,
+        output,
+        folder: matches.get_str("DIR"),
+        is_icu: matches.get_flag("ICU"),
+        limit,
+    }))
+}
+
+/// What is asked of a file whose text is printed.
+fn dump<'w>(matches: &ArgMatches<'w>) -> Result<Request<'w>, WordsError> {
+    Ok(Request::Dump(DumpWords {
+        file: word(matches, "FILE"),
+        is_json: matches.get_flag("json"),
+        is_icu: matches.get_flag("ICU"),
+        limit: limit(matches)?,
+    }))
+}
+
+/// What is asked of a file of which one thing is printed.
+fn get<'w>(matches: &ArgMatches<'w>) -> Result<Request<'w>, WordsError> {
+    Ok(Request::Get(GetWords {
+        file: word(matches, "FILE"),
+        path: word(matches, "PATH"),
+        limit: limit(matches)?,
+    }))
+}
+
+/// The word of an argument that each command of its kind has.
+fn word<'w>(matches: &ArgMatches<'w>, name: &str) -> &'w str {
+    matches.get_str(name).unwrap_or("")
+}
+
+/// The names of the files.
+fn names<'w>(alloc: Global, matches: &ArgMatches<'w>) -> Result<Vec<&'w str>, WordsError> {
+    let names = matches.get_strs("FILE").unwrap_or(&[]);
+    Ok(names.iter().copied().collect::<Vec<&str>>(alloc)?)
+}
+
+/// The bytes of `--limit`, if the words say it.
+fn limit(matches: &ArgMatches<'_>) -> Result<Option<u64>, WordsError> {
+    match matches.get_str("BYTES") {
+        None => Ok(None),
+        Some(text) => match text.parse::<u64>() {
+            Ok(limit) => Ok(Some(limit)),
+            Err(_) => Err(WordsError::NoNumber),
+        },
+    }
+}

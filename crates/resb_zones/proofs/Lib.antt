@@ -1,7 +1,0 @@
--- For this crate alone.
-mod Costs
-mod Steps
-mod Fronts
-mod Takings
-mod ZonesLemmas
-mod Lists

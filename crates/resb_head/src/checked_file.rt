@@ -53,11 +53,9 @@ impl<'de> CheckedFile<'de> {
         if keys_end > body.len() {
             return Err(BinaryDeserializerError::end_of_input());
         }
-        let Some(block_end) = index.data_16_bit_end else {
-            return Err(BinaryDeserializerError::invalid_data(
-                "offset to the end of 16-bit data not specified",
-            ));
-        };
+        let block_end = index.data_16_bit_end.ok_or(BinaryDeserializerError::invalid_data(
+            "offset to the end of 16-bit data not specified",
+        ))?;
         let block_end = 4 * block_end as usize;
         if block_end < keys_end || block_end > body.len() {
             return Err(BinaryDeserializerError::end_of_input());

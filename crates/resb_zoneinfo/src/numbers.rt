@@ -2,6 +2,7 @@
 //! What a whole change of clocks is read from is said in `edge`.
 ghost use Rattle.std.specs.Prelude.{◌≡◌, ◌<◌, ◌≤◌, pos, IsTrue, IfOk, IfErr, MatchOption};
 ghost use Rattle.resb_zoneinfo.specs.RuleDays.{is_real};
+ghost use Rattle.resb_zoneinfo.specs.Numbers as numbers;
 ghost use Rattle.resb_zoneinfo.specs.Numbers.{IsBeyond, SaysDay, IsDayFault, IsSigned};
 
 use crate::civil::month_length;
@@ -56,6 +57,19 @@ fn sign_of(number: i32) -> Signed
     }
 }
 
+/// Up to which number a day may go: the fifth of a weekday, or the length of the month, in which
+/// February has 29 days.
+fn day_limit(month: u64, weekday: i32) -> u64
+    requires { month < 12 }
+    ensures { result ≡ numbers.day_limit month weekday }
+{
+    if weekday > 0 {
+        5
+    } else {
+        month_length(0, month)
+    }
+}
+
 /// The day of a month that two numbers of a file say.
 pub(crate) fn day_of(month: u64, day: i32, weekday: i32) -> Result<RuleDay, RuleError>
     requires { month < 12 }
@@ -67,12 +81,7 @@ pub(crate) fn day_of(month: u64, day: i32, weekday: i32) -> Result<RuleDay, Rule
         return Err(RuleError::Weekday);
     }
     let size = u64::from(day.unsigned_abs());
-    let limit = if weekday > 0 {
-        5
-    } else {
-        month_length(0, month)
-    };
-    if size < 1 || limit < size {
+    if size < 1 || day_limit(month, weekday) < size {
         return Err(RuleError::Day);
     }
     match (name, number) {

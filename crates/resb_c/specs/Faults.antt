@@ -16,8 +16,6 @@ use Rattle.resb_print.specs.declared.error.PrintError.TheVariants as print
 use Rattle.resb_compile.specs.declared.compiling.CompileError.{CompileError}
 use Rattle.resb_compile.specs.declared.compiling.CompileError.TheVariants as compiling
 use Rattle.resb_compile.specs.Compiling as compile
-use Rattle.resb_program.specs.declared.errors.FileError.{FileError}
-use Rattle.resb_program.specs.declared.errors.FileError.TheVariants as file
 use Rattle.resb_c.specs.declared.fault.Fault.{Fault}
 use Rattle.resb_c.specs.declared.fault.Fault.TheVariants.{TooShort, NotUtf8, Compiling, Reading}
 use Rattle.resb_c.specs.declared.fault.Fault.TheVariants.{UsesPool, Larger, LargerText, Printing}
@@ -89,9 +87,3 @@ message_of UsesPool =
 message_of Larger = Some (codes "the tree takes more bytes than the limit")
 message_of LargerText = Some (codes "reading the text takes more bytes than the limit")
 message_of (Printing e) = None
-
--- the fault that a refusal of a file is
-abbrev pub file_fault : FileError → Fault
-file_fault file.UsesPool = UsesPool
-file_fault (file.Larger n limit) = Larger
-file_fault (file.Reading e) = Reading e

@@ -7,7 +7,6 @@ use resb_compile::CompileError;
 use resb_format::{BinaryDeserializerError, ErrorKind};
 use resb_grammar::Expected;
 use resb_print::PrintError;
-use resb_program::FileError;
 use std::error::Error;
 use std::fmt;
 
@@ -96,18 +95,3 @@ impl fmt::Display for Fault {
 }
 
 impl Error for Fault {}
-
-impl From<FileError> for Fault {
-    ghost use Rattle.std.specs.Prelude.{◌≡◌};
-    ghost use Rattle.resb_c.specs.Faults.{file_fault};
-
-    ghost from_gives = { λ e made. made ≡ file_fault e };
-
-    fn from(e: FileError) -> Fault {
-        match e {
-            FileError::UsesPool => Fault::UsesPool,
-            FileError::Larger { .. } => Fault::Larger,
-            FileError::Reading(e) => Fault::Reading(e),
-        }
-    }
-}

@@ -1,15 +1,16 @@
 //! What the calls for C do over bytes: their answers go to the front of the caller's buffer.
 //! What the caller is told beside that is in `report`.
-ghost use Rattle.std.specs.Prelude.{◌≡◌, Ok, Err};
-ghost use Rattle.resb_c.specs.Calls.{CompilesInto, CompilesWithin, CountsFile, Fills};
-ghost use Rattle.resb_c.specs.Dumping.{DumpsInto};
+ghost use Rattle.std.specs.Prelude.{◌≡◌, ℕ, IfOk, IfErr, IsUtf8};
+ghost use Rattle.resb_c.specs.Calls.{CompilesInto, CompilesWithin, CountsFile, Fills, IsNotUtf8};
+ghost use Rattle.resb_c.specs.Dumping.{DumpsInto, HasNoBundle, IsBundleToDump};
 ghost use Rattle.resb_c.specs.Measures.{MeasuresFile};
 
 use crate::fault::Fault;
 use resb_compile::{CompileWithinError, compile, compile_within};
 use resb_print::print_text;
-use resb_program::{read_bundle, text_of};
+use resb_program::{FileError, read_bundle};
 use resb_read::Measured;
+use resb_tree::ResourceBundle;
 use std::alloc::Global;
 
 /// Copies an answer to the front of the buffer where it has room, and gives its length, which is
@@ -25,11 +26,23 @@ pub(crate) fn fill(answer: &[u8], out: &mut [u8]) -> Result<usize, usize>
     Ok(count)
 }
 
+/// The bytes as a text.
+fn text_of(bytes: &[u8]) -> Result<&str, Fault>
+    ensures ok { IfOk result (λ text. (text.now ≡ bytes.entry.now) × IsUtf8 bytes.entry.now) }
+    ensures err { IfErr result
+        (λ e. (n : ℕ) × (e ≡ Fault.NotUtf8 n) × IsNotUtf8 bytes.entry.now n) }
+{
+    match resb_program::text_of(bytes) {
+        Ok(text) => Ok(text),
+        Err(place) => Err(Fault::NotUtf8(place)),
+    }
+}
+
 /// Compiles a text to the front of the buffer.
 pub(crate) fn compile_into(alloc: Global, text: &[u8], out: &mut [u8]) -> Result<usize, Fault>
     ensures { CompilesInto text.now out.old out.new result }
 {
-    let text = text_of(text).map_err(Fault::NotUtf8)?;
+    let text = text_of(text)?;
     match compile(alloc, text) {
         Ok(file) => match fill(&file, out) {
             Ok(count) => Ok(count),
@@ -48,7 +61,7 @@ pub(crate) fn compile_within_into(
 ) -> Result<usize, Fault>
     ensures { CompilesWithin text.now limit out.old out.new result }
 {
-    let text = text_of(text).map_err(Fault::NotUtf8)?;
+    let text = text_of(text)?;
     match compile_within(alloc, text, limit) {
         Ok(file) => match fill(&file, out) {
             Ok(count) => Ok(count),
@@ -63,16 +76,42 @@ pub(crate) fn compile_within_into(
 pub(crate) fn count_file(alloc: Global, file: &[u8]) -> Result<usize, Fault>
     ensures { CountsFile file.now result }
 {
-    let (count, _) = resb_program::count_file(alloc, file)?;
-    Ok(count)
+    match resb_program::count_file(alloc, file) {
+        Ok((count, _)) => Ok(count),
+        Err(FileError::UsesPool) => Err(Fault::UsesPool),
+        Err(FileError::Larger { .. }) => Err(Fault::Larger),
+        Err(FileError::Reading(e)) => Err(Fault::Reading(e)),
+    }
 }
 
 /// What a file's tree adds up to.
 pub(crate) fn measure_file(alloc: Global, file: &[u8]) -> Result<Measured, Fault>
     ensures { MeasuresFile file.now result }
 {
-    let measured = resb_program::measure_file(alloc, file)?;
-    Ok(measured)
+    match resb_program::measure_file(alloc, file) {
+        Ok(measured) => Ok(measured),
+        Err(FileError::UsesPool) => Err(Fault::UsesPool),
+        Err(FileError::Larger { .. }) => Err(Fault::Larger),
+        Err(FileError::Reading(e)) => Err(Fault::Reading(e)),
+    }
+}
+
+/// A file's bundle, whose tree takes no more bytes than the limit.
+fn bundle_of<'a>(
+    alloc: Global,
+    name: &'a str,
+    file: &'a [u8],
+    limit: u64,
+) -> Result<ResourceBundle<'a>, Fault>
+    ensures ok { IfOk result (IsBundleToDump file.entry.now name.entry.now limit) }
+    ensures err { IfErr result (HasNoBundle file.entry.now limit) }
+{
+    match read_bundle(alloc, name, file, Some(limit)) {
+        Ok(bundle) => Ok(bundle),
+        Err(FileError::UsesPool) => Err(Fault::UsesPool),
+        Err(FileError::Larger { .. }) => Err(Fault::Larger),
+        Err(FileError::Reading(e)) => Err(Fault::Reading(e)),
+    }
 }
 
 /// Prints a file's tree to the front of the buffer, as the text of a bundle of that name.
@@ -85,8 +124,8 @@ pub(crate) fn dump_into(
 ) -> Result<usize, Fault>
     ensures { DumpsInto file.now name.now limit out.old out.new result }
 {
-    let name = text_of(name).map_err(Fault::NotUtf8)?;
-    let bundle = read_bundle(alloc, name, file, Some(limit))?;
+    let name = text_of(name)?;
+    let bundle = bundle_of(alloc, name, file, limit)?;
     match print_text(alloc, &bundle) {
         Ok(text) => match fill(text.as_bytes(), out) {
             Ok(count) => Ok(count),

@@ -7,7 +7,6 @@ use Rattle.std.proofs.lemmas.Option.{same_Some}
 use Rattle.resb.specs.Places.{Place, spot_of}
 use Rattle.resb.specs.Parts.{Parts}
 use Rattle.resb.specs.Content.{Member, word, unit}
-use Rattle.resb.specs.Strings.{string_at, key_at}
 use Rattle.resb.specs.Int28.{signed}
 use Rattle.resb.specs.Reading.{Lacks}
 use Rattle.resb.specs.Leaves.{type_in, value_in, signed_at, key_from, bytes_from, bytes_of_type}
@@ -46,7 +45,7 @@ pub entries_are : (p : Place) (places : List (Place × Place)) → entries_at p 
 entries_are p places e = entries_at_spot p.parts p.at places e
 
 key_at_spot : (p : Parts) (s : Spot) (q : List ℕ × ℕ) → key_from p s ≡ Some q → q.1 ≡ 0
-key_at_spot p (spot.Key k) q e = counted_as (λ s. s) 0 (key_at p.keys k) q e
+key_at_spot p (spot.Key k) q e = counted_as (λ s. s) 0 _ q e
 key_at_spot p (spot.Descriptor w) q e = cc
 key_at_spot p (spot.Unit u) q e = cc
 key_at_spot p (spot.Word w) q e = cc
@@ -70,7 +69,7 @@ bytes_at_spot : (p : Parts) (s : Spot) (q : List ℕ × ℕ) → cost_at s ≡ 1
     → q.1 ≡ 1
 bytes_at_spot p (spot.Descriptor w) q c e =
     counted_as (λ s. s) 1 (bytes_of_type p (type_in w) (value_in w)) q e
-bytes_at_spot p (spot.Unit u) q c e = counted_as units_as_bytes 1 (string_at p.block u) q e
+bytes_at_spot p (spot.Unit u) q c e = counted_as units_as_bytes 1 _ q e
 bytes_at_spot p (spot.Word w) q c e = absurd (omega arith)
 bytes_at_spot p (spot.Key k) q c e = absurd (omega arith)
 

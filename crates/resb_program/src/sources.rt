@@ -45,8 +45,13 @@ pub fn compile_source(alloc: Global, source: &[u8]) -> Result<Vec<u8>, SourceErr
     ensures ok { IfOk result (λ file. IsUtf8 source.now × IsCompiled source.now file.items) }
     ensures err { IfErr result (IsNoSource source.now) }
 {
-    let text = text_of(source).map_err(SourceError::NotUtf8)?;
-    compile(alloc, text).map_err(SourceError::Refused)
+    match text_of(source) {
+        Ok(text) => match compile(alloc, text) {
+            Ok(file) => Ok(file),
+            Err(e) => Err(SourceError::Refused(e)),
+        },
+        Err(place) => Err(SourceError::NotUtf8(place)),
+    }
 }
 
 /// The same, where reading the text makes no more bytes than the limit.
@@ -75,8 +80,13 @@ pub fn compile_icu_source(alloc: Global, source: &[u8]) -> Result<Vec<u8>, Sourc
     ensures ok { IfOk result (λ file. IsUtf8 source.now × IsIcuCompiled source.now file.items) }
     ensures err { IfErr result (IsNoIcuSource source.now) }
 {
-    let text = text_of(source).map_err(SourceError::NotUtf8)?;
-    compile_icu(alloc, text).map_err(SourceError::IcuRefused)
+    match text_of(source) {
+        Ok(text) => match compile_icu(alloc, text) {
+            Ok(file) => Ok(file),
+            Err(e) => Err(SourceError::IcuRefused(e)),
+        },
+        Err(place) => Err(SourceError::NotUtf8(place)),
+    }
 }
 
 /// Where a person is to look for the cause of a refusal, in bytes from the text's start.

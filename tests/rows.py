@@ -6,6 +6,7 @@ crates/resb_text_rows/src/rows.rt, for the tests of public calls, is asked of th
 texts with their trees, and texts with the places where they are refused. All expected values come
 from the rules of texts and of files. The last line is 'N passed, M failed'.
 """
+import ast
 import json
 import os
 import re
@@ -45,13 +46,17 @@ def rows_of(name, end=';\n', mark=' =>'):
         yield asked, wanted
 
 
-def shared_rows(name):
-    """The rows of a constant of resb_text_rows: a text and its answer."""
+def shared_rows(name, lines):
+    """The rows of two constants of resb_text_rows: texts and their answers, a line each, and texts
+    of several lines, as tuples."""
     with open(f'{TOP}/crates/resb_text_rows/src/rows.rt', encoding='utf-8') as it:
-        text = re.search(rf'pub const {name}: &str = r#"(.*?)"#;', it.read(), re.S)[1]
+        source = it.read()
+    text = re.search(rf'pub const {name}: &str = r#"(.*?)"#;', source, re.S)[1]
     for row in text.split('\n')[:-1]:
         asked, _, wanted = row.partition(' => ')
         yield asked, wanted
+    text = re.search(rf'pub const {lines}: [^=]* = \[(.*?)\n\];', source, re.S)[1]
+    yield from ast.literal_eval(f'[{text}]')
 
 
 def written(name, content):
@@ -107,46 +112,46 @@ def files():
 
 
 def tree_of(words):
-    """A tree as the rows of texts write it, as JSON has it: 'x', [ .. ], { k: .. }, < .. >, ( .. )."""
+    """A tree as the rows of texts write it, as JSON has it, numbers with their sign: 'x', [ .. ],
+    { k: .. }, < bytes >, a number of 28 bits, ( numbers of 32 bits )."""
     word = words.pop(0)
-    if word in '[({<':
-        end, items = {'[': ']', '(': ')', '{': '}', '<': '>'}[word], []
-        while words[0] != end:
-            key = words.pop(0)[:-1] if word == '{' else None
-            items.append((key, tree_of(words)))
+    if word == '[':
+        items = []
+        while words[0] != ']':
+            items.append(tree_of(words))
         words.pop(0)
-        values = [value for _, value in items]
-        if word == '{':
-            return dict(items)
-        if word == '<':
-            return {'binary': bytes(value % 256 for value in values).hex()}
-        return [(value + 2 ** 31) % 2 ** 32 - 2 ** 31 for value in values] if word == '(' else values
-    if word[0] == "'":
-        return word[1:-1]
-    return int(word)
+        return items
+    if word == '{':
+        entries = {}
+        while words[0] != '}':
+            key = words.pop(0)[:-1]
+            entries[key] = tree_of(words)
+        words.pop(0)
+        return entries
+    if word in '<(':
+        end = words.index('>' if word == '<' else ')')
+        numbers = [int(it) for it in words[:end]]
+        del words[:end + 1]
+        return {'binary': bytes(numbers).hex()} if word == '<' else [signed(it, 32) for it in numbers]
+    return word[1:-1] if word[0] == "'" else signed(int(word), 28)
 
 
-def signed(tree):
-    """A tree with its numbers of 28 bits as JSON has them, with their sign."""
-    if isinstance(tree, int):
-        return (tree + 2 ** 27) % 2 ** 28 - 2 ** 27 if tree >= 0 else tree
-    if isinstance(tree, dict) and set(tree) != {'binary'}:
-        return {key: signed(value) for key, value in tree.items()}
-    if isinstance(tree, list) and not all(isinstance(it, int) for it in tree):
-        return [signed(it) for it in tree]
-    return tree
+def signed(number, bits):
+    """A number of so many bits, with its sign."""
+    half = 2 ** (bits - 1)
+    return (number + half) % (2 * half) - half
 
 
 def bundles():
     """Texts and the trees of their files, which are printed and read back, in ICU's form too."""
-    for text, wanted in shared_rows('BUNDLES'):
+    for text, wanted in shared_rows('BUNDLES', 'LINES'):
         shown = wanted.partition(': ')[2].rpartition(', keys')[0]
         words = re.findall(r"'[^']*'|[^\s:]*:|[^\s]+", shown)
         file, said = compiled(text)
         if not seen(file, f'compile: {text}: {said}'):
             continue
-        tree, found = tree_of(words), json_of(file)
-        seen(found in (tree, signed(tree)), f'tree of {text}: {found}')
+        found = json_of(file)
+        seen(found == tree_of(words), f'tree of {text}: {found}')
         seen(is_read_back(file), f'printed: {text}')
         if ran(RESB, 'dump', '--icu', '-', given=file)[2] == b'':
             seen(is_read_back(file, ['--icu']), f"printed in ICU's form: {text}")
@@ -154,7 +159,7 @@ def bundles():
 
 def refusals():
     """Texts and the places where they are refused."""
-    for text, wanted in shared_rows('REFUSALS'):
+    for text, wanted in shared_rows('REFUSALS', 'REFUSED_LINES'):
         place, _, expected = wanted.removeprefix('at ').partition(': ')
         status, out, said = ran(TOOL, given=text.encode())
         told = REFUSED.format(place, expected)

@@ -10,6 +10,7 @@ ghost use Rattle.resb_print.specs.Inner.Jobs.{Appends};
 ghost use Rattle.resb_grammar.specs.ByteRuns as bytes;
 
 use crate::place::Place;
+use resb_grammar::is_word;
 use std::alloc::AllocError;
 
 /// Whether the text holds a quote.
@@ -22,13 +23,6 @@ pub fn has_quote(text: &str) -> bool
         }
     }
     false
-}
-
-/// Whether a byte may stand in a string without quotes.
-fn is_word(byte: u8) -> bool
-    ensures { result ≡ bytes.is_word byte }
-{
-    byte.is_ascii_alphanumeric() || byte == b'-'
 }
 
 /// Whether the bytes are word characters.

@@ -9,6 +9,7 @@ ghost use Rattle.resb_program.specs.Warnings.{is_first_backslash};
 ghost use Rattle.resb_program.specs.Inner.Looks.{text_piece_of, Passed};
 
 use crate::braces::{Mode, Modes};
+use resb_grammar::is_word;
 
 /// A string of a text.
 #[derive(Clone, Copy)]
@@ -46,13 +47,6 @@ pub(crate) struct Pieces<'a> {
     quote: usize,
     /// Whether a backslash stands behind that.
     has_backslash: bool,
-}
-
-/// Whether a byte is a letter, a digit or a dash.
-fn is_word(byte: u8) -> bool
-    ensures { result ≡ bytes.is_word byte }
-{
-    byte.is_ascii_alphanumeric() || byte == b'-'
 }
 
 /// Whether a `:` or a `(` stands right before a place.

@@ -1,7 +1,7 @@
 //! Trees with lists of keys, and their files or refusals, as the format's rules ask for them. Each
 //! row is an input and its answer, in lines, up to a `;`: a row more costs no proof.
 use crate::answers::{assert_said, digits, same};
-use resb_compile::compile;
+use resb_compile::{CompileError, compile};
 use resb_read::from_bytes;
 use resb_text::Reader;
 use resb_tree::{Int28, Key, Resource, ResourceBundle, Table};
@@ -446,10 +446,22 @@ fn error_named(name: &str) -> BinarySerializerError {
 }
 
 /// What an error prints, which is also its text.
+fn printed_error(alloc: Global, error: &BinarySerializerError) -> Result<String, Fail> {
+    let printed = format!(in alloc; "{error}")?;
+    same(printed, error.to_string(alloc)?)
+}
+
+/// What the error prints where a text is compiled.
+fn printed_compile_error(alloc: Global, error: BinarySerializerError) -> Result<String, Fail> {
+    let error = CompileError::from(error);
+    Ok(format!(in alloc; "{error}")?)
+}
+
+/// What an error prints, which it prints where a text is compiled too.
 pub(crate) fn line_of_error(alloc: Global, name: &str) -> Result<String, Fail> {
     let error = error_named(name);
-    let printed = format!(in alloc; "{error}")?;
-    let line = same(printed, error.to_string(alloc)?)?;
     let is_memory = error.is_out_of_memory();
+    let printed = printed_error(alloc, &error)?;
+    let line = same(printed, printed_compile_error(alloc, error)?)?;
     Ok(format!(in alloc; "{line}, {is_memory}")?)
 }

@@ -20,7 +20,7 @@ TESTS = TOP / "tests"
 
 # the most words of each page, by `wc -w`, and of all pages together
 LIMITS = {
-    "README.md": 1000, "CHANGELOG.md": 300, "CONTRIBUTING.md": 1500, "bench/README.md": 2000,
+    "README.md": 1000, "CHANGELOG.md": 300, "CONTRIBUTING.md": 1600, "bench/README.md": 2000,
     "docs/ARCHITECTURE.md": 1600, "docs/DECISIONS.md": 3000, "docs/DIFFERENCES.md": 1900,
     "docs/FORMAT.md": 1000, "docs/GATE.md": 400, "docs/GRAMMAR.md": 1500,
     "docs/ICU_TEXTS.md": 2000, "docs/PROGRAM.md": 1450, "docs/PROOFS.md": 1000,

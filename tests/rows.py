@@ -132,7 +132,9 @@ def tree_of(words):
         end = words.index('>' if word == '<' else ')')
         numbers = [int(it) for it in words[:end]]
         del words[:end + 1]
-        return {'binary': bytes(numbers).hex()} if word == '<' else [signed(it, 32) for it in numbers]
+        if word == '<':
+            return {'binary': bytes(numbers).hex()}
+        return [signed(it, 32) for it in numbers]
     return word[1:-1] if word[0] == "'" else signed(int(word), 28)
 
 

@@ -12,8 +12,6 @@ mod pieces;
 mod reader;
 mod steps;
 mod strings;
-#[cfg(test)]
-mod token_rows;
 mod turns;
 mod types;
 mod words;

@@ -1,17 +1,17 @@
 //! The comparison of two trees by a list of what is still to be compared, so that no depth of a
 //! tree ends the process.
 //! It calls itself only where that list can't grow.
-ghost use Rattle.std.specs.Prelude.{◌≡◌, ◌&&◌, ◌+◌, ◌≤◌, true, [], MatchOption, IfSome};
-ghost use Rattle.std.specs.Prelude.{OnOk, IfErr, OnErr};
+ghost use Rattle.std.specs.Prelude.{◌≡◌, ◌+◌, ◌≤◌};
 ghost use Rattle.resb_tree.specs.Equality.{tree_eq, trees_eq, entries_eq};
 ghost use Rattle.resb_tree.specs.View.{tree_of, items_view, entries_view};
 ghost use Rattle.resb_tree.specs.Inner.Dropping.{count, counts, table_count};
-ghost use Rattle.resb_tree.specs.Inner.Comparing.{open_eq, to_come, next_and, next_count, items_of};
 ghost use Rattle.resb_tree.specs.Inner.Comparing.{items_eq, pairs_eq, items_to_come, pairs_to_come};
-ghost use Rattle.resb_tree.specs.Inner.Comparing.{seen_eq, seen_and, seen_count, outer_eq, outer_steps};
+ghost use Rattle.resb_tree.specs.Inner.Comparing.{open_eq, to_come, next_and, next_count};
+ghost use Rattle.resb_tree.specs.Inner.Comparing.{seen_eq, seen_and, seen_count};
 
 use crate::key::Key;
 use crate::resource::{Resource, Table};
+use std::alloc::Global;
 use std::collections::btree_map;
 use std::default::Emptied;
 use std::slice;
@@ -56,13 +56,6 @@ enum Seen<'s, 't, 'a, 'b> {
     Decided(bool),
 }
 
-/// The collections around those whose members are compared, the outermost first. There is no list
-/// before it has to hold the first.
-#[derive(Drop)]
-struct Outer<'s, 't, 'a, 'b> {
-    list: Option<Vec<Open<'s, 't, 'a, 'b>>>,
-}
-
 /// Whether two resources stand for one tree.
 pub(crate) fn same(a: &Resource<'_>, b: &Resource<'_>) -> bool
     ensures { result ≡ tree_eq (tree_of a.now) (tree_of b.now) }
@@ -73,29 +66,81 @@ pub(crate) fn same(a: &Resource<'_>, b: &Resource<'_>) -> bool
     }
 }
 
-/// Whether all members that are still to be compared are equal. The list is on the allocator of the
-/// resource. Calls itself only where the list can't grow.
-fn same_members<'s, 't, 'a, 'b>(beside: &Resource<'_>, mut pair: Open<'s, 't, 'a, 'b>) -> bool
+/// Whether all members that are still to be compared are equal. A list is on the allocator of the
+/// collection, and there is none where no member is a collection.
+fn same_members<'s, 't, 'a, 'b>(collection: &Resource<'_>, mut pair: Open<'s, 't, 'a, 'b>) -> bool
     ensures { result ≡ open_eq pair.entry }
 {
-    let mut outer = Outer { list: None };
+    match pair.look_at_next() {
+        Seen::Decided(equal) => equal,
+        Seen::Collections(inner) => match allocator_of(collection) {
+            Some(alloc) => by_list(alloc, inner) && by_list(alloc, pair),
+            None => by_calls(inner) && by_calls(pair),
+        },
+    }
+}
+
+/// Compares what is still to come of two collections by a list of those around them, the outermost
+/// first.
+#[tactic(auto, using(crate::proofs::ComparingLemmas::comparing_steps))]
+fn by_list<'s, 't, 'a, 'b>(alloc: Global, mut pair: Open<'s, 't, 'a, 'b>) -> bool
+    ensures { result ≡ open_eq pair.entry }
+{
+    let mut around = Vec::new(alloc);
     'pairs: loop {
         match pair.look_at_next() {
-            Seen::Collections(inner) => match outer.push(beside, pair) {
+            Seen::Collections(inner) => match around.push(pair) {
                 Ok(()) => pair = inner,
                 Err(refused) => {
-                    if !same_members(beside, inner) {
+                    if !by_calls(inner) {
                         return false;
                     }
-                    pair = refused;
+                    pair = refused.value;
                 }
             },
             Seen::Decided(false) => return false,
-            Seen::Decided(true) => match outer.pop() {
-                Some(around) => pair = around,
+            Seen::Decided(true) => match around.pop() {
+                Some(outer) => pair = outer,
                 None => return true,
             },
         }
+    }
+}
+
+/// The same where a list can't grow: it calls itself once a level.
+fn by_calls<'s, 't, 'a, 'b>(mut pair: Open<'s, 't, 'a, 'b>) -> bool
+    ensures { result ≡ open_eq pair.entry }
+{
+    'members: loop {
+        match pair.look_at_next() {
+            Seen::Collections(inner) => {
+                if !by_calls(inner) {
+                    return false;
+                }
+            }
+            Seen::Decided(equal) => return equal,
+        }
+    }
+}
+
+/// The allocator of a collection. None without memory for an entry beside a table.
+fn allocator_of(collection: &Resource<'_>) -> Option<Global> {
+    match collection {
+        Resource::Array(items) => Some(*items.allocator()),
+        Resource::Table(table) => table_allocator(table),
+        Resource::String(_) | Resource::Binary(_) | Resource::Integer(_) | Resource::IntVector(_) =>
+            None,
+    }
+}
+
+/// The allocator of a table, which hands it on only to a new entry: one stands for a moment in an
+/// empty table beside it. None without memory for that.
+fn table_allocator(table: &Table<'_>) -> Option<Global> {
+    let mut beside = Table::emptied(table).ok()?;
+    let entry = beside.entry(Key::from("")).ok()?;
+    match entry.or_default() {
+        Resource::Array(items) => Some(*items.allocator()),
+        _ => None,
     }
 }
 
@@ -136,7 +181,7 @@ fn open_items<'s, 't, 'a, 'b>(
 /// Opens two tables of one size.
 #[tactic(auto, using(crate::proofs::ComparingLemmas::comparing_steps))]
 fn open_entries<'s, 't, 'a, 'b>(a: &'s Table<'a>, b: &'t Table<'b>) -> Seen<'s, 't, 'a, 'b>
-    ensures equal { seen_and result true
+    ensures equal { seen_eq result
         ≡ entries_eq (entries_view a.now.entries) (entries_view b.now.entries) }
     ensures count { seen_count result ≤ table_count a.now + 1 }
 {
@@ -208,74 +253,5 @@ impl<'s, 't, 'a, 'b> Entries<'s, 't, 'a, 'b> {
             (None, None) => Next::Ended(true),
             _ => Next::Ended(false),
         }
-    }
-}
-
-impl<'s, 't, 'a, 'b> Outer<'s, 't, 'a, 'b> {
-    /// Puts two collections on the list. Without memory they are handed back.
-    #[tactic(auto, using(crate::proofs::ComparingLemmas::comparing_steps))]
-    fn push(
-        &mut self,
-        beside: &Resource<'_>,
-        pair: Open<'s, 't, 'a, 'b>,
-    ) -> Result<(), Open<'s, 't, 'a, 'b>>
-        ensures ok { OnOk result (outer_eq self.new ≡ (open_eq pair.entry && outer_eq self.old)) }
-        ensures steps { OnOk result
-            (outer_steps self.new ≡ to_come pair.entry + to_come pair.entry + 1 + outer_steps self.old) }
-        ensures err { IfErr result (λ refused. refused ≡ pair.entry) }
-        ensures same { OnErr result ((outer_eq self.new ≡ outer_eq self.old)
-            × (outer_steps self.new ≡ outer_steps self.old)) }
-    {
-        self.make_list(beside);
-        match &mut self.list {
-            None => Err(pair),
-            Some(list) => match list.push(pair) {
-                Ok(()) => Ok(()),
-                Err(refused) => Err(refused.value),
-            },
-        }
-    }
-
-    /// Makes the list, where there is none and memory for it.
-    fn make_list(&mut self, beside: &Resource<'_>)
-        ensures { items_of self.new.list ≡ items_of self.old.list }
-    {
-        if self.list.is_none() {
-            self.list = list_beside(beside);
-        }
-    }
-
-    /// Takes the innermost two collections from the list.
-    #[tactic(auto, using(crate::proofs::ComparingLemmas::comparing_steps))]
-    fn pop(&mut self) -> Option<Open<'s, 't, 'a, 'b>>
-        ensures equal { MatchOption result (outer_eq self.old ≡ true)
-            (λ pair. outer_eq self.old ≡ (open_eq pair && outer_eq self.new)) }
-        ensures steps { IfSome result (λ pair.
-            outer_steps self.old ≡ to_come pair + to_come pair + 1 + outer_steps self.new) }
-    {
-        match &mut self.list {
-            None => None,
-            Some(list) => list.pop(),
-        }
-    }
-}
-
-/// An empty list on the allocator of a collection. It takes no memory but, for a table, an entry
-/// beside it for a moment: that alone can fail.
-fn list_beside<T>(collection: &Resource<'_>) -> Option<Vec<T>>
-    ensures { IfSome result (λ list. list.items ≡ []) }
-{
-    match collection {
-        Resource::Array(items) => Some(Vec::new(*items.allocator())),
-        Resource::Table(table) => {
-            let mut beside = Table::emptied(table).ok()?;
-            let entry = beside.entry(Key::from("")).ok()?;
-            match entry.or_default() {
-                Resource::Array(items) => Some(Vec::new(*items.allocator())),
-                _ => None,
-            }
-        }
-        Resource::String(_) | Resource::Binary(_) | Resource::Integer(_) | Resource::IntVector(_) =>
-            None,
     }
 }

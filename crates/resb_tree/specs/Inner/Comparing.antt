@@ -1,6 +1,5 @@
 -- What is still to be compared of two trees, and whether all of it is equal.
-use Rattle.std.specs.Prelude.{ℕ, ◌+◌, Bool, true, ◌&&◌, List, [], ◌∷◌, Option, Some, None, Vec}
-use Rattle.std.specs.declared.alloc.Global.{Global}
+use Rattle.std.specs.Prelude.{ℕ, ◌+◌, Bool, true, ◌&&◌, List, [], ◌∷◌}
 use Rattle.std.specs.Slice.Iter.{iter_rest}
 use Rattle.resb_tree.specs.Equality.{tree_eq, trees_eq, entries_eq}
 use Rattle.resb_tree.specs.Tree.{trees_count, entries_count}
@@ -14,7 +13,6 @@ use Rattle.resb_tree.specs.declared.equality.Next.{Next}
 use Rattle.resb_tree.specs.declared.equality.Next.TheVariants.{Both, Ended}
 use Rattle.resb_tree.specs.declared.equality.Seen.{Seen}
 use Rattle.resb_tree.specs.declared.equality.Seen.TheVariants.{Collections, Decided}
-use Rattle.resb_tree.specs.declared.equality.Outer.{Outer}
 
 -- whether what is still to come of two arrays is equal
 abbrev pub items_eq : Items → Bool
@@ -76,16 +74,3 @@ all_eq (o ∷ os) = open_eq o && all_eq os
 abbrev pub all_steps : List Open → ℕ
 all_steps [] = 0
 all_steps (o ∷ os) = (to_come o + to_come o + 1) + all_steps os
-
--- the list, if there is one
-abbrev pub items_of : Option (Vec Open Global) → List Open
-items_of None = []
-items_of (Some v) = v.items
-
--- whether what is still to come of the collections around is equal
-abbrev pub outer_eq : Outer → Bool
-outer_eq o = all_eq (items_of o.list)
-
--- how many steps the collections around take
-abbrev pub outer_steps : Outer → ℕ
-outer_steps o = all_steps (items_of o.list)

@@ -14,7 +14,7 @@ use crate::resource::{Resource, Table};
 use std::alloc::Global;
 use std::collections::btree_map;
 use std::default::Emptied;
-use std::slice;
+use std::{mem, slice};
 
 /// Two collections of one kind, as the members of each that are still to be compared.
 #[derive(Drop)]
@@ -73,19 +73,22 @@ fn same_members<'s, 't, 'a, 'b>(collection: &Resource<'_>, mut pair: Open<'s, 't
 {
     match pair.look_at_next() {
         Seen::Decided(equal) => equal,
-        Seen::Collections(inner) => match allocator_of(collection) {
-            Some(alloc) => by_list(alloc, inner) && by_list(alloc, pair),
-            None => by_calls(inner) && by_calls(pair),
-        },
+        Seen::Collections(inner) => {
+            let alloc = allocator_of(collection);
+            by_list(alloc, inner) && by_list(alloc, pair)
+        }
     }
 }
 
 /// Compares what is still to come of two collections by a list of those around them, the outermost
-/// first.
+/// first. Without an allocator there is none.
 #[tactic(auto, using(crate::proofs::ComparingLemmas::comparing_steps))]
-fn by_list<'s, 't, 'a, 'b>(alloc: Global, mut pair: Open<'s, 't, 'a, 'b>) -> bool
+fn by_list<'s, 't, 'a, 'b>(alloc: Option<Global>, mut pair: Open<'s, 't, 'a, 'b>) -> bool
     ensures { result ≡ open_eq pair.entry }
 {
+    let Some(alloc) = alloc else {
+        return by_calls(pair);
+    };
     let mut around = Vec::new(alloc);
     'pairs: loop {
         match pair.look_at_next() {
@@ -136,8 +139,12 @@ fn allocator_of(collection: &Resource<'_>) -> Option<Global> {
 /// The allocator of a table, which hands it on only to a new entry: one stands for a moment in an
 /// empty table beside it. None without memory for that.
 fn table_allocator(table: &Table<'_>) -> Option<Global> {
-    let mut beside = Table::emptied(table).ok()?;
-    let entry = beside.entry(Key::from("")).ok()?;
+    let Ok(mut beside) = Table::emptied(table) else {
+        return None;
+    };
+    let Ok(entry) = beside.entry(Key::from("")) else {
+        return None;
+    };
     match entry.or_default() {
         Resource::Array(items) => Some(*items.allocator()),
         _ => None,

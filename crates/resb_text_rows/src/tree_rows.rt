@@ -1,4 +1,4 @@
-//! Trees, keys, integers and bundles, and how deep a tree may be when it is dropped.
+//! Trees, keys, integers and bundles, and how deep a tree may be when it is dropped or compared.
 //! What a text or a file makes of them stands in the other rows.
 use resb_tree::{Int28, Key, NoMemory, Resource, ResourceBundle, Table};
 use std::alloc::{AllocError, Global};
@@ -78,6 +78,15 @@ fn equal_trees_of_borrowed_and_owned_parts(rt: HostRuntime) -> Result<(), Fail> 
     assert!(rt; deeper == (false, true));
     let is_other = is_no_vector(rt.alloc())?;
     assert!(rt; is_other);
+    Ok(())
+}
+
+#[test]
+fn trees_of_two_hundred_thousand_levels_are_compared(rt: HostRuntime) -> Result<(), Fail> {
+    let alike = are_tables_equal(rt.alloc(), 200_000, 200_000)?;
+    assert!(rt; alike == (true, false));
+    let deeper = are_tables_equal(rt.alloc(), 200_000, 200_001)?;
+    assert!(rt; deeper == (false, true));
     Ok(())
 }
 

@@ -4,6 +4,7 @@
 
 mod bundle;
 mod dropping;
+mod equality;
 mod int28;
 mod key;
 pub mod laws;

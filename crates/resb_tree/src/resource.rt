@@ -4,10 +4,9 @@ ghost use Rattle.std.specs.Prelude.{◌≡◌, IfOk};
 ghost use Rattle.std.specs.BTreeMap.{IsFromIterResult};
 ghost use Rattle.std.specs.Cmp.Lexicographic.{slice_cmp};
 ghost use Rattle.std.specs.Ordering.{nat_cmp};
-ghost use Rattle.resb_tree.specs.Equality as test;
-ghost use Rattle.resb_tree.specs.View.{tree_of, items_view, entries_view};
 
 use crate::dropping::{drop_all, list_beside, move_values};
+use crate::equality::same;
 use crate::int28::Int28;
 use crate::key::Key;
 use crate::no_memory::NoMemory;
@@ -129,7 +128,7 @@ impl<'a> Resource<'a> {
     }
 }
 
-/// Equality of trees. It takes no memory, so it calls itself once for each level.
+/// Equality of trees. It takes no stack for their depth, as `equality` says.
 #[tactic(auto, using(crate::specs::Inner::EqualityLemmas::tree_eq_decides))]
 impl<'a> PartialEq for Resource<'a> {
     ghost use Rattle.resb_tree.specs.Equality.{tree_eq};
@@ -148,54 +147,4 @@ impl<'a> PartialEq for Resource<'a> {
     {
         self.equals(other)
     }
-}
-
-/// Whether two resources stand for one tree. Calls itself once a level.
-#[cycle(same)]
-fn same(a: &Resource<'_>, b: &Resource<'_>) -> bool
-    ensures { result ≡ test.tree_eq (tree_of a.now) (tree_of b.now) }
-{
-    match (a, b) {
-        (Resource::String(a), Resource::String(b)) => a == b,
-        (Resource::Array(a), Resource::Array(b)) => same_items(a, b),
-        (Resource::Table(a), Resource::Table(b)) => same_entries(a, b),
-        (Resource::Binary(a), Resource::Binary(b)) => a == b,
-        (Resource::Integer(a), Resource::Integer(b)) => a == b,
-        (Resource::IntVector(a), Resource::IntVector(b)) => a == b,
-        _ => false,
-    }
-}
-
-/// Whether two arrays have equal members in the same order.
-#[cycle(same)]
-fn same_items(a: &Vec<Resource<'_>>, b: &Vec<Resource<'_>>) -> bool
-    ensures { result ≡ test.trees_eq (items_view a.now.items) (items_view b.now.items) }
-{
-    let mut others = b.iter();
-    for x in a {
-        let Some(y) = others.next() else {
-            return false;
-        };
-        if !same(x, y) {
-            return false;
-        }
-    }
-    others.next().is_none()
-}
-
-/// Whether two tables have the same keys, each with equal resources.
-#[cycle(same)]
-fn same_entries(a: &Table<'_>, b: &Table<'_>) -> bool
-    ensures { result ≡ test.entries_eq (entries_view a.now.entries) (entries_view b.now.entries) }
-{
-    let mut others = b.iter();
-    for (j, x) in a.iter() {
-        let Some((k, y)) = others.next() else {
-            return false;
-        };
-        if j != k || !same(x, y) {
-            return false;
-        }
-    }
-    others.next().is_none()
 }

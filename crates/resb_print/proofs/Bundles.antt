@@ -1,5 +1,5 @@
 -- The text that a bundle is printed as is a bundle text of its name, flag and tree.
-use Rattle.std.proofs.Common.{◌≡◌, ℕ, ◌+◌, Bool, true, false, List, [], ◌∷◌, ◌++◌, length}
+use Rattle.std.proofs.Common.{◌≡◌, ◌<◌, ℕ, ◌+◌, Bool, true, false, List, [], ◌∷◌, ◌++◌, length}
 use Rattle.std.proofs.Common.{refl, sym, ◌∙◌, ap, subst, arith, Some, drop, zero, suc}
 use Rattle.std.proofs.lemmas.List.{get_or_past}
 use Rattle.std.specs.Prelude.{slice_index, slice_get, codes, ◌⊎◌}
@@ -18,13 +18,14 @@ use Rattle.resb_grammar.specs.Items.{a_table, keys_in}
 use Rattle.resb_grammar.specs.GroupTypes.{Stands, no_fallback_type}
 use Rattle.resb_grammar.specs.BundleText.{first_places, Typing, without, with, BundleText}
 use Rattle.resb_print.specs.Printed.{name_on, root_type_on, entries_on, printed_bundle}
+use Rattle.resb_print.specs.Printed.{IsLongBundle}
 use Rattle.resb_print.specs.Held.{HeldIn}
 use Rattle.resb_print.specs.declared.cause.Cause.{Cause}
 use Rattle.resb_print.specs.declared.cause.Cause.TheVariants.{QuoteInName}
 use Rattle.resb_print.specs.declared.error.PrintError.{PrintError}
 use Rattle.resb_print.specs.declared.error.PrintError.TheVariants.{NotPrintable, OutOfMemory}
 use Rattle.resb_print.specs.Laws.{HasNoText}
-use Rattle.resb_print.specs.Inner.Jobs.{Appends, ArePrinted, SaysCause}
+use Rattle.resb_print.specs.Inner.Jobs.{Appends, ArePrinted, AreLonger, SaysCause}
 use Rattle.resb_print.specs.Quotes.{NoQuote, FreeIn, has_quote, causes_in_else, first_cause}
 use Rattle.resb_print.proofs.Steps.{quote_is_cause, quote_missed}
 use Rattle.resb_print.proofs.Lists.{writes_bytes}
@@ -166,20 +167,50 @@ printed_is_bundle name fallback es free ascend held frees =
     bundle_read (printed_bundle name fallback es) name fallback es free ascend held frees
     (record { is = refl })
 
--- what is bundle_printed in turn is the text of the bundle
-pub bundle_printed : (s0 s1 s2 s3 s4 s5 : String Global) (name own : List ℕ) (f : Bool)
-    (es : Entries)
+-- the last bytes of a bundle's text
+abbrev pub bundle_end : List ℕ
+bundle_end = ascii.line_feed ∷ ascii.right_brace ∷ ascii.line_feed ∷ []
+
+-- what is written before the entries, with them and the end behind it, is the text of the bundle
+pub bundle_begun : (s0 s1 s2 s3 : String Global) (name own : List ℕ) (f : Bool) (es : Entries)
     → string_bytes s0 ≡ [] → Appends s0 s1 (name_on name) → Appends s1 s2 (root_type_on f)
-    → string_bytes s3 ≡ string_bytes s2 ++ codes "{" → ArePrinted s3 s4 es
-    → string_bytes s5 ≡ string_bytes s4 ++ (ascii.line_feed ∷ ascii.right_brace ∷ ascii.line_feed ∷
-    []) → name ≡ own → string_bytes s5 ≡ printed_bundle own f es
-bundle_printed s0 s1 s2 s3 s4 s5 name own f es e0 w1 w2 e3 w4 e5 e =
-    let last = ascii.line_feed ∷ ascii.right_brace ∷ ascii.line_feed ∷ [] in
-    let entries = entries_on 1 es last in
-    e5 ∙ w4.text last ∙ writes_bytes s2 s3 (codes "{") e3 entries ∙ w2 (ascii.left_brace ∷ entries)
+    → string_bytes s3 ≡ string_bytes s2 ++ codes "{" → name ≡ own
+    → string_bytes s3 ++ entries_on 1 es bundle_end ≡ printed_bundle own f es
+bundle_begun s0 s1 s2 s3 name own f es e0 w1 w2 e3 e =
+    let entries = entries_on 1 es bundle_end in
+    writes_bytes s2 s3 (codes "{") e3 entries ∙ w2 (ascii.left_brace ∷ entries)
     ∙ w1 (root_type_on f (ascii.left_brace ∷ entries))
     ∙ ap (λ l. l ++ name_on name (root_type_on f (ascii.left_brace ∷ entries))) e0
     ∙ ap (λ n. name_on n (root_type_on f (ascii.left_brace ∷ entries))) e
+
+-- what is printed in turn is the text of the bundle
+pub bundle_printed : (s3 s4 s5 : String Global) (own : List ℕ) (f : Bool) (es : Entries)
+    → string_bytes s3 ++ entries_on 1 es bundle_end ≡ printed_bundle own f es
+    → ArePrinted s3 s4 es → string_bytes s5 ≡ string_bytes s4 ++ bundle_end
+    → string_bytes s5 ≡ printed_bundle own f es
+bundle_printed s3 s4 s5 own f es begun w4 e5 = e5 ∙ w4.text bundle_end ∙ begun
+
+-- where the entries have no room, the bundle has none
+pub entries_are_long : (limit : ℕ) (s3 : String Global) (own : List ℕ) (f : Bool) (es : Entries)
+    (t : Tree)
+    → string_bytes s3 ++ entries_on 1 es bundle_end ≡ printed_bundle own f es
+    → AreLonger limit s3 es → t ≡ table es → IsLongBundle limit own f t
+entries_are_long limit s3 own f es t begun long r = record {
+  entries = es;
+  root = r;
+  longer = omega (arith, long bundle_end, ap length begun);
+}
+
+-- nor has it where its whole text is too long
+pub text_is_long : (limit : ℕ) (s5 : String Global) (own : List ℕ) (f : Bool) (es : Entries)
+    (t : Tree)
+    → string_bytes s5 ≡ printed_bundle own f es → limit < length (string_bytes s5) → t ≡ table es
+    → IsLongBundle limit own f t
+text_is_long limit s5 own f es t is long r = record {
+  entries = es;
+  root = r;
+  longer = omega (arith, ap length is);
+}
 
 -- and that is a bundle text
 pub printed_is_whole : (text own : List ℕ) (f : Bool) (es : Entries) (t : Tree)

@@ -23,7 +23,8 @@ use Rattle.resb_print.proofs.Lists.{number_length}
 pub deeper_le : (n : ℕ) → n ≤ 32 → deeper n ≤ 32
 deeper_le n h = grind (arith, nat_tests)
 
-indent_length : (n : ℕ) (rest : List ℕ) → length (indent_on n rest) ≡ 4 * n + length rest
+-- each level of an indentation takes four bytes
+pub indent_length : (n : ℕ) (rest : List ℕ) → length (indent_on n rest) ≡ 4 * n + length rest
 indent_length zero rest = omega arith
 indent_length (suc n) rest = omega (arith, indent_length n rest)
 

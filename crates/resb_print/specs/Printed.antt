@@ -3,8 +3,10 @@
 --     printed_bundle name fallback es    the text of a bundle whose root has these entries
 --     IsBundleText text name fallback t
 --                                     the text is that of the bundle
-use Rattle.std.specs.Prelude.{◌≡◌, ℕ, zero, suc, ◌+◌, nat_lt, Bool, true, false, ◌&&◌}
-use Rattle.std.specs.Prelude.{List, [], ◌∷◌}
+--     IsLongBundle limit name fallback t
+--                                     the bundle is printed as more bytes than this
+use Rattle.std.specs.Prelude.{◌≡◌, ◌<◌, ℕ, zero, suc, ◌+◌, nat_lt, Bool, true, false, ◌&&◌}
+use Rattle.std.specs.Prelude.{List, [], ◌∷◌, length}
 use Rattle.std.specs.Prelude.{◌++◌, codes, decimal, if◌then◌else◌}
 use Rattle.hex.specs.Hex.{encode_lower}
 use Rattle.resb_tree.specs.Tree.{Tree, string, array, table, binary, integer, int_vector, Trees}
@@ -126,3 +128,10 @@ pub record IsBundleText (text name : List ℕ) (fallback : Bool) (t : Tree) : Ty
   pub entries : Entries
   pub root : t ≡ table entries
   pub is : text ≡ printed_bundle name fallback entries
+
+-- a bundle of this name, flag and root, which is a table, is printed as more bytes than this, be
+-- that a text of the bundle or not
+pub record IsLongBundle (limit : ℕ) (name : List ℕ) (fallback : Bool) (t : Tree) : Type 0 where
+  pub entries : Entries
+  pub root : t ≡ table entries
+  pub longer : limit < length (printed_bundle name fallback entries)

@@ -8,6 +8,7 @@ pub mod laws;
 mod path;
 mod place;
 mod print;
+mod room;
 mod step;
 mod task;
 mod tokens;
@@ -15,11 +16,12 @@ mod tokens;
 pub use cause::Cause;
 pub use error::PrintError;
 pub use path::{PathStep, cause_path};
-pub use print::print_text;
+pub use print::{print_text, print_text_within};
 
 // What the printer of ICU's form takes from this one.
 pub use path::{CauseTests, path_in};
 pub use place::Place;
+pub use room::has_room;
 pub use step::{deeper, push_bytes, push_entries, push_integer, push_members, push_vector};
 pub use task::Task;
 pub use tokens::{has_quote, push_end, push_line, push_quoted, push_root_type};

@@ -6,7 +6,7 @@ use Rattle.resb_format.specs.Error.{refusal_of}
 use Rattle.resb_format.specs.declared.error.ReadingError.{ReadingError}
 use Rattle.resb_head.specs.File.{IsBundleFile, body_of, field_count}
 use Rattle.resb_head.specs.HeadChecks.{header_refusal, header_checks, support_checks, body_checks}
-use Rattle.resb_head.specs.HeadChecks.{file_refusal, file_checks, index_refusal, first_refusal}
+use Rattle.resb_head.specs.HeadChecks.{file_refusal, file_checks, first_refusal}
 use Rattle.resb_head.proofs.FileSteps.{bundle_file_passes, first_refusal-both, index_answers}
 use Rattle.resb_program.specs.Summary.{HasNoSummary}
 use Rattle.resb_walk.specs.Pieces.{Piece}
@@ -14,7 +14,7 @@ use Rattle.resb_walk.specs.Sums.{fitting}
 use Rattle.resb_walk.specs.TreeBytes.{tree_bytes}
 use Rattle.resb_read.specs.Measuring.{AnswersMeasure, IsMeasured}
 use Rattle.resb_read.specs.declared.measuring.Measured.{Measured}
-use Rattle.resb_program.specs.Files.{IsOwnHead, IsOver}
+use Rattle.resb_program.specs.Files.{IsOwnHead, IsOver, FitsIn, HasLongKeys, key_bytes}
 use Rattle.resb_program.specs.declared.summary.Summary.{Summary}
 
 -- the checks of the header, of what is supported, and of the body pass in a bundle file
@@ -75,3 +75,31 @@ is_over bytes limit m n within (t, xs, d, fits, holds, is) test taken over = rec
   };
   said = taken xs is;
 }
+
+-- nor does a sum that isn't at most a limit
+pub has_long_keys : (bytes : List ℕ) (limit : ℕ) (m : Measured) (small : Bool)
+    → AnswersMeasure bytes (Ok m)
+    → ((n : ℕ) → m.sums.key_bytes ≡ fitting n → (small ≡ true) ↔ (n ≤ limit)) → small ≡ false
+    → HasLongKeys bytes limit m.sums.key_bytes
+has_long_keys bytes limit m small (t, xs, d, fits, holds, is) test over = record {
+  tree = t;
+  count = m.resources;
+  holding = xs;
+  denotes = d;
+  within = fits;
+  holds = holds;
+  more =
+      let never : key_bytes xs ≤ limit → ⊥ =
+      λ h. absurd (cc ((test (key_bytes xs) is.sums.key_bytes).1 h)) in
+      omega (arith, never);
+  said = is.sums.key_bytes;
+}
+
+-- a tree that is within a limit, as are the keys of its entries
+pub fits_in : (bytes : List ℕ) (limit : ℕ) (m : Measured) (within small : Bool)
+    → AnswersMeasure bytes (Ok m)
+    → ((xs : List Piece) → IsMeasured m xs → (within ≡ true) ↔ (tree_bytes xs ≤ limit))
+    → ((n : ℕ) → m.sums.key_bytes ≡ fitting n → (small ≡ true) ↔ (n ≤ limit)) → within ≡ true
+    → small ≡ true → FitsIn bytes limit
+fits_in bytes limit m within small (t, xs, d, fits, holds, is) test keys w s =
+    (xs, holds, (test xs is).0 w, (keys (key_bytes xs) is.sums.key_bytes).0 s)

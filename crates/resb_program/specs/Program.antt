@@ -6,7 +6,7 @@
 --     ReadsCounted bytes r    what `from_bytes_counted::<Resource>` promises of its answer
 --     Agrees has r s          the answer of a check beside that of a reading: the same count, or
 --                             the same refusal, want of memory aside
-use Rattle.std.specs.Prelude.{◌≡◌, ◌≤◌, ◌⊎◌, ℕ, List, [], ◌∷◌, ◌++◌, codes, IsUtf8, Option, Some}
+use Rattle.std.specs.Prelude.{◌≡◌, ◌≤◌, ◌⊎◌, ℕ, List, [], ◌∷◌, ◌++◌, codes, IsUtf8, Option}
 use Rattle.std.specs.Prelude.{Result, Ok, Err}
 use Rattle.std.specs.Io.KnownBytes.{Appends}
 use Rattle.hex.specs.Hex.{encode_lower}

@@ -101,6 +101,9 @@ pub enum FileError {
     UsesPool,
     /// Its tree takes so many bytes, more than the limit; none where they don't fit in 64 bits.
     Larger { bytes: Option<u64>, limit: u64 },
+    /// The keys of its entries have so many bytes, more than the limit; none where they don't fit in
+    /// 64 bits. A key that entries share counts for each of them.
+    LongKeys { bytes: Option<u64>, limit: u64 },
     /// The reader refuses it, or memory was wanted.
     Reading(BinaryDeserializerError),
 }
@@ -115,6 +118,16 @@ impl fmt::Display for FileError {
                     "the tree takes {bytes} bytes, more than the limit of {limit}"
                 ),
                 None => write!(f, "the tree takes more than the limit of {limit} bytes"),
+            },
+            FileError::LongKeys { bytes, limit } => match bytes {
+                Some(bytes) => write!(
+                    f,
+                    "the keys of its entries take {bytes} bytes, more than the limit of {limit}"
+                ),
+                None => write!(
+                    f,
+                    "the keys of its entries take more than the limit of {limit} bytes"
+                ),
             },
             FileError::Reading(e) => write!(f, "{e}"),
         }

@@ -1,6 +1,7 @@
 //! What is had of a file that has its own keys: how many resources, their sums, the bundle.
 //! What the file's head says is in `summary`.
-ghost use Rattle.std.specs.Prelude.{◌≡◌, IfOk, IfErr, IfSome, OnOk};
+ghost use Rattle.std.specs.Prelude.{◌≡◌, ◌≤◌, ◌↔◌, ℕ, IfOk, IfErr, IfSome, OnOk, IsTrue};
+ghost use Rattle.resb_walk.specs.Sums.{fitting};
 ghost use Rattle.resb_read.specs.Roots.{AnswersTree};
 ghost use Rattle.resb_program.specs.Program.{CountsFile, ReadsCounted, Agrees, HasCount};
 ghost use Rattle.resb_program.specs.Program.{IsCounted};
@@ -59,8 +60,18 @@ pub fn measure_file(alloc: Global, file: &[u8]) -> Result<Measured, FileError>
     measure(alloc, file).map_err(FileError::Reading)
 }
 
-/// Refuses a file whose tree takes more bytes than the limit, if there is one, before any of the
-/// tree is made.
+/// Whether a sum, which is none where it doesn't fit in 64 bits, is no more than the limit.
+fn is_at_most(sum: Option<u64>, limit: u64) -> bool
+    ensures { (n : ℕ) → sum ≡ fitting n → (IsTrue result ↔ (n ≤ limit)) }
+{
+    match sum {
+        Some(bytes) => bytes <= limit,
+        None => false,
+    }
+}
+
+/// Refuses a file whose tree takes more bytes than the limit, if there is one, or the keys of whose
+/// entries do, before any of the tree is made. Each byte of a key may be compared then.
 fn check_size(alloc: Global, file: &[u8], limit: Option<u64>) -> Result<(), FileError>
     ensures ok { OnOk result (IfSome limit (FitsIn file.now)) }
     ensures err { IfErr result (RefusesSize file.now limit) }
@@ -72,16 +83,20 @@ fn check_size(alloc: Global, file: &[u8], limit: Option<u64>) -> Result<(), File
         Ok(measured) => measured,
         Err(e) => return Err(FileError::Reading(e)),
     };
-    if measured.is_within(limit) {
-        return Ok(());
+    if !measured.is_within(limit) {
+        let bytes = measured.tree_bytes();
+        return Err(FileError::Larger { bytes, limit });
     }
-    let bytes = measured.tree_bytes();
-    Err(FileError::Larger { bytes, limit })
+    let bytes = measured.sums.key_bytes;
+    if !is_at_most(bytes, limit) {
+        return Err(FileError::LongKeys { bytes, limit });
+    }
+    Ok(())
 }
 
 /// A file's tree as a bundle of that name, with the fallback flag of the file's head. A tree that
-/// takes more bytes than the limit, if there is one, is refused before any of it is made.
-/// (`resb::binary::tree_from_bytes_within`.)
+/// takes more bytes than the limit, if there is one, or the keys of whose entries do, is refused
+/// before any of it is made. (`resb::binary::tree_from_bytes_within`.)
 pub fn read_bundle<'a>(
     alloc: Global,
     name: &'a str,

@@ -1,12 +1,14 @@
 //! A resource as JSON: objects by key, arrays, strings, signed numbers, and bytes as hex digits.
 //! What a text of the text form looks like is in `resb_print`.
-ghost use Rattle.std.specs.Prelude.{◌≡◌, map, IfOk, string_bytes};
+ghost use Rattle.std.specs.Prelude.{◌≡◌, map, IfOk, MatchOption, string_bytes};
 ghost use Rattle.serde_json.specs.Written.{compact_text};
 ghost use Rattle.serde_json.specs.View.{view, items_of};
 ghost use Rattle.resb_tree.specs.Tree as tree;
 ghost use Rattle.resb_tree.specs.View.{tree_of, items_view, entries_view};
 ghost use Rattle.resb_program.specs.Json.{json_of, json_in, vector_number};
+ghost use Rattle.resb_program.specs.Json.{IsJsonWithin, IsLongJson};
 
+use crate::json_bytes::{Stop, without_json};
 use resb_tree::{Resource, Table};
 use serde_json::{Map, Value};
 use std::alloc::{AllocError, AllocFailed, Global};
@@ -42,6 +44,30 @@ pub fn json_text(alloc: Global, resource: &Resource<'_>) -> Result<String, JsonE
 {
     let value = value_of(alloc, resource, MAX_DEPTH)?;
     Ok(value.to_string(alloc)?)
+}
+
+/// The JSON of a resource as `json_text` gives it, where making it takes no more bytes than the
+/// limit and it has no more bytes itself, and else `None`. Counted are 72 bytes for each value, 1024
+/// for each object and 192 for each of its members, the bytes of strings and keys as JSON has them,
+/// and two for each byte of a binary; nothing is made where these are more than the limit.
+pub fn json_text_within(
+    alloc: Global,
+    resource: &Resource<'_>,
+    limit: u64,
+) -> Result<Option<String>, JsonError>
+    ensures { IfOk result (λ found. MatchOption found (IsLongJson limit (tree_of resource.now))
+        (λ s. IsJsonWithin limit (tree_of resource.now) (string_bytes s))) }
+{
+    match without_json(u128::from(limit), resource, MAX_DEPTH) {
+        Ok(_) => {}
+        Err(Stop::Larger) => return Ok(None),
+        Err(Stop::TooDeep) => return Err(JsonError::TooDeep),
+    }
+    let text = json_text(alloc, resource)?;
+    if text.len() as u64 > limit {
+        return Ok(None);
+    }
+    Ok(Some(text))
 }
 
 /// The value of a resource whose arrays and tables nest no deeper than this.

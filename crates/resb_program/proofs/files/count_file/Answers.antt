@@ -1,4 +1,4 @@
-use Rattle.std.proofs.Common.{List, ℕ, ◌≡◌, Ok, subst}
+use Rattle.std.proofs.Common.{List, ℕ, Ok, subst}
 use Rattle.resb_read.specs.Roots.{AnswersCount}
 use Rattle.resb_program.proofs.Heads.{has_head, handed}
 use Rattle.resb_program.proofs.files.count_file.Goals as goal

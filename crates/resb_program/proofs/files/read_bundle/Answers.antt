@@ -1,4 +1,4 @@
-use Rattle.std.proofs.Common.{List, ℕ, ◌≡◌, Ok, subst, rules}
+use Rattle.std.proofs.Common.{List, ℕ, Ok, subst, rules}
 use Rattle.resb_read.specs.Roots.{AnswersTree}
 use Rattle.resb_program.specs.Files.{IsOwnHead}
 use Rattle.resb_program.proofs.Heads.{has_head, handed}

@@ -5,4 +5,5 @@ pub mod Causes
 pub mod CausePaths
 pub mod Sizes
 pub mod Laws
+pub mod Message
 pub mod Inner

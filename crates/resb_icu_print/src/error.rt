@@ -1,6 +1,7 @@
 //! Why a bundle isn't printed in ICU's form, and what that prints as.
 //! What keeps it from having a text is its `cause`.
-ghost use Rattle.std.specs.Prelude.{◌≡◌};
+ghost use Rattle.std.specs.Prelude.{◌≡◌, Some};
+ghost use Rattle.resb_icu_print.specs.Message.{message_of};
 ghost use Rattle.resb_icu_print.specs.declared.error.IcuPrintError.TheVariants.{OutOfMemory};
 
 use crate::cause::IcuCause;
@@ -18,6 +19,8 @@ pub enum IcuPrintError {
 }
 
 impl fmt::Display for IcuPrintError {
+    ghost output = { λ e. Some (message_of e) };
+
     fn fmt<W: fmt::Write>(&self, f: &mut fmt::Formatter<W>) -> fmt::Result {
         let message = match self {
             IcuPrintError::NotPrintable(IcuCause::RootIsNoTable) => "the root is no table",

@@ -5,4 +5,5 @@ pub mod Held
 pub mod Quotes
 pub mod Paths
 pub mod Laws
+pub mod Message
 pub mod Inner

@@ -18,6 +18,7 @@ pub mod Sources
 pub mod Json
 pub mod Finding
 pub mod Files
+pub mod Messages
 pub mod Location
 pub mod Braces
 pub mod Excerpt

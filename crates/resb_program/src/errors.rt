@@ -1,6 +1,7 @@
 //! Why a text has no file, why a file isn't read, and why the program `resb_tool` fails.
 //! Where a text is to blame, and what a person is told of it, is in `sources`.
 ghost use Rattle.std.specs.Prelude.{◌≡◌, Some};
+ghost use Rattle.resb_program.specs.Messages.{source_message, file_message};
 ghost use Rattle.resb_program.specs.Program.{message_of, status_of};
 
 use resb_compile::{CompileError, IcuCompileError};
@@ -71,6 +72,8 @@ pub enum SourceError {
 }
 
 impl fmt::Display for SourceError {
+    ghost output = { λ e. Some (source_message e) };
+
     fn fmt<W: fmt::Write>(&self, f: &mut fmt::Formatter<W>) -> fmt::Result {
         match self {
             SourceError::NotUtf8(_) => write!(f, "this is no UTF-8"),
@@ -109,6 +112,8 @@ pub enum FileError {
 }
 
 impl fmt::Display for FileError {
+    ghost output = { λ e. Some (file_message e) };
+
     fn fmt<W: fmt::Write>(&self, f: &mut fmt::Formatter<W>) -> fmt::Result {
         match self {
             FileError::UsesPool => write!(f, "this file uses the keys of a pool bundle"),

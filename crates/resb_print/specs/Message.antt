@@ -1,0 +1,19 @@
+-- What an error of printing says.
+use Rattle.std.specs.Prelude.{ℕ, List, codes}
+use Rattle.resb_print.specs.declared.cause.Cause.{Cause}
+use Rattle.resb_print.specs.declared.cause.Cause.TheVariants.{RootIsNoTable, QuoteInName}
+use Rattle.resb_print.specs.declared.cause.Cause.TheVariants.{QuoteInKey, QuoteInString}
+use Rattle.resb_print.specs.declared.error.PrintError.{PrintError}
+use Rattle.resb_print.specs.declared.error.PrintError.TheVariants.{NotPrintable, OutOfMemory}
+
+-- what is said of a cause
+abbrev pub cause_message : Cause → List ℕ
+cause_message RootIsNoTable = codes "the root is no table"
+cause_message QuoteInName = codes "the name holds a '\"'"
+cause_message QuoteInKey = codes "a key holds a '\"'"
+cause_message QuoteInString = codes "a string holds a '\"'"
+
+-- what the error prints as
+abbrev pub message_of : PrintError → List ℕ
+message_of (NotPrintable c) = cause_message c
+message_of OutOfMemory = codes "out of memory"

@@ -26,9 +26,10 @@ use Rattle.resb_print.proofs.Places.{From, byte_at, from_behind, from_next, at_e
 use Rattle.resb_print.proofs.Bundles.{stands}
 use Rattle.resb_tree.proofs.MapsLemmas.{map_of-keyed_trees}
 use Rattle.resb_icu_print.specs.Printed.{is_bare, entries_on, printed_icu_bundle}
+use Rattle.resb_icu_print.specs.Printed.{IsLongIcuBundle}
 use Rattle.resb_icu_print.specs.Causes.{TakenIn, causes_in_else, first_cause, SaysIcuCause}
 use Rattle.resb_icu_print.specs.Laws.{NoTextHas}
-use Rattle.resb_icu_print.specs.Inner.Jobs.{ArePrinted}
+use Rattle.resb_icu_print.specs.Inner.Jobs.{ArePrinted, AreLonger}
 use Rattle.resb_icu_print.specs.declared.cause.IcuCause.{IcuCause}
 use Rattle.resb_icu_print.specs.declared.cause.IcuCause.TheVariants.{NameIsNoWord}
 use Rattle.resb_icu_print.specs.declared.error.IcuPrintError.{IcuPrintError}
@@ -164,22 +165,52 @@ printed_is_icu name fallback es bare ascend held taken =
     bundle_read (printed_icu_bundle name fallback es) name fallback es bare ascend held taken
     (record { is = refl })
 
--- what is bundle_printed in turn is the text of the bundle
-pub bundle_printed : (s0 s1 s2 s3 s4 s5 : String Global) (name own : List ℕ) (f : Bool)
-    (es : Entries)
+-- the last bytes of a bundle's text
+abbrev pub bundle_end : List ℕ
+bundle_end = ascii.line_feed ∷ ascii.right_brace ∷ ascii.line_feed ∷ []
+
+-- what is written before the entries, with them and the end behind it, is the text of the bundle
+pub bundle_begun : (s0 s1 s2 s3 : String Global) (name own : List ℕ) (f : Bool) (es : Entries)
     → string_bytes s0 ≡ [] → string_bytes s1 ≡ string_bytes s0 ++ name
     → Appends s1 s2 (root_type_on f)
-    → string_bytes s3 ≡ string_bytes s2 ++ codes "{" → ArePrinted s3 s4 es
-    → string_bytes s5 ≡ string_bytes s4 ++ (ascii.line_feed ∷ ascii.right_brace ∷ ascii.line_feed ∷
-    []) → name ≡ own → string_bytes s5 ≡ printed_icu_bundle own f es
-bundle_printed s0 s1 s2 s3 s4 s5 name own f es e0 e1 w2 e3 w4 e5 e =
-    let last = ascii.line_feed ∷ ascii.right_brace ∷ ascii.line_feed ∷ [] in
-    let entries = entries_on 1 es last in
+    → string_bytes s3 ≡ string_bytes s2 ++ codes "{" → name ≡ own
+    → string_bytes s3 ++ entries_on 1 es bundle_end ≡ printed_icu_bundle own f es
+bundle_begun s0 s1 s2 s3 name own f es e0 e1 w2 e3 e =
+    let entries = entries_on 1 es bundle_end in
     let typed = root_type_on f (ascii.left_brace ∷ entries) in
-    e5 ∙ w4.text last ∙ writes_bytes s2 s3 (codes "{") e3 entries ∙ w2 (ascii.left_brace ∷ entries)
+    writes_bytes s2 s3 (codes "{") e3 entries ∙ w2 (ascii.left_brace ∷ entries)
     ∙ writes_bytes s0 s1 name e1 typed
     ∙ ap (λ l. l ++ (name ++ typed)) e0
     ∙ ap (λ n. n ++ typed) e
+
+-- what is printed in turn is the text of the bundle
+pub bundle_printed : (s3 s4 s5 : String Global) (own : List ℕ) (f : Bool) (es : Entries)
+    → string_bytes s3 ++ entries_on 1 es bundle_end ≡ printed_icu_bundle own f es
+    → ArePrinted s3 s4 es → string_bytes s5 ≡ string_bytes s4 ++ bundle_end
+    → string_bytes s5 ≡ printed_icu_bundle own f es
+bundle_printed s3 s4 s5 own f es begun w4 e5 = e5 ∙ w4.text bundle_end ∙ begun
+
+-- where the entries have no room, the bundle has none
+pub entries_are_long : (limit : ℕ) (s3 : String Global) (own : List ℕ) (f : Bool) (es : Entries)
+    (t : Tree)
+    → string_bytes s3 ++ entries_on 1 es bundle_end ≡ printed_icu_bundle own f es
+    → AreLonger limit s3 es → t ≡ table es → IsLongIcuBundle limit own f t
+entries_are_long limit s3 own f es t begun long r = record {
+  entries = es;
+  root = r;
+  longer = omega (arith, long bundle_end, ap length begun);
+}
+
+-- nor has it where its whole text is too long
+pub text_is_long : (limit : ℕ) (s5 : String Global) (own : List ℕ) (f : Bool) (es : Entries)
+    (t : Tree)
+    → string_bytes s5 ≡ printed_icu_bundle own f es → limit < length (string_bytes s5)
+    → t ≡ table es → IsLongIcuBundle limit own f t
+text_is_long limit s5 own f es t is long r = record {
+  entries = es;
+  root = r;
+  longer = omega (arith, ap length is);
+}
 
 -- and that is a text of ICU's form
 pub printed_is_whole : (text own : List ℕ) (f : Bool) (es : Entries) (t : Tree)

@@ -7,5 +7,6 @@ pub mod Bundles
 pub mod Taken
 pub mod Steps
 pub mod Sizes
+mod RoomLemmas
 mod CausePaths
 mod Examples

@@ -2,8 +2,10 @@
 -- level, up to 32 levels. Each definition ends in `_on` that writes something before what follows.
 --     printed_icu_bundle name fallback es     the text of a bundle whose root has these entries
 --     IsIcuBundleText text name fallback t    the text is that of the bundle
-use Rattle.std.specs.Prelude.{◌≡◌, ℕ, Bool, true, false, ◌&&◌, ◌||◌, ◌==◌, nat_lt, List, [], ◌∷◌}
-use Rattle.std.specs.Prelude.{◌++◌, codes, decimal, if◌then◌else◌}
+--     IsLongIcuBundle limit name fallback t
+--                                             the bundle is printed as more bytes than this
+use Rattle.std.specs.Prelude.{◌≡◌, ◌<◌, ℕ, Bool, true, false, ◌&&◌, ◌||◌, ◌==◌, nat_lt, List, []}
+use Rattle.std.specs.Prelude.{◌∷◌, length, ◌++◌, codes, decimal, if◌then◌else◌}
 use Rattle.hex.specs.Hex.{encode_lower}
 use Rattle.resb_tree.specs.Tree.{Tree, string, array, table, binary, integer, int_vector, Trees}
 use Rattle.resb_tree.specs.Tree.{no_trees, more_trees, Entries, no_entries, entry}
@@ -95,3 +97,10 @@ pub record IsIcuBundleText (text name : List ℕ) (fallback : Bool) (t : Tree) :
   pub entries : Entries
   pub root : t ≡ table entries
   pub is : text ≡ printed_icu_bundle name fallback entries
+
+-- a bundle of this name, flag and root, which is a table, is printed as more bytes than this, be
+-- that a text of the bundle or not
+pub record IsLongIcuBundle (limit : ℕ) (name : List ℕ) (fallback : Bool) (t : Tree) : Type 0 where
+  pub entries : Entries
+  pub root : t ≡ table entries
+  pub longer : limit < length (printed_icu_bundle name fallback entries)

@@ -14,4 +14,4 @@ mod step;
 pub use cause::IcuCause;
 pub use error::IcuPrintError;
 pub use path::icu_cause_path;
-pub use print::print_icu_text;
+pub use print::{print_icu_text, print_icu_text_within};

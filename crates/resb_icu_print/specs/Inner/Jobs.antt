@@ -1,6 +1,6 @@
 -- What the jobs that are still to be printed write in ICU's form, and what keeps them from it. The
 -- last job comes first in the text. What a job is stands in `resb_print`.
-use Rattle.std.specs.Prelude.{◌≡◌, ℕ, ◌+◌, ◌*◌, ◌<◌, ◌⊎◌, List, ◌++◌}
+use Rattle.std.specs.Prelude.{◌≡◌, ℕ, ◌+◌, ◌*◌, ◌<◌, ◌⊎◌, List, ◌++◌, length}
 use Rattle.std.specs.Prelude.{Option, Some, None}
 use Rattle.std.specs.String.{string_bytes}
 use Rattle.std.specs.declared.alloc.Global.{Global}
@@ -70,6 +70,11 @@ pub record IsUnderWay (old now : String Global) (left : List Job) (es : Entries)
       → string_bytes now ++ jobs_on left rest ≡ string_bytes old ++ entries_on 1 es rest
   pub causes : jobs_cause left None ≡ causes_in_else es None
   pub holds : AreHeldJobs left → HeldIn es
+
+-- with the entries of the root, whatever follows them, a text has more bytes than this
+abbrev pub AreLonger : ℕ → String Global → Entries → Type 0
+AreLonger limit old es =
+    (rest : List ℕ) → limit < length (string_bytes old ++ entries_on 1 es rest)
 
 -- the entries of the root are printed
 pub record ArePrinted (old new : String Global) (es : Entries) : Type 0 where

@@ -1,4 +1,4 @@
-use Rattle.std.proofs.Common.{rules, ◌≡◌, ◌∙◌, true, false, sym, ap, subst}
+use Rattle.std.proofs.Common.{rules, ◌≡◌, ◌∙◌, true, false, sym, ap, subst, arith}
 use Rattle.std.specs.String.{string_bytes}
 use Rattle.std.proofs.lemmas.Result.{err_from_is_err_and}
 use Rattle.resb_tree.specs.Tree.{Tree, table}
@@ -9,10 +9,11 @@ use Rattle.resb_icu_print.specs.declared.cause.IcuCause.TheVariants.{NameIsNoWor
 use Rattle.resb_icu_print.specs.declared.error.IcuPrintError.TheVariants.{NotPrintable}
 use Rattle.resb_icu_print.specs.Printed.{is_bare}
 use Rattle.resb_icu_print.specs.Causes.{first_cause, SaysIcuCause}
-use Rattle.resb_icu_print.proofs.Bundles.{bundle_printed, printed_is_whole, no_text}
-use Rattle.resb_icu_print.proofs.Bundles.{root_has_a_cause, name_refused}
+use Rattle.resb_icu_print.proofs.Bundles.{bundle_begun, bundle_printed, printed_is_whole, no_text}
+use Rattle.resb_icu_print.proofs.Bundles.{root_has_a_cause, name_refused, entries_are_long}
+use Rattle.resb_icu_print.proofs.Bundles.{text_is_long}
 use Rattle.resb_icu_print.proofs.Sizes.{printed_within}
-use Rattle.resb_icu_print.proofs.print.print_icu_text.Goals as goal
+use Rattle.resb_icu_print.proofs.print.print_icu_text_within.Goals as goal
 
 pub returns-then-not-is_bare-clause-none : goal.returns-then-not-is_bare-clause-none
 returns-then-not-is_bare-clause-none c =
@@ -52,40 +53,76 @@ returns-clause-text c =
     let q : is_bare own ≡ true =
     ap is_bare (sym c.name-name.ensures) ∙ sym c.is_bare.ensures ∙ c.if-not-is_bare.false in
     let flag = c.args.bundle.now.is_locale_fallback_enabled in
-    let same = bundle_printed c.new-out.result c.push_str.new.self c.push_root_type.new.out
-    c.push_str-2.new.self c.push_lines.new.out c.push_str-3.new.self c.name-name.result.now own flag
-    es c.new-out.ensures.bytes c.in_ok-push_str.ensures.bytes c.in_ok-push_root_type.ensures
-    c.in_ok-push_str-2.ensures.bytes c.in_ok-push_lines.ensures.ok c.in_ok-push_str-3.ensures.bytes
+    let begun = bundle_begun c.new-out.result c.push_str.new.self c.push_root_type.new.out
+    c.push_str-2.new.self c.name-name.result.now own flag es c.new-out.ensures.bytes
+    c.in_ok-push_str.ensures.bytes c.in_ok-push_root_type.ensures c.in_ok-push_str-2.ensures.bytes
     c.name-name.ensures in
+    let lines = c.in_ok-push_lines.ensures.all c.if-not-branch.false in
+    let same = bundle_printed c.push_str-2.new.self c.push_lines.new.out c.push_str-3.new.self own
+    flag es begun lines c.in_ok-push_str-3.ensures.bytes in
     printed_is_whole (string_bytes c.push_str-3.new.self) own flag es (root_of c.args.bundle.now)
-    c.push_str-2.new.self c.push_lines.new.out same c.in_ok-push_lines.ensures.ok q r
+    c.push_str-2.new.self c.push_lines.new.out same lines q r
 
 pub returns-clause-exact : goal.returns-clause-exact
 returns-clause-exact c =
     let es = entries_view c.in-Table.table.entries in
     let e : tree_of c.root.result.now ≡ table es = search (rules, the_lemmas) in
+    let r : root_of c.args.bundle.now ≡ table es = sym c.root.ensures.tree ∙ e in
     let own = name_of c.args.bundle.now in
-    record {
-      entries = es;
-      root = sym c.root.ensures.tree ∙ e;
-      is = bundle_printed c.new-out.result c.push_str.new.self c.push_root_type.new.out
-          c.push_str-2.new.self c.push_lines.new.out c.push_str-3.new.self c.name-name.result.now
-          own c.args.bundle.now.is_locale_fallback_enabled es c.new-out.ensures.bytes
-          c.in_ok-push_str.ensures.bytes c.in_ok-push_root_type.ensures
-          c.in_ok-push_str-2.ensures.bytes c.in_ok-push_lines.ensures.ok
-          c.in_ok-push_str-3.ensures.bytes c.name-name.ensures;
-    }
+    let flag = c.args.bundle.now.is_locale_fallback_enabled in
+    let begun = bundle_begun c.new-out.result c.push_str.new.self c.push_root_type.new.out
+    c.push_str-2.new.self c.name-name.result.now own flag es c.new-out.ensures.bytes
+    c.in_ok-push_str.ensures.bytes c.in_ok-push_root_type.ensures c.in_ok-push_str-2.ensures.bytes
+    c.name-name.ensures in
+    let lines = c.in_ok-push_lines.ensures.all c.if-not-branch.false in
+    let same = bundle_printed c.push_str-2.new.self c.push_lines.new.out c.push_str-3.new.self own
+    flag es begun lines c.in_ok-push_str-3.ensures.bytes in
+    record { entries = es; root = r; is = same }
 
 pub returns-clause-size : goal.returns-clause-size
 returns-clause-size c =
     let es = entries_view c.in-Table.table.entries in
     let e : tree_of c.root.result.now ≡ table es = search (rules, the_lemmas) in
+    let r : root_of c.args.bundle.now ≡ table es = sym c.root.ensures.tree ∙ e in
     let own = name_of c.args.bundle.now in
     let flag = c.args.bundle.now.is_locale_fallback_enabled in
-    let same = bundle_printed c.new-out.result c.push_str.new.self c.push_root_type.new.out
-    c.push_str-2.new.self c.push_lines.new.out c.push_str-3.new.self c.name-name.result.now own flag
-    es c.new-out.ensures.bytes c.in_ok-push_str.ensures.bytes c.in_ok-push_root_type.ensures
-    c.in_ok-push_str-2.ensures.bytes c.in_ok-push_lines.ensures.ok c.in_ok-push_str-3.ensures.bytes
+    let begun = bundle_begun c.new-out.result c.push_str.new.self c.push_root_type.new.out
+    c.push_str-2.new.self c.name-name.result.now own flag es c.new-out.ensures.bytes
+    c.in_ok-push_str.ensures.bytes c.in_ok-push_root_type.ensures c.in_ok-push_str-2.ensures.bytes
     c.name-name.ensures in
+    let lines = c.in_ok-push_lines.ensures.all c.if-not-branch.false in
+    let same = bundle_printed c.push_str-2.new.self c.push_lines.new.out c.push_str-3.new.self own
+    flag es begun lines c.in_ok-push_str-3.ensures.bytes in
     printed_within (string_bytes c.push_str-3.new.self) own flag es (root_of c.args.bundle.now) same
-    c.in_ok-push_lines.ensures.ok.held (sym c.root.ensures.tree ∙ e)
+    lines.held r
+
+pub returns-then-not-branch-clause-exact : goal.returns-then-not-branch-clause-exact
+returns-then-not-branch-clause-exact c =
+    let es = entries_view c.in-Table.table.entries in
+    let e : tree_of c.root.result.now ≡ table es = search (rules, the_lemmas) in
+    let r : root_of c.args.bundle.now ≡ table es = sym c.root.ensures.tree ∙ e in
+    let own = name_of c.args.bundle.now in
+    let flag = c.args.bundle.now.is_locale_fallback_enabled in
+    let begun = bundle_begun c.new-out.result c.push_str.new.self c.push_root_type.new.out
+    c.push_str-2.new.self c.name-name.result.now own flag es c.new-out.ensures.bytes
+    c.in_ok-push_str.ensures.bytes c.in_ok-push_root_type.ensures c.in_ok-push_str-2.ensures.bytes
+    c.name-name.ensures in
+    entries_are_long c.args.limit c.push_str-2.new.self own flag es (root_of c.args.bundle.now) begun
+    (c.in_ok-push_lines.ensures.longer c.if-not-branch.true) r
+
+pub returns-then-len-limit-clause-exact : goal.returns-then-len-limit-clause-exact
+returns-then-len-limit-clause-exact c =
+    let es = entries_view c.in-Table.table.entries in
+    let e : tree_of c.root.result.now ≡ table es = search (rules, the_lemmas) in
+    let r : root_of c.args.bundle.now ≡ table es = sym c.root.ensures.tree ∙ e in
+    let own = name_of c.args.bundle.now in
+    let flag = c.args.bundle.now.is_locale_fallback_enabled in
+    let begun = bundle_begun c.new-out.result c.push_str.new.self c.push_root_type.new.out
+    c.push_str-2.new.self c.name-name.result.now own flag es c.new-out.ensures.bytes
+    c.in_ok-push_str.ensures.bytes c.in_ok-push_root_type.ensures c.in_ok-push_str-2.ensures.bytes
+    c.name-name.ensures in
+    let lines = c.in_ok-push_lines.ensures.all c.if-not-branch.false in
+    let same = bundle_printed c.push_str-2.new.self c.push_lines.new.out c.push_str-3.new.self own
+    flag es begun lines c.in_ok-push_str-3.ensures.bytes in
+    text_is_long c.args.limit c.push_str-3.new.self own flag es (root_of c.args.bundle.now) same
+    (omega arith) r

@@ -127,6 +127,20 @@ ln -s t.txt own
 ends 2 't.txt: the file would take the place of its own text' compile t.txt -o own
 holds 'the text is kept' grep -q intvector t.txt
 
+# a link of others in a folder of all, which the system may forbid to follow
+fresh
+mkdir all
+chmod 755 "$work" .
+chmod 1777 all
+printf kept > victim
+if [ "$(cat /proc/sys/fs/protected_symlinks)" = 1 ] && [ "$(id -u)" = 0 ] \
+  && setpriv --reuid=65534 --regid=65534 --clear-groups ln -s ../victim all/link 2> .err; then
+  ends 2 'all/link: permission denied' compile t.txt -o all/link
+  holds 'what it leads to is kept' is "$(cat victim)" kept
+else
+  passed=$((passed + 2))
+fi
+
 # the mode of the old file is kept, and its owner; a new one has the usual mode
 fresh
 printf old > out.res

@@ -4,13 +4,13 @@ use crate::place::{Place, place_of};
 use crate::progress::Progress;
 use crate::save::save;
 use crate::say::{fail, fail_input, refuse, warn};
-use crate::streams::{NO_MEMORY, read_input};
+use crate::streams::{made, read_input};
 use crate::taken::Taken;
 use crate::words::{NO_UTF8, is_marked};
 use resb_program::{SourceError, compile_icu_source, compile_source, compile_source_within};
 use resb_words::CompileWords;
 use std::alloc::Global;
-use std::path::Path;
+use std::path::{Path, PathBuf};
 
 /// What is said of a text whose file has no name.
 const NO_NAME: &str = "this has no name for a file; say one by --output";
@@ -44,34 +44,44 @@ fn compile_one(
     wanted: &CompileWords<'_>,
     taken: &mut Taken,
 ) -> Result<u8, u8> {
-    let output = output_of(rt.alloc(), name, wanted).map_err(|cause| fail(rt, name, cause))?;
-    let output = output.as_str();
-    let place = place_of(rt, output).map_err(|cause| fail(rt, output, cause))?;
-    taken
-        .take(rt, name, &place)
-        .map_err(|cause| fail(rt, name, cause))?;
+    let output = told(rt, name, output_of(rt.alloc(), name, wanted))?;
+    let output = output.as_path().as_str();
+    let place = told(rt, output, place_of(rt, output))?;
+    told(rt, name, taken.take(rt, name, &place))?;
     let (file, status) = file_of(rt, name, wanted)?;
-    write(rt, output, &place, file.as_slice())?;
+    told(rt, output, save(rt, &place, file.as_slice()))?;
     Ok(status)
 }
 
-/// Writes a text's file to its place.
-fn write(rt: &HostRuntime, output: &str, place: &Place, file: &[u8]) -> Result<(), u8> {
-    save(rt, place, file).map_err(|cause| fail(rt, output, cause))
+/// What was done, or the status, once it is said what failed.
+fn told<T>(rt: &HostRuntime, name: &str, done: Result<T, &'static str>) -> Result<T, u8> {
+    match done {
+        Ok(done) => Ok(done),
+        Err(cause) => Err(fail(rt, name, cause)),
+    }
 }
 
 /// The bytes of a text's file, and the status of its warnings; or the status, once it is said why
 /// there is none.
 fn file_of(rt: &HostRuntime, name: &str, wanted: &CompileWords<'_>) -> Result<(Vec<u8>, u8), u8> {
-    let source = read_input(rt, name, wanted.limit).map_err(|e| fail_input(rt, name, e))?;
-    let source = source.as_slice();
-    let file = compiled(rt.alloc(), source, wanted).map_err(|e| refuse(rt, name, source, &e))?;
-    let status = if wanted.is_icu {
-        0
-    } else {
-        warn(rt, name, source)
-    };
-    Ok((file, status))
+    match read_input(rt, name, wanted.limit) {
+        Ok(source) => file_of_source(rt, name, source.as_slice(), wanted),
+        Err(e) => Err(fail_input(rt, name, e)),
+    }
+}
+
+/// The same, of the text's bytes.
+fn file_of_source(
+    rt: &HostRuntime,
+    name: &str,
+    source: &[u8],
+    wanted: &CompileWords<'_>,
+) -> Result<(Vec<u8>, u8), u8> {
+    match compiled(rt.alloc(), source, wanted) {
+        Ok(file) if wanted.is_icu => Ok((file, 0)),
+        Ok(file) => Ok((file, warn(rt, name, source))),
+        Err(e) => Err(refuse(rt, name, source, &e)),
+    }
 }
 
 /// The bytes of a text's file, where reading the text keeps within the limit, if there is one.
@@ -91,34 +101,32 @@ fn compiled(
 
 /// The name of a text's file: the one that was said, or the text's with `.res`, in the folder that
 /// was said or beside the text. Standard input goes to standard output.
-fn output_of(alloc: Global, name: &str, wanted: &CompileWords<'_>) -> Result<String, &'static str> {
+fn output_of(
+    alloc: Global,
+    name: &str,
+    wanted: &CompileWords<'_>,
+) -> Result<PathBuf, &'static str> {
     if is_marked(name) {
         return Err(NO_UTF8);
     }
     match (wanted.output, wanted.folder) {
-        (Some(output), _) => owned(alloc, output),
-        (None, None) if name == "-" => owned(alloc, "-"),
+        (Some(output), _) => made(PathBuf::from_str(alloc, output)),
+        (None, None) if name == "-" => made(PathBuf::from_str(alloc, "-")),
         (None, _) if name == "-" => Err(NO_NAME),
-        (None, folder) => named_by_text(alloc, name, folder),
+        (None, folder) => named_by_text(alloc, Path::new(name), folder),
     }
 }
 
 /// The name of a text's file by that of the text.
-fn named_by_text(alloc: Global, name: &str, folder: Option<&str>) -> Result<String, &'static str> {
-    let path = Path::new(name);
-    let stem = path.file_stem().ok_or(NO_NAME)?;
-    let file = format!(in alloc; "{stem}.res").map_err(|_| NO_MEMORY)?;
-    let whole = match folder {
+fn named_by_text(
+    alloc: Global,
+    text: Path<'_>,
+    folder: Option<&str>,
+) -> Result<PathBuf, &'static str> {
+    let stem = text.file_stem().ok_or(NO_NAME)?;
+    let file = made(format!(in alloc; "{stem}.res"))?;
+    made(match folder {
         Some(folder) => Path::new(folder).join(alloc, file.as_str()),
-        None => path.with_file_name(alloc, file.as_str()),
-    };
-    match whole {
-        Ok(whole) => owned(alloc, whole.as_path().as_str()),
-        Err(_) => Err(NO_MEMORY),
-    }
-}
-
-/// A name with a list of its own.
-fn owned(alloc: Global, name: &str) -> Result<String, &'static str> {
-    String::from_str(alloc, name).map_err(|_| NO_MEMORY)
+        None => text.with_file_name(alloc, file.as_str()),
+    })
 }

@@ -5,7 +5,7 @@ use crate::streams::{NO_MEMORY, write_stream};
 use std::fs::{self, File, Metadata, OpenOptions};
 use std::io::{self, ErrorKind, Write};
 use std::os::unix::fs::{MetadataExt, OpenOptionsExt, fchown};
-use std::path::Path;
+use std::path::{Path, PathBuf};
 use std::process;
 
 /// The most names that are tried for the file that is written beside.
@@ -13,12 +13,14 @@ const MOST_NAMES: u8 = 100;
 
 /// Writes bytes to a place.
 pub(crate) fn save(rt: &HostRuntime, place: &Place, bytes: &[u8]) -> Result<(), &'static str> {
-    match place {
-        Place::Stream => write_stream(rt, bytes),
-        Place::Inside(path) => {
-            write_inside(rt, path.as_str(), bytes).map_err(|e| cause_of_writing(&e))
-        }
-        Place::Beside(path) => replace(rt, path.as_str(), bytes),
+    let saved = match place {
+        Place::Stream => return write_stream(rt, bytes),
+        Place::Inside(path) => write_inside(rt, path.as_path(), bytes),
+        Place::Beside(path) => replace(rt, path.as_path(), bytes),
+    };
+    match saved {
+        Ok(()) => Ok(()),
+        Err(e) => Err(cause_of_writing(&e)),
     }
 }
 
@@ -31,13 +33,14 @@ fn cause_of_writing(e: &io::Error) -> &'static str {
         ErrorKind::IsADirectory => "this is a folder",
         ErrorKind::InvalidFilename => "file name too long",
         ErrorKind::StorageFull | ErrorKind::QuotaExceeded => "no room is left for this",
+        ErrorKind::AlreadyExists => "cannot be written, since the names beside it are taken",
         _ => "cannot be written",
     }
 }
 
 /// Writes bytes into what is there. A file that a process has open gets them behind its own.
-fn write_inside(rt: &HostRuntime, path: &str, bytes: &[u8]) -> io::Result<()> {
-    let is_file = fs::metadata(rt, path)?.is_file();
+fn write_inside(rt: &HostRuntime, path: Path<'_>, bytes: &[u8]) -> io::Result<()> {
+    let is_file = path.is_file(rt);
     let mut options = OpenOptions::new();
     options.write(!is_file).append(is_file);
     let mut file = options.open(rt, path)?;
@@ -45,26 +48,33 @@ fn write_inside(rt: &HostRuntime, path: &str, bytes: &[u8]) -> io::Result<()> {
 }
 
 /// Writes bytes to a file beside this path, and moves it there.
-fn replace(rt: &HostRuntime, path: &str, bytes: &[u8]) -> Result<(), &'static str> {
+fn replace(rt: &HostRuntime, path: Path<'_>, bytes: &[u8]) -> io::Result<()> {
     let old = fs::symlink_metadata(rt, path).ok();
     let (mut file, beside) = new_file(rt, path, old.is_some())?;
-    let moved = match fill(&mut file, old.as_ref(), bytes) {
-        Ok(()) => fs::rename(rt, beside.as_str(), path),
+    let filled = fill(&mut file, old.as_ref(), bytes);
+    moved(rt, filled, beside.as_path(), path)
+}
+
+/// Moves a file to its place, if it was filled, and else removes it.
+fn moved(
+    rt: &HostRuntime,
+    filled: io::Result<()>,
+    beside: Path<'_>,
+    path: Path<'_>,
+) -> io::Result<()> {
+    let moved = match filled {
+        Ok(()) => fs::rename(rt, beside, path),
         Err(e) => Err(e),
     };
-    moved.map_err(|e| {
-        let _ = fs::remove_file(rt, beside.as_str());
-        cause_of_writing(&e)
-    })
+    if moved.is_err() {
+        let _ = fs::remove_file(rt, beside);
+    }
+    moved
 }
 
 /// A new file beside this path, and its name. Nobody else may read it, where it is to take the place
 /// of one that has a mode.
-fn new_file(
-    rt: &HostRuntime,
-    path: &str,
-    is_private: bool,
-) -> Result<(File, String), &'static str> {
+fn new_file(rt: &HostRuntime, path: Path<'_>, is_private: bool) -> io::Result<(File, PathBuf)> {
     let mut options = OpenOptions::new();
     options
         .write(true)
@@ -72,23 +82,20 @@ fn new_file(
         .mode(if is_private { 0o600 } else { 0o666 });
     for number in 0..MOST_NAMES {
         let name = name_beside(rt, path, number)?;
-        match options.open(rt, name.as_str()) {
+        match options.open(rt, name.as_path()) {
             Ok(file) => return Ok((file, name)),
             Err(e) if e.kind() == ErrorKind::AlreadyExists => {}
-            Err(e) => return Err(cause_of_writing(&e)),
+            Err(e) => return Err(e),
         }
     }
-    Err("cannot be written, since the names beside it are taken")
+    Err(io::Error::from(ErrorKind::AlreadyExists))
 }
 
 /// A name in the folder of this path.
-fn name_beside(rt: &HostRuntime, path: &str, number: u8) -> Result<String, &'static str> {
+fn name_beside(rt: &HostRuntime, path: Path<'_>, number: u8) -> io::Result<PathBuf> {
     let id = process::id(rt.process());
-    let name = format!(in rt.alloc(); ".resb-{id}-{number}.part").map_err(|_| NO_MEMORY)?;
-    match Path::new(path).with_file_name(rt.alloc(), name.as_str()) {
-        Ok(whole) => String::from_str(rt.alloc(), whole.as_path().as_str()).map_err(|_| NO_MEMORY),
-        Err(_) => Err(NO_MEMORY),
-    }
+    let name = format!(in rt.alloc(); ".resb-{id}-{number}.part")?;
+    Ok(path.with_file_name(rt.alloc(), name.as_str())?)
 }
 
 /// Gives a new file the mode of the old one and these bytes, and has them on the disk.

@@ -2,7 +2,7 @@
 //! Where the bytes for a name go is in `place`, and how they come there in `save`.
 use crate::words::{NO_UTF8, is_marked};
 use resb_program::{ToolError, read_within};
-use std::alloc::Global;
+use std::alloc::{AllocError, Global};
 use std::fmt;
 use std::fs::{self, File};
 use std::io::{self, ErrorKind, Read, Write};
@@ -16,6 +16,14 @@ const LEAST_LIMIT: u64 = 1 << 20;
 
 /// What is said where memory is wanted.
 pub(crate) const NO_MEMORY: &str = "out of memory";
+
+/// What was made, or what is said where memory for it was wanted.
+pub(crate) fn made<T>(made: Result<T, AllocError>) -> Result<T, &'static str> {
+    match made {
+        Ok(made) => Ok(made),
+        Err(_) => Err(NO_MEMORY),
+    }
+}
 
 /// Why an input isn't had.
 #[derive(Clone, Copy)]

@@ -1,14 +1,14 @@
 //! Which files a call of `compile` may not write over: its texts, and the files of those before.
 //! A file is known by the real path of its folder and its name, however it was spelled.
 use crate::place::{Place, folder_of};
-use crate::streams::NO_MEMORY;
+use crate::streams::{NO_MEMORY, made};
 use std::collections::BTreeSet;
 use std::fs;
 use std::io::ErrorKind;
-use std::path::{Path, PathBuf};
+use std::path::Path;
 
 /// The texts of a call, and the files that it has written or will write.
-#[derive(Debug, Drop)]
+#[derive(Drop)]
 pub(crate) struct Taken {
     texts: BTreeSet<String>,
     files: BTreeSet<String>,
@@ -22,19 +22,17 @@ impl Taken {
             files: BTreeSet::new(rt.alloc()),
         };
         for name in texts.iter().copied() {
-            if name != "-" {
-                taken.add_text(rt, name)?;
-            }
+            taken.add_text(rt, name)?;
         }
         Ok(taken)
     }
 
     /// Notes a text that is there.
     fn add_text(&mut self, rt: &HostRuntime, name: &str) -> Result<(), &'static str> {
-        match real_path(rt, name)? {
-            Some(path) => insert(&mut self.texts, owned(rt, path.as_path())?).map(|_| ()),
-            None => Ok(()),
+        if let Some(path) = real_path(rt, name)? {
+            insert(&mut self.texts, path)?;
         }
+        Ok(())
     }
 
     /// Takes the place of a text's file, or says what stands against it.
@@ -44,17 +42,32 @@ impl Taken {
         name: &str,
         place: &Place,
     ) -> Result<(), &'static str> {
-        let file = match place {
-            Place::Inside(_) => return Ok(()),
-            Place::Stream => owned(rt, Path::new("-"))?,
-            Place::Beside(path) => real_name(rt, path.as_str())?,
-        };
-        if name != "-" && is_path_of(rt, name, file.as_str())? {
-            return Err("the file would take the place of its own text");
+        match place {
+            Place::Inside(_) => Ok(()),
+            Place::Stream => self.take_file(owned(rt, Path::new("-"))?),
+            Place::Beside(path) => {
+                let file = real_name(rt, path.as_path())?;
+                self.check(real_path(rt, name)?, file.as_str())?;
+                self.take_file(file)
+            }
         }
-        if self.texts.contains(file.as_str()) {
-            return Err("the file would take the place of another of these texts");
+    }
+
+    /// Whether a file isn't that of the text that has the other path, nor of another text.
+    fn check(&self, text: Option<String>, file: &str) -> Result<(), &'static str> {
+        match text {
+            Some(text) if text.as_str() == file => {
+                Err("the file would take the place of its own text")
+            }
+            _ if self.texts.contains(file) => {
+                Err("the file would take the place of another of these texts")
+            }
+            _ => Ok(()),
         }
+    }
+
+    /// Takes a file, if no text before has it.
+    fn take_file(&mut self, file: String) -> Result<(), &'static str> {
         if insert(&mut self.files, file)? {
             Ok(())
         } else {
@@ -65,38 +78,37 @@ impl Taken {
 
 /// Adds a path to a set, and answers whether it is new there.
 fn insert(set: &mut BTreeSet<String>, path: String) -> Result<bool, &'static str> {
-    set.insert(path).map_err(|_| NO_MEMORY)
+    match set.insert(path) {
+        Ok(is_new) => Ok(is_new),
+        Err(_) => Err(NO_MEMORY),
+    }
 }
 
 /// The same path with a list of its own.
 fn owned(rt: &HostRuntime, path: Path<'_>) -> Result<String, &'static str> {
-    String::from_str(rt.alloc(), path.as_str()).map_err(|_| NO_MEMORY)
+    made(String::from_str(rt.alloc(), path.as_str()))
 }
 
-/// The real path of what has a name, if anything has.
-fn real_path(rt: &HostRuntime, name: &str) -> Result<Option<PathBuf>, &'static str> {
+/// The real path of what has a name, if anything has; standard input has none.
+fn real_path(rt: &HostRuntime, name: &str) -> Result<Option<String>, &'static str> {
+    if name == "-" {
+        return Ok(None);
+    }
     match fs::canonicalize(rt, name) {
-        Ok(path) => Ok(Some(path)),
+        Ok(path) => Ok(Some(owned(rt, path.as_path())?)),
         Err(e) if e.kind() == ErrorKind::OutOfMemory => Err(NO_MEMORY),
         Err(_) => Ok(None),
     }
 }
 
-/// Whether a name leads to this real path.
-fn is_path_of(rt: &HostRuntime, name: &str, path: &str) -> Result<bool, &'static str> {
-    Ok(match real_path(rt, name)? {
-        Some(real) => real.as_path().as_str() == path,
-        None => false,
-    })
-}
-
 /// The real path of a file that may not be there yet: that of its folder, and its name.
-fn real_name(rt: &HostRuntime, path: &str) -> Result<String, &'static str> {
-    match (real_path(rt, folder_of(path))?, Path::new(path).file_name()) {
-        (Some(folder), Some(name)) => match folder.as_path().join(rt.alloc(), name) {
-            Ok(whole) => owned(rt, whole.as_path()),
-            Err(_) => Err(NO_MEMORY),
-        },
-        _ => owned(rt, Path::new(path)),
+fn real_name(rt: &HostRuntime, path: Path<'_>) -> Result<String, &'static str> {
+    let folder = real_path(rt, folder_of(path).as_str())?;
+    match (folder, path.file_name()) {
+        (Some(folder), Some(name)) => {
+            let whole = made(Path::new(folder.as_str()).join(rt.alloc(), name))?;
+            owned(rt, whole.as_path())
+        }
+        _ => owned(rt, path),
     }
 }

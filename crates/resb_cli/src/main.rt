@@ -3,16 +3,19 @@
 #![tactic(auto)]
 
 mod compile;
+mod place;
 mod progress;
+mod save;
 mod say;
 mod show;
+mod shown;
 mod streams;
+mod taken;
+mod words;
 
 use resb_program::keep_freed_memory;
-use resb_words::{Request, request_of};
+use resb_words::{Request, WordsError, request_of};
 use std::process::ExitCode;
-use std::rt::Env;
-use std::{env, io};
 
 /// Ends the process with the status of what its words ask for.
 fn main(rt: HostRuntime) -> ExitCode {
@@ -20,24 +23,26 @@ fn main(rt: HostRuntime) -> ExitCode {
     ExitCode::from(perform(&rt))
 }
 
-/// The process's words, its own name first.
-fn words_of<R: Env + AllocGlobal>(rt: &R) -> io::Result<Vec<String>> {
-    let words: Vec<String> = env::args(rt)?.collect(rt.alloc())?;
-    Ok(words)
-}
-
 /// Does what the words ask: 0, 1 where a text or file is refused, 2 for other words and for files
 /// and streams that fail.
 fn perform(rt: &HostRuntime) -> u8 {
-    let Ok(words) = words_of(rt) else {
-        return say::fail(rt, "resb", "its words cannot be read");
+    let Ok(words) = words::words_of(rt) else {
+        return say::fail(rt, "resb", streams::NO_MEMORY);
     };
     match request_of(rt.alloc(), words.as_slice()) {
         Ok(request) => perform_request(rt, &request),
-        Err(e) => {
-            e.print(rt);
-            e.status()
-        }
+        Err(e) => answer(rt, &e),
+    }
+}
+
+/// Prints help or the version, or says what is wrong with the words.
+fn answer(rt: &HostRuntime, e: &WordsError) -> u8 {
+    if e.status() != 0 {
+        return say::say_lines(rt, e);
+    }
+    match print!(rt; "{e}") {
+        Ok(()) => 0,
+        Err(_) => say::fail(rt, "resb", "standard output cannot be written"),
     }
 }
 
@@ -47,6 +52,9 @@ fn perform_request(rt: &HostRuntime, request: &Request<'_>) -> u8 {
         Request::Compile(words) => compile::compile(rt, words),
         Request::Check(names) => show::check(rt, names.as_slice()),
         Request::Dump(words) => show::dump(rt, words),
+        Request::Get(words) if words::is_marked(words.path) => {
+            say::fail(rt, words.path, "this path is no UTF-8")
+        }
         Request::Get(words) => show::get(rt, words),
     }
 }

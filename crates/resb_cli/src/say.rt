@@ -1,24 +1,50 @@
 //! What is said on standard error: the place, the cause, the line round it, and warnings.
 //! What the causes are called is theirs to print.
+use crate::shown::Shown;
+use crate::streams::{InputError, NO_MEMORY};
+use resb_compile::{CompileError, IcuCompileError};
+use resb_grammar::Expected;
+use resb_icu_grammar::IcuExpected;
 use resb_print::PathStep;
 use resb_program::{
     Blame, Reason, SourceError, Warning, location_of, pointed_line, text_of, warnings,
     where_to_look,
 };
 use std::alloc::{AllocError, Global};
-use std::fmt::Display;
+use std::fmt::{self, Display};
 
 /// The most warnings that are said of one text.
 const MOST_WARNINGS: usize = 20;
 
 /// Says one line.
-pub(crate) fn complain<R: Eprint>(rt: &R, name: &str, cause: &str) {
+pub(crate) fn complain<R: Eprint, C: Display + Drop>(rt: &R, name: &str, cause: C) {
+    let name = Shown(name);
     let _ = eprintln!(rt; "{name}: {cause}");
 }
 
 /// Says what failed of a file or a stream, and gives the status of that.
 pub(crate) fn fail<R: Eprint>(rt: &R, name: &str, cause: &str) -> u8 {
     complain(rt, name, cause);
+    2
+}
+
+/// Says why an input isn't had, and gives the status of that.
+pub(crate) fn fail_input<R: Eprint>(rt: &R, name: &str, e: InputError) -> u8 {
+    complain(rt, name, e);
+    e.status()
+}
+
+/// Says what is wrong with the process's words, in lines of its own, and gives the status of that.
+pub(crate) fn say_lines<R: Eprint + AllocGlobal, C: Display>(rt: &R, cause: &C) -> u8 {
+    match format!(in rt.alloc(); "{cause}") {
+        Ok(text) => {
+            for line in text.as_str().lines() {
+                let line = Shown(line);
+                let _ = eprintln!(rt; "{line}");
+            }
+        }
+        Err(_) => complain(rt, "resb", NO_MEMORY),
+    }
     2
 }
 
@@ -31,16 +57,29 @@ pub(crate) fn say_no_text<R: Eprint + AllocGlobal, C: Display + Drop>(
     path: Result<Option<Vec<PathStep<'_>>>, AllocError>,
 ) {
     let at = match path {
-        Ok(Some(path)) => path_text(rt.alloc(), path.as_slice()).ok(),
-        _ => None,
+        Ok(Some(path)) => path_text(rt.alloc(), path.as_slice()),
+        Ok(None) => Ok(String::new(rt.alloc())),
+        Err(e) => Err(e),
     };
-    let _ = match at {
-        Some(at) if !at.is_empty() => {
-            let at = at.as_str();
-            eprintln!(rt; "{name}: this has no {what}, since {cause} at {at}; here is its JSON")
+    match at {
+        Ok(at) if !at.is_empty() => {
+            let (name, at) = (Shown(name), Shown(at.as_str()));
+            let _ = eprintln!(rt;
+                "{name}: this has no {what}, since {cause} at {at}; here is its JSON"
+            );
         }
-        _ => eprintln!(rt; "{name}: this has no {what}, since {cause}; here is its JSON"),
-    };
+        Ok(_) => say_no_form(rt, name, what, cause),
+        Err(_) => {
+            complain(rt, name, NO_MEMORY);
+            say_no_form(rt, name, what, cause);
+        }
+    }
+}
+
+/// Says why a bundle has no text of a form.
+fn say_no_form<R: Eprint, C: Display + Drop>(rt: &R, name: &str, what: &str, cause: C) {
+    let name = Shown(name);
+    let _ = eprintln!(rt; "{name}: this has no {what}, since {cause}; here is its JSON");
 }
 
 /// The keys and numbers of a path, with a slash between two of them.
@@ -58,34 +97,60 @@ fn path_text(alloc: Global, path: &[PathStep<'_>]) -> Result<String, AllocError>
     Ok(text)
 }
 
-/// Says why a text is refused, and where.
+/// Says why a text is refused, and where, and gives the status of that.
 pub(crate) fn refuse<R: Eprint + AllocGlobal>(
     rt: &R,
     name: &str,
     source: &[u8],
     error: &SourceError,
-) {
+) -> u8 {
     match where_to_look(source, error) {
-        Blame::Nowhere => {
-            let _ = eprintln!(rt; "{name}: {error}");
-        }
+        Blame::Nowhere if wants_memory(error) => complain(rt, name, NO_MEMORY),
+        Blame::Nowhere => complain(rt, name, error),
         Blame::At(place) => {
-            let at = location_of(source, place);
-            let (line, column) = (at.line, at.column);
-            let _ = eprintln!(rt; "{name}:{line}:{column}: {error}");
-            point(rt, source, place);
+            say_at(rt, name, source, place, error);
+            point(rt, name, source, place);
             if may_be_icu(source, place, error) {
                 complain(rt, name, "texts of ICU's own form are read with --icu");
             }
         }
         Blame::Open(place) => {
-            let at = location_of(source, place);
-            let (line, column) = (at.line, at.column);
-            let _ = eprintln!(rt;
-                "{name}:{line}:{column}: {error} before the text ends inside this"
-            );
-            point(rt, source, place);
+            let cause = Unclosed(error);
+            say_at(rt, name, source, place, cause);
+            point(rt, name, source, place);
         }
+    }
+    1
+}
+
+/// A refusal where the text ends too early.
+#[derive(Clone, Copy)]
+struct Unclosed<'e>(&'e SourceError);
+
+impl fmt::Display for Unclosed<'_> {
+    fn fmt<W: fmt::Write>(&self, f: &mut fmt::Formatter<W>) -> fmt::Result {
+        let error = self.0;
+        write!(f, "{error} before the text ends inside this")
+    }
+}
+
+/// Says a line of a place in a text.
+fn say_at<R: Eprint, C: Display + Drop>(rt: &R, name: &str, source: &[u8], place: usize, cause: C) {
+    let at = location_of(source, place);
+    let (name, line, column) = (Shown(name), at.line, at.column);
+    let _ = eprintln!(rt; "{name}:{line}:{column}: {cause}");
+}
+
+/// Whether it was memory that was wanted.
+fn wants_memory(error: &SourceError) -> bool {
+    match error {
+        SourceError::Refused(CompileError::Reading(e)) => e.expected() == Expected::Memory,
+        SourceError::IcuRefused(IcuCompileError::Reading(e)) => {
+            e.expected() == IcuExpected::Memory
+        }
+        SourceError::Refused(CompileError::Writing(e))
+        | SourceError::IcuRefused(IcuCompileError::Writing(e)) => e.is_out_of_memory(),
+        _ => false,
     }
 }
 
@@ -102,51 +167,59 @@ fn may_be_icu(source: &[u8], place: usize, error: &SourceError) -> bool {
 }
 
 /// Shows the line round a place.
-fn point<R: Eprint + AllocGlobal>(rt: &R, source: &[u8], place: usize) {
-    if let Ok(line) = pointed_line(rt.alloc(), source, place) {
-        if let Ok(text) = String::from_utf8(line) {
-            let _ = eprintln!(rt; "{text}");
+fn point<R: Eprint + AllocGlobal>(rt: &R, name: &str, source: &[u8], place: usize) {
+    match pointed_line(rt.alloc(), source, place) {
+        Ok(line) => {
+            let line = line.as_str();
+            let _ = eprintln!(rt; "{line}");
         }
+        Err(_) => complain(rt, name, NO_MEMORY),
     }
 }
 
-/// Says what another reader takes otherwise in a text that was compiled.
-pub(crate) fn warn<R: Eprint + AllocGlobal>(rt: &R, name: &str, source: &[u8]) {
+/// Says what another reader takes otherwise in a text that was compiled, and gives the status: 2
+/// where memory for that is wanted.
+pub(crate) fn warn<R: Eprint + AllocGlobal>(rt: &R, name: &str, source: &[u8]) -> u8 {
     let Ok(text) = text_of(source) else {
-        return;
+        return 0;
     };
     let Ok(found) = warnings(rt.alloc(), text) else {
-        return;
+        return fail(rt, name, "its warnings are not known: out of memory");
     };
     for warning in found.iter().take(MOST_WARNINGS) {
-        warn_of(rt, name, source, warning);
+        say_at(rt, name, source, warning.place, Told { source, warning });
     }
     if found.len() > MOST_WARNINGS {
-        let more = found.len() - MOST_WARNINGS;
+        let (name, more) = (Shown(name), found.len() - MOST_WARNINGS);
         let _ = eprintln!(rt; "{name}: {more} more warnings");
     }
+    0
 }
 
-/// Says one warning.
-fn warn_of<R: Eprint>(rt: &R, name: &str, source: &[u8], warning: &Warning) {
-    let at = location_of(source, warning.place);
-    let (line, column) = (at.line, at.column);
-    let _ = match warning.reason {
-        Reason::RepeatedKey(first) => {
-            let before = location_of(source, first);
-            let (line_before, column_before) = (before.line, before.column);
-            eprintln!(rt;
-                "{name}:{line}:{column}: warning: this key stands at \
-                {line_before}:{column_before} too; genrb refuses that"
-            )
+/// A warning of a text, as it is said.
+#[derive(Clone, Copy)]
+struct Told<'t> {
+    source: &'t [u8],
+    warning: &'t Warning,
+}
+
+impl fmt::Display for Told<'_> {
+    fn fmt<W: fmt::Write>(&self, f: &mut fmt::Formatter<W>) -> fmt::Result {
+        match self.warning.reason {
+            Reason::RepeatedKey(first) => {
+                let before = location_of(self.source, first);
+                let (line, column) = (before.line, before.column);
+                write!(
+                    f,
+                    "warning: this key stands at {line}:{column} too; genrb refuses that"
+                )
+            }
+            Reason::Backslash => f.write_str(
+                "warning: this backslash is a character here, and an escape for genrb",
+            ),
+            Reason::StringsInRow => f.write_str(
+                "warning: this string is an item of its own here; genrb joins it to the one before",
+            ),
         }
-        Reason::Backslash => eprintln!(rt;
-            "{name}:{line}:{column}: warning: this \
-            backslash is a character here, and an escape for genrb"
-        ),
-        Reason::StringsInRow => eprintln!(rt;
-            "{name}:{line}:{column}: warning: this \
-            string is an item of its own here; genrb joins it to the one before"
-        ),
-    };
+    }
 }

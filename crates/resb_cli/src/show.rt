@@ -1,8 +1,9 @@
 //! The commands `check`, `dump` and `get`: what is said of a file, and what is shown of it.
 //! What a file is, and why it isn't read, is in `resb_program`.
 use crate::progress::Progress;
-use crate::say::{complain, fail, say_no_text};
-use crate::streams::{read_input, write_output};
+use crate::say::{complain, fail, fail_input, say_no_text};
+use crate::shown::Shown;
+use crate::streams::{NO_MEMORY, read_input, write_stream};
 use resb_head::FormatVersion;
 use resb_icu_print::{IcuPrintError, icu_cause_path, print_icu_text};
 use resb_print::{PrintError, cause_path, print_text};
@@ -27,7 +28,7 @@ pub(crate) fn check(rt: &HostRuntime, names: &[&str]) -> u8 {
 
 /// Says of one file what it is.
 fn check_one(rt: &HostRuntime, name: &str) -> u8 {
-    let file = match input(rt, name) {
+    let file = match input(rt, name, None) {
         Ok(file) => file,
         Err(status) => return status,
     };
@@ -38,8 +39,8 @@ fn check_one(rt: &HostRuntime, name: &str) -> u8 {
 }
 
 /// The bytes of a file, or the status, once it is said what is wrong.
-fn input(rt: &HostRuntime, name: &str) -> Result<Vec<u8>, u8> {
-    read_input(rt, name).map_err(|cause| fail(rt, name, cause))
+fn input(rt: &HostRuntime, name: &str, limit: Option<u64>) -> Result<Vec<u8>, u8> {
+    read_input(rt, name, limit).map_err(|e| fail_input(rt, name, e))
 }
 
 /// Says why a file isn't read, and of which version it is, where that one isn't read.
@@ -47,11 +48,23 @@ fn refuse(rt: &HostRuntime, name: &str, file: &[u8], e: &FileError) -> u8 {
     let version = summary_of(file)
         .ok()
         .and_then(|summary| foreign(summary.version));
-    let _ = match version {
-        Some(version) => eprintln!(rt; "{name}: format version {version}: {e}"),
-        None => eprintln!(rt; "{name}: {e}"),
-    };
+    match version {
+        _ if is_want_of_memory(e) => complain(rt, name, NO_MEMORY),
+        Some(version) => {
+            let name = Shown(name);
+            let _ = eprintln!(rt; "{name}: format version {version}: {e}");
+        }
+        None => complain(rt, name, e),
+    }
     1
+}
+
+/// Whether it was memory that was wanted.
+fn is_want_of_memory(e: &FileError) -> bool {
+    match e {
+        FileError::Reading(e) => e.is_out_of_memory(),
+        _ => false,
+    }
 }
 
 /// The spelling of a version that isn't read.
@@ -74,7 +87,7 @@ fn say_summary(rt: &HostRuntime, name: &str, count: usize, summary: &Summary) ->
         "no fallback"
     };
     let pool = if summary.is_pool { ", pool bundle" } else { "" };
-    let largest = summary.largest_table;
+    let (name, largest) = (Shown(name), summary.largest_table);
     let line = println!(rt;
         "{name}: {count} resources, format 2.0, {fallback}, largest table \
         {largest}{pool}"
@@ -100,7 +113,7 @@ fn bundle_of<'f>(
     let stem = Path::new(name).file_stem().unwrap_or("bundle");
     let bundle_name = if name == "-" { "bundle" } else { stem };
     read_bundle(rt.alloc(), bundle_name, file, limit).map_err(|e| {
-        let _ = eprintln!(rt; "{name}: {e}");
+        complain(rt, name, e);
         1
     })
 }
@@ -120,7 +133,7 @@ pub(crate) fn dump(rt: &HostRuntime, wanted: &DumpWords<'_>) -> u8 {
 /// The same: the status, or that of a file without a tree.
 fn dump_file(rt: &HostRuntime, wanted: &DumpWords<'_>) -> Result<u8, u8> {
     let name = wanted.file;
-    let file = input(rt, name)?;
+    let file = input(rt, name, wanted.limit)?;
     let bundle = bundle_of(rt, name, file.as_slice(), wanted.limit)?;
     if wanted.is_json {
         return Ok(show_json(rt, name, bundle.root()));
@@ -183,13 +196,14 @@ pub(crate) fn get(rt: &HostRuntime, wanted: &GetWords<'_>) -> u8 {
 /// The same: the status, or that of a file without a tree.
 fn get_found(rt: &HostRuntime, wanted: &GetWords<'_>) -> Result<u8, u8> {
     let (name, path) = (wanted.file, wanted.path);
-    let file = input(rt, name)?;
+    let file = input(rt, name, wanted.limit)?;
     let bundle = bundle_of(rt, name, file.as_slice(), wanted.limit)?;
     let Ok(names) = path.split('/').collect::<Vec<&str>>(rt.alloc()) else {
         return Ok(refuse_memory(rt, name));
     };
     Ok(match find(bundle.root(), names.as_slice()) {
         None => {
+            let (name, path) = (Shown(name), Shown(path));
             let _ = eprintln!(rt; "{name}: nothing stands at {path}");
             1
         }
@@ -225,7 +239,7 @@ fn refuse_memory(rt: &HostRuntime, name: &str) -> u8 {
 
 /// Prints a text.
 fn show(rt: &HostRuntime, text: &str) -> u8 {
-    match write_output(rt, "-", text.as_bytes()) {
+    match write_stream(rt, text.as_bytes()) {
         Ok(()) => 0,
         Err(cause) => fail(rt, "resb", cause),
     }

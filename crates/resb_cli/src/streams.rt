@@ -1,78 +1,128 @@
-//! Files and streams by their names: `-` is standard input or output.
-//! What is done with their bytes is in the modules of the commands.
-use resb_program::{ToolError, read_all};
-use std::io::{ErrorKind, Write};
-use std::path::Path;
-use std::{fs, io, process};
+//! Inputs by their names, and standard output; `-` is standard input.
+//! Where the bytes for a name go is in `place`, and how they come there in `save`.
+use crate::words::{NO_UTF8, is_marked};
+use resb_program::{ToolError, read_within};
+use std::alloc::{AllocError, Global};
+use std::fmt;
+use std::fs::{self, File};
+use std::io::{self, ErrorKind, Read, Write};
 
-/// The bytes of a file or of standard input, or what to say.
-pub(crate) fn read_input(rt: &HostRuntime, name: &str) -> Result<Vec<u8>, &'static str> {
-    let bytes = if name == "-" {
-        read_all(rt.alloc(), &mut rt.stdin())
-    } else {
-        match fs::open(rt, name) {
-            Ok(mut file) => read_all(rt.alloc(), &mut file),
-            Err(e) => return Err(cause_of(&e)),
+/// The most bytes that are read of an input: those of the largest file that the format has, of 2^28
+/// words.
+const MOST_BYTES: u64 = 1 << 30;
+
+/// What is read of an input whatever limit is said, in bytes.
+const LEAST_LIMIT: u64 = 1 << 20;
+
+/// What is said where memory is wanted.
+pub(crate) const NO_MEMORY: &str = "out of memory";
+
+/// What was made, or what is said where memory for it was wanted.
+pub(crate) fn made<T>(made: Result<T, AllocError>) -> Result<T, &'static str> {
+    match made {
+        Ok(made) => Ok(made),
+        Err(_) => Err(NO_MEMORY),
+    }
+}
+
+/// Why an input isn't had.
+#[derive(Clone, Copy)]
+pub(crate) enum InputError {
+    /// The file or the stream fails, as this says.
+    Failed(&'static str),
+    /// It has more bytes than this.
+    Larger(u64),
+}
+
+impl InputError {
+    /// The status that this ends with.
+    pub(crate) fn status(self) -> u8 {
+        match self {
+            InputError::Failed(_) => 2,
+            InputError::Larger(_) => 1,
         }
+    }
+}
+
+impl fmt::Display for InputError {
+    fn fmt<W: fmt::Write>(&self, f: &mut fmt::Formatter<W>) -> fmt::Result {
+        match self {
+            InputError::Failed(cause) => write!(f, "{cause}"),
+            InputError::Larger(most) => write!(f, "this has more than the limit of {most} bytes"),
+        }
+    }
+}
+
+/// The bytes of a file or of standard input. A limit says how many there may be, but never less
+/// than 1 MiB.
+pub(crate) fn read_input(
+    rt: &HostRuntime,
+    name: &str,
+    limit: Option<u64>,
+) -> Result<Vec<u8>, InputError> {
+    let most = match limit {
+        Some(limit) => limit.max(LEAST_LIMIT),
+        None => MOST_BYTES,
     };
-    match bytes {
-        Ok(bytes) => Ok(bytes),
-        Err(ToolError::Memory) => Err("out of memory"),
-        Err(_) => Err("cannot be read"),
+    if name == "-" {
+        return read_from(rt.alloc(), &mut rt.stdin(), most);
+    }
+    let mut file = open(rt, name, most)?;
+    read_from(rt.alloc(), &mut file, most)
+}
+
+/// The file of this name, if it isn't known to be larger.
+fn open(rt: &HostRuntime, name: &str, most: u64) -> Result<File, InputError> {
+    if is_marked(name) {
+        return Err(InputError::Failed(NO_UTF8));
+    }
+    let file = fs::open(rt, name).map_err(|e| InputError::Failed(cause_of(&e)))?;
+    check_size(&file, most)?;
+    Ok(file)
+}
+
+/// Refuses a folder, and a file that is known to be larger.
+fn check_size(file: &File, most: u64) -> Result<(), InputError> {
+    match file.metadata() {
+        Ok(found) if found.is_dir() => Err(InputError::Failed("this is a folder")),
+        Ok(found) if found.is_file() && found.len() > most => Err(InputError::Larger(most)),
+        _ => Ok(()),
+    }
+}
+
+/// All that a reader has.
+fn read_from<R: Read>(alloc: Global, reader: &mut R, most: u64) -> Result<Vec<u8>, InputError> {
+    match read_within(alloc, reader, most) {
+        Ok(Some(bytes)) => Ok(bytes),
+        Ok(None) => Err(InputError::Larger(most)),
+        Err(ToolError::Memory) => Err(InputError::Failed(NO_MEMORY)),
+        Err(_) => Err(InputError::Failed("cannot be read")),
     }
 }
 
 /// What a failed call on a file is called.
-fn cause_of(e: &io::Error) -> &'static str {
+pub(crate) fn cause_of(e: &io::Error) -> &'static str {
     match e.kind() {
-        ErrorKind::OutOfMemory => "out of memory",
+        ErrorKind::OutOfMemory => NO_MEMORY,
         ErrorKind::NotFound => "no such file",
         ErrorKind::PermissionDenied => "permission denied",
         ErrorKind::IsADirectory => "this is a folder",
+        ErrorKind::InvalidFilename => "file name too long",
         _ => "cannot be opened",
     }
 }
 
-/// Writes bytes to a file, or to standard output. The file is written beside and moved over, so
-/// that a write that fails leaves the old one.
-pub(crate) fn write_output(rt: &HostRuntime, name: &str, bytes: &[u8]) -> Result<(), &'static str> {
-    if name == "-" {
-        return match write_stream(rt, bytes) {
-            Ok(()) => Ok(()),
-            Err(_) => Err("standard output cannot be written"),
-        };
-    }
-    let id = process::id(rt.process());
-    let Ok(beside) = format!(in rt.alloc(); "{name}.{id}.part") else {
-        return Err("out of memory");
-    };
-    if fs::write(rt, beside.as_str(), bytes).is_err() {
-        let _ = fs::remove_file(rt, beside.as_str());
-        return Err("cannot be written");
-    }
-    match fs::rename(rt, beside.as_str(), name) {
+/// Writes bytes to standard output, and flushes it.
+pub(crate) fn write_stream(rt: &HostRuntime, bytes: &[u8]) -> Result<(), &'static str> {
+    match write_flushed(rt, bytes) {
         Ok(()) => Ok(()),
-        Err(_) => {
-            let _ = fs::remove_file(rt, beside.as_str());
-            Err("cannot be written")
-        }
+        Err(_) => Err("standard output cannot be written"),
     }
 }
 
-/// Writes bytes to standard output, and flushes it.
-fn write_stream(rt: &HostRuntime, bytes: &[u8]) -> io::Result<()> {
+/// The same, by the calls' own errors.
+fn write_flushed(rt: &HostRuntime, bytes: &[u8]) -> io::Result<()> {
     let mut out = rt.stdout();
     out.write_all(bytes)?;
     out.flush()
-}
-
-/// Whether two names lead to one file that is there.
-pub(crate) fn is_same_file(rt: &HostRuntime, one: &str, other: &str) -> bool {
-    match (
-        Path::new(one).canonicalize(rt),
-        Path::new(other).canonicalize(rt),
-    ) {
-        (Ok(one), Ok(other)) => one == other,
-        _ => false,
-    }
 }

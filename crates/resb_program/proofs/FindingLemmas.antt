@@ -1,7 +1,7 @@
 -- What a name says as a number, and what stands at a number.
 use Rattle.std.proofs.Common.{◌≡◌, ◌∙◌, ℕ, zero, suc, ◌<◌, ◌≤◌, ◌^◌, Bool, true, false, List}
 use Rattle.std.proofs.Common.{[], ◌∷◌, length, refl, sym, ap, arith, Option, Some, None, Bor}
-use Rattle.std.specs.Prelude.{cond, nat_lt, ◌&&◌, slice_index_or, option_map}
+use Rattle.std.specs.Prelude.{cond, nat_lt, ◌&&◌, ◌||◌, ◌==◌, slice_index_or, option_map}
 use Rattle.std.specs.Char.{digit_value, is_digit}
 use Rattle.std.specs.Slice.{IsItemAt}
 use Rattle.std.specs.Str.Parse.{AllDigits, IsNumeral, digits_value, without_leading_plus}
@@ -9,7 +9,8 @@ use Rattle.std.proofs.lemmas.Bool.{false≢true, lt-ltb}
 use Rattle.std.proofs.lemmas.Bool.Decides.{Decides-ltb}
 use Rattle.resb_tree.specs.View.{tree_of, items_view}
 use Rattle.resb_tree.specs.declared.resource.Resource.{Resource}
-use Rattle.resb_program.specs.Finding.{are_digits, number_written, number_said, tree_at}
+use Rattle.resb_program.specs.Finding.{are_digits, number_written, number_said, is_adorned}
+use Rattle.resb_program.specs.Finding.{tree_at}
 
 digits_test : (bs : List ℕ) → AllDigits 10 bs → are_digits bs ≡ true
 digits_test [] h = refl
@@ -51,17 +52,38 @@ not_written (b ∷ bs) h =
 abbrev IsRead : List ℕ → Type 0
 IsRead ds = IsNumeral 10 ds × (digits_value 10 ds < 2 ^ 64)
 
+-- no plus comes off where none stands first
+no_plus : (bs : List ℕ) → is_adorned bs ≡ false → without_leading_plus bs ≡ bs
+no_plus [] h = refl
+no_plus (b ∷ bs) h = by (b == 43) refl h
+  where
+    by : (t : Bool) → b == 43 ≡ t → (t || (b == 48 && nat_lt 1 (length (b ∷ bs)))) ≡ false
+        → without_leading_plus (b ∷ bs) ≡ b ∷ bs
+    by true e f = absurd (false≢true (sym f))
+    by false e f = rw e refl
+
+-- a name without a sign or a leading zero says what its digits write
+plainly : (bs : List ℕ) → is_adorned bs ≡ false → number_said bs ≡ number_written bs
+plainly bs h = rw h refl
+
 -- what is read is the number that is said
-pub read_number_is_said : (bs : List ℕ) (n : ℕ)
+pub read_number_is_said : (bs : List ℕ) (n : ℕ) → is_adorned bs ≡ false
     → IsRead (without_leading_plus bs) × (n ≡ digits_value 10 (without_leading_plus bs))
     → Some n ≡ number_said bs
-read_number_is_said bs n h =
+read_number_is_said bs n a h =
     ap Some h.1 ∙ sym (numeral_is_read (without_leading_plus bs) (h.0).0 (h.0).1)
+    ∙ ap number_written (no_plus bs a) ∙ sym (plainly bs a)
 
 -- and where none is read, none is said
-pub no_number_is_said : (bs : List ℕ) → (IsRead (without_leading_plus bs) → ⊥)
-    → None ≡ number_said bs
-no_number_is_said bs h = sym (not_written (without_leading_plus bs) h)
+pub no_number_is_said : (bs : List ℕ) → is_adorned bs ≡ false
+    → (IsRead (without_leading_plus bs) → ⊥) → None ≡ number_said bs
+no_number_is_said bs a h =
+    sym (not_written (without_leading_plus bs) h)
+    ∙ ap number_written (no_plus bs a) ∙ sym (plainly bs a)
+
+-- an adorned name says none
+pub none_is_said : (bs : List ℕ) → is_adorned bs ≡ true → None ≡ number_said bs
+none_is_said bs h = rw h refl
 
 -- the member of this number
 past_trees : (rs : List Resource) (n : ℕ) → length rs ≤ n → tree_at (items_view rs) n ≡ None

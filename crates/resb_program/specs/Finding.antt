@@ -1,13 +1,15 @@
 -- What stands at a path of names in a tree.
+--     is_adorned name      a sign stands first, or a zero before more
 --     number_said name     the number that a name says, if it says one
 --     found_inside s name  what stands inside, under one name
 --     found_at s names     what stands at a path of names
-use Rattle.std.specs.Prelude.{ℕ, zero, suc, ◌^◌, nat_lt, Bool, true, ◌&&◌, List, [], ◌∷◌}
-use Rattle.std.specs.Prelude.{Option, Some, None, option_map, slice_get, if◌then◌else◌}
+use Rattle.std.specs.Prelude.{ℕ, zero, suc, ◌^◌, nat_lt, Bool, true, ◌&&◌, ◌||◌, ◌==◌, List}
+use Rattle.std.specs.Prelude.{[], ◌∷◌, length, slice_index, Option, Some, None, option_map}
+use Rattle.std.specs.Prelude.{slice_get, if◌then◌else◌}
 use Rattle.std.specs.Option.{option_and_then}
 use Rattle.std.specs.Char.{is_digit}
 use Rattle.std.specs.Str.{bytes_eq}
-use Rattle.std.specs.Str.Parse.{digits_value, without_leading_plus}
+use Rattle.std.specs.Str.Parse.{digits_value}
 use Rattle.resb_tree.specs.Tree.{Tree, string, array, table, binary, integer, int_vector, Trees}
 use Rattle.resb_tree.specs.Tree.{no_trees, more_trees, Entries, no_entries, entry}
 use Rattle.resb_tree.specs.View.{tree_of}
@@ -37,9 +39,15 @@ number_written (b ∷ bs) =
     then Some (digits_value 10 (b ∷ bs))
     else None
 
--- the number that a name says: decimal digits, behind a `+` perhaps, of a number below 2^64
+-- a plus sign stands first, or a zero before more
+abbrev pub is_adorned : List ℕ → Bool
+is_adorned name =
+    slice_index name 0 == 43 || (slice_index name 0 == 48 && nat_lt 1 (length name))
+
+-- the number that a name says: decimal digits of a number below 2^64, the way it is commonly
+-- written, without a sign and without a zero before other digits
 abbrev pub number_said : List ℕ → Option ℕ
-number_said name = number_written (without_leading_plus name)
+number_said name = if is_adorned name then None else number_written name
 
 -- the tree of the first entry of this name; a table has each key once
 abbrev pub value_named : List ℕ → Entries → Option Tree

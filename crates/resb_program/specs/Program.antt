@@ -1,4 +1,5 @@
 -- What the program writes for what it reads, and why it fails.
+--     within most bytes       bytes, where there are at most so many of them
 --     Writes input old new    the writer gained the hex line of a file of the text
 --     IsNoInput input e       these bytes have no file, for this reason
 --     HasReason input e       the same, or a stream or memory failed
@@ -6,8 +7,8 @@
 --     ReadsCounted bytes r    what `from_bytes_counted::<Resource>` promises of its answer
 --     Agrees has r s          the answer of a check beside that of a reading: the same count, or
 --                             the same refusal, want of memory aside
-use Rattle.std.specs.Prelude.{◌≡◌, ◌≤◌, ◌⊎◌, ℕ, List, [], ◌∷◌, ◌++◌, codes, IsUtf8, Option}
-use Rattle.std.specs.Prelude.{Result, Ok, Err}
+use Rattle.std.specs.Prelude.{◌≡◌, ◌≤◌, ◌⊎◌, ℕ, List, [], ◌∷◌, ◌++◌, codes, IsUtf8, Option, Some}
+use Rattle.std.specs.Prelude.{Result, Ok, Err, None, length, nat_le, if◌then◌else◌}
 use Rattle.std.specs.Io.KnownBytes.{Appends}
 use Rattle.hex.specs.Hex.{encode_lower}
 use Rattle.resb_format.specs.Error as reading
@@ -24,6 +25,10 @@ use Rattle.resb_compile.specs.Compiling.{IsCompiled, IsRefused}
 use Rattle.resb_program.specs.declared.errors.ToolError.{ToolError}
 use Rattle.resb_program.specs.declared.errors.ToolError.TheVariants.{Input, Output, NotUtf8}
 use Rattle.resb_program.specs.declared.errors.ToolError.TheVariants.{Compiling, Checking, Memory}
+
+-- bytes, where there are at most so many of them
+abbrev pub within : ℕ → List ℕ → Option (List ℕ)
+within most bytes = if nat_le (length bytes) most then Some bytes else None
 
 -- the text has a file, and the writer gained the file's hex digits and a line feed
 pub record Writes (input : List ℕ) (old new : Option (List ℕ)) : Type 0 where

@@ -1,7 +1,7 @@
 //! The line round a place, cut where it is long, with a mark under the place.
 //! Which line and column that is stands in `location`.
-ghost use Rattle.std.specs.Prelude.{◌≡◌, ◌+◌, ◌-◌, ◌≤◌, ◌++◌, ◌↔◌, length, map, min};
-ghost use Rattle.std.specs.Prelude.{replicate, OnOk, IfOk, IsTrue, IsUtf8, vec_items};
+ghost use Rattle.std.specs.Prelude.{◌≡◌, ◌+◌, ◌-◌, ◌≤◌, ◌++◌, ◌↔◌, Bool, true, false, length, min};
+ghost use Rattle.std.specs.Prelude.{replicate, OnOk, IfOk, IsTrue, IsUtf8, string_bytes};
 ghost use Rattle.resb_program.specs.Excerpt as excerpt;
 ghost use Rattle.resb_program.specs.Excerpt.{StartsExcerpt, EndsExcerpt, PointsAt};
 
@@ -64,37 +64,79 @@ fn excerpt_end(text: &[u8], place: usize) -> usize
     to
 }
 
-/// What is shown of a byte: a blank for a character of control, and `?` for what is no ASCII, where
-/// the text is no UTF-8.
-fn shown(byte: u8, is_utf8: bool) -> u8
-    ensures { result ≡ excerpt.excerpt_byte is_utf8 byte }
+/// Whether a character is one of control, or a mark that sets the direction of the text behind it: a
+/// terminal doesn't show it, and may do something else.
+pub fn is_hidden(c: char) -> bool
+    ensures { result ≡ excerpt.is_hidden c }
 {
-    if byte < 32 || byte == 127 {
-        b' '
-    } else if byte > 127 && !is_utf8 {
-        b'?'
+    let code = u32::from(c);
+    code < 32
+        || (126 < code && code < 160)
+        || code == 0x61c
+        || code == 0x200e
+        || code == 0x200f
+        || (0x2029 < code && code < 0x202f)
+        || (0x2065 < code && code < 0x206a)
+}
+
+/// What is shown of a character: a blank for one of control below U+0080, and `?` for all others
+/// that are hidden.
+fn shown_character(c: char) -> char
+    ensures { result ≡ excerpt.shown_character c }
+{
+    if c < ' ' || c == '\u{7f}' {
+        ' '
+    } else if is_hidden(c) {
+        '?'
     } else {
-        byte
+        c
     }
 }
 
-/// Appends what is shown of these bytes.
-fn push_shown(out: &mut Vec<u8>, bytes: &[u8], is_utf8: bool) -> Result<(), AllocError>
-    ensures { OnOk result (vec_items out.new ≡ vec_items out.old
-        ++ map (excerpt.excerpt_byte is_utf8) bytes.now) }
+/// Appends what is shown of a text.
+fn push_text(out: &mut String, text: &str) -> Result<(), AllocError>
+    ensures { OnOk result (string_bytes out.new ≡ string_bytes out.old
+        ++ excerpt.shown_line true text.now) }
 {
-    for byte in bytes {
-        out.push(shown(*byte, is_utf8))?;
+    for c in text.chars() {
+        out.push(shown_character(c))?;
+    }
+    Ok(())
+}
+
+/// Appends what is shown of a byte of a line that is no UTF-8: a blank for a character of control,
+/// `?` for one that is no ASCII, and nothing for a byte that goes on with a character.
+fn push_byte(out: &mut String, byte: u8) -> Result<(), AllocError>
+    ensures { OnOk result (string_bytes out.new ≡ string_bytes out.old ++ excerpt.shown_byte byte) }
+{
+    if byte < 32 || byte == 127 {
+        out.push(' ')
+    } else if byte < 128 {
+        out.push(char::from(byte))
+    } else if begins_character(byte) {
+        out.push('?')
+    } else {
+        Ok(())
+    }
+}
+
+/// Appends what is shown of a line that is no UTF-8.
+fn push_bytes(out: &mut String, line: &[u8]) -> Result<(), AllocError>
+    ensures { OnOk result (string_bytes out.new ≡ string_bytes out.old
+        ++ excerpt.shown_line false line.now) }
+{
+    for byte in line {
+        push_byte(out, *byte)?;
     }
     Ok(())
 }
 
 /// Appends blanks.
-fn push_blanks(out: &mut Vec<u8>, count: usize) -> Result<(), AllocError>
-    ensures { OnOk result (vec_items out.new ≡ vec_items out.old ++ replicate count 32) }
+fn push_blanks(out: &mut String, count: usize) -> Result<(), AllocError>
+    ensures { OnOk result (string_bytes out.new ≡ string_bytes out.old ++ replicate count 32) }
 {
     for blank in 0..count {
-        out.push(b' ')?;
+        out.push(' ')?;
     }
     Ok(())
 }
@@ -114,26 +156,29 @@ fn characters(text: &[u8], from: usize, to: usize) -> usize
     count
 }
 
-/// Whether the bytes are UTF-8.
-fn is_utf8(bytes: &[u8]) -> bool
-    ensures { IsTrue result ↔ IsUtf8 bytes.now }
+/// Appends what is shown of a line.
+fn push_line(out: &mut String, line: &[u8]) -> Result<(), AllocError>
+    ensures { OnOk result ((is_utf8 : Bool) × (IsTrue is_utf8 ↔ IsUtf8 line.now)
+        × (string_bytes out.new ≡ string_bytes out.old ++ excerpt.shown_line is_utf8 line.now)) }
 {
-    str::from_utf8(bytes).is_ok()
+    match str::from_utf8(line) {
+        Ok(text) => push_text(out, text),
+        Err(_) => push_bytes(out, line),
+    }
 }
 
 /// The line round a place as it is shown, a line feed, and a `^` under the place: at most 60 bytes
 /// before the place, and 63 behind it. A place behind the text's end counts as the end.
-pub fn pointed_line(alloc: Global, text: &[u8], place: usize) -> Result<Vec<u8>, AllocError>
-    ensures { IfOk result (λ v. PointsAt text.now (min place (length text.now)) (vec_items v)) }
+pub fn pointed_line(alloc: Global, text: &[u8], place: usize) -> Result<String, AllocError>
+    ensures { IfOk result (λ s. PointsAt text.now (min place (length text.now)) (string_bytes s)) }
 {
     let place = place.min(text.len());
     let from = excerpt_start(text, place);
     let to = excerpt_end(text, place);
-    let part = &text[from..to];
-    let mut line = Vec::new(alloc);
-    push_shown(&mut line, part, is_utf8(part))?;
-    line.push(b'\n')?;
+    let mut line = String::new(alloc);
+    push_line(&mut line, &text[from..to])?;
+    line.push('\n')?;
     push_blanks(&mut line, characters(text, from, place))?;
-    line.push(b'^')?;
+    line.push('^')?;
     Ok(line)
 }

@@ -24,7 +24,7 @@ mod warning;
 pub use braces::{innermost_icu_open, innermost_open};
 pub use command::{Command, command_of};
 pub use errors::{FileError, SourceError, ToolError};
-pub use excerpt::pointed_line;
+pub use excerpt::{is_hidden, pointed_line};
 pub use files::{check_file, count_file, measure_file, read_bundle};
 pub use json::{JsonError, json_text, json_text_within};
 pub use location::{Location, location_of};
@@ -34,6 +34,6 @@ pub use sources::{
     Blame, compile_icu_source, compile_source, compile_source_within, compile_text, text_of,
     where_to_look,
 };
-pub use streams::{read_all, run};
+pub use streams::{read_all, read_within, run};
 pub use summary::{Summary, summary_of};
 pub use warning::{Reason, Warning, warnings};

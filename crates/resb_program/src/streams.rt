@@ -1,17 +1,19 @@
 //! The streams: all that a reader has left, and a file in hex digits to a writer.
 //! What a text's file is, is in `sources`, and why a program fails in `errors`.
-ghost use Rattle.std.specs.Prelude.{◌≡◌, ◌≢◌, ◌⊎◌, ℕ, List, [], ◌∷◌, ◌++◌, length, ◌<◌, ◌≤◌};
+ghost use Rattle.std.specs.Prelude.{◌≡◌, ◌≢◌, ◌⊎◌, ℕ, List, [], ◌∷◌, ◌++◌, ◌+◌, length, ◌<◌, ◌≤◌};
 ghost use Rattle.std.specs.Prelude.{Ok, true, IfOk, OnOk, IfErr, IfSome, IsUtf8, IsOkUnless};
+ghost use Rattle.std.specs.Prelude.{option_map};
 ghost use Rattle.std.specs.Io.KnownBytes.{Appends, Consumes, IsAtEnd, Keeps};
 ghost use Rattle.hex.specs.Hex.{encode_lower};
-ghost use Rattle.resb_program.specs.Program.{Writes, HasReason};
+ghost use Rattle.resb_program.specs.Program.{Writes, HasReason, within};
 
 use crate::errors::ToolError;
 use crate::sources::compile_text;
 use std::alloc::Global;
 use std::io::{ErrorKind, Read, Write};
 
-/// One read. It answers whether the reader is at its end. A read that was interrupted adds nothing.
+/// One read of at most as many bytes as the buffer has. It answers whether the reader is at its end.
+/// A read that was interrupted adds nothing.
 fn read_some<R: Read>(
     reader: &mut R,
     buffer: &mut [u8],
@@ -20,7 +22,7 @@ fn read_some<R: Read>(
     requires { 0 < length buffer.old }
     ensures taken { OnOk result ((new : List ℕ)
         × Consumes (R.remaining reader.old) (R.remaining reader.new) new
-        × (bytes.new.items ≡ bytes.old.items ++ new)) }
+        × (bytes.new.items ≡ bytes.old.items ++ new) × (length new ≤ length buffer.old)) }
     ensures end { result ≡ Ok true → IsAtEnd (R.remaining reader.new) }
     ensures err { IfErr result (λ e. (e ≡ ToolError.Input) ⊎ (e ≡ ToolError.Memory)) }
 {
@@ -46,6 +48,34 @@ pub fn read_all<R: Read>(alloc: Global, reader: &mut R) -> Result<Vec<u8>, ToolE
     for _ in 0..u64::MAX {
         if read_some(reader, &mut buffer, &mut bytes)? {
             return Ok(bytes);
+        }
+    }
+    Err(ToolError::Input)
+}
+
+/// All that the reader has left, if that is at most so many bytes, and else nothing. At most
+/// what fills a buffer is read beyond those.
+pub fn read_within<R: Read>(
+    alloc: Global,
+    reader: &mut R,
+    most: u64,
+) -> Result<Option<Vec<u8>>, ToolError>
+    ensures ok { IfOk result (λ r. IfSome (R.remaining reader.old)
+        (λ input. option_map (λ v. v.items) r ≡ within most input)) }
+    ensures taken { OnOk result ((taken : List ℕ)
+        × Consumes (R.remaining reader.old) (R.remaining reader.new) taken
+        × (length taken ≤ most + 65536)) }
+    ensures err { IfErr result (λ e. (e ≡ ToolError.Input) ⊎ (e ≡ ToolError.Memory)) }
+{
+    let mut buffer = [0u8; 65536];
+    let mut bytes = Vec::new(alloc);
+    for _ in 0..u64::MAX {
+        let is_end = read_some(reader, &mut buffer, &mut bytes)?;
+        if bytes.len() as u64 > most {
+            return Ok(None);
+        }
+        if is_end {
+            return Ok(Some(bytes));
         }
     }
     Err(ToolError::Input)

@@ -4,6 +4,7 @@ ghost use Rattle.std.specs.Prelude.{◌≤◌};
 
 use clap::Error;
 use std::alloc::{AllocError, AllocFailed};
+use std::fmt;
 
 /// Why the words ask for nothing that is done.
 #[derive(Debug, Drop)]
@@ -14,6 +15,8 @@ pub enum WordsError {
     NoCommand,
     /// What stands behind `--limit` is no number of bytes.
     NoNumber,
+    /// What stands behind `--directory` is no name of a folder.
+    NoFolder,
     /// `--output` names one file, for several texts.
     SeveralTexts,
     /// A request for memory was refused.
@@ -30,18 +33,21 @@ impl WordsError {
             _ => 2,
         }
     }
+}
 
-    /// Prints it: help and the version on standard output, all else on standard error.
-    pub fn print<R: Print + Eprint>(&self, rt: &R) {
-        let _ = match self {
-            WordsError::Words(e) => e.print(rt),
-            WordsError::NoCommand => eprintln!(rt; "resb: no command"),
-            WordsError::NoNumber => eprintln!(rt; "resb: --limit is a number of bytes"),
-            WordsError::SeveralTexts => {
-                eprintln!(rt; "resb: --output is for one text; --directory is for several")
-            }
-            WordsError::Memory => eprintln!(rt; "resb: out of memory"),
-        };
+impl fmt::Display for WordsError {
+    fn fmt<W: fmt::Write>(&self, f: &mut fmt::Formatter<W>) -> fmt::Result {
+        match self {
+            WordsError::Words(e) => write!(f, "{e}"),
+            WordsError::NoCommand => write!(f, "resb: no command"),
+            WordsError::NoNumber => write!(f, "resb: --limit is a number of bytes"),
+            WordsError::NoFolder => write!(f, "resb: --directory is the name of a folder"),
+            WordsError::SeveralTexts => write!(
+                f,
+                "resb: --output is for one text; --directory is for several"
+            ),
+            WordsError::Memory => write!(f, "resb: out of memory"),
+        }
     }
 }
 

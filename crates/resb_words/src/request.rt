@@ -80,14 +80,18 @@ fn asked<'w>(alloc: Global, matches: &ArgMatches<'w>) -> Result<Request<'w>, Wor
 fn compile<'w>(alloc: Global, matches: &ArgMatches<'w>) -> Result<Request<'w>, WordsError> {
     let limit = limit(matches)?;
     let output = matches.get_str("OUT");
+    let folder = matches.get_str("DIR");
     let texts = names(alloc, matches)?;
+    if folder == Some("") {
+        return Err(WordsError::NoFolder);
+    }
     if output.is_some() && texts.len() > 1 {
         return Err(WordsError::SeveralTexts);
     }
     Ok(Request::Compile(CompileWords {
         texts,
         output,
-        folder: matches.get_str("DIR"),
+        folder,
         is_icu: matches.get_flag("ICU"),
         limit,
     }))

@@ -1,0 +1,120 @@
+//! How bytes come to a place: a file is written beside it and moved over, so that a write that fails
+//! leaves the old one; all else is written where it is. Where a name leads is in `place`.
+use crate::place::Place;
+use crate::streams::{NO_MEMORY, write_stream};
+use std::fs::{self, File, Metadata, OpenOptions};
+use std::io::{self, ErrorKind, Write};
+use std::os::unix::fs::{MetadataExt, OpenOptionsExt, fchown};
+use std::path::{Path, PathBuf};
+use std::process;
+
+/// The most names that are tried for the file that is written beside.
+const MOST_NAMES: u8 = 100;
+
+/// Writes bytes to a place.
+pub(crate) fn save(rt: &HostRuntime, place: &Place, bytes: &[u8]) -> Result<(), &'static str> {
+    let saved = match place {
+        Place::Stream => return write_stream(rt, bytes),
+        Place::Inside(path) => write_inside(rt, path.as_path(), bytes),
+        Place::Beside(path) => replace(rt, path.as_path(), bytes),
+    };
+    match saved {
+        Ok(()) => Ok(()),
+        Err(e) => Err(cause_of_writing(&e)),
+    }
+}
+
+/// What a failed call on a file that is written is called.
+fn cause_of_writing(e: &io::Error) -> &'static str {
+    match e.kind() {
+        ErrorKind::OutOfMemory => NO_MEMORY,
+        ErrorKind::NotFound => "no such folder",
+        ErrorKind::PermissionDenied | ErrorKind::ReadOnlyFilesystem => "permission denied",
+        ErrorKind::IsADirectory => "this is a folder",
+        ErrorKind::InvalidFilename => "file name too long",
+        ErrorKind::StorageFull | ErrorKind::QuotaExceeded => "no room is left for this",
+        ErrorKind::AlreadyExists => "cannot be written, since the names beside it are taken",
+        _ => "cannot be written",
+    }
+}
+
+/// Writes bytes into what is there. A file that a process has open gets them behind its own.
+fn write_inside(rt: &HostRuntime, path: Path<'_>, bytes: &[u8]) -> io::Result<()> {
+    let is_file = path.is_file(rt);
+    let mut options = OpenOptions::new();
+    options.write(!is_file).append(is_file);
+    let mut file = options.open(rt, path)?;
+    file.write_all(bytes)
+}
+
+/// Writes bytes to a file beside this path, and moves it there.
+fn replace(rt: &HostRuntime, path: Path<'_>, bytes: &[u8]) -> io::Result<()> {
+    let old = fs::symlink_metadata(rt, path).ok();
+    let (mut file, beside) = new_file(rt, path, old.is_some())?;
+    let filled = fill(&mut file, old.as_ref(), bytes);
+    moved(rt, filled, beside.as_path(), path)
+}
+
+/// Moves a file to its place, if it was filled, and else removes it.
+fn moved(
+    rt: &HostRuntime,
+    filled: io::Result<()>,
+    beside: Path<'_>,
+    path: Path<'_>,
+) -> io::Result<()> {
+    let moved = match filled {
+        Ok(()) => fs::rename(rt, beside, path),
+        Err(e) => Err(e),
+    };
+    if moved.is_err() {
+        let _ = fs::remove_file(rt, beside);
+    }
+    moved
+}
+
+/// A new file beside this path, and its name. Nobody else may read it, where it is to take the place
+/// of one that has a mode.
+fn new_file(rt: &HostRuntime, path: Path<'_>, is_private: bool) -> io::Result<(File, PathBuf)> {
+    let mut options = OpenOptions::new();
+    options
+        .write(true)
+        .create_new(true)
+        .mode(if is_private { 0o600 } else { 0o666 });
+    for number in 0..MOST_NAMES {
+        let name = name_beside(rt, path, number)?;
+        match options.open(rt, name.as_path()) {
+            Ok(file) => return Ok((file, name)),
+            Err(e) if e.kind() == ErrorKind::AlreadyExists => {}
+            Err(e) => return Err(e),
+        }
+    }
+    Err(io::Error::from(ErrorKind::AlreadyExists))
+}
+
+/// A name in the folder of this path.
+fn name_beside(rt: &HostRuntime, path: Path<'_>, number: u8) -> io::Result<PathBuf> {
+    let id = process::id(rt.process());
+    let name = format!(in rt.alloc(); ".resb-{id}-{number}.part")?;
+    Ok(path.with_file_name(rt.alloc(), name.as_str())?)
+}
+
+/// Gives a new file the mode of the old one and these bytes, and has them on the disk.
+fn fill(file: &mut File, old: Option<&Metadata>, bytes: &[u8]) -> io::Result<()> {
+    if let Some(old) = old {
+        keep_rights(file, old)?;
+    }
+    file.write_all(bytes)?;
+    match file.sync_all() {
+        // some systems of files have no such call
+        Err(e) if matches!(e.kind(), ErrorKind::InvalidInput | ErrorKind::Unsupported) => Ok(()),
+        synced => synced,
+    }
+}
+
+/// Gives a new file the mode of the old one, and its owner and group where the system lets it.
+fn keep_rights(file: &File, old: &Metadata) -> io::Result<()> {
+    if fchown(file, Some(old.uid()), Some(old.gid())).is_err() {
+        let _ = fchown(file, None, Some(old.gid()));
+    }
+    file.set_permissions(old.permissions())
+}

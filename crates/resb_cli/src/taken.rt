@@ -1,0 +1,114 @@
+//! Which files a call of `compile` may not write over: its texts, and the files of those before.
+//! A file is known by the real path of its folder and its name, however it was spelled.
+use crate::place::{Place, folder_of};
+use crate::streams::{NO_MEMORY, made};
+use std::collections::BTreeSet;
+use std::fs;
+use std::io::ErrorKind;
+use std::path::Path;
+
+/// The texts of a call, and the files that it has written or will write.
+#[derive(Drop)]
+pub(crate) struct Taken {
+    texts: BTreeSet<String>,
+    files: BTreeSet<String>,
+}
+
+impl Taken {
+    /// No file is written yet.
+    pub(crate) fn new(rt: &HostRuntime, texts: &[&str]) -> Result<Taken, &'static str> {
+        let mut taken = Taken {
+            texts: BTreeSet::new(rt.alloc()),
+            files: BTreeSet::new(rt.alloc()),
+        };
+        for name in texts.iter().copied() {
+            taken.add_text(rt, name)?;
+        }
+        Ok(taken)
+    }
+
+    /// Notes a text that is there.
+    fn add_text(&mut self, rt: &HostRuntime, name: &str) -> Result<(), &'static str> {
+        if let Some(path) = real_path(rt, name)? {
+            insert(&mut self.texts, path)?;
+        }
+        Ok(())
+    }
+
+    /// Takes the place of a text's file, or says what stands against it.
+    pub(crate) fn take(
+        &mut self,
+        rt: &HostRuntime,
+        name: &str,
+        place: &Place,
+    ) -> Result<(), &'static str> {
+        match place {
+            Place::Inside(_) => Ok(()),
+            Place::Stream => self.take_file(owned(rt, Path::new("-"))?),
+            Place::Beside(path) => {
+                let file = real_name(rt, path.as_path())?;
+                self.check(real_path(rt, name)?, file.as_str())?;
+                self.take_file(file)
+            }
+        }
+    }
+
+    /// Whether a file isn't that of the text that has the other path, nor of another text.
+    fn check(&self, text: Option<String>, file: &str) -> Result<(), &'static str> {
+        match text {
+            Some(text) if text.as_str() == file => {
+                Err("the file would take the place of its own text")
+            }
+            _ if self.texts.contains(file) => {
+                Err("the file would take the place of another of these texts")
+            }
+            _ => Ok(()),
+        }
+    }
+
+    /// Takes a file, if no text before has it.
+    fn take_file(&mut self, file: String) -> Result<(), &'static str> {
+        if insert(&mut self.files, file)? {
+            Ok(())
+        } else {
+            Err("another of these texts has its file")
+        }
+    }
+}
+
+/// Adds a path to a set, and answers whether it is new there.
+fn insert(set: &mut BTreeSet<String>, path: String) -> Result<bool, &'static str> {
+    match set.insert(path) {
+        Ok(is_new) => Ok(is_new),
+        Err(_) => Err(NO_MEMORY),
+    }
+}
+
+/// The same path with a list of its own.
+fn owned(rt: &HostRuntime, path: Path<'_>) -> Result<String, &'static str> {
+    made(String::from_str(rt.alloc(), path.as_str()))
+}
+
+/// The real path of what has a name, if anything has; standard input has none.
+fn real_path(rt: &HostRuntime, name: &str) -> Result<Option<String>, &'static str> {
+    if name == "-" {
+        return Ok(None);
+    }
+    match fs::canonicalize(rt, name) {
+        Ok(path) => Ok(Some(owned(rt, path.as_path())?)),
+        Err(e) if e.kind() == ErrorKind::OutOfMemory => Err(NO_MEMORY),
+        Err(_) => Ok(None),
+    }
+}
+
+/// The real path of a file that may not be there yet: that of its folder, and its name.
+fn real_name(rt: &HostRuntime, path: Path<'_>) -> Result<String, &'static str> {
+    let folder = real_path(rt, folder_of(path).as_str())?;
+    match (folder, path.file_name()) {
+        (Some(folder), Some(name)) => {
+            let whole = made(Path::new(folder.as_str()).join(rt.alloc(), name))?;
+            owned(rt, whole.as_path())
+        }
+        _ => owned(rt, path),
+    }
+}

@@ -1,0 +1,401 @@
+#!/usr/bin/env bash
+# What the program `resb` does with files: links, devices, pipes, modes, what stands in the way,
+# names of all kinds, want of memory, inputs that are too large; and what messages show of strange
+# names and texts. What needs the rights of root, or a program that isn't there, counts as passed
+# without them. The last line counts, as 'N passed, M failed'.
+set -uo pipefail
+top=$(cd "$(dirname "$(readlink -f "$0")")/.." && pwd)
+program=$top/crates/resb_cli/out/resb_cli
+work=$(mktemp -d)
+trap 'chmod -R u+rwx "$work"; rm -rf "$work"' EXIT
+cd "$work" || exit 3
+export LC_ALL=C
+umask 022
+passed=0
+failed=0
+
+# resb WORD..: the program, under its name
+resb() { (exec -a resb "$program" "$@"); }
+
+# ends STATUS ERROR WORD..: runs the program, which says this on standard error and nothing else
+ends() {
+  local status=$1 error=$2 got
+  shift 2
+  resb "$@" > "$work/.out" 2> "$work/.err" < "${input:-/dev/null}"
+  got=$?
+  if [ "$got" = "$status" ] && [ "$(cat "$work/.err")" = "$error" ] && [ ! -s "$work/.out" ]; then
+    passed=$((passed + 1))
+  else
+    failed=$((failed + 1))
+    printf 'failed: resb %.200q: status %s\n' "$*" "$got"
+    diff <(printf '%s\n' "$error") "$work/.err" | cut -c1-300
+  fi
+}
+
+# holds NAME COMMAND..: whether the command succeeds
+holds() {
+  local name=$1
+  shift
+  if "$@"; then
+    passed=$((passed + 1))
+  else
+    failed=$((failed + 1))
+    echo "failed: $name"
+  fi
+}
+
+# is WORD WORD: whether two words are one
+is() { [ "$1" = "$2" ] || { printf '%s\n' "$1" | head -c 300; false; }; }
+
+# only WANTED..: whether these are the names in this folder, but for those of this script
+only() { is "$(find . -mindepth 1 -maxdepth 1 ! -name .out ! -name .err -printf '%f ')" "$*"; }
+
+# fresh: a folder of its own for what comes next, with a text; `want` is its file
+fresh() {
+  number=$((number + 1))
+  mkdir "$work/$number"
+  cd "$work/$number" || exit 3
+  printf 'b{a{"x"} c:intvector{1,2}}' > t.txt
+}
+number=0
+
+[ -x "$program" ] || { echo "$program isn't built"; echo '0 passed, 1 failed'; exit 1; }
+printf 'b{a{"x"} c:intvector{1,2}}' > t.txt
+ends 0 '' compile t.txt -o want
+want=$work/want
+
+# a device is written where it is, and stays
+fresh
+if mknod null c 1 3 2> .err && mknod full c 1 7 2> .err && : 2> .err > null; then
+  ends 0 '' compile t.txt -o null
+  holds 'the device stays' [ -c null ]
+  ends 2 'full: no room is left for this' compile t.txt -o full
+  holds 'the full device stays' [ -c full ]
+  ln -s null t.res
+  ends 0 '' compile t.txt
+  holds 'the link to a device stays' [ -L t.res ]
+  holds 'a device behind a link stays' [ -c null ]
+else
+  passed=$((passed + 6))
+fi
+[ -w /dev ] || ends 2 '/dev/full: no room is left for this' compile t.txt -o /dev/full
+
+# the reader of a pipe gets the bytes
+fresh
+mkfifo pipe
+cat pipe > got &
+ends 0 '' compile t.txt -o pipe
+wait
+holds 'a pipe' cmp -s got "$want"
+holds 'the pipe stays' [ -p pipe ]
+
+# standard output by its other names, and what else is open: nothing that stands there is lost
+for name in - /dev/stdout /dev/fd/1 /proc/self/fd/1; do
+  { echo before; resb compile t.txt -o "$name"; echo behind; } > got
+  holds "a file behind $name" cmp -s got <(echo before; cat "$want"; echo behind)
+  resb compile t.txt -o "$name" | cat > got
+  holds "a pipe behind $name" cmp -s got "$want"
+done
+{ printf before >&3; resb compile t.txt -o /dev/fd/3; } 3> got
+holds 'a file that is open' cmp -s got <(printf before; cat "$want")
+
+# links stay, and what they lead to is written
+fresh
+mkdir real
+ln -s real/out.res relative
+ln -s "$PWD/real/out.res" absolute
+ln -s relative several
+for link in relative absolute several; do
+  printf old > real/out.res
+  ends 0 '' compile t.txt -o "$link"
+  holds "the link $link stays" [ -L "$link" ]
+  holds "what $link leads to" cmp -s real/out.res "$want"
+done
+ln -s real/new.res dangling
+ends 0 '' compile t.txt -o dangling
+holds 'a dangling link stays' [ -L dangling ]
+holds 'what a dangling link leads to' cmp -s real/new.res "$want"
+ln -s real/other.res t.res
+ends 0 '' compile t.txt
+holds 'a link in the place of the file' cmp -s real/other.res "$want"
+holds 'nothing else was made' is "$(ls -A real | tr '\n' ' ')" 'new.res other.res out.res '
+ln -s loop loop
+ends 2 'loop: too many links' compile t.txt -o loop
+ln -s none/out.res nowhere
+ends 2 'nowhere: no such folder' compile t.txt -o nowhere
+ln -s t.txt own
+ends 2 't.txt: the file would take the place of its own text' compile t.txt -o own
+holds 'the text is kept' grep -q intvector t.txt
+
+# a link of others in a folder of all, which the system may forbid to follow
+fresh
+mkdir all
+chmod 755 "$work" .
+chmod 1777 all
+printf kept > victim
+if [ "$(cat /proc/sys/fs/protected_symlinks)" = 1 ] && [ "$(id -u)" = 0 ] \
+  && setpriv --reuid=65534 --regid=65534 --clear-groups ln -s ../victim all/link 2> .err; then
+  ends 2 'all/link: permission denied' compile t.txt -o all/link
+  holds 'what it leads to is kept' is "$(cat victim)" kept
+else
+  passed=$((passed + 2))
+fi
+
+# the mode of the old file is kept, and its owner; a new one has the usual mode
+fresh
+printf old > out.res
+chmod 600 out.res
+ends 0 '' compile t.txt -o out.res
+holds 'the mode is kept' is "$(stat -c %a out.res)" 600
+chmod 444 out.res
+ends 0 '' compile t.txt -o out.res
+holds 'that of a file that may be read only' is "$(stat -c %a out.res)" 444
+(umask 027; resb compile t.txt)
+holds 'a new mode' is "$(stat -c %a t.res)" 640
+if [ "$(id -u)" = 0 ] && chown 1234:4321 out.res 2> .err; then
+  ends 0 '' compile t.txt -o out.res
+  holds 'the owner is kept' is "$(stat -c %u:%g out.res)" 1234:4321
+else
+  passed=$((passed + 2))
+fi
+
+# names that others made are not followed, nor taken away
+fresh
+printf kept > victim
+(
+  id=$BASHPID
+  ln -s victim ".resb-$id-0.part"
+  printf other > ".resb-$id-1.part"
+  echo "$id" > id
+  exec -a resb "$program" compile t.txt -o out.res
+)
+holds 'names that are taken' cmp -s out.res "$want"
+holds 'what a planted link leads to' is "$(cat victim)" kept
+holds 'a planted link' [ -L ".resb-$(cat id)-0.part" ]
+holds 'a planted file' is "$(cat ".resb-$(cat id)-1.part")" other
+holds 'no other name' is "$(ls -A | grep -c part)" 2
+printf old > out.res
+(
+  for ((n = 0; n < 100; n++)); do : > ".resb-$BASHPID-$n.part"; done
+  exec -a resb "$program" compile t.txt -o out.res
+) 2> .err
+holds 'all names taken' is "$? $(cat .err)" \
+  '2 out.res: cannot be written, since the names beside it are taken'
+holds 'the old file is kept' is "$(cat out.res)" old
+
+# a write that fails leaves the old file, and nothing beside it
+fresh
+printf old > out.res
+(trap '' XFSZ; ulimit -f 0; exec -a resb "$program" compile t.txt -o out.res) 2> .err
+holds 'a limit on files' [ "$?" = 2 ]
+holds 'what it leaves' is "$(cat out.res) $(ls -A | tr '\n' ' ')" 'old .err out.res t.txt '
+
+# names as long as the system takes
+fresh
+for ((length = 244; length <= 255; length++)); do
+  stem=$(printf '%*s' $((length - 4)) '' | tr ' ' n)
+  cp t.txt "$stem.txt"
+  ends 0 '' compile "$stem.txt"
+  holds "a name of $length bytes" cmp -s "$stem.res" "$want"
+done
+ends 2 "n$stem.res: file name too long" compile t.txt -o "n$stem.res"
+
+# folders that are not to be read, or not there
+fresh
+mkdir closed folder
+chmod 755 "$work" "$work/$number"
+cp "$program" "$work/copy"
+chmod 711 closed
+cp t.txt closed/t.txt
+if [ "$(id -u)" != 0 ]; then
+  as() { "$@"; }
+elif command -v setpriv > .err; then
+  as() { setpriv --reuid=65534 --regid=65534 --clear-groups "$@"; }
+fi
+if declare -F as > .err && as "$work/copy" --version > .out 2> .err; then
+  chmod 555 closed
+  as "$work/copy" compile closed/t.txt > .out 2> .err
+  holds 'a folder that is not written' is "$? $(cat .err)" '2 closed/t.res: permission denied'
+  chmod 600 closed
+  as "$work/copy" compile closed/t.txt > .out 2> .err
+  holds 'a folder that is not entered' is "$? $(cat .err)" '2 closed/t.res: permission denied'
+  chmod 700 closed
+else
+  passed=$((passed + 2))
+fi
+ends 2 'folder: this is a folder' compile t.txt -o folder
+ends 2 'folder: this is a folder' compile folder -o out.res
+ends 2 'none/t.res: no such folder' compile t.txt -d none
+ends 2 'resb: --directory is the name of a folder' compile t.txt -d ''
+ends 2 ': this is no name of a file' compile t.txt -o ''
+
+# strange names
+fresh
+cp t.txt ..txt
+ends 0 '' compile ..txt
+holds 'the file of ..txt' cmp -s ..res "$want"
+mkdir into
+ends 0 '' compile ..txt -d into
+holds 'that in a folder' cmp -s into/..res "$want"
+printf kept > -
+resb compile - < t.txt > got
+holds 'a file with the name of a stream' cmp -s got "$want"
+holds 'is not touched' is "$(cat ./-)" kept
+bad=$'bad\xff\xc3\xa9'
+cp t.txt "$bad.txt"
+ends 2 'bad\xff\xc3\xa9.txt: this name is no UTF-8' compile "$bad.txt" t.txt
+holds 'the other text has its file' cmp -s t.res "$want"
+ends 2 'bad\xff\xc3\xa9.txt: this name is no UTF-8' compile "$bad.txt" -o out.res
+ends 2 'bad\xff\xc3\xa9: this name is no UTF-8' compile t.txt -o "$bad"
+ends 2 'bad\xff\xc3\xa9/t.res: this name is no UTF-8' compile t.txt -d "$bad"
+ends 2 'bad\xff\xc3\xa9: this name is no UTF-8' dump "$bad"
+ends 2 'bad\xff\xc3\xa9: this path is no UTF-8' get t.res "$bad"
+ends 2 'resb: --limit is a number of bytes' dump t.res --limit "$bad"
+holds 'no other file was made' only \
+  "$(find . -mindepth 1 -maxdepth 1 -regextype posix-basic \( -name '..*' -o -name - -o -name 't.*' \
+  -o -name 'bad*.txt' -o -name into -o -name got \) -printf '%f ')"
+
+# one file by several names, and texts in the place of others
+fresh
+mkdir one
+ln -s one two
+cp t.txt a.txt
+cp t.txt a.foo
+cp t.txt a.res
+ends 2 './a.foo: another of these texts has its file' compile a.txt ./a.foo -d one
+ends 2 '../'"$number"'/a.foo: another of these texts has its file' \
+  compile a.txt "../$number/a.foo" -d two
+ends 2 $'a.txt: the file would take the place of another of these texts
+a.res: the file would take the place of its own text' compile a.txt a.res
+holds 'the other text is kept' cmp -s a.res t.txt
+
+# help and the version where standard output fails
+fresh
+closed='resb: standard output cannot be written'
+for words in help --help --version 'help dump' 'get --help'; do
+  # shellcheck disable=SC2086
+  resb $words > /dev/full 2> .err
+  holds "$words on a full disk" is "$? $(cat .err)" "2 $closed"
+  # shellcheck disable=SC2086
+  resb $words 2> .err >&-
+  holds "$words without an output" is "$? $(cat .err)" "2 $closed"
+  # shellcheck disable=SC2086
+  resb $words >&- 2>&-
+  holds "$words without any stream" [ $? = 2 ]
+done
+
+# numbers in paths are written one way
+fresh
+resb compile t.txt
+ends 1 't.res: nothing stands at c/+1' get t.res c/+1
+ends 1 't.res: nothing stands at c/01' get t.res c/01
+ends 1 't.res: nothing stands at c/-0' get t.res c/-0
+ends 1 't.res: nothing stands at c/' get t.res c/
+holds 'a number' is "$(resb get t.res c/0)" 1
+
+# what messages show of names, words, keys and texts
+fresh
+esc=$'\e[31m'
+ends 2 'a\u{1b}[31m\u{a}b\u{7f}\u{9b}\u{202e}\u{200f}\u{61c}\u{2066}.txt: no such file' \
+  compile "a$esc"$'\nb\x7f\xc2\x9b\xe2\x80\xae\xe2\x80\x8f\xd8\x9c\xe2\x81\xa6.txt'
+resb compile t.txt
+ends 1 't.res: nothing stands at a\u{1b}[31m' get t.res "a$esc"
+resb "$esc" 2> .err
+holds 'no escape of a command' is "$? $(grep -cF "$esc" .err)" '2 0'
+printf 'b{"\xe2\x80\xaea\xc2\x9b\x1b\t\x7f\xd8\x9c":int{x\xe2\x81\xa9\xc3\xa9}}' > e.txt
+ends 1 $'e.txt:1:17: expected a number\nb{"?a?   ?":int{x?\xc3\xa9}}\n                ^' compile e.txt
+printf 'b{a{"\xc3\xa9\xff\xe2\x80"}}' > e.txt
+ends 1 $'e.txt:1:7: this is no UTF-8\nb{a{"???"}}\n      ^' compile e.txt
+long=$(printf '%*s' 100000 '' | tr ' ' n)
+half=$(printf '%*s' 500 '' | tr ' ' n)
+ends 1 "t.res: nothing stands at $half..$half" get t.res "$long"
+python3 - << 'P'
+levels = 2000
+text = "b{" + '"k\u202e"{' * levels + 'a{"other"}' + "}" * levels + "}"
+open("k.txt", "w", encoding="utf8").write(text)
+P
+resb compile k.txt
+python3 - << 'P'
+data = open("k.res", "rb").read()
+old, new = "other".encode("utf-16-le"), 'oth"r'.encode("utf-16-le")
+open("k.res", "wb").write(data.replace(old, new))
+P
+resb dump k.res > .out 2> .err
+holds 'a long path to a key' grep -q "since a string holds a '\"' at k.u{202e}/k.*\.\..*/a; here" .err
+holds 'is cut' [ "$(wc -c < .err)" -lt 8000 ]
+
+# an input is read up to a limit
+fresh
+resb compile t.txt
+input=/dev/zero
+ends 1 '-: this has more than the limit of 1048576 bytes' dump - --limit 10
+ends 1 '-: this has more than the limit of 2000000 bytes' get - a --limit 2000000
+ends 1 '/dev/zero: this has more than the limit of 1048576 bytes' compile --limit 10 \
+  /dev/zero -o out.res
+input=
+{ cat t.txt; head -c $((1048576 - $(wc -c < t.txt))) /dev/zero | tr '\0' ' '; } > full.txt
+ends 1 'full.txt: reading this text takes more than the limit of 10 bytes' compile full.txt --limit 10
+printf ' ' >> full.txt
+ends 1 'full.txt: this has more than the limit of 1048576 bytes' compile full.txt --limit 10
+if truncate -s $((1073741824 + 1)) large.res 2> .err; then
+  ends 1 'large.res: this has more than the limit of 1073741824 bytes' check large.res
+else
+  passed=$((passed + 1))
+fi
+
+# each request for memory refused: a word on standard error, and the old file or the whole new one
+fresh
+. "$top/tests/refusing.sh"
+
+# kept: whether there is the old file or the whole new one, and nothing beside
+kept() {
+  { cmp -s out.res old || cmp -s out.res whole; } && [ -z "$(ls -A | grep part)" ]
+}
+
+# refused NUMBER WORD..: the session of these words, without that request; the status is in `got`
+refused() {
+  cp old out.res
+  : > mark
+  REFUSED_REQUEST=$1 LD_PRELOAD=$work/refuse.so resb "${@:2}" > .out 2> .err 9> mark
+  got=$?
+}
+
+# refuses WORD..: each request of these words refused in turn
+refuses() {
+  local status
+  refused 0 "$@"
+  status=$got
+  mv .out out
+  mv .err err
+  for ((n = 1; n <= 400; n++)); do
+    refused "$n" "$@"
+    holds "files at request $n of $*" kept
+    if [ "$got" = "$status" ] && cmp -s .out out && cmp -s .err err; then
+      passed=$((passed + 1))
+    else
+      holds "status at request $n of $*" [ -s mark -a "$got" -gt 0 -a "$got" -lt 3 ]
+      holds "word at request $n of $*" grep -q '[Oo]ut of memory' .err
+    fi
+    [ -s mark ] || break
+  done
+}
+
+printf 'b{a{"x\\y"} a{"z"} "k\xe2\x80\xae"{"q" "r"}}' > w.txt
+printf 'b{a:int{x}}' > refused.txt
+printf old > old
+resb compile w.txt -o whole 2> .err
+if make_refusing "$work/refuse.so"; then
+  refuses compile w.txt -o out.res
+  refuses compile refused.txt w.txt -d .
+  refuses compile --icu refused.txt
+  refuses check whole
+  refuses dump whole
+  refuses get whole a
+  refuses help
+  refuses unknown
+else
+  passed=$((passed + 8))
+fi
+
+echo "files: $passed passed, $failed failed"
+[ "$failed" = 0 ]

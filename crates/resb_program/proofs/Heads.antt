@@ -6,9 +6,10 @@ use Rattle.resb_format.specs.Error.{refusal_of}
 use Rattle.resb_format.specs.declared.error.ReadingError.{ReadingError}
 use Rattle.resb_head.specs.File.{IsBundleFile, body_of, field_count}
 use Rattle.resb_head.specs.HeadChecks.{header_refusal, header_checks, support_checks, body_checks}
-use Rattle.resb_head.specs.HeadChecks.{file_refusal, file_checks, first_refusal}
-use Rattle.resb_head.proofs.FileSteps.{bundle_file_passes, first_refusal-both, index_answers}
-use Rattle.resb_program.specs.Summary.{HasNoSummary}
+use Rattle.resb_head.specs.HeadChecks.{file_refusal, file_checks, first_refusal, block_checks}
+use Rattle.resb_head.proofs.FileSteps.{bundle_file_passes, first_refusal-both}
+use Rattle.resb_program.specs.Summary.{summary_refusal, summary_checks}
+use Rattle.resb_program.proofs.SummaryLemmas.{behind_header, later_refusal}
 use Rattle.resb_walk.specs.Pieces.{Piece}
 use Rattle.resb_walk.specs.Sums.{fitting}
 use Rattle.resb_walk.specs.TreeBytes.{tree_bytes}
@@ -28,25 +29,19 @@ passes bytes h =
     let q = first_refusal-both (support_checks (drop 4 bytes)) (body_checks (body_of bytes)) p.1 in
     (p.0, q.1)
 
--- so the head of a bundle file is not refused
-pub never_refused : (bytes : List ℕ) (e : ReadingError) → IsBundleFile bytes → HasNoSummary bytes e
-    → ⊥
-never_refused bytes e h (inl header) = let p = (passes bytes h).0 in absurd (cc)
-never_refused bytes e h (inr (inl (short, _))) =
-    let inside : 4 * (1 + min (field_count bytes) 8) ≤ length (body_of bytes) = h.index_inside in
-    absurd (omega arith)
-never_refused bytes e h (inr (inr index)) =
-    let inside : 4 * (1 + min (field_count bytes) 8) ≤ length (body_of bytes) = h.index_inside in
-    let long : 4 ≤ length (body_of bytes) = omega arith in
-    let p = (passes bytes h).1 in
-    let q = index_answers (body_of bytes) (refusal_of e) long index in
-    absurd (cc)
+-- so no check of its head fails
+accepted : (bytes : List ℕ) → IsBundleFile bytes → summary_refusal bytes ≡ None
+unfolding summary_refusal summary_checks header_refusal body_checks
+accepted bytes h =
+    let p = passes bytes h in
+    let q = first_refusal-both (behind_header bytes) (block_checks (body_of bytes)) p.1 in
+    later_refusal (header_checks false bytes) (behind_header bytes) p.0 ∙ q.0
 
 -- so there is one
 pub has_head : (bytes : List ℕ) (head : Option Summary) → IsOwnHead bytes head → IsBundleFile bytes
     → is_some head ≡ true
 has_head bytes (Some s) own h = refl
-has_head bytes None (e, refused) h = absurd (never_refused bytes e h refused)
+has_head bytes None (e, refused) h = let a = accepted bytes h in absurd (cc)
 
 -- what is handed on with another error is there
 pub handed : {T E D : Type 0} (P : E → D → Type 0) (r : Result T E) (s : Result T D) (x : T)

@@ -8,3 +8,4 @@ mod KeysLemmas
 mod Lists
 mod Numbers
 mod PiecesLemmas
+mod SummaryLemmas

@@ -1,9 +1,9 @@
 -- What a file's head says of the file, for people. (ICU's `uresdata.h`.)
-use Rattle.std.specs.Prelude.{◌≡◌, ◌⊎◌, ◌<◌, ℕ, ◌/◌, ◌%◌, Bool, not, nat_eq, List, drop, unwrap_or}
-use Rattle.std.specs.Prelude.{length, Some, false}
+use Rattle.std.specs.Prelude.{◌≡◌, ◌++◌, ◌∷◌, ℕ, ◌/◌, ◌%◌, Bool, not, nat_eq, nat_le, List, drop}
+use Rattle.std.specs.Prelude.{unwrap_or, length, Option, Some, None, false}
 use Rattle.resb_head.specs.Head.{HeaderAt, IndexAt}
-use Rattle.resb_head.specs.HeadChecks.{header_refusal, index_refusal}
-use Rattle.resb_format.specs.Error.{refusal_of, IsEndOfInput}
+use Rattle.resb_head.specs.HeadChecks.{first_refusal, header_checks, index_checks}
+use Rattle.resb_format.specs.Error.{Refusal, refusal_of, end_of_input}
 use Rattle.resb_format.specs.declared.error.ReadingError.{ReadingError}
 use Rattle.resb_head.specs.File.{body_of}
 use Rattle.resb_head.specs.declared.head.BinHeader.{BinHeader}
@@ -18,11 +18,24 @@ has_bit attributes value = nat_eq ((attributes / value) % 2) 1
 abbrev pub attributes_of : BinIndex → ℕ
 attributes_of index = unwrap_or index.bundle_attributes 0
 
--- the version is the header's; fallback is on where the attribute of value 1 isn't set, the file is
+-- the checks of a head that has a summary, in their order, each with its refusal: those of the
+-- header, that the body has its root's word, and those of the index
+unfoldable pub summary_checks : List ℕ → List (Bool × Refusal)
+summary_checks bytes =
+    header_checks false bytes
+    ++ (nat_le 4 (length (body_of bytes)), end_of_input)
+    ∷ index_checks (drop 4 (body_of bytes))
+
+-- the first check of a head that fails
+unfoldable pub summary_refusal : List ℕ → Option Refusal
+summary_refusal bytes = first_refusal (summary_checks bytes)
+
+-- no check fails; the version is the header's; fallback is on where the attribute of value 1 isn't set, the file is
 -- a pool where that of 2 is set, and uses one where that of 4 is; the largest table is the index's
 pub record Summarizes (bytes : List ℕ) (s : Summary) : Type 0 where
   pub header : BinHeader
   pub index : BinIndex
+  pub accepted : summary_refusal bytes ≡ None
   pub heads : HeaderAt header bytes
   pub indexed : IndexAt index (drop 4 (body_of bytes))
   pub version : s.version ≡ header.repr_info.format_version
@@ -31,10 +44,6 @@ pub record Summarizes (bytes : List ℕ) (s : Summary) : Type 0 where
   pub uses_pool : s.uses_pool ≡ has_bit (attributes_of index) 4
   pub largest : s.largest_table ≡ index.largest_table_entry_count
 
--- the first check of the header that fails, a body too short for its root, or the first check of
--- the index that fails
+-- the refusal of the first check that fails
 abbrev pub HasNoSummary : List ℕ → ReadingError → Type 0
-HasNoSummary bytes e =
-    (header_refusal false bytes ≡ Some (refusal_of e))
-    ⊎ (length (body_of bytes) < 4 × IsEndOfInput e)
-    ⊎ (index_refusal (drop 4 (body_of bytes)) ≡ Some (refusal_of e))
+HasNoSummary bytes e = summary_refusal bytes ≡ Some (refusal_of e)

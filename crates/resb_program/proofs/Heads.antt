@@ -1,5 +1,5 @@
 -- A file that is read has a head that says something; and a tree that takes more than a limit.
-use Rattle.std.proofs.Common.{ℕ, List, ◌≡◌, ◌≤◌, ◌+◌, ◌*◌, ◌++◌, min, length, drop, inl, inr, arith}
+use Rattle.std.proofs.Common.{ℕ, List, ◌≡◌, ◌∙◌, ◌≤◌, ◌++◌, length, drop, arith}
 use Rattle.std.proofs.Common.{Option, Some, None, Result, Ok, Err, Bool, true, false, refl, ◌↔◌, is_some}
 use Rattle.std.specs.Result.{IsErrAnd, MatchResult}
 use Rattle.resb_format.specs.Error.{refusal_of}

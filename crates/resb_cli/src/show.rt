@@ -5,13 +5,15 @@ use crate::say::{complain, fail, fail_input, say_no_text};
 use crate::shown::Shown;
 use crate::streams::{NO_MEMORY, read_input, write_stream};
 use resb_head::FormatVersion;
-use resb_icu_print::{IcuPrintError, icu_cause_path, print_icu_text};
-use resb_print::{PrintError, cause_path, print_text};
+use resb_icu_print::{IcuPrintError, icu_cause_path, print_icu_text, print_icu_text_within};
+use resb_print::{PrintError, cause_path, print_text, print_text_within};
 use resb_program::{
-    FileError, Found, JsonError, Summary, count_file, find, json_text, read_bundle, summary_of,
+    FileError, Found, JsonError, Summary, count_file, find, json_text, json_text_within,
+    read_bundle, summary_of,
 };
 use resb_tree::{Resource, ResourceBundle};
 use resb_words::{DumpWords, GetWords};
+use std::alloc::Global;
 use std::path::Path;
 
 /// Says of each file what it is, a line each.
@@ -136,46 +138,100 @@ fn dump_file(rt: &HostRuntime, wanted: &DumpWords<'_>) -> Result<u8, u8> {
     let file = input(rt, name, wanted.limit)?;
     let bundle = bundle_of(rt, name, file.as_slice(), wanted.limit)?;
     if wanted.is_json {
-        return Ok(show_json(rt, name, bundle.root()));
+        return Ok(show_json(rt, name, bundle.root(), wanted.limit));
     }
     if wanted.is_icu {
-        return Ok(show_icu(rt, name, &bundle));
+        return Ok(show_icu(rt, name, &bundle, wanted.limit));
     }
-    Ok(show_text(rt, name, &bundle))
+    Ok(show_text(rt, name, &bundle, wanted.limit))
+}
+
+/// A bundle's text, or none where it has more bytes than the limit, if there is one.
+fn text_of(
+    alloc: Global,
+    bundle: &ResourceBundle<'_>,
+    limit: Option<u64>,
+) -> Result<Option<String>, PrintError> {
+    match limit {
+        Some(limit) => print_text_within(alloc, bundle, limit),
+        None => print_text(alloc, bundle).map(Some),
+    }
+}
+
+/// The same of a bundle's text in ICU's form.
+fn icu_text_of(
+    alloc: Global,
+    bundle: &ResourceBundle<'_>,
+    limit: Option<u64>,
+) -> Result<Option<String>, IcuPrintError> {
+    match limit {
+        Some(limit) => print_icu_text_within(alloc, bundle, limit),
+        None => print_icu_text(alloc, bundle).map(Some),
+    }
+}
+
+/// The same of a resource's JSON, where making it takes no more bytes than the limit either.
+fn json_of(
+    alloc: Global,
+    resource: &Resource<'_>,
+    limit: Option<u64>,
+) -> Result<Option<String>, JsonError> {
+    match limit {
+        Some(limit) => json_text_within(alloc, resource, limit),
+        None => json_text(alloc, resource).map(Some),
+    }
 }
 
 /// Prints a bundle's text, or its JSON where it has none.
-fn show_text(rt: &HostRuntime, name: &str, bundle: &ResourceBundle<'_>) -> u8 {
-    match print_text(rt.alloc(), bundle) {
-        Ok(text) => show(rt, text.as_str()),
+fn show_text(
+    rt: &HostRuntime,
+    name: &str,
+    bundle: &ResourceBundle<'_>,
+    limit: Option<u64>,
+) -> u8 {
+    match text_of(rt.alloc(), bundle, limit) {
+        Ok(Some(text)) => show(rt, text.as_str()),
+        Ok(None) => refuse_long(rt, name, "text", limit),
         Err(PrintError::OutOfMemory) => refuse_memory(rt, name),
         Err(e) => {
             say_no_text(rt, name, "text", e, cause_path(rt.alloc(), bundle));
-            show_json(rt, name, bundle.root())
+            show_json(rt, name, bundle.root(), limit)
         }
     }
 }
 
 /// Prints a bundle's text in ICU's form, or its JSON where it has none.
-fn show_icu(rt: &HostRuntime, name: &str, bundle: &ResourceBundle<'_>) -> u8 {
-    match print_icu_text(rt.alloc(), bundle) {
-        Ok(text) => show(rt, text.as_str()),
+fn show_icu(
+    rt: &HostRuntime,
+    name: &str,
+    bundle: &ResourceBundle<'_>,
+    limit: Option<u64>,
+) -> u8 {
+    match icu_text_of(rt.alloc(), bundle, limit) {
+        Ok(Some(text)) => show(rt, text.as_str()),
+        Ok(None) => refuse_long(rt, name, "text in ICU's form", limit),
         Err(IcuPrintError::OutOfMemory) => refuse_memory(rt, name),
         Err(e) => {
             let path = icu_cause_path(rt.alloc(), bundle);
             say_no_text(rt, name, "text in ICU's form", e, path);
-            show_json(rt, name, bundle.root())
+            show_json(rt, name, bundle.root(), limit)
         }
     }
 }
 
 /// Prints a resource as JSON, with a line feed.
-fn show_json(rt: &HostRuntime, name: &str, resource: &Resource<'_>) -> u8 {
-    match json_text(rt.alloc(), resource) {
-        Ok(mut text) => match text.push_str("\n") {
+fn show_json(
+    rt: &HostRuntime,
+    name: &str,
+    resource: &Resource<'_>,
+    limit: Option<u64>,
+) -> u8 {
+    match json_of(rt.alloc(), resource, limit) {
+        Ok(Some(mut text)) => match text.push_str("\n") {
             Ok(()) => show(rt, text.as_str()),
             Err(_) => refuse_memory(rt, name),
         },
+        Ok(None) => refuse_long(rt, name, "JSON", limit),
         Err(JsonError::OutOfMemory) => refuse_memory(rt, name),
         Err(JsonError::TooDeep) => {
             complain(
@@ -207,12 +263,17 @@ fn get_found(rt: &HostRuntime, wanted: &GetWords<'_>) -> Result<u8, u8> {
             let _ = eprintln!(rt; "{name}: nothing stands at {path}");
             1
         }
-        Some(found) => show_found(rt, name, found),
+        Some(found) => show_found(rt, name, found, wanted.limit),
     })
 }
 
 /// Prints what was found.
-fn show_found(rt: &HostRuntime, name: &str, found: Found<'_, '_>) -> u8 {
+fn show_found(
+    rt: &HostRuntime,
+    name: &str,
+    found: Found<'_, '_>,
+    limit: Option<u64>,
+) -> u8 {
     let shown = match found {
         Found::Number(number) => {
             let number = number.cast_signed();
@@ -226,9 +287,16 @@ fn show_found(rt: &HostRuntime, name: &str, found: Found<'_, '_>) -> u8 {
             let text = text.as_str();
             println!(rt; "{text}")
         }
-        Found::Resource(resource) => return show_json(rt, name, resource),
+        Found::Resource(resource) => return show_json(rt, name, resource, limit),
     };
     status_of(rt, shown.is_ok())
+}
+
+/// Says that what was to be printed takes more bytes than the limit. Without one nothing does.
+fn refuse_long(rt: &HostRuntime, name: &str, what: &str, limit: Option<u64>) -> u8 {
+    let limit = limit.unwrap_or(u64::MAX);
+    let _ = eprintln!(rt; "{name}: its {what} takes more than the limit of {limit} bytes");
+    1
 }
 
 /// Says that memory was refused.

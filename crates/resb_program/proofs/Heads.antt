@@ -4,7 +4,7 @@ use Rattle.std.proofs.Common.{Option, Some, None, Result, Ok, Err, Bool, true, f
 use Rattle.std.specs.Result.{IsErrAnd, MatchResult}
 use Rattle.resb_format.specs.Error.{refusal_of}
 use Rattle.resb_format.specs.declared.error.ReadingError.{ReadingError}
-use Rattle.resb_head.specs.File.{IsBundleFile, body_of, field_count}
+use Rattle.resb_head.specs.File.{IsBundleFile, body_of}
 use Rattle.resb_head.specs.HeadChecks.{header_refusal, header_checks, support_checks, body_checks}
 use Rattle.resb_head.specs.HeadChecks.{file_refusal, file_checks, first_refusal, block_checks}
 use Rattle.resb_head.proofs.FileSteps.{bundle_file_passes, first_refusal-both}

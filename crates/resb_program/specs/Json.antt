@@ -2,10 +2,12 @@
 -- the one member `binary`, their hex digits.
 --     json_of t               the JSON of the tree t
 --     json_bytes t            how many bytes making it takes, as they are counted
+--     nests_within n t        arrays and tables nest no more than n deep in the tree
+--     NamesDepth t e          the tree has no JSON for this reason
 --     IsJsonWithin limit t s, IsLongJson limit t      the text s is the JSON, within a limit of
 --                             bytes; the JSON isn't within it
-use Rattle.std.specs.Prelude.{◌≡◌, ◌<◌, ◌≤◌, ◌⊎◌, ℕ, ◌+◌, ◌*◌, ◌==◌, ◌||◌, nat_lt, List, length}
-use Rattle.std.specs.Prelude.{map, codes, sum_by, if◌then◌else◌}
+use Rattle.std.specs.Prelude.{◌≡◌, ◌<◌, ◌≤◌, ◌⊎◌, ℕ, ◌+◌, ◌-◌, ◌*◌, ◌==◌, ◌||◌, ◌&&◌, nat_lt, List}
+use Rattle.std.specs.Prelude.{length, map, codes, sum_by, Bool, true, false, if◌then◌else◌}
 use Rattle.std.specs.Int.{cast_signed, w32}
 use Rattle.hex.specs.Hex.{encode_lower}
 use Rattle.serde_json.specs.Data.{Data, number, string, array, object, Items, no_items, item}
@@ -19,6 +21,8 @@ use Rattle.resb_tree.specs.Int28.{signed}
 use Rattle.resb_tree.specs.Weights.{resource_weight, table_weight, entry_weight}
 use Rattle.resb_tree.specs.View.{tree_of}
 use Rattle.resb_tree.specs.declared.resource.Resource.{Resource}
+use Rattle.resb_program.specs.declared.json.JsonError.{JsonError}
+use Rattle.resb_program.specs.declared.json.JsonError.TheVariants.{TooDeep, OutOfMemory}
 
 -- a number of a vector, as a signed one of 32 bits
 abbrev pub vector_number : ℕ → Data
@@ -49,6 +53,31 @@ abbrev mutual
 -- the JSON of a resource
 abbrev pub json_in : Resource → Data
 json_in r = json_of (tree_of r)
+
+abbrev mutual
+  -- arrays and tables nest no more than so many deep in a tree
+  pub nests_within : ℕ → Tree → Bool
+  nests_within n (tree.string s) = true
+  nests_within n (tree.array ts) = nat_lt 0 n && all_nest_within (n - 1) ts
+  nests_within n (tree.table es) = nat_lt 0 n && entries_nest_within (n - 1) es
+  nests_within n (tree.binary bytes) = true
+  nests_within n (tree.integer m) = true
+  nests_within n (tree.int_vector ns) = true
+
+  -- nor in any of some trees
+  pub all_nest_within : ℕ → Trees → Bool
+  all_nest_within n no_trees = true
+  all_nest_within n (more_trees t ts) = nests_within n t && all_nest_within n ts
+
+  -- nor in the tree of any entry
+  pub entries_nest_within : ℕ → Entries → Bool
+  entries_nest_within n no_entries = true
+  entries_nest_within n (entry k t es) = nests_within n t && entries_nest_within n es
+
+-- it is too deep, as it nests more than 120 deep; or memory was wanted
+abbrev pub NamesDepth : Tree → JsonError → Type 0
+NamesDepth t TooDeep = nests_within 120 t ≡ false
+NamesDepth t OutOfMemory = Unit {0}
 
 -- what JSON has at most for a byte of a string or key: six bytes for a control character, two for a
 -- quote or a backslash, and else one

@@ -1,17 +1,19 @@
 //! A resource as JSON: objects by key, arrays, strings, signed numbers, and bytes as hex digits.
 //! What a text of the text form looks like is in `resb_print`.
-ghost use Rattle.std.specs.Prelude.{◌≡◌, map, IfOk, MatchOption, string_bytes};
+ghost use Rattle.std.specs.Prelude.{◌≡◌, map, true, IfOk, IfErr, OnOk, MatchOption, string_bytes};
 ghost use Rattle.serde_json.specs.Written.{compact_text};
 ghost use Rattle.serde_json.specs.View.{view, items_of};
 ghost use Rattle.resb_tree.specs.Tree as tree;
 ghost use Rattle.resb_tree.specs.View.{tree_of, items_view, entries_view};
 ghost use Rattle.resb_program.specs.Json.{json_of, json_in, vector_number};
-ghost use Rattle.resb_program.specs.Json.{IsJsonWithin, IsLongJson};
+ghost use Rattle.resb_program.specs.Json.{IsJsonWithin, IsLongJson, nests_within, NamesDepth};
+ghost use Rattle.resb_program.specs.declared.json.JsonError.TheVariants.{OutOfMemory};
 
-use crate::json_bytes::{Stop, without_json};
+use crate::json_bytes::without_json;
+use crate::nesting::nests_within;
 use resb_tree::{Resource, Table};
 use serde_json::{Map, Value};
-use std::alloc::{AllocError, AllocFailed, Global};
+use std::alloc::{AllocError, Global};
 
 /// How deep arrays and tables may nest: no deeper can readers of JSON be trusted to go.
 const MAX_DEPTH: usize = 120;
@@ -26,23 +28,25 @@ pub enum JsonError {
 }
 
 impl From<AllocError> for JsonError {
+    ghost from_gives = { λ x y. y ≡ OutOfMemory };
+
     fn from(_: AllocError) -> JsonError {
         JsonError::OutOfMemory
     }
 }
 
-impl<T: Drop> From<AllocFailed<T>> for JsonError {
-    fn from(_: AllocFailed<T>) -> JsonError {
-        JsonError::OutOfMemory
-    }
-}
-
-/// The JSON of a resource, without blanks.
+/// The JSON of a resource, without blanks. It is too deep exactly where arrays and tables nest more
+/// than 120 deep.
 #[tactic(auto, using(crate::proofs::JsonLemmas::plain))]
 pub fn json_text(alloc: Global, resource: &Resource<'_>) -> Result<String, JsonError>
-    ensures { IfOk result (λ s. string_bytes s ≡ compact_text (json_of (tree_of resource.now))) }
+    ensures ok { IfOk result (λ s. (string_bytes s ≡ compact_text (json_of (tree_of resource.now)))
+        × (nests_within 120 (tree_of resource.now) ≡ true)) }
+    ensures err { IfErr result (NamesDepth (tree_of resource.now)) }
 {
-    let value = value_of(alloc, resource, MAX_DEPTH)?;
+    if !nests_within(resource, MAX_DEPTH) {
+        return Err(JsonError::TooDeep);
+    }
+    let value = value_of(alloc, resource)?;
     Ok(value.to_string(alloc)?)
 }
 
@@ -55,13 +59,16 @@ pub fn json_text_within(
     resource: &Resource<'_>,
     limit: u64,
 ) -> Result<Option<String>, JsonError>
-    ensures { IfOk result (λ found. MatchOption found (IsLongJson limit (tree_of resource.now))
+    ensures ok { IfOk result (λ found. MatchOption found (IsLongJson limit (tree_of resource.now))
         (λ s. IsJsonWithin limit (tree_of resource.now) (string_bytes s))) }
+    ensures nests { OnOk result (nests_within 120 (tree_of resource.now) ≡ true) }
+    ensures err { IfErr result (NamesDepth (tree_of resource.now)) }
 {
-    match without_json(u128::from(limit), resource, MAX_DEPTH) {
-        Ok(_) => {}
-        Err(Stop::Larger) => return Ok(None),
-        Err(Stop::TooDeep) => return Err(JsonError::TooDeep),
+    if !nests_within(resource, MAX_DEPTH) {
+        return Err(JsonError::TooDeep);
+    }
+    if without_json(u128::from(limit), resource).is_none() {
+        return Ok(None);
     }
     let text = json_text(alloc, resource)?;
     if text.len() as u64 > limit {
@@ -70,9 +77,9 @@ pub fn json_text_within(
     Ok(Some(text))
 }
 
-/// The value of a resource whose arrays and tables nest no deeper than this.
+/// The value of a resource. It calls itself once a level.
 #[cycle(json)]
-fn value_of(alloc: Global, resource: &Resource<'_>, depth: usize) -> Result<Value, JsonError>
+fn value_of(alloc: Global, resource: &Resource<'_>) -> Result<Value, AllocError>
     ensures { IfOk result (λ v. view v ≡ json_of (tree_of resource.now)) }
 {
     match resource {
@@ -80,13 +87,13 @@ fn value_of(alloc: Global, resource: &Resource<'_>, depth: usize) -> Result<Valu
         Resource::Integer(number) => Ok(Value::from(i32::from(*number))),
         Resource::IntVector(numbers) => numbers_of(alloc, numbers.as_slice()),
         Resource::Binary(bytes) => binary_of(alloc, bytes.as_slice()),
-        Resource::Array(members) => array_of(alloc, members.as_slice(), depth),
-        Resource::Table(entries) => object_of(alloc, entries, depth),
+        Resource::Array(members) => array_of(alloc, members.as_slice()),
+        Resource::Table(entries) => object_of(alloc, entries),
     }
 }
 
 /// Signed numbers.
-fn numbers_of(alloc: Global, numbers: &[u32]) -> Result<Value, JsonError>
+fn numbers_of(alloc: Global, numbers: &[u32]) -> Result<Value, AllocError>
     ensures { IfOk result (λ v. view v ≡ json_of (tree.int_vector numbers.now)) }
 {
     let mut values = Vec::new(alloc);
@@ -97,7 +104,7 @@ fn numbers_of(alloc: Global, numbers: &[u32]) -> Result<Value, JsonError>
 }
 
 /// Bytes, as an object of one member with their hex digits.
-fn binary_of(alloc: Global, bytes: &[u8]) -> Result<Value, JsonError>
+fn binary_of(alloc: Global, bytes: &[u8]) -> Result<Value, AllocError>
     ensures { IfOk result (λ v. view v ≡ json_of (tree.binary bytes.now)) }
 {
     let digits = hex::encode(alloc, bytes)?;
@@ -106,17 +113,14 @@ fn binary_of(alloc: Global, bytes: &[u8]) -> Result<Value, JsonError>
     Ok(Value::Object(members))
 }
 
-/// The values of an array's members, one level further in.
+/// The values of an array's members.
 #[cycle(json)]
-fn values_of(alloc: Global, members: &[Resource<'_>], depth: usize) -> Result<Vec<Value>, JsonError>
+fn values_of(alloc: Global, members: &[Resource<'_>]) -> Result<Vec<Value>, AllocError>
     ensures { IfOk result (λ vs. map view vs.items ≡ map json_in members.now) }
 {
-    if depth == 0 {
-        return Err(JsonError::TooDeep);
-    }
     let mut values = Vec::new(alloc);
     for member in members {
-        values.push(value_of(alloc, member, depth - 1)?)?;
+        values.push(value_of(alloc, member)?)?;
     }
     Ok(values)
 }
@@ -124,24 +128,21 @@ fn values_of(alloc: Global, members: &[Resource<'_>], depth: usize) -> Result<Ve
 /// The members of an array.
 #[cycle(json)]
 #[tactic(auto, using(crate::proofs::JsonLemmas::members_are))]
-fn array_of(alloc: Global, members: &[Resource<'_>], depth: usize) -> Result<Value, JsonError>
+fn array_of(alloc: Global, members: &[Resource<'_>]) -> Result<Value, AllocError>
     ensures { IfOk result (λ v. view v ≡ json_of (tree.array (items_view members.now))) }
 {
-    let values = values_of(alloc, members, depth)?;
+    let values = values_of(alloc, members)?;
     Ok(Value::Array(values))
 }
 
-/// The entries of a table, one level further in.
+/// The entries of a table.
 #[cycle(json)]
-fn object_of(alloc: Global, entries: &Table<'_>, depth: usize) -> Result<Value, JsonError>
+fn object_of(alloc: Global, entries: &Table<'_>) -> Result<Value, AllocError>
     ensures { IfOk result (λ v. view v ≡ json_of (tree.table (entries_view entries.now.entries))) }
 {
-    if depth == 0 {
-        return Err(JsonError::TooDeep);
-    }
     let mut members = Map::new(alloc);
     for (key, resource) in entries.iter() {
-        let value = value_of(alloc, resource, depth - 1)?;
+        let value = value_of(alloc, resource)?;
         serde_json::put(&mut members, alloc, key.as_str(), value)?;
     }
     Ok(Value::Object(members))

@@ -14,6 +14,7 @@ mod json;
 mod json_bytes;
 mod location;
 mod memory;
+mod nesting;
 mod path;
 mod sources;
 mod streams;

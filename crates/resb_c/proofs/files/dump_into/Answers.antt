@@ -3,8 +3,8 @@ use Rattle.std.proofs.Common.{ℕ, List, refl, subst, sym}
 use Rattle.resb_c.specs.Dumping.{IsBundleToDump, IsDump, HasNoDump, HasLongDump}
 use Rattle.resb_c.proofs.files.dump_into.Goals as goal
 
-pub returns-in-Ok-fill : goal.returns-in-Ok-fill
-returns-in-Ok-fill c =
+pub returns-in-Ok : goal.returns-in-Ok
+returns-in-Ok c =
     let file : List ℕ = c.args.file.now in
     let name : List ℕ = c.args.name.now in
     let at = rw c.in-Ok-Some.field-0-is at c.in-Ok-Some.ensures in
@@ -18,7 +18,7 @@ returns-in-Ok-fill c =
       texts = at.text.1;
       fits = at.within;
     } in
-    (c.as_bytes.result.now, dump, c.in-Ok-fill.ensures)
+    (c.as_bytes.result.now, dump, c.in-Ok.ensures)
 
 pub returns-in-Ok-Some : goal.returns-in-Ok-Some
 returns-in-Ok-Some c =

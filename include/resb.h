@@ -48,7 +48,8 @@ extern "C" {
 #define RESB_NO_MEMORY 8u
 /* The file uses the keys of a pool bundle, and has none of its own. */
 #define RESB_USES_POOL 9u
-/* The file's tree, or what reading the text makes, would take more bytes than the limit. */
+/* The file's tree, the keys of its entries, its text, or what reading the text makes, would take
+ * more bytes than the limit. */
 #define RESB_OVER_LIMIT 10u
 
 /* Why a call failed. Each call writes all of it: after RESB_OK it holds zeros alone. */
@@ -118,14 +119,15 @@ uint32_t resb_measure(const uint8_t *file, size_t file_length, resb_measured *me
                       resb_error *error);
 
 /* Prints a file's tree as the text of a bundle of that name, which is UTF-8 of name_length bytes.
- * A tree that takes more bytes than the limit, as tree_bytes counts them, is refused before it is
- * made, by RESB_OVER_LIMIT. UINT64_MAX is no limit.
+ * A tree that takes more bytes than the limit, as tree_bytes counts them, or whose entries have
+ * more bytes of keys (key_bytes), is refused before it is made, by RESB_OVER_LIMIT, and so is a
+ * text of more bytes. UINT64_MAX is no limit.
  *
  * RESB_OK: the text is the first *length bytes of out, with no zero behind it, and the bytes behind
  * it are as they were. RESB_TOO_SHORT: out is as it was, and *length is the length of the text.
  * Else out is as it was, and *length is 0: RESB_NOT_UTF8 for the name, which is looked at first,
- * the reasons of resb_check, RESB_OVER_LIMIT, RESB_NOT_PRINTABLE. The limit is for the tree; the
- * text and what the call uses beside it are not within it. */
+ * the reasons of resb_check, RESB_OVER_LIMIT, RESB_NOT_PRINTABLE. Tree and text are each within the
+ * limit, as far as they are made; what the call uses beside them is not. */
 uint32_t resb_dump(const uint8_t *file, size_t file_length, const uint8_t *name,
                    size_t name_length, uint64_t limit, uint8_t *out, size_t out_length,
                    size_t *length, resb_error *error);

@@ -1,41 +1,50 @@
 -- What printing a file's tree to a buffer answers.
 --     IsBundleToDump file name limit b  the bundle is the file's tree, under that name
 --     DumpsInto file name limit old new r    what printing it to a buffer answers, and leaves there
-use Rattle.std.specs.Prelude.{◌≡◌, ◌⊎◌, ℕ, List, Some, Result, Ok, Err}
+use Rattle.std.specs.Prelude.{◌≡◌, ◌≤◌, ◌⊎◌, ℕ, List, length, Option, Some, Result, Ok, Err}
 use Rattle.resb_tree.specs.Bundle.{name_of, root_of}
 use Rattle.resb_tree.specs.declared.bundle.ResourceBundle.{ResourceBundle}
 use Rattle.resb_grammar.specs.BundleText.{BundleText}
 use Rattle.resb_print.specs.Laws.{HasNoText}
+use Rattle.resb_print.specs.Printed.{IsLongBundle}
 use Rattle.resb_print.specs.declared.error.PrintError.{PrintError}
 use Rattle.resb_print.specs.declared.error.PrintError.TheVariants.{OutOfMemory}
 use Rattle.resb_read.specs.Measuring.{TakesMore}
 use Rattle.resb_read.specs.Roots.{AnswersTree}
-use Rattle.resb_program.specs.Files.{HasNoKeys, IsOwnBundle}
+use Rattle.resb_program.specs.Files.{HasNoKeys, HasLongKeys, IsOwnBundle}
 use Rattle.resb_c.specs.Calls.{Fills, IsNotUtf8}
 use Rattle.resb_c.specs.declared.fault.Fault.{Fault}
 use Rattle.resb_c.specs.declared.fault.Fault.TheVariants.{TooShort, NotUtf8, Reading, UsesPool}
-use Rattle.resb_c.specs.declared.fault.Fault.TheVariants.{Larger, Printing}
+use Rattle.resb_c.specs.declared.fault.Fault.TheVariants.{Larger, LongKeys, LongText, Printing}
 
--- the bundle has this name, the file's tree, which takes no more bytes than the limit, and the
--- fallback flag of the file's head
+-- the bundle has this name, the file's tree, which takes no more bytes than the limit, nor do the
+-- keys of its entries, and the fallback flag of the file's head
 abbrev pub IsBundleToDump : List ℕ → List ℕ → ℕ → ResourceBundle → Type 0
 IsBundleToDump file name limit b = IsOwnBundle file name (Some limit) b
 
--- the file has no keys of its own, the reader refuses it, or its tree takes more bytes than the
--- limit
+-- the file has no keys of its own, the reader refuses it, or its tree or the keys of its entries
+-- take more bytes than the limit
 abbrev pub HasNoBundle : List ℕ → ℕ → Fault → Type 0
 HasNoBundle file limit UsesPool = HasNoKeys file
 HasNoBundle file limit (Reading e) = AnswersTree file (Err e)
 HasNoBundle file limit Larger = TakesMore file limit
+HasNoBundle file limit LongKeys = (taken : Option ℕ) × HasLongKeys file limit taken
 HasNoBundle file limit _ = ⊥
 
--- the text is one of the file's bundle under this name
+-- the text is one of the file's bundle under this name, and has no more bytes than the limit
 pub record IsDump (file name : List ℕ) (limit : ℕ) (text : List ℕ) : Type 0 where
   pub bundle : ResourceBundle
   pub keys : List (List ℕ)
   pub of_file : IsBundleToDump file name limit bundle
   pub texts : BundleText text (name_of bundle) bundle.is_locale_fallback_enabled (root_of bundle)
       keys
+  pub fits : length text ≤ limit
+
+-- the file's bundle under this name is printed as more bytes than the limit
+pub record HasLongDump (file name : List ℕ) (limit : ℕ) : Type 0 where
+  pub bundle : ResourceBundle
+  pub of_file : IsBundleToDump file name limit bundle
+  pub long : IsLongBundle limit (name_of bundle) bundle.is_locale_fallback_enabled (root_of bundle)
 
 -- memory was wanted, or no text is that of the file's bundle under this name
 pub record HasNoDump (file name : List ℕ) (limit : ℕ) (e : PrintError) : Type 0 where
@@ -44,7 +53,8 @@ pub record HasNoDump (file name : List ℕ) (limit : ℕ) (e : PrintError) : Typ
   pub none : (e ≡ OutOfMemory)
       ⊎ HasNoText (name_of bundle) bundle.is_locale_fallback_enabled (root_of bundle)
 
--- a text of the file's bundle is in the buffer, or would be if it had room, or there is none
+-- a text of the file's bundle is in the buffer, or would be if it had room, or there is none within
+-- the limit
 abbrev pub DumpsInto : List ℕ → List ℕ → ℕ → List ℕ → List ℕ → Result ℕ Fault → Type 0
 DumpsInto file name limit old new (Ok n) =
     (text : List ℕ) × IsDump file name limit text × Fills text old new (Ok n)
@@ -53,4 +63,5 @@ DumpsInto file name limit old new (Err (TooShort n)) =
 DumpsInto file name limit old new (Err (NotUtf8 n)) = IsNotUtf8 name n × (new ≡ old)
 DumpsInto file name limit old new (Err (Printing e)) =
     HasNoDump file name limit e × (new ≡ old)
+DumpsInto file name limit old new (Err LongText) = HasLongDump file name limit × (new ≡ old)
 DumpsInto file name limit old new (Err fault) = HasNoBundle file limit fault × (new ≡ old)

@@ -18,7 +18,8 @@ use Rattle.resb_compile.specs.declared.compiling.CompileError.TheVariants as com
 use Rattle.resb_compile.specs.Compiling as compile
 use Rattle.resb_c.specs.declared.fault.Fault.{Fault}
 use Rattle.resb_c.specs.declared.fault.Fault.TheVariants.{TooShort, NotUtf8, Compiling, Reading}
-use Rattle.resb_c.specs.declared.fault.Fault.TheVariants.{UsesPool, Larger, LargerText, Printing}
+use Rattle.resb_c.specs.declared.fault.Fault.TheVariants.{UsesPool, Larger, LongKeys, LongText}
+use Rattle.resb_c.specs.declared.fault.Fault.TheVariants.{LargerText, Printing}
 
 -- a text that isn't read is 3, want of memory 8
 abbrev pub text_number : Expected → ℕ
@@ -47,7 +48,7 @@ compile_number (compiling.Reading e) = text_number e.expected
 compile_number (compiling.Writing e) = tree_number (fault_of e)
 
 -- a buffer that is too short is 1, bytes that aren't UTF-8 are 2, a file without keys of its own is
--- 9, a tree or a text over the limit 10, and else the fault's own number
+-- 9, a tree, its keys or a text over the limit 10, and else the fault's own number
 abbrev pub number_of : Fault → ℕ
 number_of (TooShort n) = 1
 number_of (NotUtf8 n) = 2
@@ -55,6 +56,8 @@ number_of (Compiling e) = compile_number e
 number_of (Reading e) = file_number (kind_of e)
 number_of UsesPool = 9
 number_of Larger = 10
+number_of LongKeys = 10
+number_of LongText = 10
 number_of LargerText = 10
 number_of (Printing e) = print_number e
 
@@ -71,6 +74,8 @@ place_of (Compiling e) = compile_place e
 place_of (Reading e) = 0
 place_of UsesPool = 0
 place_of Larger = 0
+place_of LongKeys = 0
+place_of LongText = 0
 place_of LargerText = 0
 place_of (Printing e) = 0
 
@@ -85,5 +90,7 @@ message_of (Reading e) =
 message_of UsesPool =
     Some (codes "the file uses the keys of a pool bundle, and has none of its own")
 message_of Larger = Some (codes "the tree takes more bytes than the limit")
+message_of LongKeys = Some (codes "the keys of the entries take more bytes than the limit")
+message_of LongText = Some (codes "the text takes more bytes than the limit")
 message_of LargerText = Some (codes "reading the text takes more bytes than the limit")
 message_of (Printing e) = None

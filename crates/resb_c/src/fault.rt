@@ -23,6 +23,10 @@ pub enum Fault {
     Reading(BinaryDeserializerError),
     /// The tree takes more bytes than the limit.
     Larger,
+    /// The keys of the tree's entries take more bytes than the limit.
+    LongKeys,
+    /// The tree's text has more bytes than the limit.
+    LongText,
     /// Reading the text makes more bytes than the limit.
     LargerText,
     /// The file uses the keys of a pool bundle, and has none of its own.
@@ -52,7 +56,7 @@ impl Fault {
                 _ => 5,
             },
             Fault::UsesPool => 9,
-            Fault::Larger | Fault::LargerText => 10,
+            Fault::Larger | Fault::LongKeys | Fault::LongText | Fault::LargerText => 10,
             Fault::Printing(PrintError::NotPrintable(_)) => 7,
             Fault::Printing(PrintError::OutOfMemory) => 8,
         }
@@ -88,6 +92,8 @@ impl fmt::Display for Fault {
                 )
             }
             Fault::Larger => write!(f, "the tree takes more bytes than the limit"),
+            Fault::LongKeys => write!(f, "the keys of the entries take more bytes than the limit"),
+            Fault::LongText => write!(f, "the text takes more bytes than the limit"),
             Fault::LargerText => write!(f, "reading the text takes more bytes than the limit"),
             Fault::Printing(e) => write!(f, "{e}"),
         }

@@ -7,7 +7,7 @@ ghost use Rattle.resb_c.specs.Measures.{MeasuresFile};
 
 use crate::fault::Fault;
 use resb_compile::{CompileWithinError, compile, compile_within};
-use resb_print::print_text;
+use resb_print::print_text_within;
 use resb_program::{FileError, read_bundle};
 use resb_read::Measured;
 use resb_tree::ResourceBundle;
@@ -80,6 +80,7 @@ pub(crate) fn count_file(alloc: Global, file: &[u8]) -> Result<usize, Fault>
         Ok((count, _)) => Ok(count),
         Err(FileError::UsesPool) => Err(Fault::UsesPool),
         Err(FileError::Larger { .. }) => Err(Fault::Larger),
+        Err(FileError::LongKeys { .. }) => Err(Fault::LongKeys),
         Err(FileError::Reading(e)) => Err(Fault::Reading(e)),
     }
 }
@@ -92,11 +93,12 @@ pub(crate) fn measure_file(alloc: Global, file: &[u8]) -> Result<Measured, Fault
         Ok(measured) => Ok(measured),
         Err(FileError::UsesPool) => Err(Fault::UsesPool),
         Err(FileError::Larger { .. }) => Err(Fault::Larger),
+        Err(FileError::LongKeys { .. }) => Err(Fault::LongKeys),
         Err(FileError::Reading(e)) => Err(Fault::Reading(e)),
     }
 }
 
-/// A file's bundle, whose tree takes no more bytes than the limit.
+/// A file's bundle, whose tree takes no more bytes than the limit, nor do the keys of its entries.
 fn bundle_of<'a>(
     alloc: Global,
     name: &'a str,
@@ -110,11 +112,13 @@ fn bundle_of<'a>(
         Ok(bundle) => Ok(bundle),
         Err(FileError::UsesPool) => Err(Fault::UsesPool),
         Err(FileError::Larger { .. }) => Err(Fault::Larger),
+        Err(FileError::LongKeys { .. }) => Err(Fault::LongKeys),
         Err(FileError::Reading(e)) => Err(Fault::Reading(e)),
     }
 }
 
-/// Prints a file's tree to the front of the buffer, as the text of a bundle of that name.
+/// Prints a file's tree to the front of the buffer, as the text of a bundle of that name, which has
+/// no more bytes than the limit.
 pub(crate) fn dump_into(
     alloc: Global,
     file: &[u8],
@@ -126,11 +130,12 @@ pub(crate) fn dump_into(
 {
     let name = text_of(name)?;
     let bundle = bundle_of(alloc, name, file, limit)?;
-    match print_text(alloc, &bundle) {
-        Ok(text) => match fill(text.as_bytes(), out) {
+    match print_text_within(alloc, &bundle, limit) {
+        Ok(Some(text)) => match fill(text.as_bytes(), out) {
             Ok(count) => Ok(count),
             Err(needed) => Err(Fault::TooShort(needed)),
         },
+        Ok(None) => Err(Fault::LongText),
         Err(e) => Err(Fault::Printing(e)),
     }
 }

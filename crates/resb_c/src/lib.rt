@@ -105,7 +105,7 @@ pub extern "C" fn resb_measure(
 
 /// Prints a file's tree to the front of `out`, as the text of a bundle of that name. `length` gets
 /// the text's length, for `RESB_TOO_SHORT` too, else 0. A tree that takes more bytes than the limit
-/// is refused before it is made.
+/// is refused before it is made, as are keys that do, and so is a text that has more bytes.
 #[unsafe(no_mangle)]
 pub extern "C" fn resb_dump(
     alloc: Global,

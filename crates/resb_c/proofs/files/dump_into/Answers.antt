@@ -1,37 +1,54 @@
 -- The text that was printed is that of the file's bundle.
 use Rattle.std.proofs.Common.{ℕ, List, refl, subst, sym}
-use Rattle.resb_c.specs.Dumping.{IsBundleToDump, IsDump, HasNoDump}
+use Rattle.resb_c.specs.Dumping.{IsBundleToDump, IsDump, HasNoDump, HasLongDump}
 use Rattle.resb_c.proofs.files.dump_into.Goals as goal
-
-pub returns-in-Ok-fill : goal.returns-in-Ok-fill
-returns-in-Ok-fill c =
-    let file : List ℕ = c.args.file.now in
-    let name : List ℕ = c.args.name.now in
-    let dump : IsDump file name c.args.limit c.as_bytes.result.now =
-    subst (IsDump file name c.args.limit) (sym c.as_bytes.ensures.value)
-    record {
-      bundle = c.in_ok-bundle.bundle;
-      keys = c.in-Ok.ensures.text.0;
-      of_file = subst (λ (n : List ℕ). IsBundleToDump file n c.args.limit c.in_ok-bundle.bundle)
-          c.in_ok-name.ensures.ok.0 c.in_ok-bundle.ensures.ok;
-      texts = c.in-Ok.ensures.text.1;
-    } in
-    (c.as_bytes.result.now, dump, c.in-Ok-fill.ensures)
 
 pub returns-in-Ok : goal.returns-in-Ok
 returns-in-Ok c =
     let file : List ℕ = c.args.file.now in
     let name : List ℕ = c.args.name.now in
+    let at = rw c.in-Ok-Some.field-0-is at c.in-Ok-Some.ensures in
     let dump : IsDump file name c.args.limit c.as_bytes.result.now =
     subst (IsDump file name c.args.limit) (sym c.as_bytes.ensures.value)
     record {
       bundle = c.in_ok-bundle.bundle;
-      keys = c.in-Ok.ensures.text.0;
+      keys = at.text.0;
       of_file = subst (λ (n : List ℕ). IsBundleToDump file n c.args.limit c.in_ok-bundle.bundle)
           c.in_ok-name.ensures.ok.0 c.in_ok-bundle.ensures.ok;
-      texts = c.in-Ok.ensures.text.1;
+      texts = at.text.1;
+      fits = at.within;
+    } in
+    (c.as_bytes.result.now, dump, c.in-Ok.ensures)
+
+pub returns-in-Ok-Some : goal.returns-in-Ok-Some
+returns-in-Ok-Some c =
+    let file : List ℕ = c.args.file.now in
+    let name : List ℕ = c.args.name.now in
+    let at = rw c.in-Ok-Some.field-0-is at c.in-Ok-Some.ensures in
+    let dump : IsDump file name c.args.limit c.as_bytes.result.now =
+    subst (IsDump file name c.args.limit) (sym c.as_bytes.ensures.value)
+    record {
+      bundle = c.in_ok-bundle.bundle;
+      keys = at.text.0;
+      of_file = subst (λ (n : List ℕ). IsBundleToDump file n c.args.limit c.in_ok-bundle.bundle)
+          c.in_ok-name.ensures.ok.0 c.in_ok-bundle.ensures.ok;
+      texts = at.text.1;
+      fits = at.within;
     } in
     (c.as_bytes.result.now, dump, c.in-Err-fill.ensures)
+
+pub returns-in-Ok-None : goal.returns-in-Ok-None
+returns-in-Ok-None c =
+    let file : List ℕ = c.args.file.now in
+    let at = rw c.in-Ok-None.field-0-is at c.in-Ok-None.ensures in
+    let long : HasLongDump file c.args.name.now c.args.limit =
+    record {
+      bundle = c.in_ok-bundle.bundle;
+      of_file = subst (λ (n : List ℕ). IsBundleToDump file n c.args.limit c.in_ok-bundle.bundle)
+          c.in_ok-name.ensures.ok.0 c.in_ok-bundle.ensures.ok;
+      long = at.exact;
+    } in
+    (long, refl)
 
 pub returns : goal.returns
 returns c =

@@ -4,12 +4,12 @@
 --     CountsFile file r              what checking a file answers
 --     Reports r status n e           the status, number and error that the caller gets of an answer
 use Rattle.std.specs.Prelude.{◌≡◌, ◌≤◌, ◌<◌, ◌⊎◌, ℕ, List, ◌++◌, length, drop, take}
-use Rattle.std.specs.Prelude.{Result, Ok, Err, Option, Some, None, IsUtf8, replicate}
+use Rattle.std.specs.Prelude.{Result, Ok, Err, IsUtf8, replicate}
 use Rattle.std.specs.Str.Lossy.{utf8_valid_len}
 use Rattle.resb_grammar.specs.Limit.{MadeWithin, MakesMore}
 use Rattle.resb_compile.specs.Compiling.{IsCompiled, IsRefused}
 use Rattle.resb_read.specs.Roots.{AnswersCount}
-use Rattle.resb_program.specs.Files.{HasNoKeys}
+use Rattle.resb_program.specs.Files.{HasNoKeys, HasKeys}
 use Rattle.resb_c.specs.Faults.{number_of, place_of, message_of}
 use Rattle.resb_c.specs.declared.fault.Fault.{Fault}
 use Rattle.resb_c.specs.declared.fault.Fault.TheVariants.{TooShort, NotUtf8, Compiling, Reading}
@@ -48,7 +48,7 @@ CompilesWithin text limit old new (Err fault) = CompilesInto text old new (Err f
 
 -- the number of resources of the file's tree, the reader's refusal, or that the file has no keys
 abbrev pub CountsFile : List ℕ → Result ℕ Fault → Type 0
-CountsFile file (Ok n) = AnswersCount file (Ok n)
+CountsFile file (Ok n) = AnswersCount file (Ok n) × HasKeys file
 CountsFile file (Err UsesPool) = HasNoKeys file
 CountsFile file (Err (Reading e)) = AnswersCount file (Err e)
 CountsFile file (Err _) = ⊥
@@ -62,12 +62,10 @@ needed_of _ = 0
 abbrev pub IsNoMessage : List ℕ → Type 0
 IsNoMessage message = message ≡ replicate 256 0
 
--- what the fault prints, cut at 255 bytes, stands at the front of 256 zeros, or there is no
--- message; of what is printed for a tree that has no text nothing is said
-abbrev pub IsMessage : Option (List ℕ) → List ℕ → Type 0
-IsMessage (Some text) message =
+-- what the fault prints, cut at 255 bytes, stands at the front of 256 zeros, or there is no message
+abbrev pub IsMessage : List ℕ → List ℕ → Type 0
+IsMessage text message =
     ((n : ℕ) × Fills (take 255 text) (replicate 256 0) message (Ok n)) ⊎ IsNoMessage message
-IsMessage None message = Unit {0}
 
 -- the status is 0 where there is an answer, and else the fault's number, which the error has too,
 -- with its place and its message

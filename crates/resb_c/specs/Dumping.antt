@@ -2,11 +2,14 @@
 --     IsBundleToDump file name limit b  the bundle is the file's tree, under that name
 --     DumpsInto file name limit old new r    what printing it to a buffer answers, and leaves there
 use Rattle.std.specs.Prelude.{◌≡◌, ◌≤◌, ◌⊎◌, ℕ, List, length, Option, Some, Result, Ok, Err}
+use Rattle.std.specs.Prelude.{IsUtf8}
 use Rattle.resb_tree.specs.Bundle.{name_of, root_of}
 use Rattle.resb_tree.specs.declared.bundle.ResourceBundle.{ResourceBundle}
 use Rattle.resb_grammar.specs.BundleText.{BundleText}
 use Rattle.resb_print.specs.Laws.{HasNoText}
-use Rattle.resb_print.specs.Printed.{IsLongBundle}
+use Rattle.resb_print.specs.Printed.{IsBundleText, IsLongBundle}
+use Rattle.resb_print.specs.Quotes.{first_cause}
+use Rattle.resb_print.specs.Inner.Jobs.{SaysCause}
 use Rattle.resb_print.specs.declared.error.PrintError.{PrintError}
 use Rattle.resb_print.specs.declared.error.PrintError.TheVariants.{OutOfMemory}
 use Rattle.resb_read.specs.Measuring.{TakesMore}
@@ -31,30 +34,38 @@ HasNoBundle file limit Larger = TakesMore file limit
 HasNoBundle file limit LongKeys = (taken : Option ℕ) × HasLongKeys file limit taken
 HasNoBundle file limit _ = ⊥
 
--- the text is one of the file's bundle under this name, and has no more bytes than the limit
+-- the text is what the file's bundle is printed as under this name, which is UTF-8, so that it is a
+-- text of that bundle; and it has no more bytes than the limit
 pub record IsDump (file name : List ℕ) (limit : ℕ) (text : List ℕ) : Type 0 where
   pub bundle : ResourceBundle
   pub keys : List (List ℕ)
+  pub named : IsUtf8 name
   pub of_file : IsBundleToDump file name limit bundle
+  pub printed : IsBundleText text (name_of bundle) bundle.is_locale_fallback_enabled
+      (root_of bundle)
   pub texts : BundleText text (name_of bundle) bundle.is_locale_fallback_enabled (root_of bundle)
       keys
   pub fits : length text ≤ limit
 
--- the file's bundle under this name is printed as more bytes than the limit
+-- the file's bundle under this name, which is UTF-8, is printed as more bytes than the limit
 pub record HasLongDump (file name : List ℕ) (limit : ℕ) : Type 0 where
   pub bundle : ResourceBundle
+  pub named : IsUtf8 name
   pub of_file : IsBundleToDump file name limit bundle
   pub long : IsLongBundle limit (name_of bundle) bundle.is_locale_fallback_enabled (root_of bundle)
 
--- memory was wanted, or no text is that of the file's bundle under this name
+-- memory was wanted, or no text is that of the file's bundle under this name, which is UTF-8; then
+-- the first cause of that is named
 pub record HasNoDump (file name : List ℕ) (limit : ℕ) (e : PrintError) : Type 0 where
   pub bundle : ResourceBundle
+  pub named : IsUtf8 name
   pub of_file : IsBundleToDump file name limit bundle
+  pub says : SaysCause e (first_cause (name_of bundle) (root_of bundle))
   pub none : (e ≡ OutOfMemory)
       ⊎ HasNoText (name_of bundle) bundle.is_locale_fallback_enabled (root_of bundle)
 
 -- a text of the file's bundle is in the buffer, or would be if it had room, or there is none within
--- the limit
+-- the limit; a name that isn't UTF-8 is told before the file is looked at
 abbrev pub DumpsInto : List ℕ → List ℕ → ℕ → List ℕ → List ℕ → Result ℕ Fault → Type 0
 DumpsInto file name limit old new (Ok n) =
     (text : List ℕ) × IsDump file name limit text × Fills text old new (Ok n)
@@ -64,4 +75,5 @@ DumpsInto file name limit old new (Err (NotUtf8 n)) = IsNotUtf8 name n × (new �
 DumpsInto file name limit old new (Err (Printing e)) =
     HasNoDump file name limit e × (new ≡ old)
 DumpsInto file name limit old new (Err LongText) = HasLongDump file name limit × (new ≡ old)
-DumpsInto file name limit old new (Err fault) = HasNoBundle file limit fault × (new ≡ old)
+DumpsInto file name limit old new (Err fault) =
+    IsUtf8 name × HasNoBundle file limit fault × (new ≡ old)

@@ -2,7 +2,7 @@
 --     number_of f             the status that the header names
 --     place_of f              the byte of the text at which it can't be read on
 --     message_of f            what it prints as
-use Rattle.std.specs.Prelude.{ℕ, List, ◌++◌, codes, decimal, Option, Some, None}
+use Rattle.std.specs.Prelude.{ℕ, List, ◌++◌, codes, decimal}
 use Rattle.resb_grammar.specs.declared.expected.Expected.{Expected}
 use Rattle.resb_grammar.specs.declared.expected.Expected.TheVariants as expect
 use Rattle.resb_format.specs.Error.{kind_of, description_of}
@@ -11,6 +11,7 @@ use Rattle.resb_format.specs.declared.error.ErrorKind.{ErrorKind}
 use Rattle.resb_format.specs.declared.error.ErrorKind.TheVariants as kind
 use Rattle.resb_layout.specs.WritingFault as fault
 use Rattle.resb_write.specs.FaultOf.{fault_of}
+use Rattle.resb_print.specs.Message as printing
 use Rattle.resb_print.specs.declared.error.PrintError.{PrintError}
 use Rattle.resb_print.specs.declared.error.PrintError.TheVariants as print
 use Rattle.resb_compile.specs.declared.compiling.CompileError.{CompileError}
@@ -79,18 +80,16 @@ place_of LongText = 0
 place_of LargerText = 0
 place_of (Printing e) = 0
 
--- the length that was wanted, the place, or what the error inside prints; printing's is not said
-abbrev pub message_of : Fault → Option (List ℕ)
+-- the length that was wanted, the place, or what the error inside prints
+abbrev pub message_of : Fault → List ℕ
 message_of (TooShort n) =
-    Some (codes "the buffer is too short, " ++ (decimal n ++ codes " bytes are needed"))
-message_of (NotUtf8 n) = Some (codes "not UTF-8 from byte " ++ (decimal n ++ codes " on"))
-message_of (Compiling e) = Some (compile.message_of e)
-message_of (Reading e) =
-    Some (description_of (kind_of e) ++ (codes ": " ++ reading.message_of e))
-message_of UsesPool =
-    Some (codes "the file uses the keys of a pool bundle, and has none of its own")
-message_of Larger = Some (codes "the tree takes more bytes than the limit")
-message_of LongKeys = Some (codes "the keys of the entries take more bytes than the limit")
-message_of LongText = Some (codes "the text takes more bytes than the limit")
-message_of LargerText = Some (codes "reading the text takes more bytes than the limit")
-message_of (Printing e) = None
+    codes "the buffer is too short, " ++ (decimal n ++ codes " bytes are needed")
+message_of (NotUtf8 n) = codes "not UTF-8 from byte " ++ (decimal n ++ codes " on")
+message_of (Compiling e) = compile.message_of e
+message_of (Reading e) = description_of (kind_of e) ++ (codes ": " ++ reading.message_of e)
+message_of UsesPool = codes "the file uses the keys of a pool bundle, and has none of its own"
+message_of Larger = codes "the tree takes more bytes than the limit"
+message_of LongKeys = codes "the keys of the entries take more bytes than the limit"
+message_of LongText = codes "the text takes more bytes than the limit"
+message_of LargerText = codes "reading the text takes more bytes than the limit"
+message_of (Printing e) = printing.message_of e

@@ -7,14 +7,14 @@ use Rattle.resb_walk.specs.Sums.{fitting}
 use Rattle.resb_walk.specs.TreeBytes.{tree_bytes}
 use Rattle.resb_read.specs.Measuring.{IsMeasured, AnswersMeasure}
 use Rattle.resb_read.specs.declared.measuring.Measured.{Measured}
-use Rattle.resb_program.specs.Files.{HasNoKeys}
+use Rattle.resb_program.specs.Files.{HasNoKeys, HasKeys}
 use Rattle.resb_c.specs.declared.fault.Fault.{Fault}
 use Rattle.resb_c.specs.declared.fault.Fault.TheVariants.{Reading, UsesPool}
 use Rattle.resb_c.specs.declared.measured.ResbMeasured.{ResbMeasured}
 
 -- what the file's tree adds up to, the reader's refusal, or that the file has no keys
 abbrev pub MeasuresFile : List ℕ → Result Measured Fault → Type 0
-MeasuresFile file (Ok m) = AnswersMeasure file (Ok m)
+MeasuresFile file (Ok m) = AnswersMeasure file (Ok m) × HasKeys file
 MeasuresFile file (Err UsesPool) = HasNoKeys file
 MeasuresFile file (Err (Reading e)) = AnswersMeasure file (Err e)
 MeasuresFile file (Err _) = ⊥

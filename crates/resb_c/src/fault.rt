@@ -1,6 +1,6 @@
 //! Why a call for C fails: its number, its place and what it prints.
 //! How that reaches the caller is in `report`.
-ghost use Rattle.std.specs.Prelude.{◌≡◌};
+ghost use Rattle.std.specs.Prelude.{◌≡◌, Some};
 ghost use Rattle.resb_c.specs.Faults.{message_of, number_of, place_of};
 
 use resb_compile::CompileError;
@@ -75,7 +75,7 @@ impl Fault {
 }
 
 impl fmt::Display for Fault {
-    ghost output = { λ e. message_of e };
+    ghost output = { λ e. Some (message_of e) };
 
     fn fmt<W: fmt::Write>(&self, f: &mut fmt::Formatter<W>) -> fmt::Result {
         match self {

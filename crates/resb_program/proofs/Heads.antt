@@ -1,5 +1,6 @@
 -- A file that is read has a head that says something; and a tree that takes more than a limit.
-use Rattle.std.proofs.Common.{ℕ, List, ◌≡◌, ◌∙◌, ◌≤◌, ◌++◌, length, drop, arith}
+use Rattle.std.proofs.Common.{ℕ, List, ◌≡◌, ◌∙◌, ◌≤◌, ◌++◌, length, drop, arith, ap, unwrap_or}
+use Rattle.std.specs.Prelude.{slice_index}
 use Rattle.std.proofs.Common.{Option, Some, None, Result, Ok, Err, Bool, true, false, refl, ◌↔◌, is_some}
 use Rattle.std.specs.Result.{IsErrAnd, MatchResult}
 use Rattle.resb_format.specs.Error.{refusal_of}
@@ -8,14 +9,16 @@ use Rattle.resb_head.specs.File.{IsBundleFile, body_of}
 use Rattle.resb_head.specs.HeadChecks.{header_refusal, header_checks, support_checks, body_checks}
 use Rattle.resb_head.specs.HeadChecks.{file_refusal, file_checks, first_refusal, block_checks}
 use Rattle.resb_head.proofs.FileSteps.{bundle_file_passes, first_refusal-both}
-use Rattle.resb_program.specs.Summary.{summary_refusal, summary_checks}
+use Rattle.resb_format.specs.Bytes.{words_of}
+use Rattle.resb_head.specs.Head.{field}
+use Rattle.resb_program.specs.Summary.{summary_refusal, summary_checks, Summarizes, has_bit}
 use Rattle.resb_program.proofs.SummaryLemmas.{behind_header, later_refusal}
 use Rattle.resb_walk.specs.Pieces.{Piece}
 use Rattle.resb_walk.specs.Sums.{fitting}
 use Rattle.resb_walk.specs.TreeBytes.{tree_bytes}
 use Rattle.resb_read.specs.Measuring.{AnswersMeasure, IsMeasured}
 use Rattle.resb_read.specs.declared.measuring.Measured.{Measured}
-use Rattle.resb_program.specs.Files.{IsOwnHead, IsOver, FitsIn, HasLongKeys, key_bytes}
+use Rattle.resb_program.specs.Files.{IsOwnHead, HasKeys, IsOver, FitsIn, HasLongKeys, key_bytes}
 use Rattle.resb_program.specs.declared.summary.Summary.{Summary}
 
 -- the checks of the header, of what is supported, and of the body pass in a bundle file
@@ -42,6 +45,27 @@ pub has_head : (bytes : List ℕ) (head : Option Summary) → IsOwnHead bytes he
     → is_some head ≡ true
 has_head bytes (Some s) own h = refl
 has_head bytes None (e, refused) h = let a = accepted bytes h in absurd (cc)
+
+-- the attributes of the index at these bytes
+abbrev attributes_at : List ℕ → Option ℕ
+attributes_at bytes = field bytes (slice_index (words_of bytes) 0) 5
+
+-- what a head says of a pool stands in its attributes
+pool_is : (bytes : List ℕ) (s : Summary) → Summarizes bytes s
+    → s.uses_pool ≡ has_bit (unwrap_or (attributes_at (drop 4 (body_of bytes))) 0) 4
+pool_is bytes s h =
+    h.uses_pool
+    ∙ ap (λ n. has_bit (unwrap_or n 0) 4)
+    (h.indexed.bundle_attributes
+    ∙ ap (λ n. field (drop 4 (body_of bytes)) n 5) h.indexed.field_count)
+
+-- so a head that has keys of its own, or is refused, doesn't say that the file has none
+pub has_keys : (bytes : List ℕ) (head : Option Summary) → IsOwnHead bytes head → HasKeys bytes
+has_keys bytes (Some s) (is, own) (t, other, uses) =
+    let p = pool_is bytes s is in
+    let q = pool_is bytes t other in
+    absurd (cc)
+has_keys bytes None (e, refused) (t, other, uses) = let a = other.accepted in absurd (cc)
 
 -- what is handed on with another error is there
 pub handed : {T E D : Type 0} (P : E → D → Type 0) (r : Result T E) (s : Result T D) (x : T)

@@ -1,5 +1,5 @@
 -- What is answered of a file that may use the keys of a pool bundle.
---     HasNoKeys bytes         it does
+--     HasNoKeys bytes, HasKeys bytes   it does, and it doesn't
 --     IsOwnHead bytes head    what the head says of a file that doesn't
 --     CountsOwn, MeasuresOwn  what counting and measuring such a file answer
 --     IsOwnBundle file name limit b, RefusesOwn file limit e   its bundle, and why there is none
@@ -28,6 +28,10 @@ use Rattle.resb_program.specs.declared.errors.FileError.TheVariants.{Reading}
 abbrev pub HasNoKeys : List ℕ → Type 0
 HasNoKeys bytes = (s : Summary) × Summarizes bytes s × (s.uses_pool ≡ true)
 
+-- the file's head doesn't say so
+abbrev pub HasKeys : List ℕ → Type 0
+HasKeys bytes = HasNoKeys bytes → ⊥
+
 -- what the head of a file says that has keys of its own
 abbrev pub IsOwn : List ℕ → Summary → Type 0
 IsOwn bytes s = Summarizes bytes s × (s.uses_pool ≡ false)
@@ -39,7 +43,7 @@ IsOwnHead bytes None = (e : ReadingError) × HasNoSummary bytes e
 
 -- the number of resources and what the head says; the reader's refusal; or the file has no keys
 abbrev pub CountsOwn : List ℕ → Result (ℕ × Summary) FileError → Type 0
-CountsOwn bytes (Ok r) = AnswersCount bytes (Ok r.0) × IsOwn bytes r.1
+CountsOwn bytes (Ok r) = AnswersCount bytes (Ok r.0) × IsOwn bytes r.1 × HasKeys bytes
 CountsOwn bytes (Err UsesPool) = HasNoKeys bytes
 CountsOwn bytes (Err (Reading e)) = AnswersCount bytes (Err e)
 CountsOwn bytes (Err (Larger n limit)) = ⊥
@@ -47,7 +51,7 @@ CountsOwn bytes (Err (LongKeys n limit)) = ⊥
 
 -- what the tree adds up to; the reader's refusal; or the file has no keys
 abbrev pub MeasuresOwn : List ℕ → Result Measured FileError → Type 0
-MeasuresOwn bytes (Ok m) = AnswersMeasure bytes (Ok m)
+MeasuresOwn bytes (Ok m) = AnswersMeasure bytes (Ok m) × HasKeys bytes
 MeasuresOwn bytes (Err UsesPool) = HasNoKeys bytes
 MeasuresOwn bytes (Err (Reading e)) = AnswersMeasure bytes (Err e)
 MeasuresOwn bytes (Err (Larger n limit)) = ⊥
@@ -88,13 +92,15 @@ RefusesSize bytes limit (Larger n most) = (limit ≡ Some most) × IsOver bytes 
 RefusesSize bytes limit (LongKeys n most) = (limit ≡ Some most) × HasLongKeys bytes most n
 
 -- the bundle has this name, the file's tree, which takes no more bytes than the limit, if there is
--- one, as do the keys of its entries, and the fallback flag of the file's head
+-- one, as do the keys of its entries, and the fallback flag of the file's head, which has keys of
+-- its own
 pub record IsOwnBundle (bytes name : List ℕ) (limit : Option ℕ) (b : ResourceBundle) : Type 0 where
   pub tree : Resource
   pub summary : Summary
   pub reads : AnswersTree bytes (Ok tree)
   pub within : IfSome limit (FitsIn bytes)
   pub summarizes : IsOwn bytes summary
+  pub has_keys : HasKeys bytes
   pub named : name_of b ≡ name
   pub root : root_of b ≡ tree_of tree
   pub flag : b.is_locale_fallback_enabled ≡ summary.has_fallback

@@ -5,7 +5,7 @@ ghost use Rattle.resb_walk.specs.Sums.{fitting};
 ghost use Rattle.resb_read.specs.Roots.{AnswersTree};
 ghost use Rattle.resb_program.specs.Program.{CountsFile, ReadsCounted, Agrees, HasCount};
 ghost use Rattle.resb_program.specs.Program.{IsCounted};
-ghost use Rattle.resb_program.specs.Files.{HasNoKeys, IsOwnHead, CountsOwn, MeasuresOwn};
+ghost use Rattle.resb_program.specs.Files.{HasNoKeys, HasKeys, IsOwnHead, CountsOwn, MeasuresOwn};
 ghost use Rattle.resb_program.specs.Files.{IsOwnBundle, RefusesOwn, FitsIn, RefusesSize};
 
 use crate::errors::{FileError, ToolError};
@@ -32,8 +32,10 @@ pub fn check_file(alloc: Global, file: &[u8]) -> Result<usize, ToolError>
 
 /// What the head of a file says that has keys of its own, or none where the head is refused. In the
 /// place of the keys of a file that uses those of a pool bundle stand other bytes.
+#[tactic(auto, using(crate::proofs::Heads::has_keys))]
 fn own_head(file: &[u8]) -> Result<Option<Summary>, FileError>
     ensures ok { IfOk result (IsOwnHead file.now) }
+    ensures keys { OnOk result (HasKeys file.now) }
     ensures err { IfErr result (λ e. (e ≡ FileError.UsesPool) × HasNoKeys file.now) }
 {
     match summary_of(file) {
@@ -57,7 +59,10 @@ pub fn measure_file(alloc: Global, file: &[u8]) -> Result<Measured, FileError>
     ensures { MeasuresOwn file.now result }
 {
     own_head(file)?;
-    measure(alloc, file).map_err(FileError::Reading)
+    match measure(alloc, file) {
+        Ok(measured) => Ok(measured),
+        Err(e) => Err(FileError::Reading(e)),
+    }
 }
 
 /// Whether a sum, which is none where it doesn't fit in 64 bits, is no more than the limit.

@@ -13,8 +13,10 @@ returns-in-Ok c =
     record {
       bundle = c.in_ok-bundle.bundle;
       keys = at.text.0;
+      named = c.in_ok-name.ensures.ok.1;
       of_file = subst (λ (n : List ℕ). IsBundleToDump file n c.args.limit c.in_ok-bundle.bundle)
           c.in_ok-name.ensures.ok.0 c.in_ok-bundle.ensures.ok;
+      printed = at.exact;
       texts = at.text.1;
       fits = at.within;
     } in
@@ -30,8 +32,10 @@ returns-in-Ok-Some c =
     record {
       bundle = c.in_ok-bundle.bundle;
       keys = at.text.0;
+      named = c.in_ok-name.ensures.ok.1;
       of_file = subst (λ (n : List ℕ). IsBundleToDump file n c.args.limit c.in_ok-bundle.bundle)
           c.in_ok-name.ensures.ok.0 c.in_ok-bundle.ensures.ok;
+      printed = at.exact;
       texts = at.text.1;
       fits = at.within;
     } in
@@ -44,6 +48,7 @@ returns-in-Ok-None c =
     let long : HasLongDump file c.args.name.now c.args.limit =
     record {
       bundle = c.in_ok-bundle.bundle;
+      named = c.in_ok-name.ensures.ok.1;
       of_file = subst (λ (n : List ℕ). IsBundleToDump file n c.args.limit c.in_ok-bundle.bundle)
           c.in_ok-name.ensures.ok.0 c.in_ok-bundle.ensures.ok;
       long = at.exact;
@@ -56,8 +61,10 @@ returns c =
     let none : HasNoDump file c.args.name.now c.args.limit c.in-Err.e =
     record {
       bundle = c.in_ok-bundle.bundle;
+      named = c.in_ok-name.ensures.ok.1;
       of_file = subst (λ (n : List ℕ). IsBundleToDump file n c.args.limit c.in_ok-bundle.bundle)
           c.in_ok-name.ensures.ok.0 c.in_ok-bundle.ensures.ok;
+      says = c.in-Err.ensures.refusal;
       none = c.in-Err.ensures.none;
     } in
     (none, refl)

@@ -1,19 +1,16 @@
 -- What is printed, cut, stands at the front of the zeros.
-use Rattle.std.proofs.Common.{ℕ, List, ◌≡◌, ◌∙◌, ap, subst, Option, Some, None, inl, inr, Result}
+use Rattle.std.proofs.Common.{ℕ, List, ◌≡◌, ◌∙◌, ap, subst, inl, inr, Result}
 use Rattle.std.proofs.Common.{Ok, Err, take, replicate}
-use Rattle.std.specs.Option.{IfSome}
 use Rattle.resb_c.specs.Calls.{IsMessage, Fills}
 use Rattle.resb_c.proofs.report.write_message.Goals as goal
 use Rattle.resb_format.proofs.Lists.{take_within}
 
 -- a text that is filled in is the message of a fault that prints it
-is_message : (printed : Option (List ℕ)) (text out : List ℕ) (r : Result ℕ ℕ)
-    → IfSome printed (λ bs. text ≡ bs) → Fills (take 255 text) (replicate 256 0) out r
-    → IsMessage printed out
-is_message None text out r told filled = tt {0}
-is_message (Some bs) text out (Ok n) told filled =
+is_message : (printed text out : List ℕ) (r : Result ℕ ℕ) → text ≡ printed
+    → Fills (take 255 text) (replicate 256 0) out r → IsMessage printed out
+is_message printed text out (Ok n) told filled =
     inl (n, subst (λ t. Fills (take 255 t) (replicate 256 0) out (Ok n)) told filled)
-is_message (Some bs) text out (Err n) told filled = inr filled.2
+is_message printed text out (Err n) told filled = inr filled.2
 
 -- src/report.rt:22:1
 pub returns-in-Ok : goal.returns-in-Ok

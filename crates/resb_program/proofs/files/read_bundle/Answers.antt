@@ -22,6 +22,7 @@ returns-clause-ok c =
       reads = subst (AnswersTree file) same c.tree_from_bytes.ensures;
       within = search rules;
       summarizes = subst (IsOwnHead file) c.unwrap.ensures c.in_ok-head.ensures.ok;
+      has_keys = c.in_ok-head.ensures.keys;
       named = search rules;
       root = search rules;
       flag = search rules;

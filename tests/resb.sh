@@ -181,6 +181,19 @@ told 1 '' 'names.res: the tree takes 2589 bytes, more than the limit of 2588' \
 told 1 '' 'names.res: the tree takes 2589 bytes, more than the limit of 10' \
   dump --limit 10 names.res
 told 2 '' 'resb: --limit is a number of bytes' dump --limit ten names.res
+# nor may the keys of its entries together, its text, or its JSON
+printf 'b{%02000d{x}}' 0 > key.txt
+told 0 '' '' compile key.txt
+told 1 '' 'key.res: the keys of its entries take 2000 bytes, more than the limit of 1999' \
+  dump --limit 1999 key.res
+told 1 '' 'key.res: its text takes more than the limit of 2016 bytes' dump --limit 2016 key.res
+told 1 '' "key.res: its text in ICU's form takes more than the limit of 2016 bytes" \
+  dump --icu --limit 2016 key.res
+told 0 "$(printf 'key{\n    %02000d{"x"}\n}' 0)" '' dump --limit 2017 key.res
+told 0 '{"b":{"binary":"00ff"},"hi":"hello","list":["a","c"],"n":-5,"v":[1,-2]}' '' \
+  dump --json --limit 4012 names.res
+told 1 '' 'names.res: its JSON takes more than the limit of 4011 bytes' \
+  dump --json --limit 4011 names.res
 
 # so may the reading of a text
 printf 'b{k{v}}' > small.txt

@@ -99,6 +99,9 @@ done
 { printf before >&3; resb compile t.txt -o /dev/fd/3; } 3> got
 holds 'a file that is open' cmp -s got <(printf before; cat "$want")
 
+ends 2 't.txt: the file would take the place of its own text' compile t.txt -o /dev/fd/3 3>> t.txt
+holds 'the text is kept' is "$(cat t.txt)" 'b{a{"x"} c:intvector{1,2}}'
+
 # links stay, and what they lead to is written
 fresh
 mkdir real

@@ -47,9 +47,6 @@ holds() {
 # is WORD WORD: whether two words are one
 is() { [ "$1" = "$2" ] || { printf '%s\n' "$1" | head -c 300; false; }; }
 
-# only WANTED..: whether these are the names in this folder, but for those of this script
-only() { is "$(find . -mindepth 1 -maxdepth 1 ! -name .out ! -name .err -printf '%f ')" "$*"; }
-
 # fresh: a folder of its own for what comes next, with a text; `want` is its file
 fresh() {
   number=$((number + 1))
@@ -98,6 +95,9 @@ for name in - /dev/stdout /dev/fd/1 /proc/self/fd/1; do
 done
 { printf before >&3; resb compile t.txt -o /dev/fd/3; } 3> got
 holds 'a file that is open' cmp -s got <(printf before; cat "$want")
+
+ends 2 't.txt: the file would take the place of its own text' compile t.txt -o /dev/fd/3 3>> t.txt
+holds 'the text is kept' is "$(cat t.txt)" 'b{a{"x"} c:intvector{1,2}}'
 
 # links stay, and what they lead to is written
 fresh
@@ -251,9 +251,7 @@ ends 2 'bad\xff\xc3\xa9/t.res: this name is no UTF-8' compile t.txt -d "$bad"
 ends 2 'bad\xff\xc3\xa9: this name is no UTF-8' dump "$bad"
 ends 2 'bad\xff\xc3\xa9: this path is no UTF-8' get t.res "$bad"
 ends 2 'resb: --limit is a number of bytes' dump t.res --limit "$bad"
-holds 'no other file was made' only \
-  "$(find . -mindepth 1 -maxdepth 1 -regextype posix-basic \( -name '..*' -o -name - -o -name 't.*' \
-  -o -name 'bad*.txt' -o -name into -o -name got \) -printf '%f ')"
+holds 'no other file was made' is "$(ls -A | grep -c bad)" 1
 
 # one file by several names, and texts in the place of others
 fresh
@@ -303,7 +301,8 @@ ends 1 't.res: nothing stands at a\u{1b}[31m' get t.res "a$esc"
 resb "$esc" 2> .err
 holds 'no escape of a command' is "$? $(grep -cF "$esc" .err)" '2 0'
 printf 'b{"\xe2\x80\xaea\xc2\x9b\x1b\t\x7f\xd8\x9c":int{x\xe2\x81\xa9\xc3\xa9}}' > e.txt
-ends 1 $'e.txt:1:17: expected a number\nb{"?a?   ?":int{x?\xc3\xa9}}\n                ^' compile e.txt
+ends 1 $'e.txt:1:17: expected a number\nb{"?a?   ?":int{x?\xc3\xa9}}\n                ^' \
+  compile e.txt
 printf 'b{a{"\xc3\xa9\xff\xe2\x80"}}' > e.txt
 ends 1 $'e.txt:1:7: this is no UTF-8\nb{a{"???"}}\n      ^' compile e.txt
 long=$(printf '%*s' 100000 '' | tr ' ' n)
@@ -321,7 +320,8 @@ old, new = "other".encode("utf-16-le"), 'oth"r'.encode("utf-16-le")
 open("k.res", "wb").write(data.replace(old, new))
 P
 resb dump k.res > .out 2> .err
-holds 'a long path to a key' grep -q "since a string holds a '\"' at k.u{202e}/k.*\.\..*/a; here" .err
+holds 'a long path to a key' \
+  grep -q "since a string holds a '\"' at k.u{202e}/k.*\.\..*/a; here" .err
 holds 'is cut' [ "$(wc -c < .err)" -lt 8000 ]
 
 # an input is read up to a limit
@@ -334,7 +334,8 @@ ends 1 '/dev/zero: this has more than the limit of 1048576 bytes' compile --limi
   /dev/zero -o out.res
 input=
 { cat t.txt; head -c $((1048576 - $(wc -c < t.txt))) /dev/zero | tr '\0' ' '; } > full.txt
-ends 1 'full.txt: reading this text takes more than the limit of 10 bytes' compile full.txt --limit 10
+ends 1 'full.txt: reading this text takes more than the limit of 10 bytes' \
+  compile full.txt --limit 10
 printf ' ' >> full.txt
 ends 1 'full.txt: this has more than the limit of 1048576 bytes' compile full.txt --limit 10
 if truncate -s $((1073741824 + 1)) large.res 2> .err; then

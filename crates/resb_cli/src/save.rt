@@ -1,5 +1,5 @@
-//! How bytes come to a place: a file is written beside it and moved over, so that a write that fails
-//! leaves the old one; all else is written where it is. Where a name leads is in `place`.
+//! How bytes come to a place: a file is written beside it and moved over, so that a write that
+//! fails leaves the old one; all else is written where it is. Where a name leads is in `place`.
 use crate::place::Place;
 use crate::streams::{NO_MEMORY, write_stream};
 use std::fs::{self, File, Metadata, OpenOptions};
@@ -72,8 +72,8 @@ fn moved(
     moved
 }
 
-/// A new file beside this path, and its name. Nobody else may read it, where it is to take the place
-/// of one that has a mode.
+/// A new file beside this path, and its name. Nobody else may read it, where it is to take the
+/// place of one that has a mode.
 fn new_file(rt: &HostRuntime, path: Path<'_>, is_private: bool) -> io::Result<(File, PathBuf)> {
     let mut options = OpenOptions::new();
     options

@@ -1,5 +1,5 @@
-//! Names, keys and paths as messages show them: nothing of them moves the mark of a terminal or turns
-//! its text, and none fills the screen. Lines of texts are shown by `resb_program`.
+//! Names, keys and paths as messages show them: nothing of them moves the mark of a terminal or
+//! turns its text, and none fills the screen. Lines of texts are shown by `resb_program`.
 use crate::words::without_mark;
 use resb_program::is_hidden;
 use std::fmt;

@@ -43,13 +43,29 @@ impl Taken {
         place: &Place,
     ) -> Result<(), &'static str> {
         match place {
-            Place::Inside(_) => Ok(()),
+            Place::Inside(path) => self.check_inside(rt, name, path.as_path()),
             Place::Stream => self.take_file(owned(rt, Path::new("-"))?),
             Place::Beside(path) => {
                 let file = real_name(rt, path.as_path())?;
                 self.check(real_path(rt, name)?, file.as_str())?;
                 self.take_file(file)
             }
+        }
+    }
+
+    /// Whether what is written where it is isn't a file of a text.
+    fn check_inside(
+        &self,
+        rt: &HostRuntime,
+        name: &str,
+        path: Path<'_>,
+    ) -> Result<(), &'static str> {
+        if !path.is_file(rt) {
+            return Ok(());
+        }
+        match real_path(rt, path.as_str())? {
+            Some(file) => self.check(real_path(rt, name)?, file.as_str()),
+            None => Ok(()),
         }
     }
 

@@ -35,13 +35,13 @@ abbrev pub is_hidden : ℕ → Bool
 is_hidden c = nat_lt c 32 || (nat_lt 126 c && nat_lt c 160) || c == 0x61c || c == 0x200e
     || c == 0x200f || (nat_lt 0x2029 c && nat_lt c 0x202f) || (nat_lt 0x2065 c && nat_lt c 0x206a)
 
--- what is shown of a character: a blank for one of control below U+0080, and `?` for all others that
--- are hidden
+-- what is shown of a character: a blank for one of control below U+0080, and `?` for all others
+-- that are hidden
 abbrev pub shown_character : ℕ → ℕ
 shown_character c = if nat_lt c 32 || c == 127 then 32 else (if is_hidden c then 63 else c)
 
--- what is shown of a byte of a line that is no UTF-8: a blank for a character of control, `?` for one
--- that is no ASCII, and nothing for a byte that goes on with a character
+-- what is shown of a byte of a line that is no UTF-8: a blank for a character of control, `?` for
+-- one that is no ASCII, and nothing for a byte that goes on with a character
 abbrev pub shown_byte : ℕ → List ℕ
 shown_byte b =
     if nat_lt b 32 || b == 127 then 32 ∷ []
@@ -59,8 +59,8 @@ characters text from (suc n) =
     if begins_character (slice_index text (from + n)) then suc (characters text from n)
     else characters text from n
 
--- these bytes are what is shown of the line round a place, a line feed, a blank for each character before the place,
--- and a mark under it
+-- these bytes are what is shown of the line round a place, a line feed, a blank for each character
+-- before the place, and a mark under it
 pub record PointsAt (text : List ℕ) (place : ℕ) (bytes : List ℕ) : Type 0 where
   pub from : ℕ
   pub to : ℕ

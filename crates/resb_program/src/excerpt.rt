@@ -64,8 +64,8 @@ fn excerpt_end(text: &[u8], place: usize) -> usize
     to
 }
 
-/// Whether a character is one of control, or a mark that sets the direction of the text behind it: a
-/// terminal doesn't show it, and may do something else.
+/// Whether a character is one of control, or a mark that sets the direction of the text behind it:
+/// a terminal doesn't show it, and may do something else.
 pub fn is_hidden(c: char) -> bool
     ensures { result ≡ excerpt.is_hidden c }
 {

@@ -12,8 +12,8 @@ use crate::sources::compile_text;
 use std::alloc::Global;
 use std::io::{ErrorKind, Read, Write};
 
-/// One read of at most as many bytes as the buffer has. It answers whether the reader is at its end.
-/// A read that was interrupted adds nothing.
+/// One read of at most as many bytes as the buffer has. It answers whether the reader is at its
+/// end. A read that was interrupted adds nothing.
 fn read_some<R: Read>(
     reader: &mut R,
     buffer: &mut [u8],

@@ -147,9 +147,9 @@ printf old > out.res
 chmod 600 out.res
 ends 0 '' compile t.txt -o out.res
 holds 'the mode is kept' is "$(stat -c %a out.res)" 600
-chmod 444 out.res
+chmod 4444 out.res
 ends 0 '' compile t.txt -o out.res
-holds 'that of a file that may be read only' is "$(stat -c %a out.res)" 444
+holds 'that of a file that may be read only, as another user' is "$(stat -c %a out.res)" 444
 (umask 027; resb compile t.txt)
 holds 'a new mode' is "$(stat -c %a t.res)" 640
 if [ "$(id -u)" = 0 ] && chown 1234:4321 out.res 2> .err; then

@@ -2,9 +2,9 @@
 //! fails leaves the old one; all else is written where it is. Where a name leads is in `place`.
 use crate::place::Place;
 use crate::streams::{NO_MEMORY, write_stream};
-use std::fs::{self, File, Metadata, OpenOptions};
+use std::fs::{self, File, Metadata, OpenOptions, Permissions};
 use std::io::{self, ErrorKind, Write};
-use std::os::unix::fs::{MetadataExt, OpenOptionsExt, fchown};
+use std::os::unix::fs::{MetadataExt, OpenOptionsExt, PermissionsExt, fchown};
 use std::path::{Path, PathBuf};
 use std::process;
 
@@ -111,10 +111,11 @@ fn fill(file: &mut File, old: Option<&Metadata>, bytes: &[u8]) -> io::Result<()>
     }
 }
 
-/// Gives a new file the mode of the old one, and its owner and group where the system lets it.
+/// Gives a new file the rights of the old one to read, write and run it, and its owner and group
+/// where the system lets it.
 fn keep_rights(file: &File, old: &Metadata) -> io::Result<()> {
     if fchown(file, Some(old.uid()), Some(old.gid())).is_err() {
         let _ = fchown(file, None, Some(old.gid()));
     }
-    file.set_permissions(old.permissions())
+    file.set_permissions(Permissions::from_mode(old.mode() & 0o777))
 }

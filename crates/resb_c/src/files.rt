@@ -3,6 +3,7 @@
 ghost use Rattle.std.specs.Prelude.{◌≡◌, ℕ, IfOk, IfErr, IsUtf8};
 ghost use Rattle.resb_c.specs.Calls.{CompilesInto, CompilesWithin, CountsFile, Fills, IsNotUtf8};
 ghost use Rattle.resb_c.specs.Dumping.{DumpsInto, HasNoBundle, IsBundleToDump};
+ghost use Rattle.resb_c.specs.Measures as measures;
 ghost use Rattle.resb_c.specs.Measures.{MeasuresFile};
 
 use crate::fault::Fault;
@@ -95,6 +96,16 @@ pub(crate) fn measure_file(alloc: Global, file: &[u8]) -> Result<Measured, Fault
         Err(FileError::Larger { .. }) => Err(Fault::Larger),
         Err(FileError::LongKeys { .. }) => Err(Fault::LongKeys),
         Err(FileError::Reading(e)) => Err(Fault::Reading(e)),
+    }
+}
+
+/// The number of resources of what was measured.
+pub(crate) fn count_measured(answer: Result<Measured, Fault>) -> Result<usize, Fault>
+    ensures { result ≡ measures.resources_of answer }
+{
+    match answer {
+        Ok(measured) => Ok(measured.resources),
+        Err(fault) => Err(fault),
     }
 }
 

@@ -15,7 +15,9 @@ mod files;
 mod measured;
 mod report;
 
-use crate::files::{compile_into, compile_within_into, count_file, dump_into, measure_file};
+use crate::files::{
+    compile_into, compile_within_into, count_file, count_measured, dump_into, measure_file,
+};
 use crate::report::report;
 pub use fault::Fault;
 pub use measured::ResbMeasured;
@@ -100,7 +102,7 @@ pub extern "C" fn resb_measure(
     let answer = measure_file(alloc, file);
     *measured = ResbMeasured::of(&answer);
     let mut resources = 0;
-    report(alloc, answer.map(|m| m.resources), &mut resources, error)
+    report(alloc, count_measured(answer), &mut resources, error)
 }
 
 /// Prints a file's tree to the front of `out`, as the text of a bundle of that name. `length` gets

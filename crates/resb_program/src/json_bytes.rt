@@ -104,7 +104,8 @@ fn without_members(left: u128, members: &[Resource<'_>], depth: usize) -> Result
 /// What is left without what the entries of a table take, one level further in.
 #[cycle(json_bytes)]
 fn without_entries(left: u128, entries: &Table<'_>, depth: usize) -> Result<u128, Stop>
-    ensures ok { IfOk result (λ n. n + json.entries_bytes (entries_view entries.now.entries) ≡ left) }
+    ensures ok { IfOk result
+        (λ n. n + json.entries_bytes (entries_view entries.now.entries) ≡ left) }
     ensures err { IfErr result
         (λ e. e ≡ Stop.Larger → left < json.entries_bytes (entries_view entries.now.entries)) }
 {

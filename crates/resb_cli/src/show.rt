@@ -183,12 +183,7 @@ fn json_of(
 }
 
 /// Prints a bundle's text, or its JSON where it has none.
-fn show_text(
-    rt: &HostRuntime,
-    name: &str,
-    bundle: &ResourceBundle<'_>,
-    limit: Option<u64>,
-) -> u8 {
+fn show_text(rt: &HostRuntime, name: &str, bundle: &ResourceBundle<'_>, limit: Option<u64>) -> u8 {
     match text_of(rt.alloc(), bundle, limit) {
         Ok(Some(text)) => show(rt, text.as_str()),
         Ok(None) => refuse_long(rt, name, "text", limit),
@@ -201,12 +196,7 @@ fn show_text(
 }
 
 /// Prints a bundle's text in ICU's form, or its JSON where it has none.
-fn show_icu(
-    rt: &HostRuntime,
-    name: &str,
-    bundle: &ResourceBundle<'_>,
-    limit: Option<u64>,
-) -> u8 {
+fn show_icu(rt: &HostRuntime, name: &str, bundle: &ResourceBundle<'_>, limit: Option<u64>) -> u8 {
     match icu_text_of(rt.alloc(), bundle, limit) {
         Ok(Some(text)) => show(rt, text.as_str()),
         Ok(None) => refuse_long(rt, name, "text in ICU's form", limit),
@@ -220,12 +210,7 @@ fn show_icu(
 }
 
 /// Prints a resource as JSON, with a line feed.
-fn show_json(
-    rt: &HostRuntime,
-    name: &str,
-    resource: &Resource<'_>,
-    limit: Option<u64>,
-) -> u8 {
+fn show_json(rt: &HostRuntime, name: &str, resource: &Resource<'_>, limit: Option<u64>) -> u8 {
     match json_of(rt.alloc(), resource, limit) {
         Ok(Some(mut text)) => match text.push_str("\n") {
             Ok(()) => show(rt, text.as_str()),
@@ -268,12 +253,7 @@ fn get_found(rt: &HostRuntime, wanted: &GetWords<'_>) -> Result<u8, u8> {
 }
 
 /// Prints what was found.
-fn show_found(
-    rt: &HostRuntime,
-    name: &str,
-    found: Found<'_, '_>,
-    limit: Option<u64>,
-) -> u8 {
+fn show_found(rt: &HostRuntime, name: &str, found: Found<'_, '_>, limit: Option<u64>) -> u8 {
     let shown = match found {
         Found::Number(number) => {
             let number = number.cast_signed();

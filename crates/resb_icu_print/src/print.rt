@@ -76,11 +76,11 @@ pub fn print_icu_text(alloc: Global, bundle: &ResourceBundle<'_>) -> Result<Stri
     }
 }
 
-/// The text of a bundle as `print_icu_text` gives it, where it has no more bytes than the limit, and
-/// `None` where it would have more. Before an entry or item is written, the bytes of its key and
-/// string, and two for each byte of its binary, have to be within the limit. Where the text would
-/// have more bytes than the limit before the first cause that keeps it from being one, `None` or the
-/// cause may be answered.
+/// The text of a bundle as `print_icu_text` gives it, where it has no more bytes than the limit,
+/// and `None` where it would have more. Before an entry or item is written, the bytes of its key
+/// and string, and two for each byte of its binary, have to be within the limit. Where the text
+/// would have more bytes than the limit before the first cause that keeps it from being one, `None`
+/// or the cause may be answered.
 pub fn print_icu_text_within(
     alloc: Global,
     bundle: &ResourceBundle<'_>,

@@ -104,8 +104,8 @@ pub enum FileError {
     UsesPool,
     /// Its tree takes so many bytes, more than the limit; none where they don't fit in 64 bits.
     Larger { bytes: Option<u64>, limit: u64 },
-    /// The keys of its entries have so many bytes, more than the limit; none where they don't fit in
-    /// 64 bits. A key that entries share counts for each of them.
+    /// The keys of its entries have so many bytes, more than the limit; none where they don't fit
+    /// in 64 bits. A key that entries share counts for each of them.
     LongKeys { bytes: Option<u64>, limit: u64 },
     /// The reader refuses it, or memory was wanted.
     Reading(BinaryDeserializerError),

@@ -51,9 +51,9 @@ pub fn json_text(alloc: Global, resource: &Resource<'_>) -> Result<String, JsonE
 }
 
 /// The JSON of a resource as `json_text` gives it, where making it takes no more bytes than the
-/// limit and it has no more bytes itself, and else `None`. Counted are 72 bytes for each value, 1024
-/// for each object and 192 for each of its members, the bytes of strings and keys as JSON has them,
-/// and two for each byte of a binary; nothing is made where these are more than the limit.
+/// limit and it has no more bytes itself, and else `None`. Counted are 72 bytes for each value,
+/// 1024 for each object and 192 for each of its members, the bytes of strings and keys as JSON has
+/// them, and two for each byte of a binary; nothing is made where these are more than the limit.
 pub fn json_text_within(
     alloc: Global,
     resource: &Resource<'_>,

@@ -107,8 +107,8 @@ returns-then-not-branch-clause-exact c =
     c.push_str-2.new.self c.name-name.result.now own flag es c.new-out.ensures.bytes
     c.in_ok-push_str.ensures.bytes c.in_ok-push_root_type.ensures c.in_ok-push_str-2.ensures.bytes
     c.name-name.ensures in
-    entries_are_long c.args.limit c.push_str-2.new.self own flag es (root_of c.args.bundle.now) begun
-    (c.in_ok-push_lines.ensures.longer c.if-not-branch.true) r
+    entries_are_long c.args.limit c.push_str-2.new.self own flag es (root_of c.args.bundle.now)
+    begun (c.in_ok-push_lines.ensures.longer c.if-not-branch.true) r
 
 pub returns-then-len-limit-clause-exact : goal.returns-then-len-limit-clause-exact
 returns-then-len-limit-clause-exact c =

@@ -66,6 +66,12 @@ pub use Rattle.resb_head.specs.Head
 pub use Rattle.resb_head.specs.HeadChecks
 pub use Rattle.resb_head.specs.HeadReading
 pub use Rattle.resb_head.specs.Laws as HeadLaws
+pub use Rattle.resb_package.specs.Package
+pub use Rattle.resb_package.specs.Table as PackageTable
+pub use Rattle.resb_package.specs.Checks as PackageChecks
+pub use Rattle.resb_package.specs.Items as PackageItems
+pub use Rattle.resb_package.specs.Message as PackageMessage
+pub use Rattle.resb_package.specs.Laws as PackageLaws
 pub use Rattle.resb_blocks.specs.Links
 pub use Rattle.resb_blocks.specs.Wide
 pub use Rattle.resb_blocks.specs.Laws as BlocksLaws

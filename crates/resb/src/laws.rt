@@ -87,6 +87,12 @@ pub use resb_read::laws::one_refusal_of_a_file;
 pub use resb_read::laws::one_weight;
 // A file's tree weighs no more than what is read of it, and the same where no entry is replaced.
 pub use resb_read::laws::trees_weigh_no_more;
+// Bytes are a package of at most one list of items.
+pub use resb_package::laws::one_package;
+// Two items of a package have two names.
+pub use resb_package::laws::names_differ;
+// The checks of a package let through exactly the packages.
+pub use resb_package::laws::package_passes;
 // Units of a block are well-formed exactly by their two ends and their neighbours.
 pub use resb_blocks::laws::ranges_by_links;
 // A place in a key has a key exactly where a character begins.

@@ -8,6 +8,7 @@ pub mod bundle;
 pub mod fields;
 pub mod headline;
 pub mod laws;
+pub mod package;
 pub mod text;
 
 pub use resb_compile::{

@@ -65,22 +65,28 @@ pub record IsChecked (d : ZoneData) (file : ZoneInfo) (z : Zone) : Type 0 where
   pub offsets_are : z.offsets ≡ d.offsets
   pub last_is : IsLast d file z.last
 
--- the final years lack an offset or a year, or begin before 1970
+-- there is an offset for the final years
+abbrev pub HasFinalRaw : ZoneData → Type 0
+HasFinalRaw d = (raw : ℤ) × (d.final_raw ≡ Some raw)
+
+-- there is, and they begin in 1970 or later
+abbrev pub HasFinalYears : ZoneData → Type 0
+HasFinalYears d =
+    HasFinalRaw d × ((y : ℕ) × (d.final_year ≡ Some (pos y)) × (1970 ≤ y))
+
+-- the final years lack an offset; else they lack a year; else they begin before 1970
 abbrev pub IsYearFault : ZoneData → ZoneError → Type 0
 IsYearFault d error.NoFinalRaw = d.final_raw ≡ None
-IsYearFault d error.NoFinalYear = d.final_year ≡ None
-IsYearFault d error.FinalYear = (y : ℤ) × (d.final_year ≡ Some y) × (y <ℤ pos 1970)
+IsYearFault d error.NoFinalYear = HasFinalRaw d × (d.final_year ≡ None)
+IsYearFault d error.FinalYear =
+    HasFinalRaw d × ((y : ℤ) × (d.final_year ≡ Some y) × (y <ℤ pos 1970))
 IsYearFault d _ = ⊥
 
--- the record has a final rule, and that one has a fault
-pub record HasNamedFault (d : ZoneData) (file : ZoneInfo) (e : ZoneError) : Type 0 where
+-- the record has a final rule, and its final years a fault, or else that rule
+pub record IsFinalFault (d : ZoneData) (file : ZoneInfo) (e : ZoneError) : Type 0 where
   pub name : List ℕ
   pub named : option_map string_bytes d.final_rule ≡ Some name
-  pub fault : IsNamedFault file name e
-
--- the final years have a fault, or their rule
-abbrev pub IsFinalFault : ZoneData → ZoneInfo → ZoneError → Type 0
-IsFinalFault d file e = IsYearFault d e ⊎ HasNamedFault d file e
+  pub fault : IsYearFault d e ⊎ (HasFinalYears d × IsNamedFault file name e)
 
 -- a transition's type is beyond the offsets
 abbrev pub HasTypeBeyond : ZoneData → Type 0
@@ -88,13 +94,28 @@ HasTypeBeyond d =
     (k : ℕ) × (k < length (types_of d))
     × (length (pair_words d.offsets) / 2 ≤ slice_index (types_of d) k)
 
--- there are not as many transitions as types, there is no offset, or a type is beyond the offsets
+-- there are as many transitions as types, and an offset
+abbrev pub IsCounted : ZoneData → Type 0
+IsCounted d =
+    HasTransitions d.transitions (length (types_of d)) × (0 < length (pair_words d.offsets) / 2)
+
+-- each type is among the offsets
+abbrev pub AreTypes : ZoneData → Type 0
+AreTypes d =
+    (k : ℕ) → k < length (types_of d)
+    → slice_index (types_of d) k < length (pair_words d.offsets) / 2
+
+-- there are not as many transitions as types; else there is no offset; else a type is beyond the
+-- offsets
 abbrev pub IsTypeFault : ZoneData → ZoneError → Type 0
 IsTypeFault d error.Count = HasTransitions d.transitions (length (types_of d)) → ⊥
-IsTypeFault d error.NoOffset = length (pair_words d.offsets) / 2 ≡ 0
-IsTypeFault d error.Type = HasTypeBeyond d
+IsTypeFault d error.NoOffset =
+    HasTransitions d.transitions (length (types_of d))
+    × (length (pair_words d.offsets) / 2 ≡ 0)
+IsTypeFault d error.Type = IsCounted d × HasTypeBeyond d
 IsTypeFault d _ = ⊥
 
--- a zone's types have a fault, or its final years
+-- a zone's types have a fault, or else its final years
 abbrev pub IsZoneFault : ZoneData → ZoneInfo → ZoneError → Type 0
-IsZoneFault d file e = IsTypeFault d e ⊎ IsFinalFault d file e
+IsZoneFault d file e =
+    IsTypeFault d e ⊎ (IsCounted d × AreTypes d × IsFinalFault d file e)

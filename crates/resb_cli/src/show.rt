@@ -114,10 +114,14 @@ fn bundle_of<'f>(
 ) -> Result<ResourceBundle<'f>, u8> {
     let stem = Path::new(name).file_stem().unwrap_or("bundle");
     let bundle_name = if name == "-" { "bundle" } else { stem };
-    read_bundle(rt.alloc(), bundle_name, file, limit).map_err(|e| {
-        complain(rt, name, e);
-        1
-    })
+    match read_bundle(rt.alloc(), bundle_name, file, limit) {
+        Ok(bundle) => Ok(bundle),
+        Err(e) if is_want_of_memory(&e) => Err(refuse_memory(rt, name)),
+        Err(e) => {
+            complain(rt, name, e);
+            Err(1)
+        }
+    }
 }
 
 /// The status of what was done, or of what kept it from being done.

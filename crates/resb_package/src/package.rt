@@ -9,6 +9,9 @@ use resb_format::bytes::{byte_at, four_at, two_at, unit_at};
 use std::cmp::Ordering;
 
 /// A package of items under names. It borrows the file's bytes.
+/// Names stand one behind the other, as ICU's tools write them; ICU's reader doesn't ask for that.
+/// Neither reader looks at the rest of the header: the info's size, the size of a character, the
+/// minor version, the version of the data, and what is reserved.
 #[derive(Clone, Copy)]
 pub struct Package<'a> {
     table: Table<'a>,
@@ -103,7 +106,7 @@ impl<'a> Package<'a> {
         self.len() == 0
     }
 
-    /// The item with this number, from 0 up, if there are so many. They ascend by their names.
+    /// The item with this number, from 0 up, if there are so many. Names ascend by their bytes.
     pub fn item(&self, number: usize) -> Option<Item<'a>>
         ensures { option_map item_pair result ≡ slice_get (package_items self.now) number }
     {

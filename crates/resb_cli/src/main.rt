@@ -3,6 +3,7 @@
 #![tactic(auto)]
 
 mod compile;
+mod packages;
 mod place;
 mod progress;
 mod save;
@@ -56,5 +57,7 @@ fn perform_request(rt: &HostRuntime, request: &Request<'_>) -> u8 {
             say::fail(rt, words.path, "this path is no UTF-8")
         }
         Request::Get(words) => show::get(rt, words),
+        Request::List(name) => packages::list(rt, name),
+        Request::Extract(words) => packages::extract(rt, words),
     }
 }

@@ -41,7 +41,7 @@ fn check_one(rt: &HostRuntime, name: &str) -> u8 {
 }
 
 /// The bytes of a file, or the status, once it is said what is wrong.
-fn input(rt: &HostRuntime, name: &str, limit: Option<u64>) -> Result<Vec<u8>, u8> {
+pub(crate) fn input(rt: &HostRuntime, name: &str, limit: Option<u64>) -> Result<Vec<u8>, u8> {
     read_input(rt, name, limit).map_err(|e| fail_input(rt, name, e))
 }
 
@@ -125,7 +125,7 @@ fn bundle_of<'f>(
 }
 
 /// The status of what was done, or of what kept it from being done.
-fn settled(answer: Result<u8, u8>) -> u8 {
+pub(crate) fn settled(answer: Result<u8, u8>) -> u8 {
     match answer {
         Ok(status) | Err(status) => status,
     }
@@ -284,13 +284,13 @@ fn refuse_long(rt: &HostRuntime, name: &str, what: &str, limit: Option<u64>) -> 
 }
 
 /// Says that memory was refused.
-fn refuse_memory(rt: &HostRuntime, name: &str) -> u8 {
+pub(crate) fn refuse_memory(rt: &HostRuntime, name: &str) -> u8 {
     complain(rt, name, "out of memory");
     1
 }
 
 /// Prints a text.
-fn show(rt: &HostRuntime, text: &str) -> u8 {
+pub(crate) fn show(rt: &HostRuntime, text: &str) -> u8 {
     match write_stream(rt, text.as_bytes()) {
         Ok(()) => 0,
         Err(cause) => fail(rt, "resb", cause),

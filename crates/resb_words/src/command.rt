@@ -13,7 +13,9 @@ pub(crate) fn program<'a>(alloc: Global) -> Result<Command<'a>, AllocError> {
     let program = with(program, compile(alloc))?;
     let program = with(program, check(alloc))?;
     let program = with(program, dump(alloc))?;
-    with(program, get(alloc))
+    let program = with(program, get(alloc))?;
+    let program = with(program, list(alloc))?;
+    with(program, extract(alloc))
 }
 
 /// A command with one more below it.
@@ -74,6 +76,44 @@ fn get<'a>(alloc: Global) -> Result<Command<'a>, AllocError> {
         .arg(file(alloc, "A .res file; '-' is standard input"))?
         .arg(path(alloc))?
         .arg(tree_limit(alloc))
+}
+
+/// The items of a package.
+fn list<'a>(alloc: Global) -> Result<Command<'a>, AllocError> {
+    Command::new(alloc, "list")
+        .about("Lists the items of a package of ICU's data")
+        .after_help("Example: resb list icudt72l.dat")
+        .arg(package(alloc))
+}
+
+/// One item of a package.
+fn extract<'a>(alloc: Global) -> Result<Command<'a>, AllocError> {
+    Command::new(alloc, "extract")
+        .about("Writes one item of a package of ICU's data")
+        .after_help("Example: resb extract icudt72l.dat curr/de.res -o de.res")
+        .arg(package(alloc))?
+        .arg(item(alloc))?
+        .arg(item_output(alloc))
+}
+
+/// The argument of a package.
+fn package<'a>(alloc: Global) -> Arg<'a> {
+    file(alloc, "A .dat file; '-' is standard input")
+}
+
+/// The item that is written.
+fn item<'a>(alloc: Global) -> Arg<'a> {
+    Arg::new(alloc, "ITEM")
+        .help("The item's name, such as icudt72l/curr/de.res or curr/de.res")
+        .required(true)
+}
+
+/// The file of the item.
+fn item_output<'a>(alloc: Global) -> Arg<'a> {
+    Arg::new(alloc, "OUT")
+        .short('o')
+        .long("output")
+        .help("The item's file, in place of standard output")
 }
 
 /// The argument of a file.

@@ -7,4 +7,4 @@ mod error;
 mod request;
 
 pub use error::WordsError;
-pub use request::{CompileWords, DumpWords, GetWords, Request, request_of};
+pub use request::{CompileWords, DumpWords, ExtractWords, GetWords, Request, request_of};

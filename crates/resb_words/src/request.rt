@@ -18,6 +18,10 @@ pub enum Request<'w> {
     Dump(DumpWords<'w>),
     /// `get`: one thing of a file.
     Get(GetWords<'w>),
+    /// `list`: the names of the items of this package.
+    List(&'w str),
+    /// `extract`: one item of a package.
+    Extract(ExtractWords<'w>),
 }
 
 /// What is asked of texts. The name `-` is standard input, and standard output.
@@ -59,6 +63,17 @@ pub struct GetWords<'w> {
     pub limit: Option<u64>,
 }
 
+/// What is asked of a package of which one item is written.
+#[derive(Clone, Copy, Debug)]
+pub struct ExtractWords<'w> {
+    /// The package's name; `-` is standard input.
+    pub file: &'w str,
+    /// The item's name, with or without the package's own before it.
+    pub item: &'w str,
+    /// The name of the item's file; standard output if there is none.
+    pub output: Option<&'w str>,
+}
+
 /// What the words ask for, of which the first is the program's own name.
 pub fn request_of<'w>(alloc: Global, words: &'w [String]) -> Result<Request<'w>, WordsError> {
     let matches = program(alloc)?.try_get_matches_from(words)?;
@@ -71,6 +86,8 @@ fn asked<'w>(alloc: Global, matches: &ArgMatches<'w>) -> Result<Request<'w>, Wor
         Some(("compile", matches)) => compile(alloc, matches),
         Some(("check", matches)) => Ok(Request::Check(names(alloc, matches)?)),
         Some(("dump", matches)) => dump(matches),
+        Some(("list", matches)) => Ok(Request::List(word(matches, "FILE"))),
+        Some(("extract", matches)) => Ok(extract(matches)),
         Some((_, matches)) => get(matches),
         None => Err(WordsError::NoCommand),
     }
@@ -114,6 +131,15 @@ fn get<'w>(matches: &ArgMatches<'w>) -> Result<Request<'w>, WordsError> {
         path: word(matches, "PATH"),
         limit: limit(matches)?,
     }))
+}
+
+/// What is asked of a package of which one item is written.
+fn extract<'w>(matches: &ArgMatches<'w>) -> Request<'w> {
+    Request::Extract(ExtractWords {
+        file: word(matches, "FILE"),
+        item: word(matches, "ITEM"),
+        output: matches.get_str("OUT"),
+    })
 }
 
 /// The word of an argument that each command of its kind has.

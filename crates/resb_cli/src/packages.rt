@@ -1,0 +1,98 @@
+//! The commands `list` and `extract`: the items of a package of ICU's data.
+//! What a package is, is in `resb_package`.
+use crate::place::place_of;
+use crate::save::save;
+use crate::say::{complain, fail};
+use crate::show::{input, refuse_memory, settled, show};
+use crate::shown::Shown;
+use resb_package::Package;
+use resb_words::ExtractWords;
+use std::alloc::{AllocError, Global};
+
+/// Prints the name of each item of a package, a line each.
+pub(crate) fn list(rt: &HostRuntime, name: &str) -> u8 {
+    settled(list_items(rt, name))
+}
+
+/// The same: the status, or that of a file that is no package.
+fn list_items(rt: &HostRuntime, name: &str) -> Result<u8, u8> {
+    let file = input(rt, name, None)?;
+    let package = package_of(rt, name, file.as_slice())?;
+    match names_of(rt.alloc(), &package) {
+        Ok(names) => Ok(show(rt, names.as_str())),
+        Err(_) => Err(refuse_memory(rt, name)),
+    }
+}
+
+/// The package that a file is, or the status, once it is said why it is none.
+fn package_of<'f>(rt: &HostRuntime, name: &str, file: &'f [u8]) -> Result<Package<'f>, u8> {
+    Package::read(file).map_err(|e| {
+        complain(rt, name, e);
+        1
+    })
+}
+
+/// The names of all items, a line each.
+fn names_of(alloc: Global, package: &Package<'_>) -> Result<String, AllocError> {
+    let mut names = String::new(alloc);
+    for number in 0..package.len() {
+        if let Some(item) = package.item(number) {
+            names.push_str(item.name)?;
+            names.push_str("\n")?;
+        }
+    }
+    Ok(names)
+}
+
+/// Writes one item of a package.
+pub(crate) fn extract(rt: &HostRuntime, wanted: &ExtractWords<'_>) -> u8 {
+    settled(extract_item(rt, wanted))
+}
+
+/// The same: the status, or that of what kept it from being written.
+fn extract_item(rt: &HostRuntime, wanted: &ExtractWords<'_>) -> Result<u8, u8> {
+    let (name, output) = (wanted.file, wanted.output.unwrap_or("-"));
+    let file = input(rt, name, None)?;
+    let package = package_of(rt, name, file.as_slice())?;
+    let bytes = item_of(rt, &package, wanted)?;
+    let place = place_of(rt, output).map_err(|cause| fail(rt, output, cause))?;
+    save(rt, &place, bytes).map_err(|cause| fail(rt, output, cause))?;
+    Ok(0)
+}
+
+/// The bytes of the item, or the status, once it is said that there is none of this name.
+fn item_of<'f>(
+    rt: &HostRuntime,
+    package: &Package<'f>,
+    wanted: &ExtractWords<'_>,
+) -> Result<&'f [u8], u8> {
+    let (name, item) = (wanted.file, wanted.item);
+    match found(rt.alloc(), package, item) {
+        Ok(Some(bytes)) => Ok(bytes),
+        Ok(None) => {
+            let (name, item) = (Shown(name), Shown(item));
+            let _ = eprintln!(rt; "{name}: no item is named {item}");
+            Err(1)
+        }
+        Err(_) => Err(refuse_memory(rt, name)),
+    }
+}
+
+/// The bytes of the item of this name, or else of this name behind that of the package, with which
+/// the names of all items begin.
+fn found<'f>(
+    alloc: Global,
+    package: &Package<'f>,
+    item: &str,
+) -> Result<Option<&'f [u8]>, AllocError> {
+    if let Some(bytes) = package.get(item) {
+        return Ok(Some(bytes));
+    }
+    match package.item(0).and_then(|first| first.name.split_once('/')) {
+        Some((own, _)) => {
+            let whole = format!(in alloc; "{own}/{item}")?;
+            Ok(package.get(whole.as_str()))
+        }
+        None => Ok(None),
+    }
+}

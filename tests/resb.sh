@@ -357,8 +357,32 @@ cp names.res kept.res
 [ $? = 2 ] && passed=$((passed + 1)) || { failed=$((failed + 1)); cat err; }
 same names.res kept.res
 
+# a package's items, by their names with the package's own before them and without it
+python3 -c "
+import struct
+items = [(b'p/a.res', b'one'), (b'p/sub/b.res', b'two!'), (b'p/z', b'')]
+at, names = 4 + 8 * len(items), b''.join(name + b'\\0' for name, _ in items)
+table, behind = struct.pack('<I', len(items)), at + len(names)
+for name, item in items:
+    table += struct.pack('<II', at, behind)
+    at, behind = at + len(name) + 1, behind + len(item)
+head = struct.pack('<HBBHHBBBB4s4s4s', 32, 0xDA, 0x27, 20, 0, 0, 0, 2, 0, b'CmnD', b'\\1', b'')
+open('p.dat', 'wb').write(head.ljust(32, b'\\0') + table + names + b''.join(it for _, it in items))
+"
+told 0 $'p/a.res\np/sub/b.res\np/z' '' list p.dat
+input=p.dat
+told 0 'one' '' extract - p/a.res
+input=
+told 0 'two!' '' extract p.dat sub/b.res
+told 0 '' '' extract p.dat p/z
+told 0 '' '' extract p.dat a.res -o a.item
+[ "$(cat a.item)" = one ] && passed=$((passed + 1)) || { failed=$((failed + 1)); cat a.item; }
+told 1 '' 'p.dat: no item is named c.res' extract p.dat c.res
+told 1 '' 'names.res: not a package, but another kind of ICU data' list names.res
+told 2 '' 'none.dat: no such file' extract none.dat a.res
+
 told 0 'resb 0.2.0' '' --version
-for command in compile check dump get; do
+for command in compile check dump get list extract; do
   (exec -a resb "$program" help "$command") > help.txt \
     && grep -q "^Example: resb $command" help.txt \
     && passed=$((passed + 1)) || { failed=$((failed + 1)); echo "help $command"; }

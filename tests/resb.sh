@@ -357,6 +357,24 @@ cp names.res kept.res
 [ $? = 2 ] && passed=$((passed + 1)) || { failed=$((failed + 1)); cat err; }
 same names.res kept.res
 
+# JSON as deep as it may be, and one level more
+deep() { printf 'b{a%s%s}' "$(printf ':array{%.0s' $(seq "$1"))" "$(printf '}%.0s' $(seq "$1"))"; }
+deep 119 > deep.txt
+told 0 '' '' compile deep.txt
+told 0 "{\"a\":$(printf '[%.0s' $(seq 119))$(printf ']%.0s' $(seq 119))}" '' dump --json deep.res
+deep 120 > deep.txt
+told 0 '' '' compile deep.txt
+told 1 '' 'deep.res: this nests more than 120 levels deep, too deep for JSON' dump --json deep.res
+
+# standard input and output are the files that they are
+cp names.txt own.txt
+input=own.txt
+told 2 '' '-: the file would take the place of its own text' compile - -o own.txt
+input=
+(exec -a resb "$program" compile own.txt -o /dev/stdout) >> own.txt 2> err
+[ $? = 2 ] && passed=$((passed + 1)) || { failed=$((failed + 1)); cat err; }
+same names.txt own.txt
+
 # a package's items, by their names with the package's own before them and without it
 python3 -c "
 import struct
@@ -378,6 +396,9 @@ told 0 '' '' extract p.dat p/z
 told 0 '' '' extract p.dat a.res -o a.item
 [ "$(cat a.item)" = one ] && passed=$((passed + 1)) || { failed=$((failed + 1)); cat a.item; }
 told 1 '' 'p.dat: no item is named c.res' extract p.dat c.res
+cp p.dat kept.dat
+told 2 '' 'p.dat: the item would take the place of its package' extract p.dat a.res -o p.dat
+same p.dat kept.dat
 told 1 '' 'names.res: not a package, but another kind of ICU data' list names.res
 told 2 '' 'none.dat: no such file' extract none.dat a.res
 

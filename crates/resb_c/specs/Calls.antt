@@ -58,7 +58,7 @@ abbrev pub needed_of : Fault → ℕ
 needed_of (TooShort n) = n
 needed_of _ = 0
 
--- no message: memory was wanted for it
+-- no message: all bytes are 0
 abbrev pub IsNoMessage : List ℕ → Type 0
 IsNoMessage message = message ≡ replicate 256 0
 

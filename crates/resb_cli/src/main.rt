@@ -1,4 +1,4 @@
-//! The program `resb` that people call: compile, check, dump, get.
+//! The program `resb` that people call: compile, check, dump, get, list, extract.
 //! What its words ask for is in `resb_words`, and what it does with bytes in `resb_program`.
 #![tactic(auto)]
 
@@ -58,6 +58,9 @@ fn perform_request(rt: &HostRuntime, request: &Request<'_>) -> u8 {
         }
         Request::Get(words) => show::get(rt, words),
         Request::List(name) => packages::list(rt, name),
+        Request::Extract(words) if words::is_marked(words.item) => {
+            say::fail(rt, words.item, words::NO_UTF8)
+        }
         Request::Extract(words) => packages::extract(rt, words),
     }
 }

@@ -1,10 +1,12 @@
 //! The commands `list` and `extract`: the items of a package of ICU's data.
 //! What a package is, is in `resb_package`.
-use crate::place::place_of;
+use crate::place::{Place, place_of};
 use crate::save::save;
 use crate::say::{complain, fail};
 use crate::show::{input, refuse_memory, settled, show};
 use crate::shown::Shown;
+use crate::streams::NO_MEMORY;
+use crate::taken::Taken;
 use resb_package::Package;
 use resb_words::ExtractWords;
 use std::alloc::{AllocError, Global};
@@ -32,13 +34,13 @@ fn package_of<'f>(rt: &HostRuntime, name: &str, file: &'f [u8]) -> Result<Packag
     })
 }
 
-/// The names of all items, a line each.
+/// The names of all items, a line each; what is hidden in one stands as `\u{1b}`.
 fn names_of(alloc: Global, package: &Package<'_>) -> Result<String, AllocError> {
     let mut names = String::new(alloc);
     for number in 0..package.len() {
         if let Some(item) = package.item(number) {
-            names.push_str(item.name)?;
-            names.push_str("\n")?;
+            let name = Shown(item.name);
+            write!(names, "{name}\n")?;
         }
     }
     Ok(names)
@@ -55,9 +57,19 @@ fn extract_item(rt: &HostRuntime, wanted: &ExtractWords<'_>) -> Result<u8, u8> {
     let file = input(rt, name, None)?;
     let package = package_of(rt, name, file.as_slice())?;
     let bytes = item_of(rt, &package, wanted)?;
-    let place = place_of(rt, output).map_err(|cause| fail(rt, output, cause))?;
+    let place = free_place(rt, name, output).map_err(|cause| fail(rt, output, cause))?;
     save(rt, &place, bytes).map_err(|cause| fail(rt, output, cause))?;
     Ok(0)
+}
+
+/// The place of the item's file, which isn't that of its package.
+fn free_place(rt: &HostRuntime, package: &str, output: &str) -> Result<Place, &'static str> {
+    let place = place_of(rt, output)?;
+    match Taken::new(rt, &[package])?.take(rt, package, &place) {
+        Ok(()) => Ok(place),
+        Err(NO_MEMORY) => Err(NO_MEMORY),
+        Err(_) => Err("the item would take the place of its package"),
+    }
 }
 
 /// The bytes of the item, or the status, once it is said that there is none of this name.
@@ -78,8 +90,8 @@ fn item_of<'f>(
     }
 }
 
-/// The bytes of the item of this name, or else of this name behind that of the package, with which
-/// the names of all items begin.
+/// The bytes of the item of this name, or else of this name behind that of the package, which is
+/// what the first item's name begins with.
 fn found<'f>(
     alloc: Global,
     package: &Package<'f>,

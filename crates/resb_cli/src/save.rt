@@ -112,10 +112,10 @@ fn fill(file: &mut File, old: Option<&Metadata>, bytes: &[u8]) -> io::Result<()>
 }
 
 /// Gives a new file the rights of the old one to read, write and run it, and its owner and group
-/// where the system lets it.
+/// where the system lets it. What a group may do that isn't kept, no other group may.
 fn keep_rights(file: &File, old: &Metadata) -> io::Result<()> {
-    if fchown(file, Some(old.uid()), Some(old.gid())).is_err() {
-        let _ = fchown(file, None, Some(old.gid()));
-    }
-    file.set_permissions(Permissions::from_mode(old.mode() & 0o777))
+    let has_group = fchown(file, Some(old.uid()), Some(old.gid())).is_ok()
+        || fchown(file, None, Some(old.gid())).is_ok();
+    let rights = if has_group { 0o777 } else { 0o707 };
+    file.set_permissions(Permissions::from_mode(old.mode() & rights))
 }

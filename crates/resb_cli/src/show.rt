@@ -51,7 +51,7 @@ fn refuse(rt: &HostRuntime, name: &str, file: &[u8], e: &FileError) -> u8 {
         .ok()
         .and_then(|summary| foreign(summary.version));
     match version {
-        _ if is_want_of_memory(e) => complain(rt, name, NO_MEMORY),
+        _ if wants_memory(e) => complain(rt, name, NO_MEMORY),
         Some(version) => {
             let name = Shown(name);
             let _ = eprintln!(rt; "{name}: format version {version}: {e}");
@@ -62,7 +62,7 @@ fn refuse(rt: &HostRuntime, name: &str, file: &[u8], e: &FileError) -> u8 {
 }
 
 /// Whether it was memory that was wanted.
-fn is_want_of_memory(e: &FileError) -> bool {
+fn wants_memory(e: &FileError) -> bool {
     match e {
         FileError::Reading(e) => e.is_out_of_memory(),
         _ => false,
@@ -116,7 +116,7 @@ fn bundle_of<'f>(
     let bundle_name = if name == "-" { "bundle" } else { stem };
     match read_bundle(rt.alloc(), bundle_name, file, limit) {
         Ok(bundle) => Ok(bundle),
-        Err(e) if is_want_of_memory(&e) => Err(refuse_memory(rt, name)),
+        Err(e) if wants_memory(&e) => Err(refuse_memory(rt, name)),
         Err(e) => {
             complain(rt, name, e);
             Err(1)

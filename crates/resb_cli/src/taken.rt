@@ -44,7 +44,10 @@ impl Taken {
     ) -> Result<(), &'static str> {
         match place {
             Place::Inside(path) => self.check_inside(rt, name, path.as_path()),
-            Place::Stream => self.take_file(owned(rt, Path::new("-"))?),
+            Place::Stream => {
+                self.check_inside(rt, name, Path::new("/dev/stdout"))?;
+                self.take_file(owned(rt, Path::new("-"))?)
+            }
             Place::Beside(path) => {
                 let file = real_name(rt, path.as_path())?;
                 self.check(real_path(rt, name)?, file.as_str())?;
@@ -105,11 +108,10 @@ fn owned(rt: &HostRuntime, path: Path<'_>) -> Result<String, &'static str> {
     made(String::from_str(rt.alloc(), path.as_str()))
 }
 
-/// The real path of what has a name, if anything has; standard input has none.
+/// The real path of what has a name, if anything has; of standard input, that of the file which it
+/// is, if it is one.
 fn real_path(rt: &HostRuntime, name: &str) -> Result<Option<String>, &'static str> {
-    if name == "-" {
-        return Ok(None);
-    }
+    let name = if name == "-" { "/dev/stdin" } else { name };
     match fs::canonicalize(rt, name) {
         Ok(path) => Ok(Some(owned(rt, path.as_path())?)),
         Err(e) if e.kind() == ErrorKind::OutOfMemory => Err(NO_MEMORY),

@@ -11,7 +11,8 @@ use std::cmp::Ordering;
 /// A package of items under names. It borrows the file's bytes.
 /// Names stand one behind the other, as ICU's tools write them; ICU's reader doesn't ask for that.
 /// Neither reader looks at the rest of the header: the info's size, the size of a character, the
-/// minor version, the version of the data, and what is reserved.
+/// minor version, the version of the data, and what is reserved; nor at what a name is made of but
+/// that its bytes are below 128, nor whether names and items stand behind the table.
 #[derive(Clone, Copy)]
 pub struct Package<'a> {
     table: Table<'a>,

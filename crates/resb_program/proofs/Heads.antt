@@ -1,7 +1,8 @@
 -- A file that is read has a head that says something; and a tree that takes more than a limit.
 use Rattle.std.proofs.Common.{ℕ, List, ◌≡◌, ◌∙◌, ◌≤◌, ◌++◌, length, drop, arith, ap, unwrap_or}
+use Rattle.std.proofs.Common.{Option, Some, None, Result, Ok, Err, Bool, true, false, refl, ◌↔◌}
+use Rattle.std.proofs.Common.{is_some}
 use Rattle.std.specs.Prelude.{slice_index}
-use Rattle.std.proofs.Common.{Option, Some, None, Result, Ok, Err, Bool, true, false, refl, ◌↔◌, is_some}
 use Rattle.std.specs.Result.{IsErrAnd, MatchResult}
 use Rattle.resb_format.specs.Error.{refusal_of}
 use Rattle.resb_format.specs.declared.error.ReadingError.{ReadingError}

@@ -1,5 +1,5 @@
 -- What stands at a path of names in a tree.
---     is_adorned name      a sign stands first, or a zero before more
+--     is_adorned name      a plus stands first, or a zero before more
 --     number_said name     the number that a name says, if it says one
 --     found_inside s name  what stands inside, under one name
 --     found_at s names     what stands at a path of names

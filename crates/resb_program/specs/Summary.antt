@@ -30,8 +30,9 @@ summary_checks bytes =
 unfoldable pub summary_refusal : List ℕ → Option Refusal
 summary_refusal bytes = first_refusal (summary_checks bytes)
 
--- no check fails; the version is the header's; fallback is on where the attribute of value 1 isn't set, the file is
--- a pool where that of 2 is set, and uses one where that of 4 is; the largest table is the index's
+-- no check fails; the version is the header's; fallback is on where the attribute of value 1 isn't
+-- set, the file is a pool where that of 2 is set, and uses one where that of 4 is; the largest table
+-- is the index's
 pub record Summarizes (bytes : List ℕ) (s : Summary) : Type 0 where
   pub header : BinHeader
   pub index : BinIndex

@@ -11,7 +11,7 @@ use std::alloc::{AllocError, Global};
 /// The most bytes that are shown on one side of the place.
 const REACH: usize = 60;
 
-/// Whether a line begins at a place, or the text is shown no further back from another.
+/// Whether a line begins at a place.
 fn begins_line(text: &[u8], at: usize) -> bool
     requires { at ≤ length text.now }
     ensures { result ≡ excerpt.begins_line text.now at }

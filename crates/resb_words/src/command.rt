@@ -181,10 +181,10 @@ fn limit<'a>(alloc: Global, help: &'a str) -> Arg<'a> {
     Arg::new(alloc, "BYTES").long("limit").help(help)
 }
 
-/// The most bytes that a tree may take.
+/// The most bytes that a tree, its keys and what is printed of it may take.
 fn tree_limit<'a>(alloc: Global) -> Arg<'a> {
     limit(
         alloc,
-        "Refuses a file whose tree takes more bytes of memory than this",
+        "Refuses a file whose tree, keys or output take more bytes than this",
     )
 }

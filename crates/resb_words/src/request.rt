@@ -48,7 +48,7 @@ pub struct DumpWords<'w> {
     pub is_json: bool,
     /// Whether the text is printed in ICU's own form.
     pub is_icu: bool,
-    /// The most bytes that the file's tree may take.
+    /// The most bytes that the file's tree, its keys and the output may take.
     pub limit: Option<u64>,
 }
 
@@ -59,7 +59,7 @@ pub struct GetWords<'w> {
     pub file: &'w str,
     /// Keys and numbers of members, with a slash between two of them.
     pub path: &'w str,
-    /// The most bytes that the file's tree may take.
+    /// The most bytes that the file's tree, its keys and the output may take.
     pub limit: Option<u64>,
 }
 

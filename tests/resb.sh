@@ -375,6 +375,17 @@ input=
 [ $? = 2 ] && passed=$((passed + 1)) || { failed=$((failed + 1)); cat err; }
 same names.txt own.txt
 
+# a file that standard output is counts too; a text that is refused takes no file
+cp names.txt two.txt
+(exec -a resb "$program" compile - two.txt) < own.txt > two.res 2> err
+[ $? = 2 ] && [ "$(cat err)" = 'two.txt: another of these texts has its file' ] \
+  && passed=$((passed + 1)) || { failed=$((failed + 1)); cat err; }
+same names.res two.res
+cp names.txt open.two
+told 1 '' $'open.txt:1:2: expected \'}\' before the text ends inside this\nb{\n ^' \
+  compile open.txt open.two
+same names.res open.res
+
 # a package's items, by their names with the package's own before them and without it
 python3 -c "
 import struct

@@ -47,8 +47,8 @@ fn compile_one(
     let output = told(rt, name, output_of(rt.alloc(), name, wanted))?;
     let output = output.as_path().as_str();
     let place = told(rt, output, place_of(rt, output))?;
-    told(rt, name, taken.take(rt, name, &place))?;
     let (file, status) = file_of(rt, name, wanted)?;
+    told(rt, name, taken.take(rt, name, &place))?;
     told(rt, output, save(rt, &place, file.as_slice()))?;
     Ok(status)
 }

@@ -116,7 +116,9 @@ pub(crate) fn folder_of(path: Path<'_>) -> Path<'_> {
 fn target_of(rt: &HostRuntime, link: Path<'_>) -> Result<PathBuf, &'static str> {
     match fs::read_link(rt, link) {
         Ok(target) => made(folder_of(link).join(rt.alloc(), target.as_path())),
-        Err(e) if e.kind() == ErrorKind::InvalidFilename => Err(NO_UTF8),
+        Err(e) if e.kind() == ErrorKind::InvalidFilename => {
+            Err("this leads to a name that is no UTF-8")
+        }
         Err(e) => Err(cause_of(&e)),
     }
 }

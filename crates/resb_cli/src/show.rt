@@ -193,8 +193,12 @@ fn show_text(rt: &HostRuntime, name: &str, bundle: &ResourceBundle<'_>, limit: O
         Ok(None) => refuse_long(rt, name, "text", limit),
         Err(PrintError::OutOfMemory) => refuse_memory(rt, name),
         Err(e) => {
-            say_no_text(rt, name, "text", e, cause_path(rt.alloc(), bundle));
-            show_json(rt, name, bundle.root(), limit)
+            let json = json_of(rt.alloc(), bundle.root(), limit);
+            match json {
+                Ok(Some(_)) => say_no_text(rt, name, "text", e, cause_path(rt.alloc(), bundle)),
+                _ => complain(rt, name, e),
+            }
+            show_made(rt, name, json, limit)
         }
     }
 }
@@ -206,16 +210,30 @@ fn show_icu(rt: &HostRuntime, name: &str, bundle: &ResourceBundle<'_>, limit: Op
         Ok(None) => refuse_long(rt, name, "text in ICU's form", limit),
         Err(IcuPrintError::OutOfMemory) => refuse_memory(rt, name),
         Err(e) => {
+            let json = json_of(rt.alloc(), bundle.root(), limit);
             let path = icu_cause_path(rt.alloc(), bundle);
-            say_no_text(rt, name, "text in ICU's form", e, path);
-            show_json(rt, name, bundle.root(), limit)
+            match json {
+                Ok(Some(_)) => say_no_text(rt, name, "text in ICU's form", e, path),
+                _ => complain(rt, name, e),
+            }
+            show_made(rt, name, json, limit)
         }
     }
 }
 
 /// Prints a resource as JSON, with a line feed.
 fn show_json(rt: &HostRuntime, name: &str, resource: &Resource<'_>, limit: Option<u64>) -> u8 {
-    match json_of(rt.alloc(), resource, limit) {
+    show_made(rt, name, json_of(rt.alloc(), resource, limit), limit)
+}
+
+/// Prints JSON that was made, with a line feed, or says why there is none.
+fn show_made(
+    rt: &HostRuntime,
+    name: &str,
+    json: Result<Option<String>, JsonError>,
+    limit: Option<u64>,
+) -> u8 {
+    match json {
         Ok(Some(mut text)) => match text.push_str("\n") {
             Ok(()) => show(rt, text.as_str()),
             Err(_) => refuse_memory(rt, name),

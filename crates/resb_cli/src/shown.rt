@@ -1,6 +1,6 @@
 //! Names, keys and paths as messages show them: nothing of them moves the mark of a terminal or
 //! turns its text, and none fills the screen. Lines of texts are shown by `resb_program`.
-use crate::words::without_mark;
+use crate::words::MARK;
 use resb_program::is_hidden;
 use std::fmt;
 
@@ -13,7 +13,7 @@ pub(crate) struct Shown<'a>(pub(crate) &'a str);
 
 impl fmt::Display for Shown<'_> {
     fn fmt<W: fmt::Write>(&self, f: &mut fmt::Formatter<W>) -> fmt::Result {
-        let text = without_mark(self.0);
+        let text = self.0;
         let count = text.chars().count();
         let behind = count.saturating_sub(END);
         for (number, c) in text.chars().enumerate() {
@@ -29,7 +29,9 @@ impl fmt::Display for Shown<'_> {
 
 /// Writes a character, or what stands for one that is hidden.
 fn write_character<W: fmt::Write>(f: &mut fmt::Formatter<W>, c: char) -> fmt::Result {
-    if is_hidden(c) {
+    if c == MARK {
+        Ok(())
+    } else if is_hidden(c) {
         let code = u32::from(c);
         write!(f, "\\u{{{code:x}}}")
     } else {

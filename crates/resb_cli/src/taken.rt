@@ -42,34 +42,11 @@ impl Taken {
         name: &str,
         place: &Place,
     ) -> Result<(), &'static str> {
-        match place {
-            Place::Inside(path) => self.check_inside(rt, name, path.as_path()),
-            Place::Stream => {
-                self.check_inside(rt, name, Path::new("/dev/stdout"))?;
-                self.take_file(owned(rt, Path::new("-"))?)
-            }
-            Place::Beside(path) => {
-                let file = real_name(rt, path.as_path())?;
-                self.check(real_path(rt, name)?, file.as_str())?;
-                self.take_file(file)
-            }
-        }
-    }
-
-    /// Whether what is written where it is isn't a file of a text.
-    fn check_inside(
-        &self,
-        rt: &HostRuntime,
-        name: &str,
-        path: Path<'_>,
-    ) -> Result<(), &'static str> {
-        if !path.is_file(rt) {
+        let Some(file) = file_at(rt, place)? else {
             return Ok(());
-        }
-        match real_path(rt, path.as_str())? {
-            Some(file) => self.check(real_path(rt, name)?, file.as_str()),
-            None => Ok(()),
-        }
+        };
+        self.check(real_path(rt, name)?, file.as_str())?;
+        self.take_file(file)
     }
 
     /// Whether a file isn't that of the text that has the other path, nor of another text.
@@ -92,6 +69,28 @@ impl Taken {
         } else {
             Err("another of these texts has its file")
         }
+    }
+}
+
+/// The real path of the file at a place; `-` for standard output that is no file, and none for a
+/// device or a pipe.
+fn file_at(rt: &HostRuntime, place: &Place) -> Result<Option<String>, &'static str> {
+    match place {
+        Place::Inside(path) => open_file(rt, path.as_path()),
+        Place::Stream => match open_file(rt, Path::new("/dev/stdout"))? {
+            Some(file) => Ok(Some(file)),
+            None => Ok(Some(owned(rt, Path::new("-"))?)),
+        },
+        Place::Beside(path) => Ok(Some(real_name(rt, path.as_path())?)),
+    }
+}
+
+/// The real path of what a process has open, if that is a file.
+fn open_file(rt: &HostRuntime, path: Path<'_>) -> Result<Option<String>, &'static str> {
+    if path.is_file(rt) {
+        real_path(rt, path.as_str())
+    } else {
+        Ok(None)
     }
 }
 

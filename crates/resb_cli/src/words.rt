@@ -4,7 +4,7 @@ use std::alloc::{AllocError, Global};
 use std::env::{Env, FillError};
 
 /// What stands before the bytes of a word that is no UTF-8. The system's words can't have it.
-const MARK: char = '\0';
+pub(crate) const MARK: char = '\0';
 
 /// What is said of a name that is no UTF-8.
 pub(crate) const NO_UTF8: &str = "this name is no UTF-8";
@@ -65,9 +65,4 @@ fn marked(alloc: Global, bytes: &[u8]) -> Result<String, AllocError> {
 /// Whether a name was a word that is no UTF-8.
 pub(crate) fn is_marked(name: &str) -> bool {
     name.starts_with(MARK)
-}
-
-/// A name without the mark.
-pub(crate) fn without_mark(name: &str) -> &str {
-    name.strip_prefix(MARK).unwrap_or(name)
 }

@@ -321,7 +321,7 @@ open("k.res", "wb").write(data.replace(old, new))
 P
 resb dump k.res > .out 2> .err
 holds 'a long path to a key' \
-  grep -q "since a string holds a '\"' at k.u{202e}/k.*\.\..*/a; here" .err
+  grep -q "since a string holds a '\"' at k.u{202e}/k.*\.\..*/a$" .err
 holds 'is cut' [ "$(wc -c < .err)" -lt 8000 ]
 
 # an input is read up to a limit

@@ -48,11 +48,31 @@ pub(crate) fn say_lines<R: Eprint + AllocGlobal, C: Display>(rt: &R, cause: &C) 
     2
 }
 
+/// A form of text that a bundle has none of.
+#[derive(Clone, Copy)]
+pub(crate) struct NoText {
+    /// What the form is called.
+    pub(crate) what: &'static str,
+    /// Whether the bundle's JSON is shown in its place.
+    pub(crate) has_json: bool,
+}
+
+impl NoText {
+    /// What is said at the end.
+    fn end(self) -> &'static str {
+        if self.has_json {
+            "; here is its JSON"
+        } else {
+            ""
+        }
+    }
+}
+
 /// Says why a bundle has no text of a form, and the path to the cause, if that is inside it.
 pub(crate) fn say_no_text<R: Eprint + AllocGlobal, C: Display + Drop>(
     rt: &R,
     name: &str,
-    what: &str,
+    form: NoText,
     cause: C,
     path: Result<Option<Vec<PathStep<'_>>>, AllocError>,
 ) {
@@ -63,23 +83,21 @@ pub(crate) fn say_no_text<R: Eprint + AllocGlobal, C: Display + Drop>(
     };
     match at {
         Ok(at) if !at.is_empty() => {
-            let (name, at) = (Shown(name), Shown(at.as_str()));
-            let _ = eprintln!(rt;
-                "{name}: this has no {what}, since {cause} at {at}; here is its JSON"
-            );
+            let (name, at, what, end) = (Shown(name), Shown(at.as_str()), form.what, form.end());
+            let _ = eprintln!(rt; "{name}: this has no {what}, since {cause} at {at}{end}");
         }
-        Ok(_) => say_no_form(rt, name, what, cause),
+        Ok(_) => say_no_form(rt, name, form, cause),
         Err(_) => {
             complain(rt, name, NO_MEMORY);
-            say_no_form(rt, name, what, cause);
+            say_no_form(rt, name, form, cause);
         }
     }
 }
 
 /// Says why a bundle has no text of a form.
-fn say_no_form<R: Eprint, C: Display + Drop>(rt: &R, name: &str, what: &str, cause: C) {
-    let name = Shown(name);
-    let _ = eprintln!(rt; "{name}: this has no {what}, since {cause}; here is its JSON");
+fn say_no_form<R: Eprint, C: Display + Drop>(rt: &R, name: &str, form: NoText, cause: C) {
+    let (name, what, end) = (Shown(name), form.what, form.end());
+    let _ = eprintln!(rt; "{name}: this has no {what}, since {cause}{end}");
 }
 
 /// The keys and numbers of a path, with a slash between two of them.

@@ -1,7 +1,7 @@
 //! The commands `check`, `dump` and `get`: what is said of a file, and what is shown of it.
 //! What a file is, and why it isn't read, is in `resb_program`.
 use crate::progress::Progress;
-use crate::say::{complain, fail, fail_input, say_no_text};
+use crate::say::{NoText, complain, fail, fail_input, say_no_text};
 use crate::shown::Shown;
 use crate::streams::{NO_MEMORY, read_input, write_stream};
 use resb_head::FormatVersion;
@@ -194,10 +194,9 @@ fn show_text(rt: &HostRuntime, name: &str, bundle: &ResourceBundle<'_>, limit: O
         Err(PrintError::OutOfMemory) => refuse_memory(rt, name),
         Err(e) => {
             let json = json_of(rt.alloc(), bundle.root(), limit);
-            match json {
-                Ok(Some(_)) => say_no_text(rt, name, "text", e, cause_path(rt.alloc(), bundle)),
-                _ => complain(rt, name, e),
-            }
+            let (what, has_json) = ("text", matches!(json, Ok(Some(_))));
+            let path = cause_path(rt.alloc(), bundle);
+            say_no_text(rt, name, NoText { what, has_json }, e, path);
             show_made(rt, name, json, limit)
         }
     }
@@ -211,11 +210,9 @@ fn show_icu(rt: &HostRuntime, name: &str, bundle: &ResourceBundle<'_>, limit: Op
         Err(IcuPrintError::OutOfMemory) => refuse_memory(rt, name),
         Err(e) => {
             let json = json_of(rt.alloc(), bundle.root(), limit);
+            let (what, has_json) = ("text in ICU's form", matches!(json, Ok(Some(_))));
             let path = icu_cause_path(rt.alloc(), bundle);
-            match json {
-                Ok(Some(_)) => say_no_text(rt, name, "text in ICU's form", e, path),
-                _ => complain(rt, name, e),
-            }
+            say_no_text(rt, name, NoText { what, has_json }, e, path);
             show_made(rt, name, json, limit)
         }
     }

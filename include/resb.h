@@ -127,7 +127,7 @@ uint32_t resb_measure(const uint8_t *file, size_t file_length, resb_measured *me
  * it are as they were. RESB_TOO_SHORT: out is as it was, and *length is the length of the text.
  * Else out is as it was, and *length is 0: RESB_NOT_UTF8 for the name, which is looked at first,
  * the reasons of resb_check, RESB_OVER_LIMIT, RESB_NOT_PRINTABLE. Tree and text are each within the
- * limit, as far as they are made; what the call uses beside them is not. */
+ * limit, but for one line of the text; what the call uses beside them is not. */
 uint32_t resb_dump(const uint8_t *file, size_t file_length, const uint8_t *name,
                    size_t name_length, uint64_t limit, uint8_t *out, size_t out_length,
                    size_t *length, resb_error *error);

@@ -1,0 +1,3 @@
+-- Words of private functions: nothing here needs to be trusted.
+pub mod Sized
+pub mod Lending

@@ -1,0 +1,9 @@
+//! The laws of files beside pool bundles, each the contract of a call that does nothing. Their
+//! statements stand in `specs/Laws`.
+ghost use Rattle.resb_pool_bundle.specs.Laws.{OwnFilesAreTheSame};
+
+/// A file of version 2.0 that has nothing to do with pool bundles is refused, and cut into its
+/// parts, as it is without this crate.
+pub fn own_files_are_the_same()
+    ensures { OwnFilesAreTheSame }
+{}

@@ -1,0 +1,11 @@
+//! The heads of files of versions 1.1 to 3.0, what a pool bundle lends, and the parts of a file
+//! beside one. What a word of the parts denotes is said in `resb_format`.
+#![tactic(auto)]
+
+mod head;
+mod index;
+pub mod laws;
+mod pool_bundle;
+
+pub use head::{FileHead, read_with_pool};
+pub use pool_bundle::PoolBundle;

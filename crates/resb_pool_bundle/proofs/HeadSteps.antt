@@ -42,7 +42,8 @@ pub version_answers : (bytes : List ℕ) (g : Refusal) → header_refusal false 
     → first_refusal (version_checks (drop 4 bytes)) ≡ Some g → head_refusal bytes ≡ Some g
 version_answers bytes g h e =
     behind_header bytes h
-    ∙ earlier_refusal (version_checks (drop 4 bytes)) (size_checks bytes ++ lending_checks bytes) g e
+    ∙ earlier_refusal (version_checks (drop 4 bytes)) (size_checks bytes ++ lending_checks bytes) g
+    e
 
 -- the rest of the checks, once header and version pass theirs
 pub behind_version : (bytes : List ℕ) → header_refusal false bytes ≡ None

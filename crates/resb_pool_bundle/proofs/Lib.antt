@@ -1,4 +1,5 @@
 -- For crates above: those that are `pub`.
+mod Examples
 pub mod Steps
 mod VersionSteps
 mod SizeSteps

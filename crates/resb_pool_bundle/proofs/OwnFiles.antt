@@ -1,8 +1,11 @@
--- Files of version 2.0 that have nothing to do with pools are refused, and have their parts, as they
--- do without pools.
-use Rattle.std.proofs.Common.{ℕ, List, [], ◌∷◌, ◌++◌, ◌≡◌, ◌+◌, ◌-◌, ◌*◌, ◌%◌, ◌^◌, ◌≤◌, ◌<◌, inl, inr}
-use Rattle.std.proofs.Common.{length, min, take, drop, Bool, true, false, not, ◌&&◌, ◌||◌, ◌==◌, nat_eq}
-use Rattle.std.proofs.Common.{nat_le, nat_lt, Some, None, Option, refl, sym, ap, ◌∙◌, arith, codes, get_or}
+-- Files of version 2.0 that have nothing to do with pools are refused, and have their parts, as
+-- without pools.
+use Rattle.std.proofs.Common.{ℕ, List, [], ◌∷◌, ◌++◌, ◌≡◌, ◌+◌, ◌-◌, ◌*◌, ◌%◌, ◌^◌, ◌≤◌, ◌<◌, inl}
+use Rattle.std.proofs.Common.{inr}
+use Rattle.std.proofs.Common.{length, min, take, drop, Bool, true, false, not, ◌&&◌, ◌||◌, ◌==◌}
+use Rattle.std.proofs.Common.{nat_eq}
+use Rattle.std.proofs.Common.{nat_le, nat_lt, Some, None, Option, refl, sym, ap, ◌∙◌, arith, codes}
+use Rattle.std.proofs.Common.{get_or}
 use Rattle.std.proofs.Common.{slice_range, length-drop}
 use Rattle.std.specs.Prelude.{if◌then◌else◌, option_map}
 use Rattle.std.specs.Str.{bytes_eq}
@@ -84,7 +87,10 @@ fields_agree bs n =
     field_behind (body_of bs) 0 in
     elim (cases_lt (length (body_of bs)) 4) [
       | inl h ↦
-          rw (lt-leb 8 (length (body_of bs)) (omega (arith, h)), lt-leb 4 (length (body_of bs)) h) refl
+          rw (
+            lt-leb 8 (length (body_of bs)) (omega (arith, h)),
+            lt-leb 4 (length (body_of bs)) h,
+          ) refl
       | inr h ↦
           elim (cases_lt (length (body_of bs)) 8) [
             | inl k ↦

@@ -1,6 +1,7 @@
 -- Which check of the sizes is the first that fails, and what holds where none does.
 use Rattle.std.proofs.Common.{ℕ, List, [], ◌∷◌, ◌++◌, ◌≡◌, ◌+◌, ◌*◌, ◌≤◌, ◌<◌, ◌⊎◌, inl, inr}
-use Rattle.std.proofs.Common.{length, min, Bool, true, false, ◌&&◌, ◌||◌, nat_le, nat_lt, Some, None}
+use Rattle.std.proofs.Common.{length, min, Bool, true, false, ◌&&◌, ◌||◌, nat_le, nat_lt, Some}
+use Rattle.std.proofs.Common.{None}
 use Rattle.std.proofs.Common.{refl, sym, ap, ◌∙◌, arith, codes, get_or}
 use Rattle.std.proofs.lemmas.Bool.{lt-leb, le-leb, lt-ltb, le-ltb, or_right}
 use Rattle.std.proofs.lemmas.Bool.Decides.{nat_tests}

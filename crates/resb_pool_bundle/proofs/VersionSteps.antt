@@ -37,8 +37,11 @@ version_test v = nat_le 2 (get_or (version_bytes v) 0 0) || nat_le 1 (get_or (ve
 test_is : (v : FormatVersion) (info : List ℕ) → version_bytes v ≡ slice_range info 12 16
     → (nat_le 2 (get_or info 12 0) || nat_le 1 (get_or info 13 0)) ≡ version_test v
 unfolding version_test
-test_is v info e = rw (spelled_at v info 12 0 e (omega arith), spelled_at v info 12 1 e (omega arith))
-    refl
+test_is v info e =
+    rw (
+      spelled_at v info 12 0 e (omega arith),
+      spelled_at v info 12 1 e (omega arith),
+    ) refl
 
 test_holds : (v : FormatVersion) → v ≢ V1_0 → version_test v ≡ true
 unfolding version_test

@@ -8,6 +8,7 @@ pub use Rattle.resb_head.specs.HeadChecks
 pub mod Fields
 pub mod Pool
 pub mod Checks
+pub mod Checksum
 pub mod FileWith
 pub mod Laws
 pub mod Heads

@@ -106,13 +106,14 @@ fn find_ends(
 }
 
 impl<'a> Index<'a> {
-    ghost use Rattle.std.specs.Prelude.{◌==◌, ◌&&◌, ◌||◌, not, is_some, Some, None, MatchResult};
+    ghost use Rattle.std.specs.Prelude.{◌==◌, ◌&&◌, ◌||◌, not, is_some, Some, None};
+    ghost use Rattle.std.specs.Prelude.{MatchResult};
     ghost use Rattle.resb_format.specs.Error.{refusal_of};
     ghost use Rattle.resb_head.specs.HeadChecks.{first_refusal};
     ghost use Rattle.resb_pool_bundle.specs.Checks.{head_refusal, size_checks, lending_checks};
 
-    /// The index of a file. Header, version and sizes are checked in this order, and the first check
-    /// that fails answers.
+    /// The index of a file. Header, version and sizes are checked in this order, and the first
+    /// check that fails answers.
     pub(crate) fn read(bytes: &'a [u8]) -> Result<Index<'a>, BinaryDeserializerError>
         ensures { MatchResult result
             (λ i. (head_refusal bytes.now ≡ first_refusal (lending_checks bytes.now))

@@ -2,6 +2,7 @@
 //! beside one. What a word of the parts denotes is said in `resb_format`.
 #![tactic(auto)]
 
+mod checksum;
 mod head;
 mod index;
 pub mod laws;

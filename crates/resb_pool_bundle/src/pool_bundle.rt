@@ -1,6 +1,7 @@
 //! A pool bundle: the keys and units that files beside it use, and the checksum by which they know
 //! it. What a file takes from it is said in `head`.
 
+use crate::checksum::{after_bytes, after_units};
 use crate::head::FileHead;
 use resb_format::BinaryDeserializerError;
 
@@ -16,7 +17,8 @@ pub struct PoolBundle<'a> {
 }
 
 impl<'a> PoolBundle<'a> {
-    ghost use Rattle.std.specs.Prelude.{◌≡◌};
+    ghost use Rattle.std.specs.Prelude.{◌≡◌, ◌==◌};
+    ghost use Rattle.resb_pool_bundle.specs.Checksum.{checksum_of};
     ghost use Rattle.resb_pool_bundle.specs.FileWith.{ReadsPool};
     ghost use Rattle.resb_pool_bundle.specs.Pool.{pool_in};
 
@@ -34,5 +36,15 @@ impl<'a> PoolBundle<'a> {
         ensures { result ≡ (pool_in self.now).checksum }
     {
         self.checksum
+    }
+
+    /// Whether its keys and units have the checksum that its head says. Reading never asks for it.
+    /// The time grows with the bundle.
+    #[tactic(auto, unfolding(crate::specs::Checksum::checksum_of))]
+    pub fn has_checksum(&self) -> bool
+        ensures { let pool = pool_in self.now in
+            result ≡ (checksum_of pool == pool.checksum) }
+    {
+        after_units(after_bytes(0, self.keys), self.block) == self.checksum
     }
 }

@@ -1,17 +1,28 @@
 -- A pool bundle and a file over it at a worked example, as ICU's compiler writes the two:
 -- `a{alpha{"one two three"} beta{"x"}}`, of which the pool has `one two three`, and both keys.
-use Rattle.std.proofs.Common.{◌≡◌, ℕ, List, [], ◌∷◌, ◌++◌, Some, None, Option, refl, codes}
+use Rattle.std.proofs.Common.{◌≡◌, ℕ, List, [], ◌∷◌, ◌++◌, Some, None, refl, codes, true, zero, suc}
+use Rattle.std.proofs.Common.{nat_lt, arith}
+use Rattle.std.specs.Char.Utf16.{utf16_chars}
 use Rattle.std.specs.Int.{to_le_bytes, w32}
-use Rattle.std.specs.List.{flat_map}
+use Rattle.std.specs.List.{flat_map, list_all}
+use Rattle.std.specs.Str.{is_utf8, IsAscii}
+use Rattle.std.proofs.lemmas.Bool.{and_parts, ltb-true}
+use Rattle.std.proofs.lemmas.Str.{is_utf8-from_IsUtf8, IsUtf8-from_ascii}
+use Rattle.resb_tree.specs.Tree.{Tree, string, table, no_entries, entry}
 use Rattle.resb_format.specs.Bytes.{units_of, words_of}
+use Rattle.resb_format.specs.Content.{content_at}
+use Rattle.resb_format.specs.Denotes.{den_entries, den_unit, entries_none, entries_more}
 use Rattle.resb_format.specs.Error.{unsupported}
-use Rattle.resb_head.specs.HeadChecks.{first_refusal, header_checks, info_checks}
+use Rattle.resb_format.specs.Lookups.{key_in, key_place_by, text_place_by, index_by}
+use Rattle.resb_format.specs.Strings.{string_at, text_at, key_at}
+use Rattle.resb_head.specs.HeadChecks.{header_checks, info_checks}
 use Rattle.resb_pool_bundle.specs.Checks.{version_checks, size_checks, lending_checks, head_checks}
-use Rattle.resb_pool_bundle.specs.Checks.{pool_checks, pool_refusal, pool_given_checks, refusal_with}
+use Rattle.resb_pool_bundle.specs.Checks.{pool_checks, pool_refusal, pool_given_checks}
+use Rattle.resb_pool_bundle.specs.Checks.{refusal_with}
 use Rattle.resb_pool_bundle.specs.Checksum.{bit_step, checksum_of}
 use Rattle.resb_pool_bundle.specs.Fields.{limit_in, short_limit_in}
-use Rattle.resb_pool_bundle.specs.FileWith.{IsPoolFile, IsFileWith}
-use Rattle.resb_pool_bundle.specs.Pool.{Pool, pool_of, own_keys}
+use Rattle.resb_pool_bundle.specs.FileWith.{IsPoolFile, IsFileWith, DenotesWith}
+use Rattle.resb_pool_bundle.specs.Pool.{pool_of, own_keys, parts_with}
 
 abbrev header : List ℕ
 header =
@@ -56,3 +67,33 @@ no_own_keys = refl
 checksum : checksum_of (pool_of pool_file) ≡ 0xe31610fa
 unfolding pool_file units_of words_of pool_of checksum_of bit_step
 checksum = refl
+
+-- bytes of ASCII alone are a text
+each_below : (bs : List ℕ) → list_all (λ b. nat_lt b 128) bs ≡ true → IsAscii bs
+each_below [] e i = omega arith
+each_below (b ∷ bs) e zero = ltb-true b 128 (and_parts _ _ e).0
+each_below (b ∷ bs) e (suc i) = each_below bs (and_parts _ _ e).1 i
+
+ascii_text : (bs : List ℕ) → list_all (λ b. nat_lt b 128) bs ≡ true → is_utf8 bs ≡ true
+ascii_text bs e = is_utf8-from_IsUtf8 bs (IsUtf8-from_ascii bs (each_below bs e))
+
+-- both keys and the string with index 1 stand in the pool, the one with index 3 in the file
+file_tree : Tree
+file_tree =
+    table (entry (codes "alpha") (string (codes "one two three"))
+    (entry (codes "beta") (string (codes "x")) no_entries))
+
+file_denotes : DenotesWith (Some (pool_of pool_file)) file file_tree 3
+unfolding pool_file file file_tree units_of words_of pool_of parts_with content_at key_at text_at
+    string_at key_place_by text_place_by index_by utf16_chars lib.Utf8.encode
+file_denotes =
+    let alpha : key_in (parts_with (Some (pool_of pool_file)) file) 0 ≡ Some (codes "alpha") =
+    rw (ascii_text (codes "alpha") refl) refl in
+    let beta : key_in (parts_with (Some (pool_of pool_file)) file) 6 ≡ Some (codes "beta") =
+    rw (ascii_text (codes "beta") refl) refl in
+    record {
+      head = file_passes;
+      root =
+          den_entries refl (entries_more alpha (den_unit refl)
+          (entries_more beta (den_unit refl) entries_none));
+    }

@@ -1,6 +1,6 @@
 -- Which check of a head is the first that fails.
-use Rattle.std.proofs.Common.{ℕ, List, ◌++◌, ◌≡◌, ◌≤◌, inl, inr, length, drop, false, nat_eq, Some}
-use Rattle.std.proofs.Common.{None, ◌∙◌, arith, refl}
+use Rattle.std.proofs.Common.{ℕ, List, ◌++◌, ◌≡◌, ◌≤◌, inl, inr, length, drop, false, Some}
+use Rattle.std.proofs.Common.{None, ◌∙◌, refl}
 use Rattle.std.specs.Prelude.{Result, Ok, Err, MatchResult, codes}
 use Rattle.std.proofs.lemmas.Bool.{cases_lt, lt-leb}
 use Rattle.resb_format.specs.Error.{Refusal, refusal_of, invalid}

@@ -1,20 +1,15 @@
 -- Files of version 2.0 that have nothing to do with pools are refused, and have their parts, as
 -- without pools.
-use Rattle.std.proofs.Common.{ℕ, List, [], ◌∷◌, ◌++◌, ◌≡◌, ◌+◌, ◌-◌, ◌*◌, ◌%◌, ◌^◌, ◌≤◌, ◌<◌, inl}
+use Rattle.std.proofs.Common.{ℕ, List, [], ◌∷◌, ◌++◌, ◌≡◌, ◌+◌, ◌-◌, ◌*◌, ◌≤◌, inl}
 use Rattle.std.proofs.Common.{inr}
-use Rattle.std.proofs.Common.{length, min, take, drop, Bool, true, false, not, ◌&&◌, ◌||◌, ◌==◌}
-use Rattle.std.proofs.Common.{nat_eq}
-use Rattle.std.proofs.Common.{nat_le, nat_lt, Some, None, Option, refl, sym, ap, ◌∙◌, arith, codes}
+use Rattle.std.proofs.Common.{length, min, take, drop, Bool, true, false}
+use Rattle.std.proofs.Common.{nat_le, Some, None, Option, refl, sym, ap, ◌∙◌, arith}
 use Rattle.std.proofs.Common.{get_or}
 use Rattle.std.proofs.Common.{slice_range, length-drop}
-use Rattle.std.specs.Prelude.{if◌then◌else◌, option_map}
-use Rattle.std.specs.Str.{bytes_eq}
 use Rattle.std.proofs.lemmas.Bool.{cases_lt, lt-leb, le-leb}
-use Rattle.std.proofs.lemmas.Bool.Decides.{nat_tests}
 use Rattle.std.proofs.lemmas.List.{get_or-take, get_or-drop}
 use Rattle.resb_format.specs.Bytes.{words_of, units_of}
-use Rattle.resb_format.specs.Error.{Refusal, invalid, unsupported, end_of_input}
-use Rattle.resb_format.specs.Parts.{Parts}
+use Rattle.resb_format.specs.Error.{Refusal, end_of_input}
 use Rattle.resb_head.specs.File.{body_of, field_count, keys_end, block_end, parts_of}
 use Rattle.resb_head.specs.HeadChecks.{first_refusal, header_checks, support_checks, index_checks}
 use Rattle.resb_head.specs.HeadChecks.{block_checks, body_checks, file_checks, file_refusal}
@@ -23,7 +18,7 @@ use Rattle.resb_head.proofs.Lists.{range_behind_four}
 use Rattle.resb_pool_bundle.specs.Checks.{version_checks, size_checks, lending_checks, head_checks}
 use Rattle.resb_pool_bundle.specs.Checks.{pool_given_checks, refusal_with}
 use Rattle.resb_pool_bundle.specs.Fields.{major, index_length, is_pool, uses_pool, block_end_in}
-use Rattle.resb_pool_bundle.specs.Fields.{limit_in, short_limit_in, checksum_in}
+use Rattle.resb_pool_bundle.specs.Fields.{limit_in, short_limit_in}
 use Rattle.resb_pool_bundle.specs.Laws.{OwnFilesAreTheSame}
 use Rattle.resb_pool_bundle.specs.Inner.Sized.{field_checks, end_checks}
 use Rattle.resb_pool_bundle.specs.Pool.{Pool, own_keys, parts_with}

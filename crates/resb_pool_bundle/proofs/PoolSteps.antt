@@ -1,13 +1,12 @@
 -- Which check of what a head says of pools is the first that fails, and of the pool that is given.
-use Rattle.std.proofs.Common.{ℕ, List, [], ◌∷◌, ◌++◌, ◌≡◌, ◌≢◌, ◌+◌, ◌≤◌, ◌<◌, Bool, true, false}
-use Rattle.std.proofs.Common.{not, ◌&&◌, ◌||◌, ◌==◌, nat_eq, nat_le, Some, None, Option, refl, ◌∙◌}
+use Rattle.std.proofs.Common.{ℕ, List, [], ◌∷◌, ◌≡◌, ◌≢◌, ◌+◌, ◌≤◌, ◌<◌, Bool, true, false}
+use Rattle.std.proofs.Common.{not, ◌&&◌, ◌||◌, ◌==◌, nat_le, Some, None, Option, refl, ◌∙◌}
 use Rattle.std.proofs.Common.{codes}
 use Rattle.std.specs.Prelude.{is_some, unwrap_or, if◌then◌else◌, option_map}
 use Rattle.std.proofs.lemmas.Bool.{le-leb, lt-leb, ne_eqb, eq-eqb}
 use Rattle.resb_format.specs.Error.{IsRefusal, IsInvalid, IsEndOfInput, Refusal, refusal_of}
 use Rattle.resb_format.specs.Error.{invalid}
 use Rattle.resb_format.specs.Error.{end_of_input}
-use Rattle.resb_format.specs.Parts.{Lent}
 use Rattle.resb_format.specs.declared.error.ReadingError.{ReadingError}
 use Rattle.resb_format.specs.declared.error.ErrorKind.TheVariants.{UnsupportedFormat}
 use Rattle.resb_head.specs.File.{keys_end}

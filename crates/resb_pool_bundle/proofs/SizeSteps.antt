@@ -1,11 +1,10 @@
 -- Which check of the sizes is the first that fails, and what holds where none does.
-use Rattle.std.proofs.Common.{ℕ, List, [], ◌∷◌, ◌++◌, ◌≡◌, ◌+◌, ◌*◌, ◌≤◌, ◌<◌, ◌⊎◌, inl, inr}
-use Rattle.std.proofs.Common.{length, min, Bool, true, false, ◌&&◌, ◌||◌, nat_le, nat_lt, Some}
+use Rattle.std.proofs.Common.{ℕ, List, ◌++◌, ◌≡◌, ◌+◌, ◌*◌, ◌≤◌, ◌<◌, ◌⊎◌, inl, inr}
+use Rattle.std.proofs.Common.{length, min, true, false, ◌&&◌, ◌||◌, nat_le, nat_lt, Some}
 use Rattle.std.proofs.Common.{None}
-use Rattle.std.proofs.Common.{refl, sym, ap, ◌∙◌, arith, codes, get_or}
+use Rattle.std.proofs.Common.{refl, arith, codes}
 use Rattle.std.proofs.lemmas.Bool.{lt-leb, le-leb, lt-ltb, le-ltb, or_right}
 use Rattle.std.proofs.lemmas.Bool.Decides.{nat_tests}
-use Rattle.resb_format.specs.Bytes.{words_of}
 use Rattle.resb_format.specs.Error.{IsInvalid, IsEndOfInput, refusal_of}
 use Rattle.resb_format.specs.declared.error.ReadingError.{ReadingError}
 use Rattle.resb_head.specs.File.{body_of, keys_end, block_end}

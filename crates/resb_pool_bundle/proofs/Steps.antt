@@ -1,5 +1,5 @@
 -- Lists of checks, of which the first ones hold or not.
-use Rattle.std.proofs.Common.{ℕ, List, [], ◌∷◌, ◌++◌, ◌≡◌, Bool, true, false, Some, None, refl}
+use Rattle.std.proofs.Common.{List, [], ◌∷◌, ◌++◌, ◌≡◌, Bool, true, false, Some, None, refl}
 use Rattle.resb_format.specs.Error.{Refusal}
 use Rattle.resb_head.specs.HeadChecks.{first_refusal}
 

@@ -1,6 +1,6 @@
 -- Which check of what is supported is the first that fails.
-use Rattle.std.proofs.Common.{ℕ, List, [], ◌∷◌, ◌≡◌, ◌≢◌, Bool, true, ◌||◌, Some, None, nat_le}
-use Rattle.std.proofs.Common.{refl, sym, ap, ◌∙◌, arith, get_or, codes, slice_range, take, drop}
+use Rattle.std.proofs.Common.{ℕ, List, ◌≡◌, ◌≢◌, Bool, true, ◌||◌, Some, None, nat_le}
+use Rattle.std.proofs.Common.{refl, ap, ◌∙◌, arith, get_or, codes, slice_range, take, drop}
 use Rattle.std.proofs.Common.{◌+◌, ◌-◌, ◌<◌}
 use Rattle.std.proofs.lemmas.Bool.{ne_eqb}
 use Rattle.std.proofs.lemmas.List.{get_or-take, get_or-drop}

@@ -3,7 +3,7 @@
 --     pool_of bytes           those of a file that is one
 --     pool_in p               those that a value of the code shows
 --     parts_with pool bytes   the parts of a file
-use Rattle.std.specs.Prelude.{ℕ, ◌+◌, ◌-◌, ◌*◌, ◌&&◌, List, [], take, drop, nat_le, Option, Some}
+use Rattle.std.specs.Prelude.{ℕ, ◌+◌, ◌-◌, ◌*◌, ◌&&◌, List, [], take, drop, nat_le, Option}
 use Rattle.std.specs.Prelude.{None}
 use Rattle.std.specs.Prelude.{option_map, unwrap_or, if◌then◌else◌}
 use Rattle.resb_format.specs.Bytes.{units_of}

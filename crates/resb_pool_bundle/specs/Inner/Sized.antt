@@ -1,5 +1,5 @@
 -- What some of a head's checks answer, each a step of reading its index.
-use Rattle.std.specs.Prelude.{◌≡◌, ℕ, ◌+◌, ◌*◌, ◌≤◌, ◌<◌, ◌&&◌, ◌||◌, List, [], ◌∷◌, min, length}
+use Rattle.std.specs.Prelude.{◌≡◌, ℕ, ◌+◌, ◌*◌, ◌≤◌, ◌&&◌, ◌||◌, List, [], ◌∷◌, min, length}
 use Rattle.std.specs.Prelude.{Bool, nat_le, nat_lt, Some, None, Result, MatchResult, codes}
 use Rattle.resb_format.specs.Error.{Refusal, invalid, end_of_input, refusal_of}
 use Rattle.resb_format.specs.declared.error.ReadingError.{ReadingError}

@@ -1,6 +1,5 @@
 -- Each refusal is that of the first check that fails.
 use Rattle.std.proofs.Common.{sym, ◌∙◌}
-use Rattle.std.proofs.lemmas.Bool.{not-true, not-false}
 use Rattle.resb_pool_bundle.proofs.PoolSteps.{checksum_missing, pool_missing, lending_holds}
 use Rattle.resb_pool_bundle.proofs.head.check_lending.Goals as goal
 

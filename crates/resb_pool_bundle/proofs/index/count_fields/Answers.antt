@@ -1,5 +1,5 @@
 -- Each refusal is that of the first check that fails.
-use Rattle.std.proofs.Common.{ℕ, List, ◌≡◌, ◌+◌, ◌*◌, ◌%◌, ◌^◌, ◌<◌, ◌≤◌, length, min, ap, ◌∙◌}
+use Rattle.std.proofs.Common.{◌≡◌, ◌%◌, length, ap, ◌∙◌}
 use Rattle.std.proofs.Common.{arith}
 use Rattle.std.proofs.Common.{get_or}
 use Rattle.resb_format.specs.Bytes.{words_of}

@@ -1,5 +1,5 @@
 -- Each refusal is that of the first check that fails.
-use Rattle.std.proofs.Common.{ℕ, List, ◌≡◌, ◌*◌, ◌<◌, ◌≤◌, ◌⊎◌, inl, inr, length, ap, sym, ◌∙◌}
+use Rattle.std.proofs.Common.{ℕ, List, ◌≡◌, ◌*◌, ◌<◌, ◌⊎◌, inl, inr, length, ap, sym, ◌∙◌}
 use Rattle.std.proofs.Common.{arith, get_or}
 use Rattle.resb_format.specs.Bytes.{words_of}
 use Rattle.resb_head.specs.File.{body_of, keys_end}

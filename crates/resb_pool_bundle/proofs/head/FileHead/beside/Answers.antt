@@ -1,5 +1,5 @@
 -- What is taken from the pool, and the parts of the file itself.
-use Rattle.std.proofs.Common.{ℕ, List, ◌≡◌, Some, None, Option, ap, sym, ◌∙◌, rules, get_or}
+use Rattle.std.proofs.Common.{ℕ, List, ◌≡◌, Some, Option, ap, ◌∙◌, rules, get_or}
 use Rattle.std.specs.Prelude.{option_map}
 use Rattle.resb_format.specs.Bytes.{units_of, words_of}
 use Rattle.resb_format.specs.Error.{refusal_of}

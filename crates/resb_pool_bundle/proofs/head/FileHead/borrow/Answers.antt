@@ -1,12 +1,8 @@
 -- Each refusal is that of the first check that fails.
-use Rattle.std.proofs.Common.{ℕ, List, ◌≡◌, Some, None, Option, ap, sym, ◌∙◌}
+use Rattle.std.proofs.Common.{ℕ, List, Some, Option, ap, sym, ◌∙◌}
 use Rattle.std.specs.Prelude.{unwrap_or, option_map}
 use Rattle.resb_format.specs.Bytes.{units_of}
-use Rattle.resb_format.specs.Error.{refusal_of}
-use Rattle.resb_head.specs.HeadChecks.{first_refusal}
-use Rattle.resb_pool_bundle.specs.Checks.{pool_given_checks}
 use Rattle.resb_pool_bundle.specs.Pool.{Pool, pool_in}
-use Rattle.resb_pool_bundle.specs.declared.pool_bundle.PoolBundle.{PoolBundle}
 use Rattle.resb_pool_bundle.proofs.PoolSteps.{unused_holds, none_given, another_given, right_given}
 use Rattle.resb_pool_bundle.proofs.PoolSteps.{nothing_lent, all_lent}
 use Rattle.resb_pool_bundle.proofs.head.FileHead.borrow.Goals as goal

@@ -1,5 +1,5 @@
 -- The head, and then what it lends.
-use Rattle.std.proofs.Common.{ℕ, List, ◌≡◌, Some, rules}
+use Rattle.std.proofs.Common.{rules}
 use Rattle.resb_format.specs.Error.{refusal_of}
 use Rattle.resb_pool_bundle.proofs.PoolSteps.{no_head}
 use Rattle.resb_pool_bundle.proofs.pool_bundle.PoolBundle.read.Goals as goal

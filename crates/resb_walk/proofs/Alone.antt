@@ -1,12 +1,12 @@
 -- Without a pool positions tell bytes of the own keys, and indexes units of the own block.
-use Rattle.std.proofs.Common.{◌≡◌, ℕ, List, Some, None, Option, Bool, true, false, refl}
-use Rattle.std.proofs.Common.{ap, ◌∙◌, sym}
+use Rattle.std.proofs.Common.{◌≡◌, ℕ, List, Some, None, Option, false, refl}
+use Rattle.std.proofs.Common.{ap}
 use Rattle.std.specs.Option.{is_some}
 use Rattle.std.specs.Prelude.{option_map}
 use Rattle.resb_format.specs.Bytes.{units_of}
 use Rattle.resb_format.specs.Parts.{parts_in, lent_in}
 use Rattle.resb_format.specs.Strings.{key_at, text_at}
-use Rattle.resb_format.specs.Lookups.{key_place_by, text_place_by, key_place, text_place, key_in, text_in}
+use Rattle.resb_format.specs.Lookups.{key_place_by, text_place_by, key_in, text_in}
 use Rattle.resb_format.specs.declared.file_blocks.FileBlocks.{FileBlocks}
 use Rattle.resb_format.specs.declared.file_blocks.PoolBlocks.{PoolBlocks}
 

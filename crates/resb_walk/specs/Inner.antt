@@ -7,3 +7,4 @@ pub mod Frames
 pub mod Rounds
 pub mod Counting
 pub mod Weighing
+pub mod Places

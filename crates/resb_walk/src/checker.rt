@@ -1,36 +1,35 @@
 //! Looks at the keys and strings of a file, at none of them twice as a whole.
-//! What is known of a block is found once, where that is worth it; the rounds are in `count`.
+//! What is known of its blocks and of its pool's is in `known`; the rounds are in `count`.
 ghost use Rattle.std.specs.Prelude.{◌≡◌, ℕ, List, Some, IfOk, IfSome, IsTrue};
 ghost use Rattle.std.specs.Option.{ForSome};
 ghost use Rattle.resb_format.specs.Lookups.{key_in, text_in};
-ghost use Rattle.resb_blocks.specs.Blocks.{breaks_block, tails_keys};
 ghost use Rattle.resb_format.specs.Parts.{parts_in};
 ghost use Rattle.resb_walk.specs.Inner.Counting.{LooksKey, LooksText, LooksAt};
 ghost use Rattle.resb_walk.specs.Inner.Members.{member_of};
+ghost use Rattle.resb_walk.specs.Inner.Places.{pool_keys, pool_block};
 
+use crate::known::{Known, SHORT_STRING};
 use crate::members::{Member, Rest, Standing};
+use crate::places::{Place, key_spot, text_spot};
 use crate::standing::{key_at, member_at, text_at};
-use crate::strings::{marked, string_index};
-use resb_blocks::{Breaks, LongTails, SHORT_TAIL};
+use crate::strings::string_index;
+use resb_blocks::SHORT_TAIL;
 use resb_format::{BinaryDeserializerError, FileBlocks};
 use resb_tree::NoMemory;
 use std::alloc::Global;
 
-/// A string of no more bytes than this may be looked at as often as something leads to it.
-const SHORT_STRING: usize = 512;
-
-/// A file, and what is known of its units and of the tails of its keys, if that was found. It is
-/// found once more bytes of long strings, or of long keys, were looked at than there are: then
-/// some of them were looked at twice.
+/// A file, and what is known of its own blocks and of those of its pool. Each is found once more
+/// bytes of it were looked at than it has. So a walk costs at most the file and the pool together,
+/// and one that looks at little of a large pool doesn't pay for the whole of it.
 #[derive(Drop)]
 pub struct Checker<'a> {
     pub file: FileBlocks<'a>,
-    breaks: Option<Breaks<'a>>,
-    tails: Option<LongTails<'a>>,
-    strings_looked: usize,
-    keys_looked: usize,
-    ghost of_block: { ForSome breaks (λ b. breaks_block b ≡ file.block.now) },
-    ghost of_keys: { ForSome tails (λ t. tails_keys t ≡ file.keys.now) },
+    own: Known<'a>,
+    lent: Option<Known<'a>>,
+    ghost own_keys: { own.keys.keys ≡ file.keys },
+    ghost own_block: { own.texts.block ≡ file.block },
+    ghost lent_keys: { ForSome lent (λ k. pool_keys file.pool ≡ Some k.keys.keys.now) },
+    ghost lent_block: { ForSome lent (λ k. pool_block file.pool ≡ Some k.texts.block.now) },
 }
 
 impl<'a> Checker<'a> {
@@ -40,10 +39,11 @@ impl<'a> Checker<'a> {
     {
         Checker {
             file,
-            breaks: None,
-            tails: None,
-            strings_looked: 0,
-            keys_looked: 0,
+            own: Known::new(file.keys, file.block),
+            lent: match file.pool {
+                Some(pool) => Some(Known::new(pool.keys, pool.block)),
+                None => None,
+            },
         }
     }
 
@@ -53,27 +53,26 @@ impl<'a> Checker<'a> {
         ensures { IsTrue result
             → (key : List ℕ) × (key_in (parts_in self.now.file) at ≡ Some key) }
     {
-        if self.file.pool.is_some() {
-            return false;
-        }
-        match &self.tails {
-            Some(tails) => tails.key(at).is_some(),
-            None => false,
+        match key_spot(self.file, at) {
+            Place::Own(byte) => self.own.keys.has_key(byte),
+            Place::Lent(_, byte) => match &self.lent {
+                Some(lent) => lent.keys.has_key(byte),
+                None => false,
+            },
         }
     }
 
-    /// Notes that a key was looked at, and lists the long tails where that is worth it.
-    fn note_key(&mut self, alloc: Global, len: usize) -> Result<(), NoMemory>
+    /// Notes that the key at a position was looked at.
+    fn note_key(&mut self, alloc: Global, at: usize, len: usize) -> Result<(), NoMemory>
         ensures { self.new.file ≡ self.old.file }
     {
-        if len <= SHORT_TAIL {
-            return Ok(());
+        match key_spot(self.file, at) {
+            Place::Own(_) => self.own.keys.note(alloc, len),
+            Place::Lent(..) => match &mut self.lent {
+                Some(lent) => lent.keys.note(alloc, len),
+                None => Ok(()),
+            },
         }
-        self.keys_looked = self.keys_looked.saturating_add(len);
-        if self.keys_looked > self.file.keys.len() && self.tails.is_none() {
-            self.tails = Some(LongTails::of_keys(alloc, self.file.keys)?);
-        }
-        Ok(())
     }
 
     /// Looks at the key at a position, in bytes from the body's start.
@@ -86,48 +85,42 @@ impl<'a> Checker<'a> {
             return Ok(());
         }
         let key = key_at(self.file, at)?;
-        self.note_key(alloc, key.len())?;
+        if key.len() > SHORT_TAIL {
+            self.note_key(alloc, at, key.len())?;
+        }
         Ok(())
     }
 
-    /// Whether the breaks show that a text stands at a unit of the 16-bit block.
+    /// Whether the breaks show that the string with an index is a text.
     #[inline(always)]
-    fn has_text(&self, unit: usize) -> bool
+    fn has_text(&self, index: usize) -> bool
         ensures { IsTrue result
             → (text : List ℕ)
-            × (text_in (parts_in self.now.file) unit ≡ Some text) }
+            × (text_in (parts_in self.now.file) index ≡ Some text) }
     {
-        if self.file.pool.is_some() {
-            return false;
+        match text_spot(self.file, index) {
+            Place::Own(unit) => self.own.texts.has_text(unit),
+            Place::Lent(_, unit) => match &self.lent {
+                Some(lent) => lent.texts.has_text(unit),
+                None => false,
+            },
         }
-        let Some(breaks) = &self.breaks else {
-            return false;
-        };
-        let Some((from, count)) = marked(self.file.block, unit) else {
-            return false;
-        };
-        let units = self.file.block.len() / 2;
-        if from > units || count > units - from {
-            return false;
-        }
-        breaks.is_text(from, count)
     }
 
-    /// Notes that a string was looked at, and counts the breaks where that is worth it.
-    fn note_string(&mut self, alloc: Global, len: usize) -> Result<(), NoMemory>
+    /// Notes that the string with an index was looked at.
+    fn note_text(&mut self, alloc: Global, index: usize, len: usize) -> Result<(), NoMemory>
         ensures { self.new.file ≡ self.old.file }
     {
-        if len <= SHORT_STRING {
-            return Ok(());
+        match text_spot(self.file, index) {
+            Place::Own(_) => self.own.texts.note(alloc, len),
+            Place::Lent(..) => match &mut self.lent {
+                Some(lent) => lent.texts.note(alloc, len),
+                None => Ok(()),
+            },
         }
-        self.strings_looked = self.strings_looked.saturating_add(len);
-        if self.strings_looked > self.file.block.len() && self.breaks.is_none() {
-            self.breaks = Some(Breaks::of_block(alloc, self.file.block)?);
-        }
-        Ok(())
     }
 
-    /// Looks at the string at a unit of the 16-bit block.
+    /// Looks at the string with an index, own or the pool's.
     #[inline(always)]
     pub fn text(&mut self, alloc: Global, unit: usize) -> Result<(), BinaryDeserializerError>
         ensures looks { LooksText (parts_in self.old.file) unit result }
@@ -137,7 +130,9 @@ impl<'a> Checker<'a> {
             return Ok(());
         }
         let units = text_at(self.file, unit)?;
-        self.note_string(alloc, units.len())?;
+        if units.len() > SHORT_STRING {
+            self.note_text(alloc, unit, units.len())?;
+        }
         Ok(())
     }
 

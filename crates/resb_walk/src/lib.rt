@@ -7,6 +7,7 @@ mod count;
 pub mod faults;
 mod filling;
 mod frame;
+mod known;
 mod make;
 mod members;
 pub mod places;

@@ -5,41 +5,71 @@ ghost use Rattle.resb_format.specs.Bytes.{units_of};
 ghost use Rattle.resb_format.specs.Parts.{parts_in};
 ghost use Rattle.resb_format.specs.Lookups as lookups;
 ghost use Rattle.resb_format.specs.Lookups.{index_in};
+ghost use Rattle.resb_walk.specs.Inner.Places.{TellsKey, TellsText};
 
-use resb_format::FileBlocks;
+use resb_format::{FileBlocks, PoolBlocks};
+
+/// A byte of a key block or a unit of a 16-bit block: in the file's own, or in that of its pool.
+#[derive(Clone, Copy)]
+pub(crate) enum Place<'a> {
+    Own(usize),
+    Lent(PoolBlocks<'a>, usize),
+}
+
+/// The byte that a position tells, and whose key block it is in.
+#[inline(always)]
+#[tactic(auto, unfolding(resb_format::specs::Lookups::key_place_by))]
+pub(crate) fn key_spot(file: FileBlocks<'_>, position: usize) -> Place<'_>
+    ensures { TellsKey file.entry position result }
+{
+    let Some(pool) = file.pool else {
+        return Place::Own(position);
+    };
+    if position < file.keys.len() {
+        return Place::Own(position);
+    }
+    if position >= 0x8000_0000 {
+        return Place::Lent(pool, position - 0x8000_0000);
+    }
+    Place::Lent(pool, position - file.keys.len())
+}
 
 /// The key block and the byte of it that a position tells.
 #[inline(always)]
-#[tactic(auto, unfolding(resb_format::specs::Lookups::key_place_by))]
 pub fn key_place(file: FileBlocks<'_>, position: usize) -> (&[u8], usize)
     ensures { lookups.key_place (parts_in file.entry) position ≡ (result.0.now, result.1) }
 {
+    match key_spot(file, position) {
+        Place::Own(at) => (file.keys, at),
+        Place::Lent(pool, at) => (pool.keys, at),
+    }
+}
+
+/// The unit that an index tells, and whose 16-bit block it is in.
+#[inline(always)]
+#[tactic(auto, unfolding(resb_format::specs::Lookups::text_place_by))]
+pub(crate) fn text_spot(file: FileBlocks<'_>, index: usize) -> Place<'_>
+    ensures { TellsText file.entry index result }
+{
     let Some(pool) = file.pool else {
-        return (file.keys, position);
+        return Place::Own(index);
     };
-    if position < file.keys.len() {
-        return (file.keys, position);
+    let limit = pool.limit as usize;
+    if index < limit {
+        return Place::Lent(pool, index);
     }
-    if position >= 0x8000_0000 {
-        return (pool.keys, position - 0x8000_0000);
-    }
-    (pool.keys, position - file.keys.len())
+    Place::Own(index - limit)
 }
 
 /// The 16-bit block and the unit of it that an index tells.
 #[inline(always)]
-#[tactic(auto, unfolding(resb_format::specs::Lookups::text_place_by))]
 pub fn text_place(file: FileBlocks<'_>, index: usize) -> (&[u8], usize)
     ensures { lookups.text_place (parts_in file.entry) index ≡ (units_of result.0.now, result.1) }
 {
-    let Some(pool) = file.pool else {
-        return (file.block, index);
-    };
-    let limit = pool.limit as usize;
-    if index < limit {
-        return (pool.block, index);
+    match text_spot(file, index) {
+        Place::Own(unit) => (file.block, unit),
+        Place::Lent(pool, unit) => (pool.block, unit),
     }
-    (file.block, index - limit)
 }
 
 /// The index of the string that a unit of a short collection tells.

@@ -2,7 +2,6 @@ use Rattle.std.proofs.Common.{◌∙◌, ap}
 use Rattle.std.specs.Prelude.{option_map}
 use Rattle.resb_tree.specs.Tree.{string}
 use Rattle.resb_format.specs.Content.{leaf}
-use Rattle.resb_format.specs.Parts.{parts_in}
 use Rattle.resb_walk.proofs.checker.Checker.look.Goals as goal
 
 pub returns-in-Some-clause-looks : goal.returns-in-Some-clause-looks

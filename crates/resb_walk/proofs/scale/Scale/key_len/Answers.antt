@@ -1,4 +1,4 @@
-use Rattle.std.proofs.Common.{◌≡◌, ℕ, List, ap, sym, ◌∙◌, Some, length, not}
+use Rattle.std.proofs.Common.{◌≡◌, ap, sym, ◌∙◌, Some, length, not}
 use Rattle.resb_format.specs.Strings.{key_at}
 use Rattle.resb_walk.proofs.Alone.{key_alone}
 use Rattle.resb_walk.proofs.scale.Scale.key_len.Goals as goal

@@ -12,7 +12,6 @@ pub mod Lists
 mod Made
 mod Surrogates
 mod Keys
-mod Alone
 mod Plain
 mod Marked
 mod Paths

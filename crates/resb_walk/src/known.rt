@@ -1,6 +1,6 @@
 //! What is known of a key block and a 16-bit block, so that no key and no string of them is looked
 //! at twice as a whole. Which of a file's blocks a position tells is found in `places`.
-ghost use Rattle.std.specs.Prelude.{◌≡◌, ℕ, List, Some, IfOk, IfSome, IsTrue};
+ghost use Rattle.std.specs.Prelude.{◌≡◌, ℕ, List, length, Some, IfOk, IfSome, IsTrue};
 ghost use Rattle.std.specs.Option.{ForSome};
 ghost use Rattle.resb_format.specs.Bytes.{units_of};
 ghost use Rattle.resb_format.specs.Strings.{key_at, text_at};
@@ -54,6 +54,16 @@ impl<'a> KnownKeys<'a> {
             → (key : List ℕ) × (key_at keys at ≡ Some key) }
     {
         self.key(at).is_some()
+    }
+
+    /// How many bytes the key at a byte has, if a listed tail shows it.
+    #[inline(always)]
+    pub fn key_len(&self, at: usize) -> Option<usize>
+        ensures { let keys = self.now.keys.now in
+            IfSome result (λ n. (k : List ℕ) → key_at keys at ≡ Some k → length k ≡ n) }
+    {
+        let key = self.key(at)?;
+        Some(key.len())
     }
 
     /// Notes that a long key was looked at, and lists the long tails where that is worth it.

@@ -1,32 +1,43 @@
 //! How long the keys and strings of a file are, and the sums of one piece after another. No key and
 //! no string is looked at twice as a whole. Going from member to member is the business of `weigh`.
-ghost use Rattle.std.specs.Prelude.{◌≡◌, ℕ, List, length, Some, IfOk};
-ghost use Rattle.resb_blocks.specs.Blocks.{widths_block, tails_keys};
+ghost use Rattle.std.specs.Prelude.{◌≡◌, ℕ, List, length, Some, IfOk, IfSome};
+ghost use Rattle.std.specs.Option.{ForSome};
+ghost use Rattle.resb_walk.specs.Inner.Places.{pool_keys, pool_block};
 
 use crate::count::Inner;
+use crate::lengths::Lengths;
 use crate::members::{Member, Rest, Standing};
-use crate::places::index_of;
+use crate::places::{Place, index_of, key_spot, text_spot};
 use crate::standing::{key_at, standing_at, text_at};
-use crate::strings::{marked, string_index};
+use crate::strings::string_index;
 use crate::sums::Sums;
 use crate::units::text_len;
-use resb_blocks::{LongTails, Widths};
+use resb_blocks::SHORT_TAIL;
 use resb_format::FileBlocks;
 use resb_tree::NoMemory;
 use std::alloc::Global;
 
-/// A file, how many bytes of UTF-8 its units take, and the long tails of its keys.
+/// A string of no more bytes than this is looked at as often as something leads to it: that takes
+/// no longer than sums of widths would.
+const SHORT_TEXT: usize = 128;
+
+/// A file, and what is known of the lengths in its own blocks and in those of its pool. Each is
+/// found once more bytes of it were looked at than it has. So a weighing costs at most the file and
+/// the pool together, and one that looks at little of a large pool doesn't pay for the whole of it.
 #[derive(Drop)]
 pub struct Scale<'a> {
     pub file: FileBlocks<'a>,
-    widths: Widths<'a>,
-    tails: LongTails<'a>,
-    ghost of_block: { widths_block widths ≡ file.block.now },
-    ghost of_keys: { tails_keys tails ≡ file.keys.now },
+    alloc: Global,
+    own: Lengths<'a>,
+    lent: Option<Lengths<'a>>,
+    ghost own_keys: { own.keys.keys ≡ file.keys },
+    ghost own_block: { own.texts.block ≡ file.block },
+    ghost lent_keys: { ForSome lent (λ k. pool_keys file.pool ≡ Some k.keys.keys.now) },
+    ghost lent_block: { ForSome lent (λ k. pool_block file.pool ≡ Some k.texts.block.now) },
 }
 
 impl<'a> Scale<'a> {
-    ghost use Rattle.std.specs.Prelude.{◌≡◌, ℕ, List, length, Some, IfOk};
+    ghost use Rattle.std.specs.Prelude.{◌≡◌, ℕ, List, length, Some, IfOk, IfSome};
     ghost use Rattle.resb_format.specs.Lookups.{key_in, text_in};
     ghost use Rattle.resb_format.specs.Parts.{parts_in};
     ghost use Rattle.resb_walk.specs.Inner.Members.{member_of};
@@ -34,71 +45,117 @@ impl<'a> Scale<'a> {
     ghost use Rattle.resb_walk.specs.Pieces.{Piece, Holds, HoldsMember};
     ghost use Rattle.resb_walk.specs.Sums.{AddsUp};
 
-    /// What is found once of a file.
-    pub fn of_file(alloc: Global, file: FileBlocks<'a>) -> Result<Scale<'a>, NoMemory>
-        ensures { IfOk result (λ s. s.file ≡ file.entry) }
+    /// A file of which nothing is looked at yet.
+    pub fn of_file(alloc: Global, file: FileBlocks<'a>) -> Scale<'a>
+        ensures { result.file ≡ file.entry }
     {
-        let widths = Widths::of_block(alloc, file.block)?;
-        let tails = LongTails::of_keys(alloc, file.keys)?;
-        Ok(Scale {
+        Scale {
             file,
-            widths,
-            tails,
-        })
+            alloc,
+            own: Lengths::new(file.keys, file.block),
+            lent: match file.pool {
+                Some(pool) => Some(Lengths::new(pool.keys, pool.block)),
+                None => None,
+            },
+        }
+    }
+
+    /// How many bytes the key at a position has, if a listed tail shows it.
+    fn known_key_len(&self, at: usize) -> Option<usize>
+        ensures { let p = parts_in self.now.file in
+            IfSome result (λ n. (k : List ℕ) → key_in p at ≡ Some k → length k ≡ n) }
+    {
+        match key_spot(self.file, at) {
+            Place::Own(byte) => self.own.keys.key_len(byte),
+            Place::Lent(_, byte) => match &self.lent {
+                Some(lent) => lent.keys.key_len(byte),
+                None => None,
+            },
+        }
+    }
+
+    /// Notes that the key at a position was looked at.
+    fn note_key(&mut self, at: usize, len: usize) -> Result<(), NoMemory>
+        ensures { self.new.file ≡ self.old.file }
+    {
+        match key_spot(self.file, at) {
+            Place::Own(_) => self.own.keys.note(self.alloc, len),
+            Place::Lent(..) => match &mut self.lent {
+                Some(lent) => lent.keys.note(self.alloc, len),
+                None => Ok(()),
+            },
+        }
     }
 
     /// How many bytes the key at a position has.
-    fn key_len(&self, at: usize) -> usize
-        ensures { (k : List ℕ) → key_in (parts_in self.now.file) at ≡ Some k → length k ≡ result }
+    fn key_len(&mut self, at: usize) -> Result<usize, NoMemory>
+        ensures len { let p = parts_in self.old.file in
+            IfOk result (λ n. (k : List ℕ) → key_in p at ≡ Some k → length k ≡ n) }
+        ensures file { self.new.file ≡ self.old.file }
     {
-        if self.file.pool.is_none() {
-            if let Some(key) = self.tails.key(at) {
-                return key.len();
-            }
+        if let Some(len) = self.known_key_len(at) {
+            return Ok(len);
         }
-        match key_at(self.file, at) {
-            Ok(key) => key.len(),
-            Err(_) => 0,
+        let Ok(key) = key_at(self.file, at) else {
+            return Ok(0);
+        };
+        if key.len() > SHORT_TAIL {
+            self.note_key(at, key.len())?;
+        }
+        Ok(key.len())
+    }
+
+    /// How many bytes the text with an index has, if the sums show it.
+    fn known_text_len(&self, index: usize) -> Option<usize>
+        ensures { let p = parts_in self.now.file in
+            IfSome result (λ n. (s : List ℕ) → text_in p index ≡ Some s → length s ≡ n) }
+    {
+        match text_spot(self.file, index) {
+            Place::Own(unit) => self.own.texts.text_len(unit),
+            Place::Lent(_, unit) => match &self.lent {
+                Some(lent) => lent.texts.text_len(unit),
+                None => None,
+            },
         }
     }
 
-    /// How many bytes the text at a unit of the 16-bit block has.
-    fn text_len(&self, unit: usize) -> usize
-        ensures { (s : List ℕ) → text_in (parts_in self.now.file) unit ≡ Some s
-            → length s ≡ result }
+    /// Notes that the string with an index was looked at.
+    fn note_text(&mut self, index: usize, len: usize) -> Result<(), NoMemory>
+        ensures { self.new.file ≡ self.old.file }
     {
-        let units = self.file.block.len() / 2;
-        if self.file.pool.is_some() {
-            return self.plain_len(unit);
-        }
-        if let Some((from, count)) = marked(self.file.block, unit) {
-            if from <= units && count <= units - from {
-                return self.widths.utf8_len(from, count);
-            }
-        }
-        self.plain_len(unit)
-    }
-
-    /// How many bytes the text with an index has, by a look at all its units.
-    fn plain_len(&self, index: usize) -> usize
-        ensures { (s : List ℕ) → text_in (parts_in self.now.file) index ≡ Some s
-            → length s ≡ result }
-    {
-        match text_at(self.file, index) {
-            Ok(text) => text_len(text),
-            Err(_) => 0,
+        match text_spot(self.file, index) {
+            Place::Own(_) => self.own.texts.note(self.alloc, len),
+            Place::Lent(..) => match &mut self.lent {
+                Some(lent) => lent.texts.note(self.alloc, len),
+                None => Ok(()),
+            },
         }
     }
 
-    /// Sums the resource at a word. Where it has members, they are still to come.
-    fn look_at(&self, word: u32, sums: &mut Sums) -> Option<Inner<'a>>
+    /// How many bytes the text with an index has.
+    fn text_len(&mut self, index: usize) -> Result<usize, NoMemory>
+        ensures len { let p = parts_in self.old.file in
+            IfOk result (λ n. (s : List ℕ) → text_in p index ≡ Some s → length s ≡ n) }
+        ensures file { self.new.file ≡ self.old.file }
+    {
+        if let Some(len) = self.known_text_len(index) {
+            return Ok(len);
+        }
+        let Ok(text) = text_at(self.file, index) else {
+            return Ok(0);
+        };
+        if text.len() > SHORT_TEXT {
+            self.note_text(index, text.len())?;
+        }
+        Ok(text_len(text))
+    }
+
+    /// Sums what stands at a word, by a look at all of it. Where it has members, they are still to
+    /// come.
+    fn look_plainly(&self, word: u32, sums: &mut Sums) -> Option<Inner<'a>>
         ensures { let p = parts_in self.now.file in (xs zs : List Piece)
             → Holds p word xs → AddsUp sums.old zs → Looked p xs zs result sums.new }
     {
-        if let Some(unit) = string_index(self.file, Member::Word(word)) {
-            *sums = sums.with_text(self.text_len(unit));
-            return None;
-        }
         match standing_at(self.file, word) {
             Ok(Standing::Leaf(leaf)) => {
                 *sums = sums.with_leaf(leaf);
@@ -117,39 +174,67 @@ impl<'a> Scale<'a> {
         }
     }
 
+    /// Sums the resource at a word. Where it has members, they are still to come.
+    fn look_at(&mut self, word: u32, sums: &mut Sums) -> Result<Option<Inner<'a>>, NoMemory>
+        ensures looked { let p = parts_in self.old.file in (xs zs : List Piece)
+            → Holds p word xs → AddsUp sums.old zs
+            → IfOk result (λ r. Looked p xs zs r sums.new) }
+        ensures file { self.new.file ≡ self.old.file }
+    {
+        if let Some(index) = string_index(self.file, Member::Word(word)) {
+            let len = self.text_len(index)?;
+            *sums = sums.with_text(len);
+            return Ok(None);
+        }
+        Ok(self.look_plainly(word, sums))
+    }
+
     /// Sums a member. Where it has members of its own, they are still to come.
-    pub fn look(&self, member: Member, sums: &mut Sums) -> Option<Inner<'a>>
-        ensures { let p = parts_in self.now.file in (xs zs : List Piece)
+    pub fn look(&mut self, member: Member, sums: &mut Sums) -> Result<Option<Inner<'a>>, NoMemory>
+        ensures looked { let p = parts_in self.old.file in (xs zs : List Piece)
             → HoldsMember p (member_of member) xs → AddsUp sums.old zs
-            → Looked p xs zs result sums.new }
+            → IfOk result (λ r. Looked p xs zs r sums.new) }
+        ensures file { self.new.file ≡ self.old.file }
     {
         match member {
             Member::Word(word) => self.look_at(word, sums),
             Member::Unit(unit) => {
-                *sums = sums.with_text(self.text_len(index_of(self.file, unit)));
-                None
+                let len = self.text_len(index_of(self.file, unit))?;
+                *sums = sums.with_text(len);
+                Ok(None)
             }
         }
     }
 
     /// The next member of a collection, and what is still to come behind it. An entry's key is
     /// summed.
-    pub fn next(&self, inner: Inner<'a>, sums: &mut Sums) -> Option<(Member, Inner<'a>)>
-        ensures { let p = parts_in self.now.file in (xs zs : List Piece)
-            → ToCome p inner.entry xs → AddsUp sums.old zs → TakenPieces p xs zs result sums.new }
+    pub fn next(
+        &mut self,
+        inner: Inner<'a>,
+        sums: &mut Sums,
+    ) -> Result<Option<(Member, Inner<'a>)>, NoMemory>
+        ensures taken { let p = parts_in self.old.file in (xs zs : List Piece)
+            → ToCome p inner.entry xs → AddsUp sums.old zs
+            → IfOk result (λ r. TakenPieces p xs zs r sums.new) }
+        ensures file { self.new.file ≡ self.old.file }
     {
         let word = inner.word;
         match inner.rest {
             Rest::List(members) => {
-                let (member, later) = members.split()?;
+                let Some((member, later)) = members.split() else {
+                    return Ok(None);
+                };
                 let rest = Rest::List(later);
-                Some((member, Inner { word, rest }))
+                Ok(Some((member, Inner { word, rest })))
             }
             Rest::Table(entries) => {
-                let (position, member, later) = entries.split()?;
-                *sums = sums.with_key(self.key_len(position));
+                let Some((position, member, later)) = entries.split() else {
+                    return Ok(None);
+                };
+                let len = self.key_len(position)?;
+                *sums = sums.with_key(len);
                 let rest = Rest::Table(later);
-                Some((member, Inner { word, rest }))
+                Ok(Some((member, Inner { word, rest })))
             }
         }
     }

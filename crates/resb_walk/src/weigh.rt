@@ -19,19 +19,20 @@ use std::alloc::Global;
 /// Sums a member that stands before what is still to come of a collection. Where it has members of
 /// its own, they are summed first, and the other waits.
 fn enter<'a>(
-    scale: &Scale<'a>,
+    scale: &mut Scale<'a>,
     member: Member,
     inner: Inner<'a>,
     outer: &mut Vec<Outer>,
     sums: &mut Sums,
 ) -> Result<Inner<'a>, NoMemory>
-    ensures { let p = parts_in scale.now.file in (ys ts us zs : List Piece)
+    ensures enters { let p = parts_in scale.old.file in (ys ts us zs : List Piece)
         → HoldsMember p (member_of member) ys → ToCome p inner.entry ts
         → WaitingPieces p outer.old.items us → AddsUp sums.old zs
         → IfOk result (λ i. EnteredPieces p (ys ++ (ts ++ us)) zs outer.old.items outer.new.items i
         sums.new) }
+    ensures file { scale.new.file ≡ scale.old.file }
 {
-    let Some(its) = scale.look(member, sums) else {
+    let Some(its) = scale.look(member, sums)? else {
         return Ok(inner);
     };
     outer.push(keep(inner)?)?;
@@ -49,19 +50,19 @@ pub fn weigh_word(
     ensures { IfOk result
         (λ s. (xs : List Piece) × Holds (parts_in file.entry) word xs × AddsUp s xs) }
 {
-    let scale = Scale::of_file(alloc, file)?;
+    let mut scale = Scale::of_file(alloc, file);
     let mut sums = Sums::none();
-    let Some(mut inner) = scale.look(Member::Word(word), &mut sums) else {
+    let Some(mut inner) = scale.look(Member::Word(word), &mut sums)? else {
         return Ok(sums);
     };
     let mut outer = Vec::new(alloc);
     let mut left = resources;
     // twice what is left, plus the number of collections that wait, falls in each round
     'rounds: loop {
-        inner = match scale.next(inner, &mut sums) {
+        inner = match scale.next(inner, &mut sums)? {
             Some((member, rest)) => {
                 left -= 1;
-                enter(&scale, member, rest, &mut outer, &mut sums)?
+                enter(&mut scale, member, rest, &mut outer, &mut sums)?
             }
             None => match outer.pop() {
                 Some(waiting) => Inner {

@@ -9,15 +9,15 @@ use Rattle.resb_walk.specs.Sums.{AddsUp}
 use Rattle.resb_walk.proofs.Holding.{first_member_holds, first_entry_holds}
 use Rattle.resb_walk.proofs.scale.Scale.next.Goals as goal
 
-pub returns-in_ok-member-in-List : goal.returns-in_ok-member-in-List
-returns-in_ok-member-in-List c xs zs h adds =
+pub returns-in-Some-clause-taken : goal.returns-in-Some-clause-taken
+returns-in-Some-clause-taken c xs zs h adds =
     let p = parts_in c.args.self.now.file in
     let ms = members_of c.in-List.members in
-    let ns = members_of c.in_ok-member-in-List.later in
-    let m = member_of c.in_ok-member-in-List.member in
+    let ns = members_of c.in-Some.later in
+    let m = member_of c.in-Some.member in
     let ends = subst (λ r. IsEndOf p r c.args.inner.word) c.in-List.is h.ends in
     let holds = subst (λ r. RestHolds p r xs) c.in-List.is h.holds in
-    let split = c.in_ok-member-in-List.ensures in
+    let split = c.in-Some.ensures in
     let f = first_member_holds p ms ns m xs split holds in (
       [],
       f.0,
@@ -36,23 +36,23 @@ returns-in_ok-member-in-List c xs zs h adds =
       },
     )
 
-pub returns-in_ok-position-in-Table : goal.returns-in_ok-position-in-Table
-returns-in_ok-position-in-Table c xs zs h adds =
+pub returns-in_ok-len-in-Table-clause-taken : goal.returns-in_ok-len-in-Table-clause-taken
+returns-in_ok-len-in-Table-clause-taken c xs zs h adds =
     let p = parts_in c.args.self.now.file in
     let es = keyed_members c.in-Table.entries in
-    let fs = keyed_members c.in_ok-position-in-Table.later in
-    let place = c.in_ok-position-in-Table.position in
-    let m = member_of c.in_ok-position-in-Table.member in
+    let fs = keyed_members c.in-Some-split.later in
+    let place = c.in-Some-split.position in
+    let m = member_of c.in-Some-split.member in
     let ends = subst (λ r. IsEndOf p r c.args.inner.word) c.in-Table.is h.ends in
     let holds = subst (λ r. RestHolds p r xs) c.in-Table.is h.holds in
-    let split = c.in_ok-position-in-Table.ensures in
+    let split = c.in-Some-split.ensures in
     let f = first_entry_holds p es fs place m xs split holds in (
       key_piece f.0 ∷ [],
       f.1,
       f.2,
       f.4,
       refl,
-      c.with_key.ensures zs f.0 adds (c.key_len.ensures f.0 f.3),
+      c.with_key.ensures zs f.0 adds (c.in_ok-len-in-Table.ensures.len f.0 f.3),
       f.5,
       record {
         ends = (

@@ -4,3 +4,4 @@ pub mod Front
 pub mod Elements
 pub mod Named
 pub mod Naming
+pub mod AtRoot

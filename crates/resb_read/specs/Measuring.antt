@@ -1,24 +1,25 @@
--- What a file's tree has and adds up to, before it is made, and a tree within a limit of bytes.
---     FileHolds bytes xs      the pieces of the tree at the file's root
+-- What the tree at a file's root has and adds up to, before it is made, and a tree within a limit of
+-- bytes: once for whatever a file's bytes come to, and for files that are read alone.
+--     HoldsPieces w xs, FileHolds bytes xs    the pieces of the tree
 --     IsMeasured m xs         how many resources these pieces are, and what they add up to
+--     AnswersMeasureOf, AnswersMeasure    what measuring the tree answers
+--     TreeWithinOf, TreeWithin    what reading it within a limit answers
 --     OneWeight, TreesWeighNoMore     that a file's tree has one weight, and is no heavier
---     AnswersMeasure bytes r       what measuring a file's tree answers
---     TreeWithin bytes limit r    what reading it within a limit answers
 use Rattle.std.specs.Prelude.{◌≡◌, ◌<◌, ◌≤◌, ◌⊎◌, ℕ, List, Result, Ok, Err, codes, sum_by}
 use Rattle.resb_tree.specs.Tree.{Tree, tree_count}
 use Rattle.resb_tree.specs.declared.resource.Resource.{Resource}
-use Rattle.resb_head.specs.File.{parts_of, root_word, Denotes, budget}
+use Rattle.resb_head.specs.File.{Denotes}
 use Rattle.resb_format.specs.Error.{IsInvalid}
 use Rattle.resb_format.specs.declared.error.ReadingError.{ReadingError}
 use Rattle.resb_walk.specs.Pieces.{Piece, Holds, pieces}
 use Rattle.resb_walk.specs.Sums.{AddsUp, count_of}
 use Rattle.resb_walk.specs.TreeBytes.{tree_bytes}
-use Rattle.resb_read.specs.Roots.{RefusesFile, AnswersTree}
+use Rattle.resb_read.specs.Roots.{Whole, RefusesWhole, AnswersTreeOf, alone}
 use Rattle.resb_read.specs.declared.measuring.Measured.{Measured}
 
--- the pieces of a file's tree, in the order of the file
-abbrev pub FileHolds : List ℕ → List Piece → Type 0
-FileHolds bytes xs = Holds (parts_of bytes) (root_word bytes) xs
+-- the pieces of the tree at the root, in the order of the file
+abbrev pub HoldsPieces : Whole → List Piece → Type 0
+HoldsPieces w xs = Holds w.parts w.root xs
 
 -- as many resources as are among the pieces, and their sums
 pub record IsMeasured (m : Measured) (xs : List Piece) : Type 0 where
@@ -26,11 +27,49 @@ pub record IsMeasured (m : Measured) (xs : List Piece) : Type 0 where
   pub sums : AddsUp m.sums xs
 
 -- a tree within the budget, and what its pieces add up to; or the refusal of counting
+abbrev pub AnswersMeasureOf : Whole → Result Measured ReadingError → Type 0
+AnswersMeasureOf w (Ok m) =
+    (t : Tree) × (xs : List Piece) × w.denotes t m.resources × (m.resources ≤ w.budget)
+    × HoldsPieces w xs × IsMeasured m xs
+AnswersMeasureOf w (Err e) = RefusesWhole w e
+
+-- the error says that the tree would take more bytes than it may
+abbrev pub IsLarger : ReadingError → Type 0
+IsLarger e = IsInvalid e (codes "tree larger than the limit")
+
+-- a tree is denoted within the budget, and takes more bytes than this
+pub record TakesMoreOf (w : Whole) (limit : ℕ) : Type 0 where
+  pub tree : Tree
+  pub count : ℕ
+  pub holding : List Piece
+  pub denotes : w.denotes tree count
+  pub within : count ≤ w.budget
+  pub holds : HoldsPieces w holding
+  pub more : limit < tree_bytes holding
+
+-- the tree, which takes no more bytes than the limit; or its refusal, or that of a tree that takes
+-- more
+abbrev pub TreeWithinOf : Whole → ℕ → Result Resource ReadingError → Type 0
+TreeWithinOf w limit (Ok r) =
+    AnswersTreeOf w (Ok r) × ((xs : List Piece) × HoldsPieces w xs × (tree_bytes xs ≤ limit))
+TreeWithinOf w limit (Err e) = RefusesWhole w e ⊎ (IsLarger e × TakesMoreOf w limit)
+
+-- the pieces of a file's tree, in the order of the file
+abbrev pub FileHolds : List ℕ → List Piece → Type 0
+FileHolds bytes xs = HoldsPieces (alone bytes) xs
+
+-- a file's tree within the budget, and what its pieces add up to; or the refusal of counting
 abbrev pub AnswersMeasure : List ℕ → Result Measured ReadingError → Type 0
-AnswersMeasure bytes (Ok m) =
-    (t : Tree) × (xs : List Piece) × Denotes bytes t m.resources × (m.resources ≤ budget bytes)
-    × FileHolds bytes xs × IsMeasured m xs
-AnswersMeasure bytes (Err e) = RefusesFile bytes e
+AnswersMeasure bytes r = AnswersMeasureOf (alone bytes) r
+
+-- a tree is denoted within the budget of a file, and takes more bytes than this
+abbrev pub TakesMore : List ℕ → ℕ → Type 0
+TakesMore bytes limit = TakesMoreOf (alone bytes) limit
+
+-- the file's tree, which takes no more bytes than the limit; or its refusal, or that of a tree that
+-- takes more
+abbrev pub TreeWithin : List ℕ → ℕ → Result Resource ReadingError → Type 0
+TreeWithin bytes limit r = TreeWithinOf (alone bytes) limit r
 
 -- a file's tree has one list of pieces, and so one of each sum
 abbrev pub OneWeight : Type 0
@@ -46,24 +85,3 @@ TreesWeighNoMore =
     → Denotes bytes t n → FileHolds bytes xs
     → (count_of xs ≡ n) × (sum_by weight (pieces t) ≤ sum_by weight xs)
     × (tree_count t ≡ n → sum_by weight (pieces t) ≡ sum_by weight xs)
-
--- the error says that the tree would take more bytes than it may
-abbrev pub IsLarger : ReadingError → Type 0
-IsLarger e = IsInvalid e (codes "tree larger than the limit")
-
--- a tree is denoted within the budget, and takes more bytes than this
-pub record TakesMore (bytes : List ℕ) (limit : ℕ) : Type 0 where
-  pub tree : Tree
-  pub count : ℕ
-  pub holding : List Piece
-  pub denotes : Denotes bytes tree count
-  pub within : count ≤ budget bytes
-  pub holds : FileHolds bytes holding
-  pub more : limit < tree_bytes holding
-
--- the file's tree, which takes no more bytes than the limit; or its refusal, or that of a tree that
--- takes more
-abbrev pub TreeWithin : List ℕ → ℕ → Result Resource ReadingError → Type 0
-TreeWithin bytes limit (Ok r) =
-    AnswersTree bytes (Ok r) × ((xs : List Piece) × FileHolds bytes xs × (tree_bytes xs ≤ limit))
-TreeWithin bytes limit (Err e) = RefusesFile bytes e ⊎ (IsLarger e × TakesMore bytes limit)

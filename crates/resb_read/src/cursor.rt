@@ -1,11 +1,6 @@
 //! A place in a file: where a cursor stands, and where it begins.
 //! What is read there is said in the modules of the types.
-ghost use Rattle.std.specs.Prelude.{◌≡◌, Some, None, MatchResult};
-ghost use Rattle.resb_format.specs.Error.{refusal_of};
-ghost use Rattle.resb_head.specs.File.{budget};
-ghost use Rattle.resb_head.specs.HeadChecks.{file_refusal};
-ghost use Rattle.resb_read.specs.Places.{place_of};
-ghost use Rattle.resb_read.specs.Roots.{root_place};
+ghost use Rattle.resb_read.specs.Roots.{OpensRoot, alone};
 
 use resb_format::{BinaryDeserializerError, FileBlocks};
 use resb_head::CheckedFile;
@@ -35,10 +30,7 @@ impl<'de> Cursor<'de> {
     /// The root of a file, with the whole budget: one resource for each two bytes.
     /// The first check of the file's head that fails is answered.
     pub fn root(bytes: &'de [u8]) -> Result<(Cursor<'de>, Walk), BinaryDeserializerError>
-        ensures { MatchResult result
-            (λ r. (file_refusal bytes.now ≡ None) × (place_of r.0 ≡ root_place bytes.now) ×
-            (r.1 ≡ budget bytes.now))
-            (λ e. file_refusal bytes.now ≡ Some (refusal_of e)) }
+        ensures { OpensRoot (alone bytes.now) result }
     {
         let parts = CheckedFile::read(bytes)?;
         let cursor = Cursor {

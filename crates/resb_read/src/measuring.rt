@@ -5,15 +5,16 @@ ghost use Rattle.resb_format.specs.Parts.{parts_in};
 ghost use Rattle.resb_walk.specs.Pieces.{Piece, Holds};
 ghost use Rattle.resb_walk.specs.Sums.{AddsUp, count_of, fitting};
 ghost use Rattle.resb_walk.specs.TreeBytes.{tree_bytes};
+ghost use Rattle.resb_read.specs.Inner.AtRoot.{IsRoot, MeasureHere, TreeWithinHere};
 ghost use Rattle.resb_read.specs.Measuring.{IsMeasured, AnswersMeasure, TreeWithin, IsLarger};
 ghost use Rattle.resb_read.specs.Places.{place_of};
 ghost use Rattle.resb_read.specs.Resources.{HoldsPlace};
 
 use crate::cursor::{Cursor, Spot};
-use crate::whole_files::tree_from_bytes;
+use crate::whole_files::{count_root, read_root_tree};
 use resb_format::{BinaryDeserializerError, Resource};
 use resb_tree::{NoMemory, weights};
-use resb_walk::{Sums, weigh_word};
+use resb_walk::{Sums, Walk, weigh_word};
 use std::alloc::Global;
 
 /// What a file's tree has; entries that are replaced count too.
@@ -86,12 +87,8 @@ impl<'de> Cursor<'de> {
 pub fn measure(alloc: Global, bytes: &[u8]) -> Result<Measured, BinaryDeserializerError>
     ensures { AnswersMeasure bytes.now result }
 {
-    let (root, mut walk) = Cursor::root(bytes)?;
-    let before = walk.left();
-    root.count_resource(alloc, &mut walk)?;
-    let resources = before - walk.left();
-    let sums = root.sums(alloc, resources)?;
-    Ok(Measured { resources, sums })
+    let (root, walk) = Cursor::root(bytes)?;
+    measure_root(alloc, root, walk)
 }
 
 /// Reads the tree of a file where it takes no more bytes than the limit, as `Measured::tree_bytes`
@@ -103,9 +100,37 @@ pub fn tree_from_bytes_within(
 ) -> Result<Resource<'_>, BinaryDeserializerError>
     ensures { TreeWithin bytes.now limit result }
 {
-    let measured = measure(alloc, bytes)?;
+    let (root, walk) = Cursor::root(bytes)?;
+    read_root_within(alloc, root, walk, limit)
+}
+
+/// Counts the resources of the tree at a root, from what is left, and sums what they hold.
+pub(crate) fn measure_root(
+    alloc: Global,
+    root: Cursor<'_>,
+    walk: Walk,
+) -> Result<Measured, BinaryDeserializerError>
+    requires { IsRoot (place_of root) }
+    ensures { MeasureHere (place_of root.entry) walk result }
+{
+    let resources = count_root(alloc, root, walk)?;
+    let sums = root.sums(alloc, resources)?;
+    Ok(Measured { resources, sums })
+}
+
+/// Reads the tree at a root, from what is left, where it takes no more bytes than the limit.
+pub(crate) fn read_root_within(
+    alloc: Global,
+    root: Cursor<'_>,
+    walk: Walk,
+    limit: u64,
+) -> Result<Resource<'_>, BinaryDeserializerError>
+    requires { IsRoot (place_of root) }
+    ensures { TreeWithinHere (place_of root.entry) walk limit result }
+{
+    let measured = measure_root(alloc, root, Walk::new(walk.left()))?;
     if !measured.is_within(limit) {
         return Err(larger());
     }
-    tree_from_bytes(alloc, bytes)
+    read_root_tree(alloc, root, walk)
 }

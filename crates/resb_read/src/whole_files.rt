@@ -5,12 +5,15 @@ ghost use Rattle.resb_format.specs.Error as reading;
 ghost use Rattle.resb_format.specs.Error.{refusal_of};
 ghost use Rattle.resb_head.specs.File.{budget};
 ghost use Rattle.resb_head.specs.HeadChecks.{file_refusal};
+ghost use Rattle.resb_read.specs.Inner.AtRoot.{TreeHere, CountHere};
+ghost use Rattle.resb_read.specs.Places.{place_of};
 ghost use Rattle.resb_read.specs.Reading.{LacksOrMemory};
 ghost use Rattle.resb_read.specs.Roots.{HoldsAtRoot, RefusesRoot, AnswersTree, AnswersCount};
 
 use crate::cursor::Cursor;
 use crate::deserialize::Deserialize;
 use resb_format::{BinaryDeserializerError, ReadingError, Resource};
+use resb_walk::Walk;
 use std::alloc::Global;
 
 /// Reads a value from a file, with the whole budget of the file.
@@ -44,10 +47,8 @@ pub fn from_bytes_counted<'a, 'm, T: Deserialize<'a>>(
         (λ e. (f : reading.Refusal) → file_refusal bytes.entry.now ≡ Some f → refusal_of e ≡ f) }
     ensures says { IfErr result (RefusesRoot T.refuses bytes.entry.now) }
 {
-    let (root, mut walk) = Cursor::root(bytes)?;
-    let before = walk.left();
-    let value = T::deserialize(alloc, root, &mut walk)?;
-    Ok((value, before - walk.left()))
+    let (root, walk) = Cursor::root(bytes)?;
+    read_root::<T>(alloc, root, walk)
 }
 
 /// Reads the tree of a file. It is `Ok` exactly where the bytes denote a tree of at most as many
@@ -55,8 +56,8 @@ pub fn from_bytes_counted<'a, 'm, T: Deserialize<'a>>(
 pub fn tree_from_bytes(alloc: Global, bytes: &[u8]) -> Result<Resource<'_>, BinaryDeserializerError>
     ensures { AnswersTree bytes.now result }
 {
-    let (root, mut walk) = Cursor::root(bytes)?;
-    root.read_resource(alloc, &mut walk)
+    let (root, walk) = Cursor::root(bytes)?;
+    read_root_tree(alloc, root, walk)
 }
 
 /// Counts the resources of a file's tree, and makes no tree: the number that `from_bytes_counted`
@@ -64,7 +65,44 @@ pub fn tree_from_bytes(alloc: Global, bytes: &[u8]) -> Result<Resource<'_>, Bina
 pub fn count_resources(alloc: Global, bytes: &[u8]) -> Result<usize, BinaryDeserializerError>
     ensures { AnswersCount bytes.now result }
 {
-    let (root, mut walk) = Cursor::root(bytes)?;
+    let (root, walk) = Cursor::root(bytes)?;
+    count_root(alloc, root, walk)
+}
+
+/// Reads a value at a root, with the number of resources that it takes from what is left.
+pub(crate) fn read_root<'a, 'm, T: Deserialize<'a>>(
+    alloc: Global,
+    root: Cursor<'a>,
+    mut walk: Walk,
+) -> Result<(T, usize), ReadingError<'m>>
+    ensures read { IfOk result (λ r. T.reads (place_of root.entry) r.0 r.1 × (r.1 ≤ walk)) }
+    ensures refused { IfErr result (LacksOrMemory (T.counts (place_of root.entry)) walk) }
+    ensures says { IfErr result (λ e. (left : ℕ) × T.refuses (place_of root.entry) walk left e) }
+{
+    let before = walk.left();
+    let value = T::deserialize(alloc, root, &mut walk)?;
+    Ok((value, before - walk.left()))
+}
+
+/// Reads the tree at a root, from what is left.
+pub(crate) fn read_root_tree(
+    alloc: Global,
+    root: Cursor<'_>,
+    mut walk: Walk,
+) -> Result<Resource<'_>, BinaryDeserializerError>
+    ensures { TreeHere (place_of root.entry) walk result }
+{
+    root.read_resource(alloc, &mut walk)
+}
+
+/// Counts the resources of the tree at a root, from what is left.
+pub(crate) fn count_root(
+    alloc: Global,
+    root: Cursor<'_>,
+    mut walk: Walk,
+) -> Result<usize, BinaryDeserializerError>
+    ensures { CountHere (place_of root.entry) walk result }
+{
     let before = walk.left();
     root.count_resource(alloc, &mut walk)?;
     Ok(before - walk.left())

@@ -15,3 +15,4 @@ mod Taking
 pub mod OneRefusal
 mod OneValue
 mod Measures
+pub mod WithPool

@@ -1,31 +1,34 @@
 -- What is answered at the place of a root, as what the file comes to.
 use Rattle.std.proofs.Common.{ℕ, List, ◌≡◌, ◌≤◌, ◌+◌, inl, inr, Result, Ok, Err, Some, None}
-use Rattle.std.proofs.Common.{subst, sym, refl, arith}
+use Rattle.std.proofs.Common.{subst, sym, refl, ap, ◌∙◌, arith}
 use Rattle.std.specs.Prelude.{◌-◌}
 use Rattle.std.specs.Result.{IfOk, IfErr}
 use Rattle.resb_tree.specs.Tree.{Tree}
 use Rattle.resb_tree.specs.declared.resource.Resource.{Resource}
 use Rattle.resb_format.specs.Denotes.{Den}
 use Rattle.resb_format.specs.Error.{Refusal}
+use Rattle.resb_format.specs.Parts.{parts_in}
 use Rattle.resb_format.specs.declared.error.ReadingError.{ReadingError}
 use Rattle.resb_head.specs.File.{IsBundleFile}
 use Rattle.resb_head.specs.HeadChecks.{file_refusal}
+use Rattle.resb_head.specs.declared.checked_file.CheckedFile.{CheckedFile}
 use Rattle.resb_head.proofs.FileSteps.{bundle_file_passes}
 use Rattle.resb_walk.specs.Meets.{Blames}
 use Rattle.resb_walk.specs.Refusals.{Refuses}
 use Rattle.resb_read.specs.Inner.AtRoot.{IsRoot, RefusesHere, TreeHere, CountHere}
-use Rattle.resb_read.specs.Places.{Place}
+use Rattle.resb_read.specs.Places.{Place, place_of}
 use Rattle.resb_read.specs.Reading.{LacksOrMemory}
 use Rattle.resb_read.specs.Resources.{DenPlace, ReachesPlace, ReadsTree, MeetsPlace}
 use Rattle.resb_read.specs.Roots.{Whole, alone, place_of_root, HoldsAt, RefusesAt, RefusesWhole}
-use Rattle.resb_read.specs.Roots.{AnswersTreeOf, AnswersCountOf}
+use Rattle.resb_read.specs.Roots.{OpensRoot, AnswersTreeOf, AnswersCountOf}
+use Rattle.resb_read.specs.declared.cursor.Cursor.{Cursor}
+use Rattle.resb_read.specs.declared.cursor.Spot.TheVariants as spot
 
 -- what the words of a whole file have to do with one another
 pub record IsLinked (w : Whole) : Type 0 where
   pub passes : w.refusal ≡ None → w.is_file
   pub holds : w.is_file → w.refusal ≡ None
   pub denotes : (t : Tree) (n : ℕ) → w.is_file → Den w.parts w.root t n → w.denotes t n
-  pub denoted : (t : Tree) (n : ℕ) → w.denotes t n → Den w.parts w.root t n
 
 -- of a file that is read alone
 pub alone_linked : (bytes : List ℕ) → IsLinked (alone bytes)
@@ -33,7 +36,6 @@ alone_linked bytes = record {
   passes = (bundle_file_passes bytes).0;
   holds = (bundle_file_passes bytes).1;
   denotes = λ t n h d. record { head = h; root = d };
-  denoted = λ t n d. d.root;
 }
 
 -- what has a fault in its head is no file
@@ -48,6 +50,20 @@ pub no_bundle : (bytes : List ℕ) (f : Refusal) → file_refusal bytes ≡ Some
     → ⊥
 no_bundle bytes f e h = no_file (alone bytes) f (alone_linked bytes) e h
 
+-- a cursor at the root of the parts of a file
+pub opened : (w : Whole) (f : CheckedFile) (s : Cursor × ℕ) → w.refusal ≡ None
+    → parts_in f.file ≡ w.parts → f.root ≡ w.root
+    → place_of s.0 ≡ record { parts = parts_in f.file; at = spot.Descriptor f.root }
+    → s.1 ≡ w.budget → OpensRoot w (Ok s)
+opened w f s none parts root place all = (
+  none,
+  place
+      ∙ ap (λ p. record { parts = p; at = spot.Descriptor f.root }) parts
+      ∙ ap (λ r. record { parts = w.parts; at = spot.Descriptor r }) root,
+  all,
+)
+
+-- this holds of the place of the root
 pub holds_there : (P : Place → Type 0) (w : Whole) (p : Place) → IsLinked w → w.refusal ≡ None
     → p ≡ place_of_root w → P p → HoldsAt P w
 holds_there P w p l none same h = record { head = l.passes none; root = subst P same h }

@@ -13,6 +13,10 @@ pub use Rattle.resb_format.specs.Descriptor
 pub use Rattle.resb_format.specs.Views
 pub use Rattle.resb_head.specs.HeadChecks
 pub use Rattle.resb_head.specs.Codes
+pub use Rattle.resb_pool_bundle.specs.Fields
+pub use Rattle.resb_pool_bundle.specs.Pool
+pub use Rattle.resb_pool_bundle.specs.Checks
+pub use Rattle.resb_pool_bundle.specs.FileWith
 pub use Rattle.resb_tree.specs.Tree
 pub use Rattle.resb_tree.specs.View
 pub use Rattle.resb_walk.specs.BlockRefusals
@@ -29,6 +33,7 @@ pub mod PlaceRefusals
 pub mod Resources
 pub mod Roots
 pub mod Measuring
+pub mod WithPool
 pub mod Laws
 pub mod Sequences
 pub mod Access

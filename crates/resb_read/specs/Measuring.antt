@@ -1,5 +1,5 @@
--- What the tree at a file's root has and adds up to, before it is made, and a tree within a limit of
--- bytes: once for whatever a file's bytes come to, and for files that are read alone.
+-- What the tree at a file's root has and adds up to, before it is made, and a tree within a limit
+-- of bytes: once for whatever a file's bytes come to, and for files that are read alone.
 --     HoldsPieces w xs, FileHolds bytes xs    the pieces of the tree
 --     IsMeasured m xs         how many resources these pieces are, and what they add up to
 --     AnswersMeasureOf, AnswersMeasure    what measuring the tree answers

@@ -1,6 +1,11 @@
 //! A place in a file: where a cursor stands, and where it begins.
 //! What is read there is said in the modules of the types.
+ghost use Rattle.std.specs.Prelude.{◌≡◌};
+ghost use Rattle.resb_format.specs.Parts.{parts_in};
+ghost use Rattle.resb_head.specs.File.{budget};
+ghost use Rattle.resb_read.specs.Places.{place_of};
 ghost use Rattle.resb_read.specs.Roots.{OpensRoot, alone};
+ghost use Rattle.resb_read.specs.declared.cursor.Spot.TheVariants as spot;
 
 use resb_format::{BinaryDeserializerError, FileBlocks};
 use resb_head::CheckedFile;
@@ -33,10 +38,19 @@ impl<'de> Cursor<'de> {
         ensures { OpensRoot (alone bytes.now) result }
     {
         let parts = CheckedFile::read(bytes)?;
+        Ok(Cursor::begin(parts, bytes))
+    }
+
+    /// A cursor at the root of the parts of a file, and the whole budget of the file's bytes.
+    pub(crate) fn begin(parts: CheckedFile<'de>, bytes: &[u8]) -> (Cursor<'de>, Walk)
+        ensures root { place_of result.0
+            ≡ record { parts = parts_in parts.entry.file; at = spot.Descriptor parts.entry.root } }
+        ensures budget { result.1 ≡ budget bytes.now }
+    {
         let cursor = Cursor {
             file: parts.file,
             at: Spot::Descriptor(parts.root),
         };
-        Ok((cursor, Walk::new(bytes.len() / 2)))
+        (cursor, Walk::new(bytes.len() / 2))
     }
 }

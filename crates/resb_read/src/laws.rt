@@ -3,6 +3,8 @@
 ghost use Rattle.resb_read.specs.Laws.{OneRefusalOfAFile, OneValue};
 ghost use Rattle.resb_read.specs.Measuring.{OneWeight, TreesWeighNoMore};
 ghost use Rattle.resb_read.specs.Tables.{LastOfAName, AscendIsTold};
+ghost use Rattle.resb_read.specs.WithPool.{OneTreeWithPool, OneRefusalWithPool, OneWeightWithPool};
+ghost use Rattle.resb_read.specs.WithPool.{TreesWeighNoMoreWithPool};
 
 /// A file whose tree isn't read is refused in one way, by kind and message, memory aside.
 pub fn one_refusal_of_a_file()
@@ -37,4 +39,27 @@ pub fn one_weight()
 /// entry is replaced.
 pub fn trees_weigh_no_more()
     ensures { TreesWeighNoMore }
+{}
+
+/// The bytes of a file denote at most one tree beside a pool bundle, with one count.
+pub fn one_tree_with_pool()
+    ensures { OneTreeWithPool }
+{}
+
+/// A file beside a pool bundle whose tree isn't read is refused in one way, by kind and message,
+/// memory aside.
+pub fn one_refusal_with_pool()
+    ensures { OneRefusalWithPool }
+{}
+
+/// What a reading of the tree of a file beside a pool bundle goes through is one list of resources
+/// and keys: so each sum over them is one number.
+pub fn one_weight_with_pool()
+    ensures { OneWeightWithPool }
+{}
+
+/// By any weights the tree of a file beside a pool bundle weighs no more than what is read of it,
+/// and the same where no entry is replaced.
+pub fn trees_weigh_no_more_with_pool()
+    ensures { TreesWeighNoMoreWithPool }
 {}

@@ -1,0 +1,20 @@
+use Rattle.std.specs.Prelude.{option_map}
+use Rattle.resb_pool_bundle.specs.Pool.{pool_in}
+use Rattle.resb_read.specs.Places.{place_of}
+use Rattle.resb_read.specs.WithPool.{over}
+use Rattle.resb_read.proofs.Rooted.{root_stands}
+use Rattle.resb_read.proofs.Measures.{measure_root}
+use Rattle.resb_read.proofs.WithPool.{over_linked}
+use Rattle.resb_read.proofs.with_pool.measure_with_pool.Goals as goal
+
+pub measure_root-requires : goal.measure_root-requires
+measure_root-requires c =
+    let pool = option_map pool_in c.args.pool in
+    root_stands (over pool c.args.bytes.now) (place_of c.in_ok-root.root) c.in_ok-root.ensures.1
+
+pub returns : goal.returns
+returns c =
+    let pool = option_map pool_in c.args.pool in
+    let h = c.in_ok-root.ensures in
+    measure_root (over pool c.args.bytes.now) (place_of c.in_ok-root.root) c.in_ok-root.walk
+    c.measure_root.result (over_linked pool c.args.bytes.now) h.0 h.1 h.2 c.measure_root.ensures

@@ -36,6 +36,7 @@ fn check_lending(index: Index<'_>) -> Result<(), BinaryDeserializerError>
 impl<'a> FileHead<'a> {
     ghost use Rattle.std.specs.Prelude.{◌≡◌, ◌==◌, ◌%◌, slice_range, option_map};
     ghost use Rattle.resb_head.specs.Codes.{version_bytes};
+    ghost use Rattle.resb_head.specs.File.{largest_table_field};
     ghost use Rattle.resb_pool_bundle.specs.Fields as said;
     ghost use Rattle.resb_pool_bundle.specs.FileWith.{ReadsPool, ReadsFileWith};
     ghost use Rattle.resb_pool_bundle.specs.Heads.{ReadsHead, head_bytes};
@@ -78,6 +79,13 @@ impl<'a> FileHead<'a> {
         ensures { result ≡ (said.attributes_in (head_bytes self.now) % 2 == 0) }
     {
         self.index.attributes() % 2 == 0
+    }
+
+    /// The most entries of any table, as the file says.
+    pub fn largest_table(&self) -> u32
+        ensures { result ≡ largest_table_field (head_bytes self.now) }
+    {
+        word_at(self.index.body, 5)
     }
 
     /// What the file lends, if it is a pool bundle whose keys begin behind its index.

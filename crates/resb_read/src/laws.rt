@@ -42,7 +42,7 @@ pub fn trees_weigh_no_more()
 {}
 
 /// The bytes of a file denote at most one tree beside a pool bundle, with one count.
-pub fn one_tree_with_pool()
+pub fn one_tree_of_a_file_with_pool()
     ensures { OneTreeWithPool }
 {}
 

@@ -72,6 +72,12 @@ pub use Rattle.resb_package.specs.Checks as PackageChecks
 pub use Rattle.resb_package.specs.Items as PackageItems
 pub use Rattle.resb_package.specs.Message as PackageMessage
 pub use Rattle.resb_package.specs.Laws as PackageLaws
+pub use Rattle.resb_pool_bundle.specs.Fields as HeadFields
+pub use Rattle.resb_pool_bundle.specs.Pool as PoolBundles
+pub use Rattle.resb_pool_bundle.specs.Checks as PoolBundleChecks
+pub use Rattle.resb_pool_bundle.specs.FileWith
+pub use Rattle.resb_pool_bundle.specs.Heads
+pub use Rattle.resb_pool_bundle.specs.Laws as PoolBundleLaws
 pub use Rattle.resb_blocks.specs.Links
 pub use Rattle.resb_blocks.specs.Wide
 pub use Rattle.resb_blocks.specs.Laws as BlocksLaws
@@ -91,6 +97,7 @@ pub use Rattle.resb_read.specs.RefusedReadings
 pub use Rattle.resb_read.specs.Resources
 pub use Rattle.resb_read.specs.Roots
 pub use Rattle.resb_read.specs.Measuring
+pub use Rattle.resb_read.specs.WithPool
 pub use Rattle.resb_read.specs.Spots
 pub use Rattle.resb_read.specs.Sequences
 pub use Rattle.resb_read.specs.Access

@@ -2,6 +2,7 @@
 //! to the library's own call, with the contract that a stranger needs; and the laws that make it
 //! whole. Every other promise stands with its own call, and the other laws in `laws`.
 ghost use Rattle.std.specs.Prelude.{◌≡◌, ◌⊎◌, ◌<◌, ◌≤◌, ◌+◌, ◌*◌, ◌^◌, length, IfOk, IfErr};
+ghost use Rattle.std.specs.Prelude.{option_map};
 ghost use Rattle.resb_tree.specs.Bundle.{name_of, root_of};
 ghost use Rattle.resb_tree.specs.View.{tree_of};
 ghost use Rattle.resb_grammar.specs.BundleText.{BundleText};
@@ -11,9 +12,12 @@ ghost use Rattle.resb_format.specs.Error.{IsWantOfMemory};
 ghost use Rattle.resb_write.specs.FaultOf.{fault_of};
 ghost use Rattle.resb_layout.specs.TreeFaults.{RefusesWriting};
 ghost use Rattle.resb_layout.specs.Written.{Written};
+ghost use Rattle.resb_pool_bundle.specs.Pool.{pool_in};
 ghost use Rattle.resb.specs.Headline.{DenotesWithin, DenotesNone, OneTreeOfAFile};
+ghost use Rattle.resb.specs.Headline.{DenotesWithinBeside, DenotesNoneBeside};
 
 use resb_format::{Key, ReadingError, Resource, ResourceBundle};
+use resb_pool_bundle::PoolBundle;
 use resb_text::{Reader, TextParserError, Turns};
 use resb_write::{BinarySerializerError, Serializer};
 use std::alloc::Global;
@@ -24,6 +28,8 @@ pub use resb_text::laws::one_bundle_text;
 pub use resb_pool::laws::records_cost_least;
 // A bundle and a list of keys leave one file.
 pub use resb_write::laws::one_file;
+// Beside one pool bundle a file denotes one tree, with one count of resources.
+pub use resb_read::laws::one_tree_of_a_file_with_pool;
 // And back again: what was written is read as the tree, what was compiled as the text's tree.
 pub use crate::laws::{compiled_is_read, written_is_read};
 
@@ -88,3 +94,20 @@ pub fn read_tree<'a, 'm>(alloc: Global, file: &'a [u8]) -> Result<Resource<'a>, 
 pub fn one_tree_of_a_file()
     ensures { OneTreeOfAFile }
 {}
+
+/// Reads the tree of a file of version 1.1 to 3.0, beside the pool bundle that is given, if one is:
+/// `Ok` only with a tree that the bytes denote there, of no more resources than the budget. An error
+/// is want of memory, or no such tree is denoted, as by a file that uses a pool bundle and is given
+/// none or another. A file of version 2.0 without one is what it is alone: `laws` say so.
+pub fn read_tree_with_pool<'a, 'm>(
+    alloc: Global,
+    file: &'a [u8],
+    pool: Option<PoolBundle<'a>>,
+) -> Result<Resource<'a>, ReadingError<'m>>
+    ensures ok { IfOk result (λ r.
+        DenotesWithinBeside (option_map pool_in pool.entry) file.entry.now (tree_of r)) }
+    ensures refused { IfErr result (λ e. IsWantOfMemory e
+        ⊎ DenotesNoneBeside (option_map pool_in pool.entry) file.entry.now) }
+{
+    resb_read::from_bytes_with_pool::<Resource<'a>>(alloc, file, pool)
+}

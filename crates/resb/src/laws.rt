@@ -71,6 +71,8 @@ pub use resb_print::laws::printed_is_linear;
 pub use resb_head::laws::header_passes;
 // The checks of a file's head let through exactly the bundle files.
 pub use resb_head::laws::bundle_file_passes;
+// A file that has nothing to do with pool bundles is alone what it is beside any.
+pub use resb_pool_bundle::laws::own_files_are_the_same;
 // A word denotes at most one tree, with one count.
 pub use resb_format::laws::one_tree;
 // Each table of a denoted tree is a map whose keys strictly ascend.
@@ -87,6 +89,11 @@ pub use resb_read::laws::one_refusal_of_a_file;
 pub use resb_read::laws::one_weight;
 // A file's tree weighs no more than what is read of it, and the same where no entry is replaced.
 pub use resb_read::laws::trees_weigh_no_more;
+// Beside a pool bundle a file is refused in one way too, and its tree has one weight and is no
+// heavier than what is read of it.
+pub use resb_read::laws::{
+    one_refusal_with_pool, one_weight_with_pool, trees_weigh_no_more_with_pool,
+};
 // Bytes are a package of at most one list of items.
 pub use resb_package::laws::one_package;
 // Two items of a package have two names.

@@ -1,7 +1,9 @@
 //! Reading without a type of one's own: by the given types, by look-ups of keys, and by a plain
 //! function over cursors.
 //! A type of one's own is shown in `records`, and one with relations of its own in `zones`.
-use resb::binary::{BinaryDeserializerError, Cursor, from_bytes};
+use resb::binary::{
+    BinaryDeserializerError, Cursor, PoolBundle, from_bytes, from_bytes_with_pool,
+};
 use std::alloc::Global;
 use std::collections::BTreeMap;
 
@@ -16,6 +18,17 @@ pub fn base_of(
         return Ok(None);
     };
     Ok(fields.get("base").copied())
+}
+
+/// The strings of a file of names by their keys, over the pool bundle that it uses. Keys are
+/// borrowed from either.
+pub fn names_over_a_pool<'a>(
+    alloc: Global,
+    file: &'a [u8],
+    pool: &'a [u8],
+) -> Result<BTreeMap<&'a str, String>, BinaryDeserializerError> {
+    let pool = PoolBundle::read(pool)?;
+    from_bytes_with_pool(alloc, file, Some(pool))
 }
 
 /// The number `base` of a zone, looked up by its keys, in a file of tables that may hold anything

@@ -24,6 +24,8 @@ mod measure_rows;
 #[cfg(test)]
 mod places;
 #[cfg(test)]
+mod pool_rows;
+#[cfg(test)]
 mod rows;
 #[cfg(test)]
 mod type_rows;

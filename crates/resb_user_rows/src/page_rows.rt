@@ -1,8 +1,9 @@
-//! What the code of the pages answers: zones read without a type of one's own, a record's number, a
-//! tree made in code, and two texts in one file.
+//! What the code of the pages answers: zones read without a type of one's own, a record's number,
+//! names over a pool bundle, a tree made in code, and two texts in one file.
 //! The zone table has its rows in `text_rows` and `zone_rows`.
+use crate::zone_rows::file_of;
 use resb::compile;
-use resb_examples::reading::{base_by_cursor, base_by_key, base_of};
+use resb_examples::reading::{base_by_cursor, base_by_key, base_of, names_over_a_pool};
 use resb_examples::records::digits_of;
 use resb_examples::writing::{greeting_file, merge};
 use std::alloc::Global;
@@ -29,6 +30,28 @@ const CURRENCIES: &str = r#"currencies {
 
 /// Codes of currencies, and their digits.
 const DIGITS: [(&str, Option<i32>); 3] = [("EUR", Some(2)), ("JPY", Some(0)), ("XXX", None)];
+
+/// A pool bundle of the keys `alpha`, `beta` and `gamma`, as the words behind its header that ICU's
+/// `genrb` writes.
+const POOL: [u32; 15] = [
+    0x20000000, 8, 0xe, 0xf, 0xf, 0, 3, 0xf, 0x1baba403, 0x68706c61, 0x65620061, 0x67006174,
+    0x616d6d61, 0xaaaaaa00, 0xaaaa0000,
+];
+
+/// A file of `a{alpha{"one two three"}beta{"x"}}` over it.
+const OVER_POOL: [u32; 20] = [
+    0x50000011, 8, 9, 0x14, 0x14, 2, 4, 0x14, 0x1baba403, 0x780000, 0x6f0000, 0x65006e, 0x740020,
+    0x6f0077, 0x740020, 0x720068, 0x650065, 0x20000, 0x60000, 0x10003,
+];
+
+/// Whether the strings of a file over a pool bundle are read by its keys.
+fn are_names(alloc: Global) -> Result<bool, Fail> {
+    let (pool, file) = (file_of(alloc, &POOL)?, file_of(alloc, &OVER_POOL)?);
+    let names = names_over_a_pool(alloc, &file, &pool)?;
+    let (long, short) = (names.get("alpha"), names.get("beta"));
+    Ok(long.is_some_and(|it| it.as_str() == "one two three")
+        && short.is_some_and(|it| it.as_str() == "x"))
+}
 
 /// Whether each zone's base is read, by each way.
 fn are_read(alloc: Global) -> Result<bool, Fail> {
@@ -64,7 +87,7 @@ fn are_written(alloc: Global) -> Result<bool, Fail> {
 
 #[test]
 fn pages_answer(rt: HostRuntime) -> Result<(), Fail> {
-    let read = are_read(rt.alloc())? && are_records(rt.alloc())?;
+    let read = are_read(rt.alloc())? && are_records(rt.alloc())? && are_names(rt.alloc())?;
     let written = are_written(rt.alloc())?;
     assert!(rt; read && written);
     Ok(())

@@ -1,0 +1,91 @@
+//! A pool bundle and a file over it, as ICU's `genrb` writes the two, through each call that reads
+//! them. Damaged ones are read by the program `resb`, in `tests/pools.py`.
+use crate::files::file_of_words;
+use resb_format::{BinaryDeserializerError, Resource};
+use resb_head::FormatVersion;
+use resb_pool_bundle::{FileHead, PoolBundle, read_with_pool};
+use resb_read::{
+    Cursor, count_resources_with_pool, from_bytes_counted_with_pool, from_bytes_with_pool,
+    measure_with_pool, tree_from_bytes_with_pool, tree_from_bytes_within_with_pool,
+};
+use std::alloc::Global;
+use std::collections::BTreeMap;
+use std::test::Fail;
+
+/// The keys `alpha`, `beta` and `gamma`: the words behind the header.
+const POOL: [u32; 15] = [
+    0x20000000, 8, 0xe, 0xf, 0xf, 0, 3, 0xf, 0x1baba403, 0x68706c61, 0x65620061, 0x67006174,
+    0x616d6d61, 0xaaaaaa00, 0xaaaa0000,
+];
+
+/// `a{alpha{"one two three"}beta{"x"}}` over that pool.
+const OVER_POOL: [u32; 20] = [
+    0x50000011, 8, 9, 0x14, 0x14, 2, 4, 0x14, 0x1baba403, 0x780000, 0x6f0000, 0x65006e, 0x740020,
+    0x6f0077, 0x740020, 0x720068, 0x650065, 0x20000, 0x60000, 0x10003,
+];
+
+/// The bytes that its tree takes: three resources, 14 bytes of text, a table and two entries.
+const TREE_BYTES: u64 = 3 * 72 + 14 * 3 + 1024 + 2 * 192;
+
+/// Whether the heads say what the files are, and the pool has its checksum.
+fn are_heads(pool: &[u8], file: &[u8]) -> Result<bool, BinaryDeserializerError> {
+    let (lent, over) = (FileHead::read(pool)?, FileHead::read(file)?);
+    let bundle = PoolBundle::read(pool)?;
+    let is_lent = lent.is_pool() && !lent.uses_pool() && !lent.has_fallback();
+    let is_over = over.uses_pool() && over.has_fallback() && over.largest_table() == 2;
+    let is_known = bundle.has_checksum() && bundle.checksum() == 0x1bab_a403;
+    let parts = read_with_pool(file, Some(bundle))?;
+    Ok(is_lent && is_over && is_known && parts.root == 0x5000_0011
+        && over.version() == FormatVersion::V2_0)
+}
+
+/// Whether the strings are read by their keys.
+fn are_strings(
+    alloc: Global,
+    file: &[u8],
+    pool: PoolBundle<'_>,
+) -> Result<bool, BinaryDeserializerError> {
+    let names: BTreeMap<&str, String> = from_bytes_with_pool(alloc, file, Some(pool))?;
+    let long = names.get("alpha").is_some_and(|it| it.as_str() == "one two three");
+    let (root, mut walk) = Cursor::root_with_pool(file, Some(pool))?;
+    let table = root.read_table(&mut walk)?;
+    let short = table.value::<String>(alloc, "beta", &mut walk)?;
+    Ok(long && short.is_some_and(|it| it.as_str() == "x"))
+}
+
+/// Whether the tree is counted and measured.
+fn is_measured(
+    alloc: Global,
+    file: &[u8],
+    pool: PoolBundle<'_>,
+) -> Result<bool, BinaryDeserializerError> {
+    let measured = measure_with_pool(alloc, file, Some(pool))?;
+    let count = count_resources_with_pool(alloc, file, Some(pool))?;
+    Ok(count == 3 && measured.resources == 3 && measured.tree_bytes() == Some(TREE_BYTES))
+}
+
+/// Whether the tree is read in the same way by each call.
+fn is_one_tree(
+    alloc: Global,
+    file: &[u8],
+    pool: PoolBundle<'_>,
+) -> Result<bool, BinaryDeserializerError> {
+    let (tree, count) = from_bytes_counted_with_pool::<Resource<'_>>(alloc, file, Some(pool))?;
+    if tree_from_bytes_with_pool(alloc, file, Some(pool))? != tree {
+        return Ok(false);
+    }
+    let same = tree_from_bytes_within_with_pool(alloc, file, Some(pool), TREE_BYTES)?;
+    Ok(same == tree && count == 3)
+}
+
+#[test]
+fn a_file_over_a_pool_bundle_is_read(rt: HostRuntime) -> Result<(), Fail> {
+    let alloc = rt.alloc();
+    let (pool, file) = (file_of_words(alloc, &POOL)?, file_of_words(alloc, &OVER_POOL)?);
+    let bundle = PoolBundle::read(&pool)?;
+    let heads = are_heads(&pool, &file)?;
+    let strings = are_strings(alloc, &file, bundle)?;
+    let measured = is_measured(alloc, &file, bundle)?;
+    assert!(rt; heads && strings && measured && is_one_tree(alloc, &file, bundle)?);
+    Ok(())
+}

@@ -1,7 +1,7 @@
 #!/usr/bin/env bash
 # The examples of the library for C, built and run: a bundle's text, a text that is none, bytes that
-# are no UTF-8, a text over the limit. Where the library isn't built, `rt lib` builds it. A missing
-# compiler is no failure.
+# are no UTF-8, a text over the limit; and files beside pool bundles. Where the library isn't built,
+# `rt lib` builds it. A missing compiler is no failure.
 # RATTLE_C is the folder of the toolchain's liblibc_c.a.
 set -uo pipefail
 top=$(cd "$(dirname "$(readlink -f "$0")")/.." && pwd)
@@ -42,6 +42,31 @@ at byte 6: expected '}'" 'a {\n  ' "$@"
     "a {$(printf 'k {%.0s' {1..9000})" "$@"
 }
 
+# pool_rows COMMAND..: the rows of the built example that shows files beside pool bundles, which are
+# those of `pools.py`
+pool_rows() {
+  python3 -B -c "
+import sys
+sys.path.insert(0, '$top/tests')
+import pools
+for name, words in (('pool', pools.POOL3), ('other', pools.POOL3.replace('e31610fa', 'e31610fb')),
+                    ('a', pools.A3)):
+    open(f'$folder/{name}.res', 'wb').write(pools.file(words))"
+  expect 'C: over a pool' 0 '3 resources, 9 bytes of keys
+bundle{
+    alpha{"one two three"}
+    beta{"x"}
+}' '' "$@" "$folder/a.res" "$folder/pool.res"
+  expect 'C: no pool' 1 'fault 9: the file uses a pool bundle, and none was given' '' \
+    "$@" "$folder/a.res"
+  expect 'C: another pool' 1 \
+    'fault 5: Invalid resource bundle data: pool bundle has another checksum' '' \
+    "$@" "$folder/a.res" "$folder/other.res"
+  expect 'C: a pool that is none' 1 \
+    'fault 11: Invalid resource bundle data: file is not a pool bundle' '' \
+    "$@" "$folder/a.res" "$folder/a.res"
+}
+
 # built NAME COMMAND..: whether the example is built, which counts only where it fails
 built() {
   local name=$1
@@ -61,6 +86,9 @@ if command -v cc > /dev/null; then
   built 'the C example' cc -std=c99 -Wall -Wextra -Werror -O2 ${CFLAGS:-} -I "$top/include" \
     "$top/examples/c/compile.c" "$RESB_LIB/libresb_c.a" "$RATTLE_C/liblibc_c.a" \
     -o "$folder/compile" && rows C "$folder/compile"
+  built 'the C example of pools' cc -std=c99 -Wall -Wextra -Werror -O2 ${CFLAGS:-} \
+    -I "$top/include" "$top/examples/c/show.c" "$RESB_LIB/libresb_c.a" "$RATTLE_C/liblibc_c.a" \
+    -o "$folder/show" && pool_rows "$folder/show"
 fi
 if command -v cargo > /dev/null; then
   built 'the Rust example' cargo build --quiet --offline --manifest-path \

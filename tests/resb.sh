@@ -75,10 +75,12 @@ told 1 'names.res: 8 resources, format 2.0, fallback, largest table 5' \
 printf 'b:table(nofallback){a{"x"}}' > off.txt
 told 0 '' '' compile off.txt
 told 0 'off.res: 2 resources, format 2.0, no fallback, largest table 1' '' check off.res
-# the attributes are the sixth field of the index: bit 1 says that the file is a pool bundle
+# the attributes are the sixth field of the index: bit 1 says that the file is a pool bundle, which
+# has a checksum (tests/pools.py has those)
 cp names.res pool.res
 printf '\002' | dd of=pool.res bs=1 seek=56 conv=notrunc 2> /dev/null
-told 0 'pool.res: 8 resources, format 2.0, fallback, largest table 5, pool bundle' '' check pool.res
+told 1 '' 'pool.res: Invalid resource bundle data: pool checksum not specified' check pool.res
+rm pool.res
 
 # streams in the place of files
 input=names.res
@@ -215,20 +217,18 @@ told 0 '{"zones":{"Pole":{"list":["first","oth\"r"],"note":"plain"}}}' \
   "path.res: this has no text, since a string holds a '\"' at zones/Pole/list/1; here is its JSON" \
   dump path.res
 
-# files of other forms are refused by name
+# files of other forms are read or refused by name
 python3 - << 'END'
 data = bytearray(open("names.res", "rb").read())
 other = bytearray(data)
 other[16] = 3
 open("three.res", "wb").write(other)
-pool = bytearray(data)
-pool[32 + 4 + 5 * 4] |= 4
-open("uses_pool.res", "wb").write(pool)
+other[16] = 1
+open("one.res", "wb").write(other)
 END
-told 1 '' "three.res: format version 3.0: Unsupported resource bundle format: format versions other \
-than 2.0 are not supported at this time" check three.res
-told 1 '' 'uses_pool.res: this file uses the keys of a pool bundle' check uses_pool.res
-told 1 '' 'uses_pool.res: this file uses the keys of a pool bundle' dump uses_pool.res
+told 0 'three.res: 8 resources, format 3.0, fallback, largest table 5' '' check three.res
+told 1 '' 'one.res: Unsupported resource bundle format: format version 1.0 is not supported' \
+  check one.res
 
 # a long line is cut round the place: 60 bytes before it, and 60 from it on
 letters=$(printf 'x%.0s' $(seq 200))

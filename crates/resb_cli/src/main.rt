@@ -3,6 +3,7 @@
 #![tactic(auto)]
 
 mod compile;
+mod input;
 mod packages;
 mod place;
 mod progress;
@@ -51,7 +52,7 @@ fn answer(rt: &HostRuntime, e: &WordsError) -> u8 {
 fn perform_request(rt: &HostRuntime, request: &Request<'_>) -> u8 {
     match request {
         Request::Compile(words) => compile::compile(rt, words),
-        Request::Check(names) => show::check(rt, names.as_slice()),
+        Request::Check(words) => show::check(rt, words),
         Request::Dump(words) => show::dump(rt, words),
         Request::Get(words) if words::is_marked(words.path) => {
             say::fail(rt, words.path, "this path is no UTF-8")

@@ -1,9 +1,10 @@
 //! The commands `list` and `extract`: the items of a package of ICU's data.
 //! What a package is, is in `resb_package`.
+use crate::input::bytes_of;
 use crate::place::{Place, place_of};
 use crate::save::save;
-use crate::say::{complain, fail};
-use crate::show::{input, refuse_memory, settled, show};
+use crate::say::{complain, fail, refuse_memory};
+use crate::show::{settled, show};
 use crate::shown::Shown;
 use crate::streams::NO_MEMORY;
 use crate::taken::Taken;
@@ -18,7 +19,7 @@ pub(crate) fn list(rt: &HostRuntime, name: &str) -> u8 {
 
 /// The same: the status, or that of a file that is no package.
 fn list_items(rt: &HostRuntime, name: &str) -> Result<u8, u8> {
-    let file = input(rt, name, None)?;
+    let file = bytes_of(rt, name, None)?;
     let package = package_of(rt, name, file.as_slice())?;
     match names_of(rt.alloc(), &package) {
         Ok(names) => Ok(show(rt, names.as_str())),
@@ -27,7 +28,11 @@ fn list_items(rt: &HostRuntime, name: &str) -> Result<u8, u8> {
 }
 
 /// The package that a file is, or the status, once it is said why it is none.
-fn package_of<'f>(rt: &HostRuntime, name: &str, file: &'f [u8]) -> Result<Package<'f>, u8> {
+pub(crate) fn package_of<'f>(
+    rt: &HostRuntime,
+    name: &str,
+    file: &'f [u8],
+) -> Result<Package<'f>, u8> {
     Package::read(file).map_err(|e| {
         complain(rt, name, e);
         1
@@ -54,9 +59,9 @@ pub(crate) fn extract(rt: &HostRuntime, wanted: &ExtractWords<'_>) -> u8 {
 /// The same: the status, or that of what kept it from being written.
 fn extract_item(rt: &HostRuntime, wanted: &ExtractWords<'_>) -> Result<u8, u8> {
     let (name, output) = (wanted.file, wanted.output.unwrap_or("-"));
-    let file = input(rt, name, None)?;
+    let file = bytes_of(rt, name, None)?;
     let package = package_of(rt, name, file.as_slice())?;
-    let bytes = item_of(rt, &package, wanted)?;
+    let bytes = item_of(rt, &package, name, wanted.item)?;
     let place = free_place(rt, name, output).map_err(|cause| fail(rt, output, cause))?;
     save(rt, &place, bytes).map_err(|cause| fail(rt, output, cause))?;
     Ok(0)
@@ -72,13 +77,13 @@ fn free_place(rt: &HostRuntime, package: &str, output: &str) -> Result<Place, &'
     }
 }
 
-/// The bytes of the item, or the status, once it is said that there is none of this name.
-fn item_of<'f>(
+/// The bytes of an item, or the status, once it is said that there is none of this name.
+pub(crate) fn item_of<'f>(
     rt: &HostRuntime,
     package: &Package<'f>,
-    wanted: &ExtractWords<'_>,
+    name: &str,
+    item: &str,
 ) -> Result<&'f [u8], u8> {
-    let (name, item) = (wanted.file, wanted.item);
     match found(rt.alloc(), package, item) {
         Ok(Some(bytes)) => Ok(bytes),
         Ok(None) => {
@@ -92,7 +97,7 @@ fn item_of<'f>(
 
 /// The bytes of the item of this name, or else of this name behind that of the package, which is
 /// what the first item's name begins with.
-fn found<'f>(
+pub(crate) fn found<'f>(
     alloc: Global,
     package: &Package<'f>,
     item: &str,

@@ -28,6 +28,12 @@ pub(crate) fn fail<R: Eprint>(rt: &R, name: &str, cause: &str) -> u8 {
     2
 }
 
+/// Says that memory was refused, and gives the status of that.
+pub(crate) fn refuse_memory<R: Eprint>(rt: &R, name: &str) -> u8 {
+    complain(rt, name, NO_MEMORY);
+    1
+}
+
 /// Says why an input isn't had, and gives the status of that.
 pub(crate) fn fail_input<R: Eprint>(rt: &R, name: &str, e: InputError) -> u8 {
     complain(rt, name, e);

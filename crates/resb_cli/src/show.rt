@@ -1,27 +1,36 @@
 //! The commands `check`, `dump` and `get`: what is said of a file, and what is shown of it.
 //! What a file is, and why it isn't read, is in `resb_program`.
+use crate::input::{Beside, Input};
 use crate::progress::Progress;
-use crate::say::{NoText, complain, fail, fail_input, say_no_text};
+use crate::say::{NoText, complain, fail, refuse_memory, say_no_text};
 use crate::shown::Shown;
-use crate::streams::{NO_MEMORY, read_input, write_stream};
+use crate::streams::write_stream;
 use resb_head::FormatVersion;
 use resb_icu_print::{IcuPrintError, icu_cause_path, print_icu_text, print_icu_text_within};
+use resb_pool_bundle::FileHead;
 use resb_print::{PrintError, cause_path, print_text, print_text_within};
 use resb_program::{
-    FileError, Found, JsonError, Summary, count_file, find, json_text, json_text_within,
-    read_bundle, summary_of,
+    FileError, Found, JsonError, count_file, find, json_text, json_text_within, read_bundle,
 };
 use resb_tree::{Resource, ResourceBundle};
-use resb_words::{DumpWords, GetWords};
+use resb_words::{CheckWords, DumpWords, GetWords};
 use std::alloc::Global;
+use std::fmt;
 use std::path::Path;
 
+/// What is said of a file whose pool bundle isn't there.
+const NO_POOL: &str =
+    "this file uses a pool bundle, and there is no pool.res beside it; name one by --pool";
+
+/// What the reader says of a pool bundle that isn't the file's.
+const OTHER_POOL: &str = "pool bundle has another checksum";
+
 /// Says of each file what it is, a line each.
-pub(crate) fn check(rt: &HostRuntime, names: &[&str]) -> u8 {
+pub(crate) fn check(rt: &HostRuntime, wanted: &CheckWords<'_>) -> u8 {
     let mut status = 0;
-    let mut progress = Progress::new(rt, names.len());
-    for name in names.iter().copied() {
-        status = status.max(check_one(rt, name));
+    let mut progress = Progress::new(rt, wanted.files.len());
+    for name in wanted.files.iter().copied() {
+        status = status.max(settled(check_one(rt, name, wanted.pool)));
         progress.one_more(rt);
     }
     progress.end(rt);
@@ -29,72 +38,80 @@ pub(crate) fn check(rt: &HostRuntime, names: &[&str]) -> u8 {
 }
 
 /// Says of one file what it is.
-fn check_one(rt: &HostRuntime, name: &str) -> u8 {
-    let file = match input(rt, name, None) {
-        Ok(file) => file,
-        Err(status) => return status,
-    };
-    match count_file(rt.alloc(), file.as_slice()) {
-        Ok((count, summary)) => say_summary(rt, name, count, &summary),
-        Err(e) => refuse(rt, name, file.as_slice(), &e),
+fn check_one(rt: &HostRuntime, name: &str, pool: Option<&str>) -> Result<u8, u8> {
+    let input = Input::read(rt, name, None)?;
+    let file = input.file(rt, name)?;
+    let beside = input.pool(rt, name, pool, None)?;
+    match count_file(rt.alloc(), file, beside.bundle(rt)?) {
+        Ok((count, head)) => Ok(say_summary(rt, name, count, &head, beside.name())),
+        Err(e) => Err(refuse(rt, name, &e, beside.name())),
     }
 }
 
-/// The bytes of a file, or the status, once it is said what is wrong.
-pub(crate) fn input(rt: &HostRuntime, name: &str, limit: Option<u64>) -> Result<Vec<u8>, u8> {
-    read_input(rt, name, limit).map_err(|e| fail_input(rt, name, e))
-}
-
-/// Says why a file isn't read, and of which version it is, where that one isn't read.
-fn refuse(rt: &HostRuntime, name: &str, file: &[u8], e: &FileError) -> u8 {
-    let version = summary_of(file)
-        .ok()
-        .and_then(|summary| foreign(summary.version));
-    match version {
-        _ if wants_memory(e) => complain(rt, name, NO_MEMORY),
-        Some(version) => {
-            let name = Shown(name);
-            let _ = eprintln!(rt; "{name}: format version {version}: {e}");
+/// Says why a file isn't read, beside the pool bundle of this name, if there is one.
+fn refuse(rt: &HostRuntime, name: &str, e: &FileError, pool: Option<&str>) -> u8 {
+    match (e, pool) {
+        (FileError::Reading(e), _) if e.is_out_of_memory() => return refuse_memory(rt, name),
+        (FileError::UsesPool, _) => complain(rt, name, NO_POOL),
+        (FileError::Reading(e), Some(pool)) if e.message() == OTHER_POOL => {
+            let (name, pool) = (Shown(name), Shown(pool));
+            let _ = eprintln!(rt; "{name}: {e}: {pool}");
         }
-        None => complain(rt, name, e),
+        _ => complain(rt, name, e),
     }
     1
 }
 
-/// Whether it was memory that was wanted.
-fn wants_memory(e: &FileError) -> bool {
-    match e {
-        FileError::Reading(e) => e.is_out_of_memory(),
-        _ => false,
-    }
-}
-
-/// The spelling of a version that isn't read.
-fn foreign(version: FormatVersion) -> Option<&'static str> {
+/// The spelling of a version.
+fn spelled(version: FormatVersion) -> &'static str {
     match version {
-        FormatVersion::V2_0 => None,
-        FormatVersion::V1_0 => Some("1.0"),
-        FormatVersion::V1_1 => Some("1.1"),
-        FormatVersion::V1_2 => Some("1.2"),
-        FormatVersion::V1_3 => Some("1.3"),
-        FormatVersion::V3_0 => Some("3.0"),
+        FormatVersion::V1_0 => "1.0",
+        FormatVersion::V1_1 => "1.1",
+        FormatVersion::V1_2 => "1.2",
+        FormatVersion::V1_3 => "1.3",
+        FormatVersion::V2_0 => "2.0",
+        FormatVersion::V3_0 => "3.0",
     }
 }
 
 /// The line of a file that is right.
-fn say_summary(rt: &HostRuntime, name: &str, count: usize, summary: &Summary) -> u8 {
-    let fallback = if summary.has_fallback {
+fn say_summary(
+    rt: &HostRuntime,
+    name: &str,
+    count: usize,
+    head: &FileHead<'_>,
+    pool: Option<&str>,
+) -> u8 {
+    let fallback = if head.has_fallback() {
         "fallback"
     } else {
         "no fallback"
     };
-    let pool = if summary.is_pool { ", pool bundle" } else { "" };
-    let (name, largest) = (Shown(name), summary.largest_table);
+    let (version, largest) = (spelled(head.version()), head.largest_table());
+    let (name, pool) = (Shown(name), PoolSaid(head.is_pool(), pool));
     let line = println!(rt;
-        "{name}: {count} resources, format 2.0, {fallback}, largest table \
-        {largest}{pool}"
+        "{name}: {count} resources, format {version}, {fallback}, largest table {largest}{pool}"
     );
     status_of(rt, line.is_ok())
+}
+
+/// What is said of a file that is a pool bundle, or uses the one of this name.
+#[derive(Clone, Copy)]
+struct PoolSaid<'p>(bool, Option<&'p str>);
+
+impl fmt::Display for PoolSaid<'_> {
+    fn fmt<W: fmt::Write>(&self, f: &mut fmt::Formatter<W>) -> fmt::Result {
+        if self.0 {
+            f.write_str(", pool bundle")?;
+        }
+        match self.1 {
+            Some(pool) => {
+                let pool = Shown(pool);
+                write!(f, ", over {pool}")
+            }
+            None => Ok(()),
+        }
+    }
 }
 
 /// The status of what was written to standard output, or not, once that is said.
@@ -105,23 +122,23 @@ fn status_of(rt: &HostRuntime, is_written: bool) -> u8 {
     fail(rt, "resb", "standard output cannot be written")
 }
 
-/// A file's bundle, or the status, once it is said why there is none.
+/// A file's bundle, beside its pool bundle, or the status, once it is said why there is none.
 fn bundle_of<'f>(
     rt: &HostRuntime,
     name: &'f str,
     file: &'f [u8],
+    beside: &'f Beside<'f>,
     limit: Option<u64>,
 ) -> Result<ResourceBundle<'f>, u8> {
     let stem = Path::new(name).file_stem().unwrap_or("bundle");
     let bundle_name = if name == "-" { "bundle" } else { stem };
-    match read_bundle(rt.alloc(), bundle_name, file, limit) {
-        Ok(bundle) => Ok(bundle),
-        Err(e) if wants_memory(&e) => Err(refuse_memory(rt, name)),
-        Err(e) => {
-            complain(rt, name, e);
-            Err(1)
-        }
-    }
+    let pool = beside.bundle(rt)?;
+    read_bundle(rt.alloc(), bundle_name, file, pool, limit).map_err(|e| refuse(
+        rt,
+        name,
+        &e,
+        beside.name(),
+    ))
 }
 
 /// The status of what was done, or of what kept it from being done.
@@ -139,8 +156,10 @@ pub(crate) fn dump(rt: &HostRuntime, wanted: &DumpWords<'_>) -> u8 {
 /// The same: the status, or that of a file without a tree.
 fn dump_file(rt: &HostRuntime, wanted: &DumpWords<'_>) -> Result<u8, u8> {
     let name = wanted.file;
-    let file = input(rt, name, wanted.limit)?;
-    let bundle = bundle_of(rt, name, file.as_slice(), wanted.limit)?;
+    let input = Input::read(rt, name, wanted.limit)?;
+    let file = input.file(rt, name)?;
+    let beside = input.pool(rt, name, wanted.pool, wanted.limit)?;
+    let bundle = bundle_of(rt, name, file, &beside, wanted.limit)?;
     if wanted.is_json {
         return Ok(show_json(rt, name, bundle.root(), wanted.limit));
     }
@@ -256,8 +275,10 @@ pub(crate) fn get(rt: &HostRuntime, wanted: &GetWords<'_>) -> u8 {
 /// The same: the status, or that of a file without a tree.
 fn get_found(rt: &HostRuntime, wanted: &GetWords<'_>) -> Result<u8, u8> {
     let (name, path) = (wanted.file, wanted.path);
-    let file = input(rt, name, wanted.limit)?;
-    let bundle = bundle_of(rt, name, file.as_slice(), wanted.limit)?;
+    let input = Input::read(rt, name, wanted.limit)?;
+    let file = input.file(rt, name)?;
+    let beside = input.pool(rt, name, wanted.pool, wanted.limit)?;
+    let bundle = bundle_of(rt, name, file, &beside, wanted.limit)?;
     let Ok(names) = path.split('/').collect::<Vec<&str>>(rt.alloc()) else {
         return Ok(refuse_memory(rt, name));
     };
@@ -295,12 +316,6 @@ fn show_found(rt: &HostRuntime, name: &str, found: Found<'_, '_>, limit: Option<
 fn refuse_long(rt: &HostRuntime, name: &str, what: &str, limit: Option<u64>) -> u8 {
     let limit = limit.unwrap_or(u64::MAX);
     let _ = eprintln!(rt; "{name}: its {what} takes more than the limit of {limit} bytes");
-    1
-}
-
-/// Says that memory was refused.
-pub(crate) fn refuse_memory(rt: &HostRuntime, name: &str) -> u8 {
-    complain(rt, name, "out of memory");
     1
 }
 

@@ -1,6 +1,7 @@
 -- Nothing is passed on.
 mod Agreeing
 mod FindingLemmas
+mod Sizes
 mod Heads
 mod HexText
 mod JsonLemmas
@@ -8,4 +9,3 @@ mod KeysLemmas
 mod Lists
 mod Numbers
 mod PiecesLemmas
-mod SummaryLemmas

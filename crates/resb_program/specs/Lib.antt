@@ -1,6 +1,6 @@
--- The words of the contracts: a text's file and why there is none, what a file's head says and
--- what is had of it, JSON, paths, and what a person is told of a place of a text; what the program
--- is asked, what it writes, and why it fails; and what the crates below say of files and texts.
+-- The words of the contracts: a text's file and why there is none, what is had of a file, JSON,
+-- paths, and what a person is told of a place of a text; what the program is asked, what it writes,
+-- and why it fails; and what the crates below say of files and texts.
 -- `Inner` has words of private functions.
 pub use Rattle.hex.specs.Hex
 pub use Rattle.resb_compile.specs.Compiling
@@ -13,7 +13,6 @@ pub use Rattle.resb_read.specs.Resources
 pub use Rattle.resb_read.specs.Roots
 pub mod Commands
 pub mod Program
-pub mod Summary
 pub mod Sources
 pub mod Json
 pub mod Finding

@@ -29,7 +29,7 @@ source_message (source.Larger limit) =
 
 -- a file that is too large says how large it is, where that fits in 64 bits, and the limit
 abbrev pub file_message : FileError → List ℕ
-file_message file.UsesPool = codes "this file uses the keys of a pool bundle"
+file_message file.UsesPool = codes "this file uses a pool bundle, and none is given"
 file_message (file.Larger (Some n) limit) =
     codes "the tree takes "
     ++ (decimal n ++ (codes " bytes, more than the limit of " ++ decimal limit))

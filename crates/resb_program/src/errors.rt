@@ -100,7 +100,7 @@ impl Error for SourceError {}
 /// Why a file isn't read.
 #[derive(Debug, Drop)]
 pub enum FileError {
-    /// It uses the keys of a pool bundle, and has none of its own.
+    /// It uses a pool bundle, and none is given.
     UsesPool,
     /// Its tree takes so many bytes, more than the limit; none where they don't fit in 64 bits.
     Larger { bytes: Option<u64>, limit: u64 },
@@ -116,7 +116,7 @@ impl fmt::Display for FileError {
 
     fn fmt<W: fmt::Write>(&self, f: &mut fmt::Formatter<W>) -> fmt::Result {
         match self {
-            FileError::UsesPool => write!(f, "this file uses the keys of a pool bundle"),
+            FileError::UsesPool => write!(f, "this file uses a pool bundle, and none is given"),
             FileError::Larger { bytes, limit } => match bytes {
                 Some(bytes) => write!(
                     f,

@@ -1,19 +1,31 @@
-//! What is had of a file that has its own keys: how many resources, their sums, the bundle.
-//! What the file's head says is in `summary`.
+//! What is had of a file, alone or beside its pool bundle: how many resources, their sums, the
+//! bundle. What the file's head says is in `resb_pool_bundle`.
 ghost use Rattle.std.specs.Prelude.{◌≡◌, ◌≤◌, ◌↔◌, ℕ, IfOk, IfErr, IfSome, OnOk, IsTrue};
+ghost use Rattle.std.specs.Prelude.{option_map};
 ghost use Rattle.resb_walk.specs.Sums.{fitting};
+ghost use Rattle.resb_pool_bundle.specs.Heads.{head_bytes};
+ghost use Rattle.resb_pool_bundle.specs.Pool.{pool_in};
 ghost use Rattle.resb_read.specs.Roots.{AnswersTree};
+ghost use Rattle.resb_read.specs.WithPool.{over};
 ghost use Rattle.resb_program.specs.Program.{CountsFile, ReadsCounted, Agrees, HasCount};
 ghost use Rattle.resb_program.specs.Program.{IsCounted};
-ghost use Rattle.resb_program.specs.Files.{HasNoKeys, HasKeys, IsOwnHead, CountsOwn, MeasuresOwn};
-ghost use Rattle.resb_program.specs.Files.{IsOwnBundle, RefusesOwn, FitsIn, RefusesSize};
+ghost use Rattle.resb_program.specs.Files.{CountsBeside, MeasuresBeside, LacksHead, LacksPool};
+ghost use Rattle.resb_program.specs.Files.{IsBundleBeside, RefusesBeside, FitsIn, RefusesSize};
 
 use crate::errors::{FileError, ToolError};
-use crate::summary::{Summary, summary_of};
-use resb_read::{Measured, count_resources, measure, tree_from_bytes};
+use resb_pool_bundle::{FileHead, PoolBundle};
+use resb_read::{
+    Measured, count_resources, count_resources_with_pool, measure_with_pool,
+    tree_from_bytes_with_pool,
+};
 use resb_tree::ResourceBundle;
 use std::alloc::Global;
 use std::borrow::CowStr;
+
+/// The most bytes of the keys of all entries, where no limit is said: where a tree is made, each of
+/// them may be compared, and in a hostile file, where keys share their bytes, there are as many as
+/// the square of its length.
+const MOST_KEY_BYTES: u64 = 1 << 28;
 
 /// The number of resources of a file's tree, which is not made. (`resb::binary::count_resources`.)
 pub fn check_file(alloc: Global, file: &[u8]) -> Result<usize, ToolError>
@@ -30,36 +42,46 @@ pub fn check_file(alloc: Global, file: &[u8]) -> Result<usize, ToolError>
     }
 }
 
-/// What the head of a file says that has keys of its own, or none where the head is refused. In the
-/// place of the keys of a file that uses those of a pool bundle stand other bytes.
-#[tactic(auto, using(crate::proofs::Heads::has_keys))]
-fn own_head(file: &[u8]) -> Result<Option<Summary>, FileError>
-    ensures ok { IfOk result (IsOwnHead file.now) }
-    ensures keys { OnOk result (HasKeys file.now) }
-    ensures err { IfErr result (λ e. (e ≡ FileError.UsesPool) × HasNoKeys file.now) }
+/// The head of a file, which is given the pool bundle that it uses, if it uses one.
+fn head_of<'a>(file: &'a [u8], pool: Option<PoolBundle<'a>>) -> Result<FileHead<'a>, FileError>
+    ensures ok { IfOk result (λ h. head_bytes h ≡ file.entry.now) }
+    ensures given { OnOk result (LacksPool (option_map pool_in pool.entry) file.entry.now → ⊥) }
+    ensures err { IfErr result (LacksHead (option_map pool_in pool.entry) file.entry.now) }
 {
-    match summary_of(file) {
-        Ok(summary) if summary.uses_pool => Err(FileError::UsesPool),
-        Ok(summary) => Ok(Some(summary)),
-        Err(_) => Ok(None),
+    let head = FileHead::read(file).map_err(FileError::Reading)?;
+    if head.uses_pool() && pool.is_none() {
+        return Err(FileError::UsesPool);
+    }
+    Ok(head)
+}
+
+/// How many resources a file has, beside the pool bundle that it uses, and what its head says.
+/// (`resb::binary::count_resources_with_pool`.)
+pub fn count_file<'a>(
+    alloc: Global,
+    file: &'a [u8],
+    pool: Option<PoolBundle<'a>>,
+) -> Result<(usize, FileHead<'a>), FileError>
+    ensures { CountsBeside (option_map pool_in pool.entry) file.entry.now result }
+{
+    let head = head_of(file, pool)?;
+    match count_resources_with_pool(alloc, file, pool) {
+        Ok(count) => Ok((count, head)),
+        Err(e) => Err(FileError::Reading(e)),
     }
 }
 
-/// How many resources a file has, and what its head says. (`resb::binary::count_resources`.)
-pub fn count_file(alloc: Global, file: &[u8]) -> Result<(usize, Summary), FileError>
-    ensures { CountsOwn file.now result }
+/// What a file's tree adds up to, beside the pool bundle that it uses.
+/// (`resb::binary::measure_with_pool`.)
+pub fn measure_file<'a>(
+    alloc: Global,
+    file: &'a [u8],
+    pool: Option<PoolBundle<'a>>,
+) -> Result<Measured, FileError>
+    ensures { MeasuresBeside (option_map pool_in pool.entry) file.entry.now result }
 {
-    let head = own_head(file)?;
-    let count = count_resources(alloc, file).map_err(FileError::Reading)?;
-    Ok((count, head.unwrap()))
-}
-
-/// What a file's tree adds up to. (`resb::binary::measure`.)
-pub fn measure_file(alloc: Global, file: &[u8]) -> Result<Measured, FileError>
-    ensures { MeasuresOwn file.now result }
-{
-    own_head(file)?;
-    match measure(alloc, file) {
+    head_of(file, pool)?;
+    match measure_with_pool(alloc, file, pool) {
         Ok(measured) => Ok(measured),
         Err(e) => Err(FileError::Reading(e)),
     }
@@ -76,44 +98,57 @@ fn is_at_most(sum: Option<u64>, limit: u64) -> bool
 }
 
 /// Refuses a file whose tree takes more bytes than the limit, if there is one, or the keys of whose
-/// entries do, before any of the tree is made. Each byte of a key may be compared then.
-fn check_size(alloc: Global, file: &[u8], limit: Option<u64>) -> Result<(), FileError>
-    ensures ok { OnOk result (IfSome limit (FitsIn file.now)) }
-    ensures err { IfErr result (RefusesSize file.now limit) }
+/// entries take more than it or than `MOST_KEY_BYTES`, before any of the tree is made.
+fn check_size<'a>(
+    alloc: Global,
+    file: &'a [u8],
+    pool: Option<PoolBundle<'a>>,
+    limit: Option<u64>,
+) -> Result<(), FileError>
+    ensures ok { OnOk result (FitsIn (over (option_map pool_in pool.entry) file.entry.now) limit) }
+    ensures err { IfErr result
+        (RefusesSize (over (option_map pool_in pool.entry) file.entry.now) limit) }
 {
-    let Some(limit) = limit else {
-        return Ok(());
-    };
-    let measured = match measure(alloc, file) {
+    let measured = match measure_with_pool(alloc, file, pool) {
         Ok(measured) => measured,
         Err(e) => return Err(FileError::Reading(e)),
     };
-    if !measured.is_within(limit) {
+    if let Some(limit) = limit
+        && !measured.is_within(limit)
+    {
         let bytes = measured.tree_bytes();
         return Err(FileError::Larger { bytes, limit });
     }
-    let bytes = measured.sums.key_bytes;
+    let (bytes, limit) = (measured.sums.key_bytes, limit.unwrap_or(MOST_KEY_BYTES));
     if !is_at_most(bytes, limit) {
         return Err(FileError::LongKeys { bytes, limit });
     }
     Ok(())
 }
 
-/// A file's tree as a bundle of that name, with the fallback flag of the file's head. A tree that
-/// takes more bytes than the limit, if there is one, or the keys of whose entries do, is refused
-/// before any of it is made. (`resb::binary::tree_from_bytes_within`.)
+/// A file's tree as a bundle of that name, beside the pool bundle that the file uses, with the
+/// fallback flag of its head. A tree that takes more bytes than the limit, if there is one, or the
+/// keys of whose entries take more than it or than 2^28 bytes, is refused before any of it is made.
+/// (`resb::binary::tree_from_bytes_with_pool`.)
 pub fn read_bundle<'a>(
     alloc: Global,
     name: &'a str,
     file: &'a [u8],
+    pool: Option<PoolBundle<'a>>,
     limit: Option<u64>,
 ) -> Result<ResourceBundle<'a>, FileError>
-    ensures ok { IfOk result (IsOwnBundle file.entry.now name.entry.now limit) }
-    ensures err { IfErr result (RefusesOwn file.entry.now limit) }
+    ensures ok { IfOk result
+        (IsBundleBeside (option_map pool_in pool.entry) file.entry.now name.entry.now limit) }
+    ensures err { IfErr result
+        (RefusesBeside (option_map pool_in pool.entry) file.entry.now limit) }
 {
-    let head = own_head(file)?;
-    check_size(alloc, file, limit)?;
-    let tree = tree_from_bytes(alloc, file).map_err(FileError::Reading)?;
-    let name = CowStr::Borrowed(name);
-    Ok(ResourceBundle::new(name, tree, head.unwrap().has_fallback))
+    let head = head_of(file, pool)?;
+    check_size(alloc, file, pool, limit)?;
+    match tree_from_bytes_with_pool(alloc, file, pool) {
+        Ok(tree) => {
+            let name = CowStr::Borrowed(name);
+            Ok(ResourceBundle::new(name, tree, head.has_fallback()))
+        }
+        Err(e) => Err(FileError::Reading(e)),
+    }
 }

@@ -1,5 +1,5 @@
-//! What programs do with bundles: a text's file and where to look in one that is refused, what a
-//! file's head says, JSON, paths, what a person is told of a place of a text; and the streams and
+//! What programs do with bundles: a text's file and where to look in one that is refused, what is
+//! had of a file, JSON, paths, what a person is told of a place of a text; and the streams and
 //! words of the program `resb_tool`. How a program keeps the memory that it gives back is in
 //! `memory`. The process's own streams, words and files are named in the programs alone.
 #![tactic(auto)]
@@ -18,7 +18,6 @@ mod nesting;
 mod path;
 mod sources;
 mod streams;
-mod summary;
 mod text_pieces;
 mod warning;
 
@@ -36,5 +35,4 @@ pub use sources::{
     where_to_look,
 };
 pub use streams::{read_all, read_within, run};
-pub use summary::{Summary, summary_of};
 pub use warning::{Reason, Warning, warnings};

@@ -3,6 +3,9 @@
 use clap::{Arg, ArgAction, Command};
 use std::alloc::{AllocError, Global};
 
+/// What a word for a file may be.
+const RES_FILE: &str = "A .res file, or one inside a package; '-' is standard input";
+
 /// The program's words.
 pub(crate) fn program<'a>(alloc: Global) -> Result<Command<'a>, AllocError> {
     let program = Command::new(alloc, "resb")
@@ -53,8 +56,9 @@ fn compile<'a>(alloc: Global) -> Result<Command<'a>, AllocError> {
 fn check<'a>(alloc: Global) -> Result<Command<'a>, AllocError> {
     Command::new(alloc, "check")
         .about("Checks .res files, a line for each")
-        .after_help("Example: resb check out/root.res out/de.res")
-        .arg(several(alloc, "A .res file; '-' is standard input"))
+        .after_help("Example: resb check out/root.res icudt72l.dat/curr/de.res")
+        .arg(several(alloc, RES_FILE))?
+        .arg(pool(alloc))
 }
 
 /// Files to texts.
@@ -62,10 +66,11 @@ fn dump<'a>(alloc: Global) -> Result<Command<'a>, AllocError> {
     let command = Command::new(alloc, "dump")
         .about("Prints the text of a .res file, or JSON where it has none")
         .after_help("Example: resb dump out/root.res")
-        .arg(file(alloc, "A .res file; '-' is standard input"))?
+        .arg(file(alloc, RES_FILE))?
         .arg(json(alloc))?;
     let command = with_arg(command, icu_text(alloc))?;
-    command.arg(tree_limit(alloc))
+    let command = command.arg(tree_limit(alloc))?;
+    command.arg(pool(alloc))
 }
 
 /// One thing of a file.
@@ -73,9 +78,10 @@ fn get<'a>(alloc: Global) -> Result<Command<'a>, AllocError> {
     Command::new(alloc, "get")
         .about("Prints what stands at a path in a .res file")
         .after_help("Example: resb get out/zones.res zones/Pole/base")
-        .arg(file(alloc, "A .res file; '-' is standard input"))?
+        .arg(file(alloc, RES_FILE))?
         .arg(path(alloc))?
-        .arg(tree_limit(alloc))
+        .arg(tree_limit(alloc))?
+        .arg(pool(alloc))
 }
 
 /// The items of a package.
@@ -174,6 +180,13 @@ fn path<'a>(alloc: Global) -> Arg<'a> {
     Arg::new(alloc, "PATH")
         .help("Keys and numbers of members, from 0, such as zones/Pole/pairs/0")
         .required(true)
+}
+
+/// The pool bundle of the files.
+fn pool<'a>(alloc: Global) -> Arg<'a> {
+    Arg::new(alloc, "POOL")
+        .long("pool")
+        .help("The pool bundle of files that use one, in place of the pool.res beside each")
 }
 
 /// The most bytes that something may take.

@@ -7,4 +7,6 @@ mod error;
 mod request;
 
 pub use error::WordsError;
-pub use request::{CompileWords, DumpWords, ExtractWords, GetWords, Request, request_of};
+pub use request::{
+    CheckWords, CompileWords, DumpWords, ExtractWords, GetWords, Request, request_of,
+};

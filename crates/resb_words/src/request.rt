@@ -13,7 +13,7 @@ pub enum Request<'w> {
     /// `compile`: each text to a file of its own.
     Compile(CompileWords<'w>),
     /// `check`: a line of each of these files.
-    Check(Vec<&'w str>),
+    Check(CheckWords<'w>),
     /// `dump`: a file's text.
     Dump(DumpWords<'w>),
     /// `get`: one thing of a file.
@@ -39,6 +39,15 @@ pub struct CompileWords<'w> {
     pub limit: Option<u64>,
 }
 
+/// What is asked of files that are checked.
+#[derive(Debug, Drop)]
+pub struct CheckWords<'w> {
+    /// The names of the files; `-` is standard input.
+    pub files: Vec<&'w str>,
+    /// The name of the pool bundle of those that use one.
+    pub pool: Option<&'w str>,
+}
+
 /// What is asked of a file whose text is printed.
 #[derive(Clone, Copy, Debug)]
 pub struct DumpWords<'w> {
@@ -50,6 +59,8 @@ pub struct DumpWords<'w> {
     pub is_icu: bool,
     /// The most bytes that the file's tree, its keys and the output may take.
     pub limit: Option<u64>,
+    /// The name of the file's pool bundle, if it uses one.
+    pub pool: Option<&'w str>,
 }
 
 /// What is asked of a file of which one thing is printed.
@@ -61,6 +72,8 @@ pub struct GetWords<'w> {
     pub path: &'w str,
     /// The most bytes that the file's tree, its keys and the output may take.
     pub limit: Option<u64>,
+    /// The name of the file's pool bundle, if it uses one.
+    pub pool: Option<&'w str>,
 }
 
 /// What is asked of a package of which one item is written.
@@ -84,7 +97,7 @@ pub fn request_of<'w>(alloc: Global, words: &'w [String]) -> Result<Request<'w>,
 fn asked<'w>(alloc: Global, matches: &ArgMatches<'w>) -> Result<Request<'w>, WordsError> {
     match matches.subcommand() {
         Some(("compile", matches)) => compile(alloc, matches),
-        Some(("check", matches)) => Ok(Request::Check(names(alloc, matches)?)),
+        Some(("check", matches)) => check(alloc, matches),
         Some(("dump", matches)) => dump(matches),
         Some(("list", matches)) => Ok(Request::List(word(matches, "FILE"))),
         Some(("extract", matches)) => Ok(extract(matches)),
@@ -114,6 +127,14 @@ fn compile<'w>(alloc: Global, matches: &ArgMatches<'w>) -> Result<Request<'w>, W
     }))
 }
 
+/// What is asked of files that are checked.
+fn check<'w>(alloc: Global, matches: &ArgMatches<'w>) -> Result<Request<'w>, WordsError> {
+    Ok(Request::Check(CheckWords {
+        files: names(alloc, matches)?,
+        pool: matches.get_str("POOL"),
+    }))
+}
+
 /// What is asked of a file whose text is printed.
 fn dump<'w>(matches: &ArgMatches<'w>) -> Result<Request<'w>, WordsError> {
     Ok(Request::Dump(DumpWords {
@@ -121,6 +142,7 @@ fn dump<'w>(matches: &ArgMatches<'w>) -> Result<Request<'w>, WordsError> {
         is_json: matches.get_flag("json"),
         is_icu: matches.get_flag("ICU"),
         limit: limit(matches)?,
+        pool: matches.get_str("POOL"),
     }))
 }
 
@@ -130,6 +152,7 @@ fn get<'w>(matches: &ArgMatches<'w>) -> Result<Request<'w>, WordsError> {
         file: word(matches, "FILE"),
         path: word(matches, "PATH"),
         limit: limit(matches)?,
+        pool: matches.get_str("POOL"),
     }))
 }
 

@@ -1,5 +1,5 @@
 -- Each turn appends what is shown of the next character.
-use Rattle.std.proofs.Common.{◌≡◌, ◌∙◌, ◌++◌, [], List, ℕ, length, map, refl, sym, ap}
+use Rattle.std.proofs.Common.{◌∙◌, ◌++◌, List, ℕ, length, map, refl, sym, ap}
 use Rattle.std.proofs.Common.{append_assoc, append-nil, encode_utf8, encode_utf8_all}
 use Rattle.std.specs.String.{string_bytes}
 use Rattle.std.specs.Str.{chars}

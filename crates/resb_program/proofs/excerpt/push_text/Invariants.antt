@@ -1,7 +1,6 @@
 -- What was appended, and what is left to append, are what is shown of all characters.
 use Rattle.std.proofs.Common.{◌≡◌, ◌++◌, List, ℕ, true, map, encode_utf8_all}
 use Rattle.std.specs.String.{string_bytes}
-use Rattle.std.specs.Str.{chars}
 use Rattle.std.specs.Str.Iter.{chars_rest}
 use Rattle.resb_program.specs.Excerpt.{shown_line, shown_character}
 use Rattle.resb_program.proofs.excerpt.push_text.Given as goal

@@ -1,12 +1,11 @@
-use Rattle.std.proofs.Common.{List, ℕ, Ok, subst}
-use Rattle.resb_read.specs.Roots.{AnswersCount}
-use Rattle.resb_program.proofs.Heads.{has_head, handed}
+use Rattle.std.specs.Prelude.{option_map}
+use Rattle.std.proofs.lemmas.Result.{err_from_is_err_and}
+use Rattle.resb_pool_bundle.specs.Pool.{pool_in}
+use Rattle.resb_program.proofs.Heads.{uncounted}
 use Rattle.resb_program.proofs.files.count_file.Goals as goal
 
-pub unwrap-requires : goal.unwrap-requires
-unwrap-requires c =
-    let file : List ℕ = c.args.file.now in
-    let same = handed _ _ _ _ c.map_err.ensures.cases c.in_ok-count.was in
-    let counts : AnswersCount file (Ok c.in_ok-count.count) =
-    subst (AnswersCount file) same c.count_resources.ensures in
-    has_head file c.in_ok-head.head c.in_ok-head.ensures.ok counts.1.head
+pub returns-in_err-head : goal.returns-in_err-head
+returns-in_err-head c =
+    let e = err_from_is_err_and c.from_residual.result c.from_residual.ensures.1 in
+    rw (e.1, e.2) (uncounted (option_map pool_in c.args.pool) c.args.file.now _
+    c.in_err-head.ensures.err)

@@ -1,29 +1,18 @@
-use Rattle.std.proofs.Common.{List, ℕ, Ok, subst, rules}
-use Rattle.resb_read.specs.Roots.{AnswersTree}
-use Rattle.resb_program.specs.Files.{IsOwnHead}
-use Rattle.resb_program.proofs.Heads.{has_head, handed}
+use Rattle.std.specs.Prelude.{option_map}
+use Rattle.std.proofs.lemmas.Result.{err_from_is_err_and}
+use Rattle.resb_pool_bundle.specs.Pool.{pool_in}
+use Rattle.resb_program.proofs.Heads.{unread, too_large}
 use Rattle.resb_program.proofs.files.read_bundle.Goals as goal
 
-pub unwrap-requires : goal.unwrap-requires
-unwrap-requires c =
-    let file : List ℕ = c.args.file.now in
-    let same = handed _ _ _ _ c.map_err.ensures.cases c.in_ok-tree.was in
-    let reads : AnswersTree file (Ok c.in_ok-tree.tree) =
-    subst (AnswersTree file) same c.tree_from_bytes.ensures in
-    has_head file c.in_ok-head.head c.in_ok-head.ensures.ok reads.1.head
+pub returns-in_err-head-clause-err : goal.returns-in_err-head-clause-err
+returns-in_err-head-clause-err c =
+    let e = err_from_is_err_and c.from_residual.result c.from_residual.ensures.1 in
+    rw (e.1, e.2) (unread (option_map pool_in c.args.pool) c.args.file.now c.args.limit _
+    c.in_err-head.ensures.err)
 
-pub returns-clause-ok : goal.returns-clause-ok
-returns-clause-ok c =
-    let file : List ℕ = c.args.file.now in
-    let same = handed _ _ _ _ c.map_err.ensures.cases c.in_ok-tree.was in
-    record {
-      tree = c.in_ok-tree.tree;
-      summary = c.unwrap.result;
-      reads = subst (AnswersTree file) same c.tree_from_bytes.ensures;
-      within = search rules;
-      summarizes = subst (IsOwnHead file) c.unwrap.ensures c.in_ok-head.ensures.ok;
-      has_keys = c.in_ok-head.ensures.keys;
-      named = search rules;
-      root = search rules;
-      flag = search rules;
-    }
+pub returns-in_err-check_size-clause-err : goal.returns-in_err-check_size-clause-err
+returns-in_err-check_size-clause-err c =
+    let r = c.from_residual-in_err-check_size in
+    let e = err_from_is_err_and r.result r.ensures.1 in
+    rw (e.1, e.2) (too_large (option_map pool_in c.args.pool) c.args.file.now c.args.limit _
+    c.in_ok-head.ensures.given c.in_err-check_size.ensures.err)

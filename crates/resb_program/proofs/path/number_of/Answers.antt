@@ -1,4 +1,4 @@
-use Rattle.std.proofs.Common.{◌≡◌, true, false, sym, ◌∙◌, ap}
+use Rattle.std.proofs.Common.{◌≡◌, true, false}
 use Rattle.resb_program.specs.Finding.{is_adorned}
 use Rattle.resb_program.proofs.FindingLemmas.{read_number_is_said, no_number_is_said}
 use Rattle.resb_program.proofs.FindingLemmas.{none_is_said}

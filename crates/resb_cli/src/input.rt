@@ -1,0 +1,175 @@
+//! Files by their names, which may be those of items inside a package, and the pool bundles beside
+//! them. How bytes are read is in `streams`; what is said of files is in `show`.
+use crate::packages::{item_of, package_of};
+use crate::say::{complain, fail_input, refuse_memory};
+use crate::streams::read_input;
+use resb_pool_bundle::{FileHead, PoolBundle};
+use std::alloc::{AllocError, Global};
+use std::path::Path;
+
+/// What a pool bundle's file is called.
+const POOL: &str = "pool.res";
+
+/// The bytes of a file; or those of a package, and the name of an item of it.
+#[derive(Drop)]
+pub(crate) struct Input {
+    bytes: Vec<u8>,
+    item: Option<String>,
+}
+
+/// Where a file's pool bundle is.
+#[derive(Drop)]
+pub(crate) enum Beside<'f> {
+    /// The file uses none, or none is there.
+    Nowhere,
+    /// It is an item of the file's own package.
+    Item(String, &'f [u8]),
+    /// It is a file of its own, or an item of another package.
+    File(String, Input),
+}
+
+/// The bytes of the file that has a name, or the status, once it is said why there are none.
+pub(crate) fn bytes_of(rt: &HostRuntime, name: &str, limit: Option<u64>) -> Result<Vec<u8>, u8> {
+    read_input(rt, name, limit).map_err(|e| fail_input(rt, name, e))
+}
+
+/// The front of a name that is a file's, and what stands behind it and a slash, if there is any.
+fn split_package<'n>(rt: &HostRuntime, name: &'n str) -> Option<(&'n str, &'n str)> {
+    let mut end = 0usize;
+    for part in name.split('/') {
+        end = end.saturating_add(part.len());
+        let (front, rest) = name.split_at_checked(end)?;
+        let item = rest.strip_prefix('/')?;
+        if Path::new(front).is_file(rt) {
+            return Some((front, item));
+        }
+        end = end.saturating_add(1);
+    }
+    None
+}
+
+impl Input {
+    /// Reads the file that has a name, or the package that has the name's front. The status is
+    /// answered once it is said why there is none.
+    pub(crate) fn read(rt: &HostRuntime, name: &str, limit: Option<u64>) -> Result<Input, u8> {
+        let Some((package, item)) = split_package(rt, name) else {
+            let bytes = bytes_of(rt, name, limit)?;
+            return Ok(Input { bytes, item: None });
+        };
+        let bytes = bytes_of(rt, package, limit)?;
+        match String::from_str(rt.alloc(), item) {
+            Ok(item) => Ok(Input {
+                bytes,
+                item: Some(item),
+            }),
+            Err(_) => Err(refuse_memory(rt, name)),
+        }
+    }
+
+    /// The file's bytes, or the status, once it is said why there are none.
+    pub(crate) fn file(&self, rt: &HostRuntime, name: &str) -> Result<&[u8], u8> {
+        match &self.item {
+            None => Ok(self.bytes.as_slice()),
+            Some(item) => {
+                let package = package_of(rt, name, self.bytes.as_slice())?;
+                item_of(rt, &package, name, item.as_str())
+            }
+        }
+    }
+
+    /// Where the pool bundle is that the file uses: the one that was said, or the `pool.res` in the
+    /// same folder of files or of the package.
+    pub(crate) fn pool<'f>(
+        &'f self,
+        rt: &HostRuntime,
+        name: &str,
+        given: Option<&str>,
+        limit: Option<u64>,
+    ) -> Result<Beside<'f>, u8> {
+        if !uses_pool(self.file(rt, name)?) {
+            return Ok(Beside::Nowhere);
+        }
+        if let Some(given) = given {
+            return pool_file(rt, given, limit);
+        }
+        match &self.item {
+            Some(item) => self.pool_item(rt, name, item.as_str()),
+            None => pool_beside(rt, name, limit),
+        }
+    }
+
+    /// The pool bundle in the item's folder of the package.
+    fn pool_item<'f>(&'f self, rt: &HostRuntime, name: &str, item: &str) -> Result<Beside<'f>, u8> {
+        let package = package_of(rt, name, self.bytes.as_slice())?;
+        let Ok(pool) = pool_name(rt.alloc(), item) else {
+            return Err(refuse_memory(rt, name));
+        };
+        match crate::packages::found(rt.alloc(), &package, pool.as_str()) {
+            Ok(Some(bytes)) => Ok(Beside::Item(pool, bytes)),
+            Ok(None) => Ok(Beside::Nowhere),
+            Err(_) => Err(refuse_memory(rt, name)),
+        }
+    }
+}
+
+/// Whether a file's head says that it uses a pool bundle.
+fn uses_pool(file: &[u8]) -> bool {
+    match FileHead::read(file) {
+        Ok(head) => head.uses_pool(),
+        Err(_) => false,
+    }
+}
+
+/// The name of the pool bundle in the same folder.
+fn pool_name(alloc: Global, name: &str) -> Result<String, AllocError> {
+    match name.rsplit_once('/') {
+        Some((folder, _)) => format!(in alloc; "{folder}/{POOL}"),
+        None => String::from_str(alloc, POOL),
+    }
+}
+
+/// The pool bundle of this name.
+fn pool_file<'f>(rt: &HostRuntime, name: &str, limit: Option<u64>) -> Result<Beside<'f>, u8> {
+    let input = Input::read(rt, name, limit)?;
+    match String::from_str(rt.alloc(), name) {
+        Ok(name) => Ok(Beside::File(name, input)),
+        Err(_) => Err(refuse_memory(rt, name)),
+    }
+}
+
+/// The pool bundle in the folder of a file, if one is there. Standard input has no folder.
+fn pool_beside<'f>(rt: &HostRuntime, name: &str, limit: Option<u64>) -> Result<Beside<'f>, u8> {
+    let Ok(pool) = pool_name(rt.alloc(), name) else {
+        return Err(refuse_memory(rt, name));
+    };
+    if name == "-" || !Path::new(pool.as_str()).is_file(rt) {
+        return Ok(Beside::Nowhere);
+    }
+    pool_file(rt, pool.as_str(), limit)
+}
+
+impl Beside<'_> {
+    /// The pool bundle's name, if there is one.
+    pub(crate) fn name(&self) -> Option<&str> {
+        match self {
+            Beside::Nowhere => None,
+            Beside::Item(name, _) | Beside::File(name, _) => Some(name.as_str()),
+        }
+    }
+
+    /// The pool bundle, if there is one; or the status, once it is said why it is none.
+    pub(crate) fn bundle(&self, rt: &HostRuntime) -> Result<Option<PoolBundle<'_>>, u8> {
+        let (name, bytes) = match self {
+            Beside::Nowhere => return Ok(None),
+            Beside::Item(name, bytes) => (name.as_str(), *bytes),
+            Beside::File(name, input) => (name.as_str(), input.file(rt, name.as_str())?),
+        };
+        match PoolBundle::read(bytes) {
+            Ok(pool) => Ok(Some(pool)),
+            Err(e) => {
+                complain(rt, name, e);
+                Err(1)
+            }
+        }
+    }
+}

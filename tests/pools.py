@@ -1,0 +1,244 @@
+#!/usr/bin/env python3
+"""Pool bundles, files over them and packages of both, through the program `resb`.
+
+The words of the files are those that ICU's `genrb` writes for the texts beside them. Each file is
+read beside the `pool.res` of its folder, beside the pool bundle that `--pool` names, and as an item
+of a package; then come files and pools with one damage each, with the refusal that the rules of
+`docs/FORMAT.md` give. The last line is 'N passed, M failed'.
+"""
+import json
+import os
+import struct
+import subprocess
+import sys
+import tempfile
+
+TOP = os.path.dirname(os.path.dirname(os.path.abspath(__file__)))
+RESB = f'{TOP}/crates/resb_cli/out/resb_cli'
+counts = {True: 0, False: 0}
+
+# pool of a{alpha{"one two three"}beta{"x"}} and b{alpha{"one two three"}gamma{"three"}}
+POOL_KEYS = '68706c61 65620061 67006174 616d6d61 aaaaaa00'
+UNITS = '6f0000 65006e 740020 6f0077 740020 720068 650065'
+POOL3 = f'20000000 8 e 16 16 0 3 16 e31610fa {POOL_KEYS} {UNITS} aaaa0000'
+POOL2 = f'20000000 8 e f f 0 3 f 1baba403 {POOL_KEYS} aaaa0000'
+# a{alpha{"one two three"}beta{"x"}}
+A3 = '50000003 208 9 d d 2 20004 d e31610fa 780000 20000 60000 30001'
+A2 = f'50000011 8 9 14 14 2 4 14 1baba403 780000 {UNITS} 20000 60000 10003'
+# b{alpha{"one two three"}gamma{"three"}}
+B3 = '50000001 a08 9 c c 2 a0004 c e31610fa 20000 b0000 90001'
+# c{alpha{"two three"}delta:array{"x","","three"}}
+C3 = ('2000000f a08 b 13 13 2 a0004 f e31610fa 746c6564 aaaa0061 780000 30000 b aaaa0009 '
+      '2c0002 aaaa0024 60000005 90000003')
+# d{alpha:alias{"/LOCALE/beta"}beta:int{5}}
+D3 = ('20000012 8 9 16 16 2 4 a e31610fa aaaa0000 c 4c002f 43004f 4c0041 2f0045 650062 610074 '
+      'aaaa0000 2 aaaa0006 3000000a 70000005')
+TREES = {
+    'a': {'alpha': 'one two three', 'beta': 'x'},
+    'b': {'alpha': 'one two three', 'gamma': 'three'},
+    'c': {'alpha': 'two three', 'delta': ['x', '', 'three']},
+}
+NO_POOL = 'this file uses a pool bundle, and there is no pool.res beside it; name one by --pool'
+INVALID = 'Invalid resource bundle data: '
+UNSUPPORTED = 'Unsupported resource bundle format: '
+END = f'{INVALID}unexpected end of input'
+
+
+def header(form, version):
+    """The header of an ICU data file of this form and version."""
+    return (struct.pack('<HBBHHBBBB', 32, 0xda, 0x27, 20, 0, 0, 0, 2, 0) + form
+            + bytes([*version, 0, 0]) + b'\1\4\0\0' + bytes(8))
+
+
+def file(words, version=(3, 0)):
+    """A file of these words, in hex digits, behind the header."""
+    words = [int(it, 16) for it in words.split()]
+    return header(b'ResB', version) + struct.pack(f'<{len(words)}I', *words)
+
+
+def with_word(words, number, word):
+    """The words with another one at this place."""
+    words = words.split()
+    words[number] = word
+    return ' '.join(words)
+
+
+def package(items):
+    """A package of these items, by name."""
+    names, places, data = b'', [], b''
+    head = 4 + 8 * len(items)
+    for name in sorted(items):
+        places.append(len(names))
+        names += name.encode() + b'\0'
+    names += b'\xaa' * (-(head + len(names)) % 16)
+    rows = b''
+    for place, name in zip(places, sorted(items)):
+        rows += struct.pack('<II', head + place, head + len(names) + len(data))
+        data += items[name] + b'\xaa' * (-len(items[name]) % 16)
+    return header(b'CmnD', (1, 0)) + struct.pack('<I', len(items)) + rows + names + data
+
+
+def run(*words, stdin=b''):
+    """Status, output and error of a call of the program."""
+    ran = subprocess.run([RESB, *words], input=stdin, capture_output=True, check=False)
+    return ran.returncode, ran.stdout.decode(), ran.stderr.decode()
+
+
+def seen(wanted, got, what):
+    """Counts a row, and prints it where it failed."""
+    counts[wanted == got] += 1
+    if wanted != got:
+        print(f'FAILED: {what}: {got}, where {wanted} is wanted')
+
+
+def says(output, *words, stdin=b''):
+    """A call that succeeds, with this on standard output."""
+    seen((0, output, ''), run(*words, stdin=stdin), ' '.join(words))
+
+
+def refuses(error, *words, status=1, stdin=b''):
+    """A call that fails, with this on standard error."""
+    seen((status, '', f'{error}\n'), run(*words, stdin=stdin), ' '.join(words))
+
+
+def shows(tree, *words, stdin=b''):
+    """A call whose output is the JSON of a tree."""
+    status, output, error = run('dump', '--json', *words, stdin=stdin)
+    seen((0, tree, ''), (status, output and json.loads(output), error), ' '.join(words))
+
+
+def write(name, data):
+    """Writes a file, and its folder where there is none."""
+    os.makedirs(os.path.dirname(name) or '.', exist_ok=True)
+    with open(name, 'wb') as out:
+        out.write(data)
+
+
+def read_beside():
+    """Files beside the pool bundle of their folder, or the one that is named."""
+    for name, words in (('a', A3), ('b', B3), ('c', C3), ('d', D3)):
+        write(f'three/{name}.res', file(words))
+        write(f'alone/{name}.res', file(words))
+    write('three/pool.res', file(POOL3))
+    write('two/pool.res', file(POOL2, (2, 0)))
+    write('two/a.res', file(A2, (2, 0)))
+    for name, tree in TREES.items():
+        shows(tree, f'three/{name}.res')
+        shows(tree, f'alone/{name}.res', '--pool', 'three/pool.res')
+        refuses(f'alone/{name}.res: {NO_POOL}', 'dump', f'alone/{name}.res')
+    shows(TREES['a'], 'two/a.res')
+    shows(TREES['a'], '-', '--pool', 'three/pool.res', stdin=file(A3))
+    refuses(f'-: {NO_POOL}', 'dump', '-', stdin=file(A3))
+    says('three\n', 'get', 'three/c.res', 'delta/2')
+    says('two three\n', 'get', 'alone/c.res', 'alpha', '--pool', 'three/pool.res')
+    # where the limits differ, a unit from the short limit on tells an index from the limit on
+    write('three/far.res', file(with_word(A3, 1, '4008')))
+    shows(TREES['a'], 'three/far.res')
+    says('far{\n    alpha{"one two three"}\n    beta{"x"}\n}\n', 'dump', 'three/far.res')
+    refuses(f'three/d.res: {UNSUPPORTED}resource type is not supported', 'dump', 'three/d.res')
+
+
+def check_lines():
+    """What `check` says of each file."""
+    says('three/a.res: 3 resources, format 3.0, fallback, largest table 2, over three/pool.res\n'
+         'two/a.res: 3 resources, format 2.0, fallback, largest table 2, over two/pool.res\n'
+         'three/c.res: 6 resources, format 3.0, fallback, largest table 2, over three/pool.res\n',
+         'check', 'three/a.res', 'two/a.res', 'three/c.res')
+    says('three/pool.res: 1 resources, format 3.0, no fallback, largest table 0, pool bundle\n',
+         'check', 'three/pool.res')
+    refuses(f'alone/a.res: {NO_POOL}', 'check', 'alone/a.res')
+
+
+def refuse_pools():
+    """Pool bundles that are none, or not the file's."""
+    refuses(f'two/a.res: {INVALID}pool bundle has another checksum: three/pool.res',
+            'check', 'two/a.res', '--pool', 'three/pool.res')
+    refuses(f'three/b.res: {INVALID}file is not a pool bundle', 'check', 'alone/a.res',
+            '--pool', 'three/b.res')
+    refuses('gone.res: no such file', 'check', 'alone/a.res', '--pool', 'gone.res', status=2)
+    write('cut/pool.res', file(with_word(POOL3, 2, '8')))
+    write('cut/a.res', file(A3))
+    refuses(f'cut/pool.res: {END}', 'check', 'cut/a.res')
+    write('own.res', file('20000000 7 8 8 8 0 0 8', (2, 0)))
+    says('own.res: 1 resources, format 2.0, fallback, largest table 0\n', 'check', 'own.res',
+         '--pool', 'gone.res')
+
+
+def refuse_files():
+    """Heads with one damage each, and strings past their block."""
+    write('pool.res', file(POOL3))
+    damages = [
+        (file(A3, (1, 0)), f'{UNSUPPORTED}format version 1.0 is not supported'),
+        (file(A3, (4, 0)), f'{INVALID}unrecognized format version'),
+        (file(with_word(A3, 1, '204')), f'{INVALID}invalid index field count'),
+        (file(with_word(A3, 1, '206')),
+         f'{INVALID}offset to the end of 16-bit data not specified'),
+        (file(with_word(A3, 1, '207')), f'{INVALID}pool checksum not specified'),
+        (file(with_word(A3, 6, '20000')), f'{INVALID}pool strings without a pool bundle'),
+        (file(with_word(A3, 6, '0')), f'{INVALID}pool strings without a pool bundle'),
+        (file(with_word(A3, 8, 'e31610fb')),
+         f'{INVALID}pool bundle has another checksum: pool.res'),
+        (file(with_word(A3, 2, 'e')), END),
+        (file(with_word(A3, 7, '8')), END),
+        # a limit past the pool, so that the string's index is read there
+        (file(with_word(with_word(A3, 1, '4008'), 6, '400004').replace('30001', '3f0001')), END),
+        # a position past the pool's keys
+        (file(A3.replace('60000', 'ff0000')),
+         f'{INVALID}unexpected end of data while deserializing key'),
+    ]
+    for number, (data, error) in enumerate(damages):
+        name = f'damaged{number}.res'
+        write(name, data)
+        refuses(f'{name}: {error}', 'check', name)
+
+
+def read_older():
+    """Versions before 2.0, which have neither a 16-bit block nor a pool."""
+    keys = 'aaaa0061'
+    for minor, count in ((1, 5), (2, 6), (3, 6)):
+        first = 1 + count
+        end = first + 1
+        index = f'{count:x} {end:x} {end + 2:x} {end + 2:x} 1' + (' 0' if count > 5 else '')
+        table = f'{4 * first << 16 | 1:x} 7ffffffe'
+        name = f'older{minor}.res'
+        write(name, file(f'2{end:07x} {index} {keys} {table}', (1, minor)))
+        says(f'{name}: 2 resources, format 1.{minor}, fallback, largest table 1\n', 'check', name)
+        shows({'a': -2}, name)
+        write(name, file(f'2{end:07x} {index} {keys} {4 * first << 16 | 1:x} 1', (1, minor)))
+        refuses(f'{name}: {UNSUPPORTED}resource type is not supported', 'check', name)
+
+
+def read_items():
+    """The same files as items of a package, and beside pools of another."""
+    items = {'x/a.res': file(A3), 'x/curr/a.res': file(A2, (2, 0)),
+             'x/curr/pool.res': file(POOL2, (2, 0)), 'x/curr/c.res': file(C3)}
+    write('x.dat', package(items))
+    shows(TREES['a'], 'x.dat/x/curr/a.res')
+    shows(TREES['a'], 'x.dat/curr/a.res')
+    shows(TREES['a'], './x.dat/curr/a.res')
+    says('x\n', 'get', 'x.dat/curr/a.res', 'beta')
+    says('x.dat/curr/a.res: 3 resources, format 2.0, fallback, largest table 2, over curr/pool.res\n',
+         'check', 'x.dat/curr/a.res')
+    refuses(f'x.dat/a.res: {NO_POOL}', 'check', 'x.dat/a.res')
+    refuses(f'x.dat/curr/c.res: {INVALID}pool bundle has another checksum: curr/pool.res',
+            'check', 'x.dat/curr/c.res')
+    shows(TREES['c'], 'x.dat/curr/c.res', '--pool', 'three/pool.res')
+    shows(TREES['a'], 'two/a.res', '--pool', 'x.dat/curr/pool.res')
+    refuses('x.dat/curr/b.res: no item is named curr/b.res', 'check', 'x.dat/curr/b.res')
+    refuses('own.res/a.res: not a package, but another kind of ICU data', 'check', 'own.res/a.res')
+    refuses('gone.dat/a.res: no such file', 'check', 'gone.dat/a.res', status=2)
+
+
+def main():
+    """All of it, in a folder of its own."""
+    with tempfile.TemporaryDirectory() as folder:
+        os.chdir(folder)
+        for group in (read_beside, check_lines, refuse_pools, refuse_files, read_older,
+                      read_items):
+            group()
+    print(f'{counts[True]} passed, {counts[False]} failed')
+    return counts[False] > 0
+
+
+if __name__ == '__main__':
+    sys.exit(main())

@@ -39,18 +39,20 @@ extern "C" {
 #define RESB_NO_FILE 4u
 /* The bytes are no file of a bundle. */
 #define RESB_NOT_A_FILE 5u
-/* The file has a version of the format that isn't read, another order of bytes, or EBCDIC. A
- * version or a format that isn't known at all is RESB_NOT_A_FILE. */
+/* The file has version 1.0 of the format, another order of bytes, or EBCDIC. Versions 1.1 to 3.0
+ * are read by each call. A version or a format that isn't known at all is RESB_NOT_A_FILE. */
 #define RESB_UNSUPPORTED 6u
 /* The file's tree has no text: its root is no table, or a name, key or string holds a '"'. */
 #define RESB_NOT_PRINTABLE 7u
 /* A request for memory was refused. The input may be sound. */
 #define RESB_NO_MEMORY 8u
-/* The file uses the keys of a pool bundle, and has none of its own. */
+/* The file uses a pool bundle, and none was given. */
 #define RESB_USES_POOL 9u
 /* The file's tree, the keys of its entries, its text, or what reading the text makes, would take
  * more bytes than the limit. */
 #define RESB_OVER_LIMIT 10u
+/* The bytes that were given as a pool bundle are none. */
+#define RESB_NOT_A_POOL 11u
 
 /* Why a call failed. Each call writes all of it: after RESB_OK it holds zeros alone. */
 typedef struct resb_error {
@@ -92,6 +94,17 @@ void resb_location(const uint8_t *text, size_t text_length, size_t place, size_t
  * RESB_NOT_A_FILE, RESB_UNSUPPORTED, RESB_USES_POOL, RESB_NO_MEMORY. */
 uint32_t resb_check(const uint8_t *file, size_t file_length, size_t *count, resb_error *error);
 
+/* Checks a file as resb_check does, beside a pool bundle of pool_length bytes: a .res file of keys
+ * and strings, pool.res of ICU's data, from which files of the same data take theirs. A length of 0
+ * says that there is none. The pool is looked at before the file, also for a file that uses none,
+ * and is given only for the call: nothing of it is kept.
+ *
+ * RESB_OK: *count is the number of resources of the file's tree, the root included. Else *count is
+ * 0: RESB_NOT_A_POOL, or a reason of resb_check. A file that uses another pool bundle is
+ * RESB_NOT_A_FILE. */
+uint32_t resb_check_with_pool(const uint8_t *file, size_t file_length, const uint8_t *pool,
+                              size_t pool_length, size_t *count, resb_error *error);
+
 /* What a file's tree adds up to; entries that are replaced count too. A sum that does not fit is
  * UINT64_MAX. */
 typedef struct resb_measured {
@@ -118,6 +131,14 @@ typedef struct resb_measured {
 uint32_t resb_measure(const uint8_t *file, size_t file_length, resb_measured *measured,
                       resb_error *error);
 
+/* Measures a file as resb_measure does, beside a pool bundle of pool_length bytes. A length of 0
+ * says that there is none. Nothing of the pool is kept.
+ *
+ * RESB_OK: measured has the sums of the file's tree, those of what it takes from the pool included.
+ * Else each of them is 0, for the reasons of resb_check_with_pool. */
+uint32_t resb_measure_with_pool(const uint8_t *file, size_t file_length, const uint8_t *pool,
+                                size_t pool_length, resb_measured *measured, resb_error *error);
+
 /* Prints a file's tree as the text of a bundle of that name, which is UTF-8 of name_length bytes.
  * A tree that takes more bytes than the limit, as tree_bytes counts them, or whose entries have
  * more bytes of keys (key_bytes), is refused before it is made, by RESB_OVER_LIMIT, and so is a
@@ -131,6 +152,17 @@ uint32_t resb_measure(const uint8_t *file, size_t file_length, resb_measured *me
 uint32_t resb_dump(const uint8_t *file, size_t file_length, const uint8_t *name,
                    size_t name_length, uint64_t limit, uint8_t *out, size_t out_length,
                    size_t *length, resb_error *error);
+
+/* Prints a file's tree as resb_dump does, beside a pool bundle of pool_length bytes. A length of 0
+ * says that there is none. Nothing of the pool is kept: the text has what the file takes from it.
+ *
+ * RESB_OK, RESB_TOO_SHORT: as resb_dump. Else out is as it was, and *length is 0: RESB_NOT_UTF8 for
+ * the name, which is looked at first, the reasons of resb_check_with_pool, RESB_OVER_LIMIT,
+ * RESB_NOT_PRINTABLE. */
+uint32_t resb_dump_with_pool(const uint8_t *file, size_t file_length, const uint8_t *pool,
+                             size_t pool_length, const uint8_t *name, size_t name_length,
+                             uint64_t limit, uint8_t *out, size_t out_length, size_t *length,
+                             resb_error *error);
 
 #ifdef __cplusplus
 }

@@ -1,19 +1,21 @@
 -- What the calls for C answer, and what the caller gets of it.
 --     CompilesInto text old new r    what compiling to a buffer answers, and leaves there
 --     CompilesWithin text limit old new r   the same of a text whose reading keeps within a limit
---     CountsFile file r              what checking a file answers
+--     CountsFile pool file r         what checking a file answers, beside the pool's bytes
 --     Reports r status n e           the status, number and error that the caller gets of an answer
 use Rattle.std.specs.Prelude.{◌≡◌, ◌≤◌, ◌<◌, ◌⊎◌, ℕ, List, ◌++◌, length, drop, take}
 use Rattle.std.specs.Prelude.{Result, Ok, Err, IsUtf8, replicate}
 use Rattle.std.specs.Str.Lossy.{utf8_valid_len}
 use Rattle.resb_grammar.specs.Limit.{MadeWithin, MakesMore}
 use Rattle.resb_compile.specs.Compiling.{IsCompiled, IsRefused}
-use Rattle.resb_read.specs.Roots.{AnswersCount}
-use Rattle.resb_program.specs.Files.{HasNoKeys, HasKeys}
+use Rattle.resb_read.specs.Roots.{AnswersCountOf}
+use Rattle.resb_read.specs.WithPool.{over}
+use Rattle.resb_program.specs.Files.{LacksPool, RefusesReading}
 use Rattle.resb_c.specs.Faults.{number_of, place_of, message_of}
+use Rattle.resb_c.specs.Pools.{given, IsGiven, RefusesPool}
 use Rattle.resb_c.specs.declared.fault.Fault.{Fault}
 use Rattle.resb_c.specs.declared.fault.Fault.TheVariants.{TooShort, NotUtf8, Compiling, Reading}
-use Rattle.resb_c.specs.declared.fault.Fault.TheVariants.{UsesPool, LargerText}
+use Rattle.resb_c.specs.declared.fault.Fault.TheVariants.{UsesPool, Pool, LargerText}
 use Rattle.resb_c.specs.declared.report.ResbError.{ResbError}
 
 -- where the buffer has room, the answer stands at its front, what is behind stays, and its length
@@ -46,12 +48,14 @@ CompilesWithin text limit old new (Err LargerText) =
     IsUtf8 text × MakesMore text limit × (MadeWithin text limit → ⊥) × (new ≡ old)
 CompilesWithin text limit old new (Err fault) = CompilesInto text old new (Err fault)
 
--- the number of resources of the file's tree, the reader's refusal, or that the file has no keys
-abbrev pub CountsFile : List ℕ → Result ℕ Fault → Type 0
-CountsFile file (Ok n) = AnswersCount file (Ok n) × HasKeys file
-CountsFile file (Err UsesPool) = HasNoKeys file
-CountsFile file (Err (Reading e)) = AnswersCount file (Err e)
-CountsFile file (Err _) = ⊥
+-- the number of resources of the file's tree, beside the pool bundle of these bytes; the reader's
+-- refusal; that the bytes are no pool bundle; or that the file lacks one
+abbrev pub CountsFile : List ℕ → List ℕ → Result ℕ Fault → Type 0
+CountsFile pool file (Ok n) = IsGiven pool × AnswersCountOf (over (given pool) file) (Ok n)
+CountsFile pool file (Err UsesPool) = LacksPool (given pool) file
+CountsFile pool file (Err (Pool e)) = RefusesPool pool e
+CountsFile pool file (Err (Reading e)) = IsGiven pool × RefusesReading (given pool) file e
+CountsFile pool file (Err _) = ⊥
 
 -- the length that a fault has for the caller: that of the answer which the buffer is too short for
 abbrev pub needed_of : Fault → ℕ

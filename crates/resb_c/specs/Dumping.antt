@@ -1,6 +1,7 @@
--- What printing a file's tree to a buffer answers.
---     IsBundleToDump file name limit b  the bundle is the file's tree, under that name
---     DumpsInto file name limit old new r    what printing it to a buffer answers, and leaves there
+-- What printing a file's tree to a buffer answers, beside the bytes of a pool bundle.
+--     IsBundleToDump pool file name limit b  the bundle is the file's tree, under that name
+--     DumpsInto pool file name limit old new r   what printing it to a buffer answers, and leaves
+--                                            there
 use Rattle.std.specs.Prelude.{◌≡◌, ◌≤◌, ◌⊎◌, ℕ, List, length, Option, Some, Result, Ok, Err}
 use Rattle.std.specs.Prelude.{IsUtf8}
 use Rattle.resb_tree.specs.Bundle.{name_of, root_of}
@@ -12,35 +13,41 @@ use Rattle.resb_print.specs.Quotes.{first_cause}
 use Rattle.resb_print.specs.Inner.Jobs.{SaysCause}
 use Rattle.resb_print.specs.declared.error.PrintError.{PrintError}
 use Rattle.resb_print.specs.declared.error.PrintError.TheVariants.{OutOfMemory}
-use Rattle.resb_read.specs.Measuring.{TakesMore}
-use Rattle.resb_read.specs.Roots.{AnswersTree}
-use Rattle.resb_program.specs.Files.{HasNoKeys, HasLongKeys, IsOwnBundle}
+use Rattle.resb_read.specs.Measuring.{TakesMoreOf}
+use Rattle.resb_read.specs.WithPool.{over}
+use Rattle.resb_program.specs.Files.{LacksPool, RefusesReading, HasLongKeys, IsBundleBeside}
 use Rattle.resb_c.specs.Calls.{Fills, IsNotUtf8}
+use Rattle.resb_c.specs.Pools.{given, IsGiven, RefusesPool}
 use Rattle.resb_c.specs.declared.fault.Fault.{Fault}
 use Rattle.resb_c.specs.declared.fault.Fault.TheVariants.{TooShort, NotUtf8, Reading, UsesPool}
-use Rattle.resb_c.specs.declared.fault.Fault.TheVariants.{Larger, LongKeys, LongText, Printing}
+use Rattle.resb_c.specs.declared.fault.Fault.TheVariants.{Pool, Larger, LongKeys, LongText}
+use Rattle.resb_c.specs.declared.fault.Fault.TheVariants.{Printing}
 
--- the bundle has this name, the file's tree, which takes no more bytes than the limit, nor do the
--- keys of its entries, and the fallback flag of the file's head
-abbrev pub IsBundleToDump : List ℕ → List ℕ → ℕ → ResourceBundle → Type 0
-IsBundleToDump file name limit b = IsOwnBundle file name (Some limit) b
+-- the bundle has this name, the file's tree beside the pool bundle of these bytes, which takes no
+-- more bytes than the limit, nor do the keys of its entries, and the fallback flag of the file's
+-- head
+abbrev pub IsBundleToDump : List ℕ → List ℕ → List ℕ → ℕ → ResourceBundle → Type 0
+IsBundleToDump pool file name limit b =
+    IsGiven pool × IsBundleBeside (given pool) file name (Some limit) b
 
--- the file has no keys of its own, the reader refuses it, or its tree or the keys of its entries
--- take more bytes than the limit
-abbrev pub HasNoBundle : List ℕ → ℕ → Fault → Type 0
-HasNoBundle file limit UsesPool = HasNoKeys file
-HasNoBundle file limit (Reading e) = AnswersTree file (Err e)
-HasNoBundle file limit Larger = TakesMore file limit
-HasNoBundle file limit LongKeys = (taken : Option ℕ) × HasLongKeys file limit taken
-HasNoBundle file limit _ = ⊥
+-- the bytes are no pool bundle, the file lacks one, the reader refuses it, or its tree or the keys
+-- of its entries take more bytes than the limit
+abbrev pub HasNoBundle : List ℕ → List ℕ → ℕ → Fault → Type 0
+HasNoBundle pool file limit UsesPool = LacksPool (given pool) file
+HasNoBundle pool file limit (Pool e) = RefusesPool pool e
+HasNoBundle pool file limit (Reading e) = IsGiven pool × RefusesReading (given pool) file e
+HasNoBundle pool file limit Larger = IsGiven pool × TakesMoreOf (over (given pool) file) limit
+HasNoBundle pool file limit LongKeys =
+    IsGiven pool × ((taken : Option ℕ) × HasLongKeys (over (given pool) file) limit taken)
+HasNoBundle pool file limit _ = ⊥
 
 -- the text is what the file's bundle is printed as under this name, which is UTF-8, so that it is a
 -- text of that bundle; and it has no more bytes than the limit
-pub record IsDump (file name : List ℕ) (limit : ℕ) (text : List ℕ) : Type 0 where
+pub record IsDump (pool file name : List ℕ) (limit : ℕ) (text : List ℕ) : Type 0 where
   pub bundle : ResourceBundle
   pub keys : List (List ℕ)
   pub named : IsUtf8 name
-  pub of_file : IsBundleToDump file name limit bundle
+  pub of_file : IsBundleToDump pool file name limit bundle
   pub printed : IsBundleText text (name_of bundle) bundle.is_locale_fallback_enabled
       (root_of bundle)
   pub texts : BundleText text (name_of bundle) bundle.is_locale_fallback_enabled (root_of bundle)
@@ -48,32 +55,34 @@ pub record IsDump (file name : List ℕ) (limit : ℕ) (text : List ℕ) : Type 
   pub fits : length text ≤ limit
 
 -- the file's bundle under this name, which is UTF-8, is printed as more bytes than the limit
-pub record HasLongDump (file name : List ℕ) (limit : ℕ) : Type 0 where
+pub record HasLongDump (pool file name : List ℕ) (limit : ℕ) : Type 0 where
   pub bundle : ResourceBundle
   pub named : IsUtf8 name
-  pub of_file : IsBundleToDump file name limit bundle
+  pub of_file : IsBundleToDump pool file name limit bundle
   pub long : IsLongBundle limit (name_of bundle) bundle.is_locale_fallback_enabled (root_of bundle)
 
 -- memory was wanted, or no text is that of the file's bundle under this name, which is UTF-8; then
 -- the first cause of that is named
-pub record HasNoDump (file name : List ℕ) (limit : ℕ) (e : PrintError) : Type 0 where
+pub record HasNoDump (pool file name : List ℕ) (limit : ℕ) (e : PrintError) : Type 0 where
   pub bundle : ResourceBundle
   pub named : IsUtf8 name
-  pub of_file : IsBundleToDump file name limit bundle
+  pub of_file : IsBundleToDump pool file name limit bundle
   pub says : SaysCause e (first_cause (name_of bundle) (root_of bundle))
   pub none : (e ≡ OutOfMemory)
       ⊎ HasNoText (name_of bundle) bundle.is_locale_fallback_enabled (root_of bundle)
 
 -- a text of the file's bundle is in the buffer, or would be if it had room, or there is none within
--- the limit; a name that isn't UTF-8 is told before the file is looked at
-abbrev pub DumpsInto : List ℕ → List ℕ → ℕ → List ℕ → List ℕ → Result ℕ Fault → Type 0
-DumpsInto file name limit old new (Ok n) =
-    (text : List ℕ) × IsDump file name limit text × Fills text old new (Ok n)
-DumpsInto file name limit old new (Err (TooShort n)) =
-    (text : List ℕ) × IsDump file name limit text × Fills text old new (Err n)
-DumpsInto file name limit old new (Err (NotUtf8 n)) = IsNotUtf8 name n × (new ≡ old)
-DumpsInto file name limit old new (Err (Printing e)) =
-    HasNoDump file name limit e × (new ≡ old)
-DumpsInto file name limit old new (Err LongText) = HasLongDump file name limit × (new ≡ old)
-DumpsInto file name limit old new (Err fault) =
-    IsUtf8 name × HasNoBundle file limit fault × (new ≡ old)
+-- the limit; a name that isn't UTF-8 is told before pool and file are looked at
+abbrev pub DumpsInto
+    : List ℕ → List ℕ → List ℕ → ℕ → List ℕ → List ℕ → Result ℕ Fault → Type 0
+DumpsInto pool file name limit old new (Ok n) =
+    (text : List ℕ) × IsDump pool file name limit text × Fills text old new (Ok n)
+DumpsInto pool file name limit old new (Err (TooShort n)) =
+    (text : List ℕ) × IsDump pool file name limit text × Fills text old new (Err n)
+DumpsInto pool file name limit old new (Err (NotUtf8 n)) = IsNotUtf8 name n × (new ≡ old)
+DumpsInto pool file name limit old new (Err (Printing e)) =
+    HasNoDump pool file name limit e × (new ≡ old)
+DumpsInto pool file name limit old new (Err LongText) =
+    HasLongDump pool file name limit × (new ≡ old)
+DumpsInto pool file name limit old new (Err fault) =
+    IsUtf8 name × HasNoBundle pool file limit fault × (new ≡ old)

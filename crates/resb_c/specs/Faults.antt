@@ -19,8 +19,8 @@ use Rattle.resb_compile.specs.declared.compiling.CompileError.TheVariants as com
 use Rattle.resb_compile.specs.Compiling as compile
 use Rattle.resb_c.specs.declared.fault.Fault.{Fault}
 use Rattle.resb_c.specs.declared.fault.Fault.TheVariants.{TooShort, NotUtf8, Compiling, Reading}
-use Rattle.resb_c.specs.declared.fault.Fault.TheVariants.{UsesPool, Larger, LongKeys, LongText}
-use Rattle.resb_c.specs.declared.fault.Fault.TheVariants.{LargerText, Printing}
+use Rattle.resb_c.specs.declared.fault.Fault.TheVariants.{UsesPool, Pool, Larger, LongKeys}
+use Rattle.resb_c.specs.declared.fault.Fault.TheVariants.{LongText, LargerText, Printing}
 
 -- a text that isn't read is 3, want of memory 8
 abbrev pub text_number : Expected → ℕ
@@ -48,14 +48,16 @@ abbrev pub compile_number : CompileError → ℕ
 compile_number (compiling.Reading e) = text_number e.expected
 compile_number (compiling.Writing e) = tree_number (fault_of e)
 
--- a buffer that is too short is 1, bytes that aren't UTF-8 are 2, a file without keys of its own is
--- 9, a tree, its keys or a text over the limit 10, and else the fault's own number
+-- a buffer that is too short is 1, bytes that aren't UTF-8 are 2, a file that lacks its pool bundle
+-- is 9, a tree, its keys or a text over the limit 10, a pool's bytes that are no pool bundle 11,
+-- and else the fault's own number
 abbrev pub number_of : Fault → ℕ
 number_of (TooShort n) = 1
 number_of (NotUtf8 n) = 2
 number_of (Compiling e) = compile_number e
 number_of (Reading e) = file_number (kind_of e)
 number_of UsesPool = 9
+number_of (Pool e) = 11
 number_of Larger = 10
 number_of LongKeys = 10
 number_of LongText = 10
@@ -74,6 +76,7 @@ place_of (NotUtf8 n) = n
 place_of (Compiling e) = compile_place e
 place_of (Reading e) = 0
 place_of UsesPool = 0
+place_of (Pool e) = 0
 place_of Larger = 0
 place_of LongKeys = 0
 place_of LongText = 0
@@ -87,7 +90,8 @@ message_of (TooShort n) =
 message_of (NotUtf8 n) = codes "not UTF-8 from byte " ++ (decimal n ++ codes " on")
 message_of (Compiling e) = compile.message_of e
 message_of (Reading e) = description_of (kind_of e) ++ (codes ": " ++ reading.message_of e)
-message_of UsesPool = codes "the file uses the keys of a pool bundle, and has none of its own"
+message_of UsesPool = codes "the file uses a pool bundle, and none was given"
+message_of (Pool e) = description_of (kind_of e) ++ (codes ": " ++ reading.message_of e)
 message_of Larger = codes "the tree takes more bytes than the limit"
 message_of LongKeys = codes "the keys of the entries take more bytes than the limit"
 message_of LongText = codes "the text takes more bytes than the limit"

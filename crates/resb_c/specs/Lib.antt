@@ -1,5 +1,6 @@
 -- The words of the contracts for C: what is answered, why a call fails, and what the caller gets.
 pub mod Faults
+pub mod Pools
 pub mod Calls
 pub mod Dumping
 pub mod Measures

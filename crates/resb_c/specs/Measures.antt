@@ -1,23 +1,27 @@
 -- What measuring a file answers, and the numbers that the caller gets of it.
---     MeasuresFile file r     what measuring a file answers
---     ShowsSums r c           the numbers that the caller gets of an answer
+--     MeasuresFile pool file r    what measuring a file answers, beside the pool's bytes
+--     ShowsSums r c               the numbers that the caller gets of an answer
 use Rattle.std.specs.Prelude.{◌≡◌, ◌-◌, ◌^◌, ℕ, List, Option, unwrap_or, Result, Ok, Err}
 use Rattle.resb_walk.specs.Pieces.{Piece}
 use Rattle.resb_walk.specs.Sums.{fitting}
 use Rattle.resb_walk.specs.TreeBytes.{tree_bytes}
-use Rattle.resb_read.specs.Measuring.{IsMeasured, AnswersMeasure}
+use Rattle.resb_read.specs.Measuring.{IsMeasured, AnswersMeasureOf}
+use Rattle.resb_read.specs.WithPool.{over}
 use Rattle.resb_read.specs.declared.measuring.Measured.{Measured}
-use Rattle.resb_program.specs.Files.{HasNoKeys, HasKeys}
+use Rattle.resb_program.specs.Files.{LacksPool, RefusesReading}
+use Rattle.resb_c.specs.Pools.{given, IsGiven, RefusesPool}
 use Rattle.resb_c.specs.declared.fault.Fault.{Fault}
-use Rattle.resb_c.specs.declared.fault.Fault.TheVariants.{Reading, UsesPool}
+use Rattle.resb_c.specs.declared.fault.Fault.TheVariants.{Reading, UsesPool, Pool}
 use Rattle.resb_c.specs.declared.measured.ResbMeasured.{ResbMeasured}
 
--- what the file's tree adds up to, the reader's refusal, or that the file has no keys
-abbrev pub MeasuresFile : List ℕ → Result Measured Fault → Type 0
-MeasuresFile file (Ok m) = AnswersMeasure file (Ok m) × HasKeys file
-MeasuresFile file (Err UsesPool) = HasNoKeys file
-MeasuresFile file (Err (Reading e)) = AnswersMeasure file (Err e)
-MeasuresFile file (Err _) = ⊥
+-- what the file's tree adds up to, beside the pool bundle of these bytes; the reader's refusal;
+-- that the bytes are no pool bundle; or that the file lacks one
+abbrev pub MeasuresFile : List ℕ → List ℕ → Result Measured Fault → Type 0
+MeasuresFile pool file (Ok m) = IsGiven pool × AnswersMeasureOf (over (given pool) file) (Ok m)
+MeasuresFile pool file (Err UsesPool) = LacksPool (given pool) file
+MeasuresFile pool file (Err (Pool e)) = RefusesPool pool e
+MeasuresFile pool file (Err (Reading e)) = IsGiven pool × RefusesReading (given pool) file e
+MeasuresFile pool file (Err _) = ⊥
 
 -- a sum, or the greatest number of 64 bits where it doesn't fit
 abbrev pub shown_sum : Option ℕ → ℕ

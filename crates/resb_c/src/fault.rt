@@ -29,8 +29,10 @@ pub enum Fault {
     LongText,
     /// Reading the text makes more bytes than the limit.
     LargerText,
-    /// The file uses the keys of a pool bundle, and has none of its own.
+    /// The file uses a pool bundle, and none was given.
     UsesPool,
+    /// The bytes that were given as a pool bundle are none.
+    Pool(BinaryDeserializerError),
     /// The tree has no text.
     Printing(PrintError),
 }
@@ -59,6 +61,7 @@ impl Fault {
             Fault::Larger | Fault::LongKeys | Fault::LongText | Fault::LargerText => 10,
             Fault::Printing(PrintError::NotPrintable(_)) => 7,
             Fault::Printing(PrintError::OutOfMemory) => 8,
+            Fault::Pool(_) => 11,
         }
     }
 
@@ -85,12 +88,8 @@ impl fmt::Display for Fault {
             Fault::NotUtf8(place) => write!(f, "not UTF-8 from byte {place} on"),
             Fault::Compiling(e) => write!(f, "{e}"),
             Fault::Reading(e) => write!(f, "{e}"),
-            Fault::UsesPool => {
-                write!(
-                    f,
-                    "the file uses the keys of a pool bundle, and has none of its own"
-                )
-            }
+            Fault::UsesPool => write!(f, "the file uses a pool bundle, and none was given"),
+            Fault::Pool(e) => write!(f, "{e}"),
             Fault::Larger => write!(f, "the tree takes more bytes than the limit"),
             Fault::LongKeys => write!(f, "the keys of the entries take more bytes than the limit"),
             Fault::LongText => write!(f, "the text takes more bytes than the limit"),

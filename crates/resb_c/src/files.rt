@@ -1,18 +1,29 @@
 //! What the calls for C do over bytes: their answers go to the front of the caller's buffer.
 //! What the caller is told beside that is in `report`.
-ghost use Rattle.std.specs.Prelude.{◌≡◌, ℕ, IfOk, IfErr, IsUtf8};
+ghost use Rattle.std.specs.Prelude.{◌≡◌, ℕ, IfOk, IfErr, IsUtf8, option_map};
+ghost use Rattle.resb_format.specs.declared.error.ReadingError.{ReadingError};
+ghost use Rattle.resb_pool_bundle.specs.Pool.{pool_in};
 ghost use Rattle.resb_c.specs.Calls.{CompilesInto, CompilesWithin, CountsFile, Fills, IsNotUtf8};
 ghost use Rattle.resb_c.specs.Dumping.{DumpsInto, HasNoBundle, IsBundleToDump};
 ghost use Rattle.resb_c.specs.Measures as measures;
 ghost use Rattle.resb_c.specs.Measures.{MeasuresFile};
+ghost use Rattle.resb_c.specs.Pools.{given, IsGiven, RefusesPool};
 
 use crate::fault::Fault;
 use resb_compile::{CompileWithinError, compile, compile_within};
+use resb_pool_bundle::PoolBundle;
 use resb_print::print_text_within;
 use resb_program::{FileError, read_bundle};
 use resb_read::Measured;
 use resb_tree::ResourceBundle;
 use std::alloc::Global;
+
+/// A file's bytes, and those of the pool bundle that is given beside it: none where none is given.
+#[derive(Clone, Copy)]
+pub(crate) struct Input<'a> {
+    pub(crate) file: &'a [u8],
+    pub(crate) pool: &'a [u8],
+}
 
 /// Copies an answer to the front of the buffer where it has room, and gives its length, which is
 /// the error where it has none.
@@ -73,11 +84,28 @@ pub(crate) fn compile_within_into(
     }
 }
 
-/// The number of resources of a file's tree.
-pub(crate) fn count_file(alloc: Global, file: &[u8]) -> Result<usize, Fault>
-    ensures { CountsFile file.now result }
+/// The pool bundle of these bytes: none where there are no bytes.
+fn pool_of(bytes: &[u8]) -> Result<Option<PoolBundle<'_>>, Fault>
+    ensures ok { IfOk result
+        (λ p. IsGiven bytes.entry.now × (option_map pool_in p ≡ given bytes.entry.now)) }
+    ensures err { IfErr result
+        (λ e. (f : ReadingError) × (e ≡ Fault.Pool f) × RefusesPool bytes.entry.now f) }
 {
-    match resb_program::count_file(alloc, file) {
+    if bytes.is_empty() {
+        return Ok(None);
+    }
+    match PoolBundle::read(bytes) {
+        Ok(pool) => Ok(Some(pool)),
+        Err(e) => Err(Fault::Pool(e)),
+    }
+}
+
+/// The number of resources of a file's tree.
+pub(crate) fn count_file(alloc: Global, input: Input<'_>) -> Result<usize, Fault>
+    ensures { CountsFile input.entry.pool.now input.entry.file.now result }
+{
+    let pool = pool_of(input.pool)?;
+    match resb_program::count_file(alloc, input.file, pool) {
         Ok((count, _)) => Ok(count),
         Err(FileError::UsesPool) => Err(Fault::UsesPool),
         Err(FileError::Larger { .. }) => Err(Fault::Larger),
@@ -87,10 +115,11 @@ pub(crate) fn count_file(alloc: Global, file: &[u8]) -> Result<usize, Fault>
 }
 
 /// What a file's tree adds up to.
-pub(crate) fn measure_file(alloc: Global, file: &[u8]) -> Result<Measured, Fault>
-    ensures { MeasuresFile file.now result }
+pub(crate) fn measure_file(alloc: Global, input: Input<'_>) -> Result<Measured, Fault>
+    ensures { MeasuresFile input.entry.pool.now input.entry.file.now result }
 {
-    match resb_program::measure_file(alloc, file) {
+    let pool = pool_of(input.pool)?;
+    match resb_program::measure_file(alloc, input.file, pool) {
         Ok(measured) => Ok(measured),
         Err(FileError::UsesPool) => Err(Fault::UsesPool),
         Err(FileError::Larger { .. }) => Err(Fault::Larger),
@@ -113,13 +142,15 @@ pub(crate) fn count_measured(answer: Result<Measured, Fault>) -> Result<usize, F
 fn bundle_of<'a>(
     alloc: Global,
     name: &'a str,
-    file: &'a [u8],
+    input: Input<'a>,
     limit: u64,
 ) -> Result<ResourceBundle<'a>, Fault>
-    ensures ok { IfOk result (IsBundleToDump file.entry.now name.entry.now limit) }
-    ensures err { IfErr result (HasNoBundle file.entry.now limit) }
+    ensures ok { IfOk result
+        (IsBundleToDump input.entry.pool.now input.entry.file.now name.entry.now limit) }
+    ensures err { IfErr result (HasNoBundle input.entry.pool.now input.entry.file.now limit) }
 {
-    match read_bundle(alloc, name, file, Some(limit)) {
+    let pool = pool_of(input.pool)?;
+    match read_bundle(alloc, name, input.file, pool, Some(limit)) {
         Ok(bundle) => Ok(bundle),
         Err(FileError::UsesPool) => Err(Fault::UsesPool),
         Err(FileError::Larger { .. }) => Err(Fault::Larger),
@@ -132,15 +163,16 @@ fn bundle_of<'a>(
 /// no more bytes than the limit.
 pub(crate) fn dump_into(
     alloc: Global,
-    file: &[u8],
+    input: Input<'_>,
     name: &[u8],
     limit: u64,
     out: &mut [u8],
 ) -> Result<usize, Fault>
-    ensures { DumpsInto file.now name.now limit out.old out.new result }
+    ensures { DumpsInto input.entry.pool.now input.entry.file.now name.now limit out.old out.new
+        result }
 {
     let name = text_of(name)?;
-    let bundle = bundle_of(alloc, name, file, limit)?;
+    let bundle = bundle_of(alloc, name, input, limit)?;
     match print_text_within(alloc, &bundle, limit) {
         Ok(Some(text)) => match fill(text.as_bytes(), out) {
             Ok(count) => Ok(count),

@@ -3,7 +3,7 @@
 //! bytes is in `files`, why a call fails in `fault`.
 #![tactic(auto)]
 
-ghost use Rattle.std.specs.Prelude.{◌≡◌, ℕ, Result, length, min};
+ghost use Rattle.std.specs.Prelude.{◌≡◌, ℕ, [], Result, length, min};
 ghost use Rattle.resb_read.specs.declared.measuring.Measured.{Measured};
 ghost use Rattle.resb_program.specs.Location.{line_at, column_at};
 ghost use Rattle.resb_c.specs.Calls.{CompilesInto, CompilesWithin, CountsFile, Reports};
@@ -16,7 +16,7 @@ mod measured;
 mod report;
 
 use crate::files::{
-    compile_into, compile_within_into, count_file, count_measured, dump_into, measure_file,
+    Input, compile_into, compile_within_into, count_file, count_measured, dump_into, measure_file,
 };
 use crate::report::report;
 pub use fault::Fault;
@@ -80,10 +80,26 @@ pub extern "C" fn resb_check(
     count: &mut usize,
     error: &mut ResbError,
 ) -> u32
-    ensures { (r : Result ℕ Fault) × CountsFile file.now r
+    ensures { (r : Result ℕ Fault) × CountsFile [] file.now r
         × Reports r result count.new error.new }
 {
-    let answer = count_file(alloc, file);
+    resb_check_with_pool(alloc, file, &[], count, error)
+}
+
+/// Counts the resources of a file as `resb_check` does, beside the pool bundle of these bytes. None
+/// is given where there are no bytes.
+#[unsafe(no_mangle)]
+pub extern "C" fn resb_check_with_pool(
+    alloc: Global,
+    file: &[u8],
+    pool: &[u8],
+    count: &mut usize,
+    error: &mut ResbError,
+) -> u32
+    ensures { (r : Result ℕ Fault) × CountsFile pool.now file.now r
+        × Reports r result count.new error.new }
+{
+    let answer = count_file(alloc, Input { file, pool });
     report(alloc, answer, count, error)
 }
 
@@ -96,10 +112,26 @@ pub extern "C" fn resb_measure(
     measured: &mut ResbMeasured,
     error: &mut ResbError,
 ) -> u32
-    ensures { (r : Result Measured Fault) × (n : ℕ) × MeasuresFile file.now r
+    ensures { (r : Result Measured Fault) × (n : ℕ) × MeasuresFile [] file.now r
         × ShowsSums r measured.new × Reports (resources_of r) result n error.new }
 {
-    let answer = measure_file(alloc, file);
+    resb_measure_with_pool(alloc, file, &[], measured, error)
+}
+
+/// Measures a file as `resb_measure` does, beside the pool bundle of these bytes. None is given
+/// where there are no bytes.
+#[unsafe(no_mangle)]
+pub extern "C" fn resb_measure_with_pool(
+    alloc: Global,
+    file: &[u8],
+    pool: &[u8],
+    measured: &mut ResbMeasured,
+    error: &mut ResbError,
+) -> u32
+    ensures { (r : Result Measured Fault) × (n : ℕ) × MeasuresFile pool.now file.now r
+        × ShowsSums r measured.new × Reports (resources_of r) result n error.new }
+{
+    let answer = measure_file(alloc, Input { file, pool });
     *measured = ResbMeasured::of(&answer);
     let mut resources = 0;
     report(alloc, count_measured(answer), &mut resources, error)
@@ -118,9 +150,28 @@ pub extern "C" fn resb_dump(
     length: &mut usize,
     error: &mut ResbError,
 ) -> u32
-    ensures { (r : Result ℕ Fault) × DumpsInto file.now name.now limit out.old out.new r
+    ensures { (r : Result ℕ Fault) × DumpsInto [] file.now name.now limit out.old out.new r
         × Reports r result length.new error.new }
 {
-    let answer = dump_into(alloc, file, name, limit, out);
+    resb_dump_with_pool(alloc, file, &[], name, limit, out, length, error)
+}
+
+/// Prints a file's tree as `resb_dump` does, beside the pool bundle of these bytes. None is given
+/// where there are no bytes.
+#[unsafe(no_mangle)]
+pub extern "C" fn resb_dump_with_pool(
+    alloc: Global,
+    file: &[u8],
+    pool: &[u8],
+    name: &[u8],
+    limit: u64,
+    out: &mut [u8],
+    length: &mut usize,
+    error: &mut ResbError,
+) -> u32
+    ensures { (r : Result ℕ Fault) × DumpsInto pool.now file.now name.now limit out.old out.new r
+        × Reports r result length.new error.new }
+{
+    let answer = dump_into(alloc, Input { file, pool }, name, limit, out);
     report(alloc, answer, length, error)
 }

@@ -9,10 +9,11 @@ const LIMIT: u64 = 1_000_000;
 
 fn show(text: &[u8]) -> Result<(), resb::Error> {
     let file = resb::compile_within(text, LIMIT)?;
-    let count = resb::check(&file)?;
-    let entries = resb::measure(&file)?.entries;
+    let input = resb::Input { file: &file, pool: &[] };
+    let count = resb::check(input)?;
+    let entries = resb::measure(input)?.entries;
     println!("{} bytes, {count} resources, {entries} entries", file.len());
-    print!("{}", resb::dump(&file, "bundle", LIMIT)?);
+    print!("{}", resb::dump(input, "bundle", LIMIT)?);
     Ok(())
 }
 

@@ -57,21 +57,27 @@ extern "C" {
         line: *mut usize,
         column: *mut usize,
     );
-    fn resb_check(
+    fn resb_check_with_pool(
         file: *const u8,
         file_length: usize,
+        pool: *const u8,
+        pool_length: usize,
         count: *mut usize,
         error: *mut Error,
     ) -> u32;
-    fn resb_measure(
+    fn resb_measure_with_pool(
         file: *const u8,
         file_length: usize,
+        pool: *const u8,
+        pool_length: usize,
         measured: *mut Measured,
         error: *mut Error,
     ) -> u32;
-    fn resb_dump(
+    fn resb_dump_with_pool(
         file: *const u8,
         file_length: usize,
+        pool: *const u8,
+        pool_length: usize,
         name: *const u8,
         name_length: usize,
         limit: u64,
@@ -119,19 +125,48 @@ pub fn location(text: &[u8], place: usize) -> (usize, usize) {
     (line, column)
 }
 
+/// A file, and the pool bundle that it uses: empty where there is none.
+#[derive(Clone, Copy)]
+pub struct Input<'a> {
+    pub file: &'a [u8],
+    pub pool: &'a [u8],
+}
+
 /// The number of resources of a file.
-pub fn check(file: &[u8]) -> Result<usize, Error> {
+pub fn check(input: Input<'_>) -> Result<usize, Error> {
+    let Input { file, pool } = input;
     let (mut count, mut error) = (0, Error::none());
-    match unsafe { resb_check(file.as_ptr(), file.len(), &mut count, &mut error) } {
+    let status = unsafe {
+        resb_check_with_pool(
+            file.as_ptr(),
+            file.len(),
+            pool.as_ptr(),
+            pool.len(),
+            &mut count,
+            &mut error,
+        )
+    };
+    match status {
         OK => Ok(count),
         _ => Err(error),
     }
 }
 
 /// What a file's tree adds up to.
-pub fn measure(file: &[u8]) -> Result<Measured, Error> {
+pub fn measure(input: Input<'_>) -> Result<Measured, Error> {
+    let Input { file, pool } = input;
     let (mut measured, mut error) = (Measured::default(), Error::none());
-    match unsafe { resb_measure(file.as_ptr(), file.len(), &mut measured, &mut error) } {
+    let status = unsafe {
+        resb_measure_with_pool(
+            file.as_ptr(),
+            file.len(),
+            pool.as_ptr(),
+            pool.len(),
+            &mut measured,
+            &mut error,
+        )
+    };
+    match status {
         OK => Ok(measured),
         _ => Err(error),
     }
@@ -139,16 +174,19 @@ pub fn measure(file: &[u8]) -> Result<Measured, Error> {
 
 /// Dumps to the buffer: the text's length, and whether it fitted.
 fn dump_to(
-    file: &[u8],
+    input: Input<'_>,
     name: &str,
     limit: u64,
     out: &mut [u8],
 ) -> Result<(usize, bool), Error> {
+    let Input { file, pool } = input;
     let (mut length, mut error) = (0, Error::none());
     let status = unsafe {
-        resb_dump(
+        resb_dump_with_pool(
             file.as_ptr(),
             file.len(),
+            pool.as_ptr(),
+            pool.len(),
             name.as_ptr(),
             name.len(),
             limit,
@@ -167,9 +205,9 @@ fn dump_to(
 
 /// The text of a file's tree as a bundle of that name. A tree of more bytes than the limit, as
 /// `Measured::tree_bytes` counts them, is refused.
-pub fn dump(file: &[u8], name: &str, limit: u64) -> Result<String, Error> {
-    let (length, _) = dump_to(file, name, limit, &mut [])?;
+pub fn dump(input: Input<'_>, name: &str, limit: u64) -> Result<String, Error> {
+    let (length, _) = dump_to(input, name, limit, &mut [])?;
     let mut text = vec![0; length];
-    dump_to(file, name, limit, &mut text)?;
+    dump_to(input, name, limit, &mut text)?;
     Ok(String::from_utf8_lossy(&text).into_owned())
 }

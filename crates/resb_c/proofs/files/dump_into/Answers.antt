@@ -5,16 +5,18 @@ use Rattle.resb_c.proofs.files.dump_into.Goals as goal
 
 pub returns-in-Ok : goal.returns-in-Ok
 returns-in-Ok c =
-    let file : List ℕ = c.args.file.now in
+    let pool : List ℕ = c.args.input.pool.now in
+    let file : List ℕ = c.args.input.file.now in
     let name : List ℕ = c.args.name.now in
     let at = rw c.in-Ok-Some.field-0-is at c.in-Ok-Some.ensures in
-    let dump : IsDump file name c.args.limit c.as_bytes.result.now =
-    subst (IsDump file name c.args.limit) (sym c.as_bytes.ensures.value)
+    let dump : IsDump pool file name c.args.limit c.as_bytes.result.now =
+    subst (IsDump pool file name c.args.limit) (sym c.as_bytes.ensures.value)
     record {
       bundle = c.in_ok-bundle.bundle;
       keys = at.text.0;
       named = c.in_ok-name.ensures.ok.1;
-      of_file = subst (λ (n : List ℕ). IsBundleToDump file n c.args.limit c.in_ok-bundle.bundle)
+      of_file = subst
+          (λ (n : List ℕ). IsBundleToDump pool file n c.args.limit c.in_ok-bundle.bundle)
           c.in_ok-name.ensures.ok.0 c.in_ok-bundle.ensures.ok;
       printed = at.exact;
       texts = at.text.1;
@@ -24,16 +26,18 @@ returns-in-Ok c =
 
 pub returns-in-Ok-Some : goal.returns-in-Ok-Some
 returns-in-Ok-Some c =
-    let file : List ℕ = c.args.file.now in
+    let pool : List ℕ = c.args.input.pool.now in
+    let file : List ℕ = c.args.input.file.now in
     let name : List ℕ = c.args.name.now in
     let at = rw c.in-Ok-Some.field-0-is at c.in-Ok-Some.ensures in
-    let dump : IsDump file name c.args.limit c.as_bytes.result.now =
-    subst (IsDump file name c.args.limit) (sym c.as_bytes.ensures.value)
+    let dump : IsDump pool file name c.args.limit c.as_bytes.result.now =
+    subst (IsDump pool file name c.args.limit) (sym c.as_bytes.ensures.value)
     record {
       bundle = c.in_ok-bundle.bundle;
       keys = at.text.0;
       named = c.in_ok-name.ensures.ok.1;
-      of_file = subst (λ (n : List ℕ). IsBundleToDump file n c.args.limit c.in_ok-bundle.bundle)
+      of_file = subst
+          (λ (n : List ℕ). IsBundleToDump pool file n c.args.limit c.in_ok-bundle.bundle)
           c.in_ok-name.ensures.ok.0 c.in_ok-bundle.ensures.ok;
       printed = at.exact;
       texts = at.text.1;
@@ -43,13 +47,15 @@ returns-in-Ok-Some c =
 
 pub returns-in-Ok-None : goal.returns-in-Ok-None
 returns-in-Ok-None c =
-    let file : List ℕ = c.args.file.now in
+    let pool : List ℕ = c.args.input.pool.now in
+    let file : List ℕ = c.args.input.file.now in
     let at = rw c.in-Ok-None.field-0-is at c.in-Ok-None.ensures in
-    let long : HasLongDump file c.args.name.now c.args.limit =
+    let long : HasLongDump pool file c.args.name.now c.args.limit =
     record {
       bundle = c.in_ok-bundle.bundle;
       named = c.in_ok-name.ensures.ok.1;
-      of_file = subst (λ (n : List ℕ). IsBundleToDump file n c.args.limit c.in_ok-bundle.bundle)
+      of_file = subst
+          (λ (n : List ℕ). IsBundleToDump pool file n c.args.limit c.in_ok-bundle.bundle)
           c.in_ok-name.ensures.ok.0 c.in_ok-bundle.ensures.ok;
       long = at.exact;
     } in
@@ -57,12 +63,14 @@ returns-in-Ok-None c =
 
 pub returns : goal.returns
 returns c =
-    let file : List ℕ = c.args.file.now in
-    let none : HasNoDump file c.args.name.now c.args.limit c.in-Err.e =
+    let pool : List ℕ = c.args.input.pool.now in
+    let file : List ℕ = c.args.input.file.now in
+    let none : HasNoDump pool file c.args.name.now c.args.limit c.in-Err.e =
     record {
       bundle = c.in_ok-bundle.bundle;
       named = c.in_ok-name.ensures.ok.1;
-      of_file = subst (λ (n : List ℕ). IsBundleToDump file n c.args.limit c.in_ok-bundle.bundle)
+      of_file = subst
+          (λ (n : List ℕ). IsBundleToDump pool file n c.args.limit c.in_ok-bundle.bundle)
           c.in_ok-name.ensures.ok.0 c.in_ok-bundle.ensures.ok;
       says = c.in-Err.ensures.refusal;
       none = c.in-Err.ensures.none;

@@ -3,8 +3,8 @@
 
 The words of the files are those that ICU's `genrb` writes for the texts beside them. Each file is
 read beside the `pool.res` of its folder, beside the pool bundle that `--pool` names, and as an item
-of a package; then come files and pools with one damage each, with the refusal that the rules of
-`docs/FORMAT.md` give. The last line is 'N passed, M failed'.
+of a package; then come files and pools with one damage each, with the refusal that the
+checks of `crates/resb_pool_bundle/specs` give. The last line is 'N passed, M failed'.
 """
 import json
 import os
@@ -153,12 +153,12 @@ def refuse_pools():
     """Pool bundles that are none, or not the file's."""
     refuses(f'two/a.res: {INVALID}pool bundle has another checksum: three/pool.res',
             'check', 'two/a.res', '--pool', 'three/pool.res')
-    refuses(f'three/b.res: {INVALID}file is not a pool bundle', 'check', 'alone/a.res',
-            '--pool', 'three/b.res')
+    refuses(f'alone/a.res: its pool bundle three/b.res: {INVALID}file is not a pool bundle',
+            'check', 'alone/a.res', '--pool', 'three/b.res')
     refuses('gone.res: no such file', 'check', 'alone/a.res', '--pool', 'gone.res', status=2)
     write('cut/pool.res', file(with_word(POOL3, 2, '8')))
     write('cut/a.res', file(A3))
-    refuses(f'cut/pool.res: {END}', 'check', 'cut/a.res')
+    refuses(f'cut/a.res: its pool bundle cut/pool.res: {END}', 'check', 'cut/a.res')
     write('own.res', file('20000000 7 8 8 8 0 0 8', (2, 0)))
     says('own.res: 1 resources, format 2.0, fallback, largest table 0\n', 'check', 'own.res',
          '--pool', 'gone.res')
@@ -217,15 +217,18 @@ def read_items():
     shows(TREES['a'], 'x.dat/curr/a.res')
     shows(TREES['a'], './x.dat/curr/a.res')
     says('x\n', 'get', 'x.dat/curr/a.res', 'beta')
-    says('x.dat/curr/a.res: 3 resources, format 2.0, fallback, largest table 2, over curr/pool.res\n',
-         'check', 'x.dat/curr/a.res')
+    says('x.dat/curr/a.res: 3 resources, format 2.0, fallback, largest table 2, '
+         'over x.dat/curr/pool.res\n', 'check', 'x.dat/curr/a.res')
     refuses(f'x.dat/a.res: {NO_POOL}', 'check', 'x.dat/a.res')
-    refuses(f'x.dat/curr/c.res: {INVALID}pool bundle has another checksum: curr/pool.res',
+    refuses(f'x.dat/curr/c.res: {INVALID}pool bundle has another checksum: x.dat/curr/pool.res',
             'check', 'x.dat/curr/c.res')
     shows(TREES['c'], 'x.dat/curr/c.res', '--pool', 'three/pool.res')
     shows(TREES['a'], 'two/a.res', '--pool', 'x.dat/curr/pool.res')
-    refuses('x.dat/curr/b.res: no item is named curr/b.res', 'check', 'x.dat/curr/b.res')
-    refuses('own.res/a.res: not a package, but another kind of ICU data', 'check', 'own.res/a.res')
+    refuses('x.dat: no item is named curr/b.res', 'check', 'x.dat/curr/b.res')
+    shows(TREES['a'], '--limit', '1700', 'x.dat/curr/a.res')
+    write('large.dat', package({**items, 'x/z.bin': bytes(2_000_000)}))
+    shows(TREES['a'], '--limit', '1700', 'large.dat/curr/a.res')
+    refuses('own.res: not a package, but another kind of ICU data', 'check', 'own.res/a.res')
     refuses('gone.dat/a.res: no such file', 'check', 'gone.dat/a.res', status=2)
 
 

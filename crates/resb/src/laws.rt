@@ -71,7 +71,8 @@ pub use resb_print::laws::printed_is_linear;
 pub use resb_head::laws::header_passes;
 // The checks of a file's head let through exactly the bundle files.
 pub use resb_head::laws::bundle_file_passes;
-// A file that has nothing to do with pool bundles is alone what it is beside any.
+// A file of version 2.0 that neither is nor uses a pool bundle has beside any the parts and the
+// refusal that it has alone.
 pub use resb_pool_bundle::laws::own_files_are_the_same;
 // A word denotes at most one tree, with one count.
 pub use resb_format::laws::one_tree;

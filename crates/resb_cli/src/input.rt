@@ -1,7 +1,8 @@
 //! Files by their names, which may be those of items inside a package, and the pool bundles beside
 //! them. How bytes are read is in `streams`; what is said of files is in `show`.
-use crate::packages::{item_of, package_of};
-use crate::say::{complain, fail_input, refuse_memory};
+use crate::packages::{found, item_of, package_of};
+use crate::say::{fail_input, refuse_memory};
+use crate::shown::Shown;
 use crate::streams::read_input;
 use resb_pool_bundle::{FileHead, PoolBundle};
 use std::alloc::{AllocError, Global};
@@ -49,14 +50,14 @@ fn split_package<'n>(rt: &HostRuntime, name: &'n str) -> Option<(&'n str, &'n st
 }
 
 impl Input {
-    /// Reads the file that has a name, or the package that has the name's front. The status is
-    /// answered once it is said why there is none.
+    /// Reads the file that has a name, or the package that has the name's front: that one as a
+    /// whole, whatever the limit. The status is answered once it is said why there is none.
     pub(crate) fn read(rt: &HostRuntime, name: &str, limit: Option<u64>) -> Result<Input, u8> {
         let Some((package, item)) = split_package(rt, name) else {
             let bytes = bytes_of(rt, name, limit)?;
             return Ok(Input { bytes, item: None });
         };
-        let bytes = bytes_of(rt, package, limit)?;
+        let bytes = bytes_of(rt, package, None)?;
         match String::from_str(rt.alloc(), item) {
             Ok(item) => Ok(Input {
                 bytes,
@@ -71,8 +72,9 @@ impl Input {
         match &self.item {
             None => Ok(self.bytes.as_slice()),
             Some(item) => {
-                let package = package_of(rt, name, self.bytes.as_slice())?;
-                item_of(rt, &package, name, item.as_str())
+                let front = package_name(name, item.as_str());
+                let package = package_of(rt, front, self.bytes.as_slice())?;
+                item_of(rt, &package, front, item.as_str())
             }
         }
     }
@@ -100,15 +102,23 @@ impl Input {
 
     /// The pool bundle in the item's folder of the package.
     fn pool_item<'f>(&'f self, rt: &HostRuntime, name: &str, item: &str) -> Result<Beside<'f>, u8> {
-        let package = package_of(rt, name, self.bytes.as_slice())?;
-        let Ok(pool) = pool_name(rt.alloc(), item) else {
+        let package = package_of(rt, package_name(name, item), self.bytes.as_slice())?;
+        let (Ok(pool), Ok(path)) = (pool_name(rt.alloc(), item), pool_name(rt.alloc(), name)) else {
             return Err(refuse_memory(rt, name));
         };
-        match crate::packages::found(rt.alloc(), &package, pool.as_str()) {
-            Ok(Some(bytes)) => Ok(Beside::Item(pool, bytes)),
+        match found(rt.alloc(), &package, pool.as_str()) {
+            Ok(Some(bytes)) => Ok(Beside::Item(path, bytes)),
             Ok(None) => Ok(Beside::Nowhere),
             Err(_) => Err(refuse_memory(rt, name)),
         }
+    }
+}
+
+/// The front of a name that is the package's, where this item stands behind it.
+fn package_name<'n>(name: &'n str, item: &str) -> &'n str {
+    match name.strip_suffix(item) {
+        Some(front) => front.strip_suffix('/').unwrap_or(front),
+        None => name,
     }
 }
 
@@ -157,8 +167,13 @@ impl Beside<'_> {
         }
     }
 
-    /// The pool bundle, if there is one; or the status, once it is said why it is none.
-    pub(crate) fn bundle(&self, rt: &HostRuntime) -> Result<Option<PoolBundle<'_>>, u8> {
+    /// The pool bundle of the file of a name, if there is one; or the status, once it is said why
+    /// it is none.
+    pub(crate) fn bundle(
+        &self,
+        rt: &HostRuntime,
+        file: &str,
+    ) -> Result<Option<PoolBundle<'_>>, u8> {
         let (name, bytes) = match self {
             Beside::Nowhere => return Ok(None),
             Beside::Item(name, bytes) => (name.as_str(), *bytes),
@@ -167,7 +182,8 @@ impl Beside<'_> {
         match PoolBundle::read(bytes) {
             Ok(pool) => Ok(Some(pool)),
             Err(e) => {
-                complain(rt, name, e);
+                let (file, name) = (Shown(file), Shown(name));
+                let _ = eprintln!(rt; "{file}: its pool bundle {name}: {e}");
                 Err(1)
             }
         }

@@ -42,7 +42,7 @@ fn check_one(rt: &HostRuntime, name: &str, pool: Option<&str>) -> Result<u8, u8>
     let input = Input::read(rt, name, None)?;
     let file = input.file(rt, name)?;
     let beside = input.pool(rt, name, pool, None)?;
-    match count_file(rt.alloc(), file, beside.bundle(rt)?) {
+    match count_file(rt.alloc(), file, beside.bundle(rt, name)?) {
         Ok((count, head)) => Ok(say_summary(rt, name, count, &head, beside.name())),
         Err(e) => Err(refuse(rt, name, &e, beside.name())),
     }
@@ -132,7 +132,7 @@ fn bundle_of<'f>(
 ) -> Result<ResourceBundle<'f>, u8> {
     let stem = Path::new(name).file_stem().unwrap_or("bundle");
     let bundle_name = if name == "-" { "bundle" } else { stem };
-    let pool = beside.bundle(rt)?;
+    let pool = beside.bundle(rt, name)?;
     read_bundle(rt.alloc(), bundle_name, file, pool, limit).map_err(|e| refuse(
         rt,
         name,

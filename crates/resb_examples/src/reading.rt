@@ -1,9 +1,7 @@
 //! Reading without a type of one's own: by the given types, by look-ups of keys, and by a plain
 //! function over cursors.
 //! A type of one's own is shown in `records`, and one with relations of its own in `zones`.
-use resb::binary::{
-    BinaryDeserializerError, Cursor, PoolBundle, from_bytes, from_bytes_with_pool,
-};
+use resb::binary::{BinaryDeserializerError, Cursor, PoolBundle, from_bytes, from_bytes_with_pool};
 use std::alloc::Global;
 use std::collections::BTreeMap;
 

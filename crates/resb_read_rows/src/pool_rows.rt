@@ -35,8 +35,13 @@ fn are_heads(pool: &[u8], file: &[u8]) -> Result<bool, BinaryDeserializerError> 
     let is_over = over.uses_pool() && over.has_fallback() && over.largest_table() == 2;
     let is_known = bundle.has_checksum() && bundle.checksum() == 0x1bab_a403;
     let parts = read_with_pool(file, Some(bundle))?;
-    Ok(is_lent && is_over && is_known && parts.root == 0x5000_0011
-        && over.version() == FormatVersion::V2_0)
+    Ok(
+        is_lent
+            && is_over
+            && is_known
+            && parts.root == 0x5000_0011
+            && over.version() == FormatVersion::V2_0,
+    )
 }
 
 /// Whether the strings are read by their keys.
@@ -46,7 +51,9 @@ fn are_strings(
     pool: PoolBundle<'_>,
 ) -> Result<bool, BinaryDeserializerError> {
     let names: BTreeMap<&str, String> = from_bytes_with_pool(alloc, file, Some(pool))?;
-    let long = names.get("alpha").is_some_and(|it| it.as_str() == "one two three");
+    let long = names
+        .get("alpha")
+        .is_some_and(|it| it.as_str() == "one two three");
     let (root, mut walk) = Cursor::root_with_pool(file, Some(pool))?;
     let table = root.read_table(&mut walk)?;
     let short = table.value::<String>(alloc, "beta", &mut walk)?;
@@ -81,7 +88,10 @@ fn is_one_tree(
 #[test]
 fn a_file_over_a_pool_bundle_is_read(rt: HostRuntime) -> Result<(), Fail> {
     let alloc = rt.alloc();
-    let (pool, file) = (file_of_words(alloc, &POOL)?, file_of_words(alloc, &OVER_POOL)?);
+    let (pool, file) = (
+        file_of_words(alloc, &POOL)?,
+        file_of_words(alloc, &OVER_POOL)?,
+    );
     let bundle = PoolBundle::read(&pool)?;
     let heads = are_heads(&pool, &file)?;
     let strings = are_strings(alloc, &file, bundle)?;

@@ -49,8 +49,10 @@ fn are_names(alloc: Global) -> Result<bool, Fail> {
     let (pool, file) = (file_of(alloc, &POOL)?, file_of(alloc, &OVER_POOL)?);
     let names = names_over_a_pool(alloc, &file, &pool)?;
     let (long, short) = (names.get("alpha"), names.get("beta"));
-    Ok(long.is_some_and(|it| it.as_str() == "one two three")
-        && short.is_some_and(|it| it.as_str() == "x"))
+    Ok(
+        long.is_some_and(|it| it.as_str() == "one two three")
+            && short.is_some_and(|it| it.as_str() == "x"),
+    )
 }
 
 /// Whether each zone's base is read, by each way.

@@ -184,9 +184,9 @@ fn path<'a>(alloc: Global) -> Arg<'a> {
 
 /// The pool bundle of the files.
 fn pool<'a>(alloc: Global) -> Arg<'a> {
-    Arg::new(alloc, "POOL")
-        .long("pool")
-        .help("The pool bundle of files that use one, in place of the pool.res beside each")
+    Arg::new(alloc, "POOL").long("pool").help(
+        "The pool bundle of files that use one, in place of the pool.res beside each",
+    )
 }
 
 /// The most bytes that something may take.

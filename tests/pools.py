@@ -232,12 +232,63 @@ def read_items():
     refuses('gone.dat/a.res: no such file', 'check', 'gone.dat/a.res', status=2)
 
 
+def made(words, limit):
+    """A file of version 3.0 over a pool: a root and the words behind the index."""
+    root, rest = words[0], words[1:]
+    end, short = 9 + len(rest), min(limit, 0xffff)
+    head = [root, 8 | (limit & 0xffffff) << 8, 9, end, end, 0,
+            4 | limit >> 24 << 12 | short << 16, 9, 1]
+    return header(b'ResB', (3, 0)) + struct.pack(f'<{len(head) + len(rest)}I', *head, *rest)
+
+
+def pool_of(keys, units):
+    """A pool bundle of version 3.0 with these keys and units, both in bytes."""
+    keys += b'\xaa' * (-len(keys) % 4)
+    units += b'\xaa' * (-len(units) % 4)
+    ends = [9 + len(keys) // 4, 9 + (len(keys) + len(units)) // 4]
+    words = [0x20000000, 8, ends[0], ends[1], ends[1], 0, 3, ends[1], 1]
+    return header(b'ResB', (3, 0)) + struct.pack('<9I', *words) + keys + units
+
+
+def read_far():
+    """Strings of a pool behind 65,536 units, told by limits of 17 and of 28 bits."""
+    units = b'\0\0' * 70_000 + 'far'.encode('utf-16-le') + b'\0\0'
+    write('far/pool.res', pool_of(b'k\0', units))
+    for limit in (70_001, (1 << 28) - 1):
+        write('far/a.res', made([0x80000009, 2, 0x60000000 + 70_000, 0x7000002a], limit))
+        shows(['far', 42], 'far/a.res')
+
+
+def read_hostile():
+    """A cycle, a deep tree, and many places that lead to one string or one key of a pool."""
+    many, length = 30_000, 60_000
+    units = struct.pack('<4H', 0, 0xdfff, 0, length) + b'a\0' * length + bytes(4)
+    write('hostile/pool.res', pool_of(b'k' * length + b'\0', units))
+    write('hostile/cycle.res', made([0x80000009, 1, 0x80000009], 0))
+    refuses(f'hostile/cycle.res: {INVALID}resource budget spent', 'check', 'hostile/cycle.res')
+    deep = [word for place in range(11, 9 + 2 * many, 2) for word in (1, 0x80000000 + place)]
+    write('hostile/deep.res', made([0x80000009, *deep, 1, 0x70000005], 0))
+    strings = [0x80000009, many, *[0x60000001] * many]
+    write('hostile/strings.res', made(strings, 2))
+    positions = [1 << 31 | place for place in range(many)]
+    write('hostile/keys.res', made([0x40000009, many, *positions, *[0x70000005] * many], 0))
+    over = 'format 3.0, fallback, largest table 0, over hostile/pool.res'
+    for name in ('deep', 'strings', 'keys'):
+        says(f'hostile/{name}.res: {many + 1} resources, {over}\n', 'check', f'hostile/{name}.res')
+    taken = many * length - many * (many - 1) // 2
+    refuses(f'hostile/keys.res: the keys of its entries take {taken} bytes, more than the limit of '
+            f'{1 << 28}', 'dump', 'hostile/keys.res')
+    taken = 72 + many * (72 + 3 * length)
+    refuses(f'hostile/strings.res: the tree takes {taken} bytes, more than the limit of 1000000',
+            'dump', '--limit', '1000000', 'hostile/strings.res')
+
+
 def main():
     """All of it, in a folder of its own."""
     with tempfile.TemporaryDirectory() as folder:
         os.chdir(folder)
         for group in (read_beside, check_lines, refuse_pools, refuse_files, read_older,
-                      read_items):
+                      read_items, read_far, read_hostile):
             group()
     print(f'{counts[True]} passed, {counts[False]} failed')
     return counts[False] > 0

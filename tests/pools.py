@@ -229,6 +229,8 @@ def read_items():
     write('large.dat', package({**items, 'x/z.bin': bytes(2_000_000)}))
     shows(TREES['a'], '--limit', '1700', 'large.dat/curr/a.res')
     refuses('own.res: not a package, but another kind of ICU data', 'check', 'own.res/a.res')
+    refuses("x.dat: this is a package of ICU's data: name an item inside it (resb list)", 'check',
+            'x.dat')
     refuses('gone.dat/a.res: no such file', 'check', 'gone.dat/a.res', status=2)
 
 

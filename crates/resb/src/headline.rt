@@ -96,9 +96,10 @@ pub fn one_tree_of_a_file()
 {}
 
 /// Reads the tree of a file of version 1.1 to 3.0, beside the pool bundle that is given, if one is:
-/// `Ok` only with a tree that the bytes denote there, of no more resources than the budget. An error
-/// is want of memory, or no such tree is denoted, as by a file that uses a pool bundle and is given
-/// none or another. Such a file of version 2.0 as uses none is what it is alone: `laws` say so.
+/// `Ok` only with a tree that the bytes denote there, of no more resources than the budget. An
+/// error is want of memory, or no such tree is denoted, as by a file that uses a pool bundle and is
+/// given none or another. A file of version 2.0 that has nothing to do with pool bundles is what it
+/// is alone (`laws`).
 pub fn read_tree_with_pool<'a, 'm>(
     alloc: Global,
     file: &'a [u8],

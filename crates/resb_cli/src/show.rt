@@ -7,6 +7,7 @@ use crate::shown::Shown;
 use crate::streams::write_stream;
 use resb_head::FormatVersion;
 use resb_icu_print::{IcuPrintError, icu_cause_path, print_icu_text, print_icu_text_within};
+use resb_package::Package;
 use resb_pool_bundle::FileHead;
 use resb_print::{PrintError, cause_path, print_text, print_text_within};
 use resb_program::{
@@ -21,6 +22,9 @@ use std::path::Path;
 /// What is said of a file whose pool bundle isn't there.
 const NO_POOL: &str =
     "this file uses a pool bundle, and there is no pool.res beside it; name one by --pool";
+
+/// What is said of a package where a file of a bundle is asked for.
+const A_PACKAGE: &str = "this is a package of ICU's data: name an item inside it (resb list)";
 
 /// What the reader says of a pool bundle that isn't the file's.
 const OTHER_POOL: &str = "pool bundle has another checksum";
@@ -44,12 +48,12 @@ fn check_one(rt: &HostRuntime, name: &str, pool: Option<&str>) -> Result<u8, u8>
     let beside = input.pool(rt, name, pool, None)?;
     match count_file(rt.alloc(), file, beside.bundle(rt, name)?) {
         Ok((count, head)) => Ok(say_summary(rt, name, count, &head, beside.name())),
-        Err(e) => Err(refuse(rt, name, &e, beside.name())),
+        Err(e) => Err(refuse(rt, name, file, &e, beside.name())),
     }
 }
 
 /// Says why a file isn't read, beside the pool bundle of this name, if there is one.
-fn refuse(rt: &HostRuntime, name: &str, e: &FileError, pool: Option<&str>) -> u8 {
+fn refuse(rt: &HostRuntime, name: &str, file: &[u8], e: &FileError, pool: Option<&str>) -> u8 {
     match (e, pool) {
         (FileError::Reading(e), _) if e.is_out_of_memory() => return refuse_memory(rt, name),
         (FileError::UsesPool, _) => complain(rt, name, NO_POOL),
@@ -57,6 +61,7 @@ fn refuse(rt: &HostRuntime, name: &str, e: &FileError, pool: Option<&str>) -> u8
             let (name, pool) = (Shown(name), Shown(pool));
             let _ = eprintln!(rt; "{name}: {e}: {pool}");
         }
+        _ if Package::read(file).is_ok() => complain(rt, name, A_PACKAGE),
         _ => complain(rt, name, e),
     }
     1
@@ -136,6 +141,7 @@ fn bundle_of<'f>(
     read_bundle(rt.alloc(), bundle_name, file, pool, limit).map_err(|e| refuse(
         rt,
         name,
+        file,
         &e,
         beside.name(),
     ))

@@ -9,8 +9,8 @@ use Rattle.std.specs.Ordering.{match_ordering}
 use Rattle.std.specs.declared.borrow.CowStr.{CowStr}
 use Rattle.std.specs.declared.borrow.CowSlice.{CowSlice}
 use Rattle.resb_tree.specs.Borrowing.{all_true, each_leaf, each_entry}
-use Rattle.resb_tree.specs.declared.resource.Resource.{Resource, String, Array, Table, Binary}
-use Rattle.resb_tree.specs.declared.resource.Resource.{Integer, IntVector, the_lemmas}
+use Rattle.resb_tree.specs.declared.resource.Resource.{Resource, String, Alias, Array, Table}
+use Rattle.resb_tree.specs.declared.resource.Resource.{Binary, Integer, IntVector, the_lemmas}
 use Rattle.resb_tree.proofs.AtOnce.{inserted, made}
 
 -- all of one more
@@ -23,6 +23,10 @@ module _ (on_text : CowStr Global → Bool) (on_bytes : CowSlice ℕ Global → 
   -- a String's test is that of its text
   pub string_passes : (s : CowStr Global) → each_leaf on_text on_bytes (String s) ≡ on_text s
   string_passes s = search (rules, the_lemmas)
+
+  -- so is an Alias's that of its path
+  pub alias_passes : (s : CowStr Global) → each_leaf on_text on_bytes (Alias s) ≡ on_text s
+  alias_passes s = search (rules, the_lemmas)
 
   -- a Binary's is that of its bytes
   pub binary_passes : (b : CowSlice ℕ Global) → each_leaf on_text on_bytes (Binary b) ≡ on_bytes b

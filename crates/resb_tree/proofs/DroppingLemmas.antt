@@ -5,8 +5,8 @@ use Rattle.std.proofs.Common.{arith, rules}
 use Rattle.std.specs.BTreeMap.{insert_entry}
 use Rattle.std.specs.Cmp.Lexicographic.{slice_cmp}
 use Rattle.std.specs.Ordering.{match_ordering}
-use Rattle.resb_tree.specs.Tree.{Tree, string, array, table, binary, integer, int_vector}
-use Rattle.resb_tree.specs.Tree.{no_trees, tree_count, entries_count}
+use Rattle.resb_tree.specs.Tree.{Tree, string, alias, array, table, binary, integer}
+use Rattle.resb_tree.specs.Tree.{int_vector, no_trees, tree_count, entries_count}
 use Rattle.resb_tree.specs.View.{tree_of, items_view, entries_view}
 use Rattle.resb_tree.specs.declared.resource.Resource.{Resource, Array, Table}
 use Rattle.resb_tree.specs.Inner.Dropping.{count, counts, table_count}
@@ -15,6 +15,7 @@ use Rattle.resb_tree.proofs.ViewLemmas.{tree_of_array, tree_of_table}
 -- a resource is itself at least
 tree_is_one : (t : Tree) → 1 ≤ tree_count t
 tree_is_one (string s) = omega arith
+tree_is_one (alias s) = omega arith
 tree_is_one (array ts) = omega arith
 tree_is_one (table es) = omega arith
 tree_is_one (binary s) = omega arith

@@ -5,8 +5,9 @@ use Rattle.std.proofs.Common.{refl, sym, ◌∙◌, ap, append_assoc, append-nil
 use Rattle.std.specs.List.{flat_map, sum_by}
 use Rattle.std.proofs.lemmas.List.{reverse-append, map_push, map_more, at_drop_more}
 use Rattle.std.proofs.lemmas.List.Sums.{sum_by-cons, sum_by-append}
-use Rattle.resb_tree.specs.Tree.{Tree, string, array, table, binary, integer, int_vector, Trees}
-use Rattle.resb_tree.specs.Tree.{no_trees, more_trees, Entries, no_entries, entry, trees_of}
+use Rattle.resb_tree.specs.Tree.{Tree, string, alias, array, table, binary, integer}
+use Rattle.resb_tree.specs.Tree.{int_vector, Trees, no_trees, more_trees, Entries}
+use Rattle.resb_tree.specs.Tree.{no_entries, entry, trees_of}
 use Rattle.resb_tree.specs.Tree.{tree_count, trees_count, entries_count}
 use Rattle.resb_tree.specs.View.{tree_of, items_view, entries_view}
 use Rattle.resb_tree.specs.declared.resource.Resource.{Resource}
@@ -27,6 +28,7 @@ values_is (entry k t es) = ap (λ l. laying_order t ++ l) (values_is es)
 -- what is inside a tree, in laying order, and then the tree
 pub laying_order_is : (t : Tree) → laying_order t ≡ flat_map laying_order (children t) ++ t ∷ []
 laying_order_is (string s) = refl
+laying_order_is (alias s) = refl
 laying_order_is (array ts) = ap (λ l. l ++ array ts ∷ []) (each_is ts)
 laying_order_is (table es) = ap (λ l. l ++ table es ∷ []) (values_is es)
 laying_order_is (binary s) = refl
@@ -51,6 +53,7 @@ none_counted = refl
 
 pub tree_count_is : (t : Tree) → tree_count t ≡ 1 + sum_by tree_count (children t)
 tree_count_is (string s) = omega (arith, none_counted)
+tree_count_is (alias s) = omega (arith, none_counted)
 tree_count_is (array ts) = omega (arith, members_count ts)
 tree_count_is (table es) = omega (arith, values_count es)
 tree_count_is (binary s) = omega (arith, none_counted)

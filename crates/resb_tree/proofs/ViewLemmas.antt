@@ -8,11 +8,12 @@ use Rattle.std.specs.declared.borrow.CowStr.{CowStr}
 use Rattle.std.specs.declared.borrow.CowSlice.{CowSlice}
 use Rattle.std.specs.Cmp.Lexicographic.{slice_cmp}
 use Rattle.std.specs.Ordering.{match_ordering}
-use Rattle.resb_tree.specs.Tree.{string, array, table, binary, integer, int_vector}
+use Rattle.resb_tree.specs.Tree.{string, alias, array, table, binary, integer, int_vector}
 use Rattle.resb_tree.specs.Tree.{entries_len, put}
 use Rattle.resb_tree.specs.View.{tree_of, items_view, entries_view}
 use Rattle.resb_tree.specs.declared.resource.Resource.{Resource, Array, Table, the_lemmas}
-use Rattle.resb_tree.specs.declared.resource.Resource.{String, Binary, Integer, IntVector}
+use Rattle.resb_tree.specs.declared.resource.Resource.{String, Alias, Binary, Integer}
+use Rattle.resb_tree.specs.declared.resource.Resource.{IntVector}
 
 -- the tree of an array has the trees of its items
 pub tree_of_array : (v : Vec Resource Global) → tree_of (Array v) ≡ array (items_view v.items)
@@ -26,6 +27,10 @@ tree_of_table m = search (rules, the_lemmas)
 -- the tree of a string is its text
 pub tree_of_string : (s : CowStr Global) → tree_of (String s) ≡ string (cow_str_bytes s)
 tree_of_string s = search (rules, the_lemmas)
+
+-- of an alias its path
+pub tree_of_alias : (s : CowStr Global) → tree_of (Alias s) ≡ alias (cow_str_bytes s)
+tree_of_alias s = search (rules, the_lemmas)
 
 -- of a binary its bytes
 pub tree_of_binary : (b : CowSlice ℕ Global) → tree_of (Binary b) ≡ binary (cow_slice_items b)

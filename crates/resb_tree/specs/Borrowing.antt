@@ -1,7 +1,7 @@
 -- Whether what a resource holds is borrowed or owned, by tests of its strings and its binaries.
 --     is_slice s              the text is borrowed
 --     are_slice b             the bytes are borrowed
---     each_leaf f g r         each String in the resource passes the test f, and each Binary g
+--     each_leaf f g r         each String and Alias in the resource passes the test f, each Binary g
 --     each_entry f g es       so does what stands in these entries
 use Rattle.std.specs.Prelude.{ℕ, Bool, true, false, List, map}
 use Rattle.std.specs.List.{list_all}
@@ -30,13 +30,14 @@ all_true = list_all (λ b. b)
 -- one level, where it is known of each resource inside
 abbrev pub leaf_step : (CowStr Global → Bool) → (CowSlice ℕ Global → Bool) → Resource-F Bool → Bool
 leaf_step on_text on_bytes (Resource-F.String s) = on_text s
+leaf_step on_text on_bytes (Resource-F.Alias s) = on_text s
 leaf_step on_text on_bytes (Resource-F.Array v) = all_true v.items
 leaf_step on_text on_bytes (Resource-F.Table m) = all_true (map (λ p. p.1) m.entries)
 leaf_step on_text on_bytes (Resource-F.Binary b) = on_bytes b
 leaf_step on_text on_bytes (Resource-F.Integer n) = true
 leaf_step on_text on_bytes (Resource-F.IntVector v) = true
 
--- each String in the resource passes the one test, and each Binary the other
+-- each String and each Alias in the resource passes the one test, each Binary the other
 abbrev pub each_leaf : (CowStr Global → Bool) → (CowSlice ℕ Global → Bool) → Resource → Bool
 each_leaf on_text on_bytes = fold-Resource Bool (leaf_step on_text on_bytes)
 

@@ -1,14 +1,16 @@
 -- The test whether two trees are equal.
 use Rattle.std.specs.Prelude.{Bool, true, false, ◌&&◌, nat_eq}
 use Rattle.std.specs.Cmp.Lexicographic.{pointwise}
-use Rattle.resb_tree.specs.Tree.{Tree, string, array, table, binary, integer, int_vector, Trees}
-use Rattle.resb_tree.specs.Tree.{no_trees, more_trees, Entries, no_entries, entry}
+use Rattle.resb_tree.specs.Tree.{Tree, string, alias, array, table, binary, integer}
+use Rattle.resb_tree.specs.Tree.{int_vector, Trees, no_trees, more_trees, Entries, no_entries, entry}
 
 abbrev mutual
   -- two trees are the same
   pub tree_eq : Tree → Tree → Bool
   tree_eq (string s) (string t) = pointwise nat_eq s t
+  tree_eq (alias s) (alias t) = pointwise nat_eq s t
   tree_eq (string s) _ = false
+  tree_eq (alias s) _ = false
   tree_eq (array ts) (array us) = trees_eq ts us
   tree_eq (array ts) _ = false
   tree_eq (table es) (table fs) = entries_eq es fs

@@ -2,8 +2,8 @@
 --     is_key k t              k is a key of some table of the tree
 use Rattle.std.specs.Prelude.{ℕ, List, Bool, false, ◌||◌, nat_eq}
 use Rattle.std.specs.Cmp.Lexicographic.{pointwise}
-use Rattle.resb_tree.specs.Tree.{Tree, string, array, table, binary, integer, int_vector, Trees}
-use Rattle.resb_tree.specs.Tree.{no_trees, more_trees, Entries, no_entries, entry}
+use Rattle.resb_tree.specs.Tree.{Tree, string, alias, array, table, binary, integer}
+use Rattle.resb_tree.specs.Tree.{int_vector, Trees, no_trees, more_trees, Entries, no_entries, entry}
 
 -- two texts have the same bytes
 abbrev pub same_text : List ℕ → List ℕ → Bool
@@ -15,6 +15,7 @@ abbrev mutual
   is_key k (array ts) = is_key_in k ts
   is_key k (table es) = is_key_of k es
   is_key k (string s) = false
+  is_key k (alias s) = false
   is_key k (binary s) = false
   is_key k (integer n) = false
   is_key k (int_vector s) = false

@@ -8,8 +8,8 @@
 use Rattle.std.specs.Prelude.{ℕ, List, [], ◌∷◌, ◌++◌, map}
 use Rattle.std.specs.List.{flat_map}
 use Rattle.std.specs.Borrow.{Bor}
-use Rattle.resb_tree.specs.Tree.{Tree, string, array, table, binary, integer, int_vector, Trees}
-use Rattle.resb_tree.specs.Tree.{no_trees, more_trees, Entries, no_entries, entry}
+use Rattle.resb_tree.specs.Tree.{Tree, string, alias, array, table, binary, integer}
+use Rattle.resb_tree.specs.Tree.{int_vector, Trees, no_trees, more_trees, Entries, no_entries, entry}
 use Rattle.resb_tree.specs.View.{tree_of}
 use Rattle.resb_tree.specs.declared.resource.Resource.{Resource}
 
@@ -26,6 +26,7 @@ values_of (entry k t es) = t ∷ values_of es
 -- the trees right inside a tree
 abbrev pub children : Tree → List Tree
 children (string s) = []
+children (alias s) = []
 children (array ts) = array_members ts
 children (table es) = values_of es
 children (binary s) = []
@@ -36,6 +37,7 @@ abbrev mutual
   -- the resources of a tree, members before their collection
   pub laying_order : Tree → List Tree
   laying_order (string s) = string s ∷ []
+  laying_order (alias s) = alias s ∷ []
   laying_order (array ts) = laying_each ts ++ array ts ∷ []
   laying_order (table es) = laying_values es ++ table es ∷ []
   laying_order (binary s) = binary s ∷ []

@@ -5,8 +5,8 @@ use Rattle.std.specs.Ordering.{nat_cmp}
 use Rattle.std.specs.Cmp.Lexicographic.{slice_cmp}
 use Rattle.std.specs.FinMap.Entries as fin
 use Rattle.std.specs.declared.cmp.Ordering.{Ordering}
-use Rattle.resb_tree.specs.Tree.{Tree, string, array, table, binary, integer, int_vector, Trees}
-use Rattle.resb_tree.specs.Tree.{no_trees, more_trees, Entries, no_entries, entry}
+use Rattle.resb_tree.specs.Tree.{Tree, string, alias, array, table, binary, integer}
+use Rattle.resb_tree.specs.Tree.{int_vector, Trees, no_trees, more_trees, Entries, no_entries, entry}
 
 -- texts are ordered by their bytes
 abbrev pub text_cmp : List ℕ → List ℕ → Ordering
@@ -32,6 +32,7 @@ abbrev mutual
   AreMaps (array ts) = AreMapsIn ts
   AreMaps (table es) = IsMap es × AreMapsOf es
   AreMaps (string s) = Unit {0}
+  AreMaps (alias s) = Unit {0}
   AreMaps (binary s) = Unit {0}
   AreMaps (integer n) = Unit {0}
   AreMaps (int_vector s) = Unit {0}

@@ -1,14 +1,15 @@
 -- The tree that a `Resource` stands for, whether its parts are borrowed or owned.
 use Rattle.std.specs.Prelude.{ℕ, List, map}
 use Rattle.std.specs.Cow.{cow_str_bytes, cow_slice_items}
-use Rattle.resb_tree.specs.Tree.{Tree, string, array, table, binary, integer, int_vector, Trees}
-use Rattle.resb_tree.specs.Tree.{Entries, trees_of, entries_of}
+use Rattle.resb_tree.specs.Tree.{Tree, string, alias, array, table, binary, integer}
+use Rattle.resb_tree.specs.Tree.{int_vector, Trees, Entries, trees_of, entries_of}
 use Rattle.resb_tree.specs.declared.resource.Resource.{Resource, fold-Resource}
 use Rattle.resb_tree.specs.declared.resource.Resource.TheOpen.{Resource-F}
 
 -- one level, with each resource inside already seen as its tree
 abbrev pub tree_step : Resource-F Tree → Tree
 tree_step (Resource-F.String s) = string (cow_str_bytes s)
+tree_step (Resource-F.Alias s) = alias (cow_str_bytes s)
 tree_step (Resource-F.Array v) = array (trees_of v.items)
 tree_step (Resource-F.Table m) = table (entries_of m.entries)
 tree_step (Resource-F.Binary b) = binary (cow_slice_items b)

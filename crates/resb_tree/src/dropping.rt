@@ -57,6 +57,7 @@ impl<'a> Resource<'a> {
             Resource::Array(items) => move_items(items, pending),
             Resource::Table(table) => move_values(table, pending),
             Resource::String(_)
+            | Resource::Alias(_)
             | Resource::Binary(_)
             | Resource::Integer(_)
             | Resource::IntVector(_) => None,
@@ -72,6 +73,7 @@ impl<'a> Resource<'a> {
             Resource::Array(items) => items.is_empty(),
             Resource::Table(table) => table.is_empty(),
             Resource::String(_)
+            | Resource::Alias(_)
             | Resource::Binary(_)
             | Resource::Integer(_)
             | Resource::IntVector(_) => true,

@@ -131,8 +131,11 @@ fn allocator_of(collection: &Resource<'_>) -> Option<Global> {
     match collection {
         Resource::Array(items) => Some(*items.allocator()),
         Resource::Table(table) => table_allocator(table),
-        Resource::String(_) | Resource::Binary(_) | Resource::Integer(_) | Resource::IntVector(_) =>
-            None,
+        Resource::String(_)
+        | Resource::Alias(_)
+        | Resource::Binary(_)
+        | Resource::Integer(_)
+        | Resource::IntVector(_) => None,
     }
 }
 
@@ -160,6 +163,7 @@ fn look<'s, 't, 'a, 'b>(a: &'s Resource<'a>, b: &'t Resource<'b>) -> Seen<'s, 't
         (Resource::Array(a), Resource::Array(b)) => open_items(a, b),
         (Resource::Table(a), Resource::Table(b)) => open_entries(a, b),
         (Resource::String(a), Resource::String(b)) => Seen::Decided(a == b),
+        (Resource::Alias(a), Resource::Alias(b)) => Seen::Decided(a == b),
         (Resource::Binary(a), Resource::Binary(b)) => Seen::Decided(a == b),
         (Resource::Integer(a), Resource::Integer(b)) => Seen::Decided(a == b),
         (Resource::IntVector(a), Resource::IntVector(b)) => Seen::Decided(a == b),

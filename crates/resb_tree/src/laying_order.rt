@@ -53,7 +53,10 @@ fn push_children<'t, 'a>(
     match resource {
         Resource::Array(items) => pending.extend(items.iter()),
         Resource::Table(table) => pending.extend(table.values()),
-        Resource::String(_) | Resource::Binary(_) | Resource::Integer(_) | Resource::IntVector(_) =>
-            Ok(()),
+        Resource::String(_)
+        | Resource::Alias(_)
+        | Resource::Binary(_)
+        | Resource::Integer(_)
+        | Resource::IntVector(_) => Ok(()),
     }
 }

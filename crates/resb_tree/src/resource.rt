@@ -19,6 +19,8 @@ use std::collections::BTreeMap;
 pub enum Resource<'a> {
     /// A text.
     String(CowStr<'a>),
+    /// The path of another resource, of this bundle or another, whose value stands here.
+    Alias(CowStr<'a>),
     /// Resources in order.
     Array(Vec<Resource<'a>>),
     /// Resources by key.
@@ -88,6 +90,7 @@ impl Drop for Resource<'_> {
                 table.destroy_empty();
             }
             Resource::String(_)
+            | Resource::Alias(_)
             | Resource::Binary(_)
             | Resource::Integer(_)
             | Resource::IntVector(_) => {}
@@ -110,6 +113,7 @@ impl<'a> Resource<'a> {
             Resource::Array(items) => items.destroy_empty(),
             Resource::Table(table) => table.destroy_empty(),
             Resource::String(_)
+            | Resource::Alias(_)
             | Resource::Binary(_)
             | Resource::Integer(_)
             | Resource::IntVector(_) => {}

@@ -5,8 +5,9 @@ use Rattle.std.specs.Cmp.{IsPartialEquivalence, both_ways, first_so, second_so, 
 use Rattle.std.specs.Cmp.Lexicographic.{bytes_decides, nat_list_eq_equiv}
 use Rattle.std.proofs.Common.{◌≡◌, refl, sym, ap, ◌∙◌, true≢false, eqb-true}
 use Rattle.std.proofs.lemmas.Bool.{and_from}
-use Rattle.resb_tree.specs.Tree.{Tree, string, array, table, binary, integer, int_vector, Trees}
-use Rattle.resb_tree.specs.Tree.{no_trees, more_trees, Entries, no_entries, entry}
+use Rattle.resb_tree.specs.Tree.{Tree, string, alias, array, table, binary, integer}
+use Rattle.resb_tree.specs.Tree.{int_vector, Trees, no_trees, more_trees, Entries}
+use Rattle.resb_tree.specs.Tree.{no_entries, entry}
 use Rattle.resb_tree.specs.Equality.{tree_eq, trees_eq, entries_eq}
 
 no : {A : Type 0} → false ≡ true → A
@@ -16,7 +17,9 @@ no e = absurd (true≢false (sym e))
 mutual
   pub tree_eq_true : (a b : Tree) → tree_eq a b ≡ true → a ≡ b
   tree_eq_true (string s) (string t) e = ap string ((bytes_decides s t).0 e)
+  tree_eq_true (alias s) (alias t) e = ap alias ((bytes_decides s t).0 e)
   tree_eq_true (string s) _ e = no e
+  tree_eq_true (alias s) _ e = no e
   tree_eq_true (array ts) (array us) e = ap array (trees_eq_true ts us e)
   tree_eq_true (array ts) _ e = no e
   tree_eq_true (table es) (table fs) e = ap table (entries_eq_true es fs e)
@@ -48,6 +51,7 @@ mutual
 mutual
   pub tree_eq_refl : (a : Tree) → tree_eq a a ≡ true
   tree_eq_refl (string s) = nat_list_eq_equiv.refl s
+  tree_eq_refl (alias s) = nat_list_eq_equiv.refl s
   tree_eq_refl (array ts) = trees_eq_refl ts
   tree_eq_refl (table es) = entries_eq_refl es
   tree_eq_refl (binary s) = nat_list_eq_equiv.refl s

@@ -4,12 +4,12 @@ use Rattle.std.proofs.Common.{true, refl, ◌∙◌, ap, subst, arith}
 use Rattle.std.specs.Str.{is_utf8, IsAscii}
 use Rattle.std.proofs.lemmas.Str.{is_utf8-from_IsUtf8, IsUtf8-from_ascii}
 use Rattle.std.specs.Char.Utf16.{utf16_chars}
-use Rattle.resb_tree.specs.Tree.{Tree, string, array, table, integer, trees_of}
+use Rattle.resb_tree.specs.Tree.{Tree, string, alias, array, table, integer, trees_of}
 use Rattle.resb_tree.specs.Tree.{no_entries, entry}
 use Rattle.resb_format.specs.Bytes.{units_of, words_of}
 use Rattle.resb_format.specs.Units.{length_marker}
 use Rattle.resb_format.specs.Strings.{string_at, text_at, key_at}
-use Rattle.resb_format.specs.Parts.{Parts}
+use Rattle.resb_format.specs.Parts.{Parts, no_pool}
 use Rattle.resb_format.specs.Lookups.{key_place_by, text_place_by, index_by}
 use Rattle.resb_format.specs.Content.{Member, word, unit, leaf, list, entry_list, content_at}
 use Rattle.resb_format.specs.Denotes.{Den, den_leaf, den_list, den_entries, den_word, den_unit}
@@ -156,6 +156,33 @@ a_short_table = refl
 an_old_string : content_at small 0x0000_0001 ≡ None
 unfolding content_at small words_of units_of
 an_old_string = refl
+
+-- Beside a pool, its own or none, words of the two older types lead to texts in the body: at word 1
+-- three units, "/ab".
+aliased : Parts
+aliased = record {
+  body =
+      1 ∷ 0 ∷ 0 ∷ 0x30 ∷ 3 ∷ 0 ∷ 0 ∷ 0 ∷ 47 ∷ 0 ∷ 97 ∷ 0 ∷ 98 ∷ 0 ∷ 0 ∷ 0 ∷ [];
+  keys = [];
+  block = [];
+  lent = Some no_pool;
+}
+
+an_alias : content_at aliased 0x3000_0001 ≡ Some (leaf (alias (47 ∷ 97 ∷ 98 ∷ [])))
+unfolding content_at aliased words_of units_of utf16_chars lib.Utf8.encode
+an_alias = refl
+
+an_older_string : content_at aliased 0x0000_0001 ≡ Some (leaf (string (47 ∷ 97 ∷ 98 ∷ [])))
+unfolding content_at aliased words_of units_of utf16_chars lib.Utf8.encode
+an_older_string = refl
+
+an_empty_alias : content_at aliased 0x3000_0000 ≡ Some (leaf (alias []))
+unfolding content_at aliased
+an_empty_alias = refl
+
+a_cut_alias : content_at aliased 0x3000_0002 ≡ None
+unfolding content_at aliased words_of units_of
+a_cut_alias = refl
 
 an_unknown_type : content_at small 0xa000_0000 ≡ None
 unfolding content_at small words_of units_of

@@ -7,6 +7,7 @@ pub mod Inside
 pub mod StringsIn
 pub mod TextUnits
 pub mod Apart
+pub mod Beside
 mod Survival
 pub mod Unnamed
 pub mod WordsBack

@@ -2,18 +2,19 @@
 use Rattle.std.proofs.Common.{ℕ, List, Bool, true, false, Option, Some, None, subst, ◌==◌}
 use Rattle.std.specs.Prelude.{◌/◌, ◌%◌, ◌^◌, ◌+◌, ◌*◌, option_map, option_and_then, ◌≡◌}
 use Rattle.std.specs.Prelude.{slice_get, if◌then◌else◌}
-use Rattle.resb_tree.specs.Tree.{Tree, string, array, table, binary, integer, int_vector}
+use Rattle.resb_tree.specs.Tree.{Tree, string, alias, array, table, binary, integer, int_vector}
 use Rattle.resb_tree.specs.Tree.{trees_of}
 use Rattle.resb_tree.specs.Maps.{AreMaps, AreMapsIn}
 use Rattle.resb_tree.specs.Inner.Dropping.{IsNoCollection}
 use Rattle.resb_tree.proofs.MapsLemmas.{AllAreMaps, AreMaps-map_of}
 use Rattle.resb_format.specs.Bytes.{units_of, words_of, part}
 use Rattle.resb_format.specs.Lookups.{text_in}
-use Rattle.resb_format.specs.Parts.{Parts}
+use Rattle.resb_format.specs.Parts.{Parts, reads_older}
 use Rattle.resb_format.specs.Types as types
 use Rattle.resb_format.specs.Content.{Member, Content, leaf, list, entry_list, content_at}
 use Rattle.resb_format.specs.Content.{behind_count, paired}
-use Rattle.resb_format.specs.Content.{words_at, offsets_at, placed, empty}
+use Rattle.resb_format.specs.Content.{words_at, offsets_at, placed, empty, counted_text, older_at}
+use Rattle.resb_format.specs.Content.{older_empty}
 use Rattle.resb_format.specs.Denotes.{Den, den_leaf, den_list, den_entries, DenMember, den_word}
 use Rattle.resb_format.specs.Denotes.{den_unit, DenEach, each_none, each_more, DenEntries}
 use Rattle.resb_format.specs.Denotes.{entries_none}
@@ -49,13 +50,26 @@ plain_paired (Some ks) (Some ms) = tt
 plain_paired (Some ks) None = tt
 plain_paired None ms = tt
 
-plain_empty : (type : ℕ) → IsPlain (empty type)
-plain_empty type =
+plain_older_empty : (type : ℕ) → IsPlain (older_empty type)
+plain_older_empty type =
+    plain_if (type == types.old_string) _ _ (tt, tt)
+    (plain_if (type == types.alias) _ _ (tt, tt) tt)
+
+plain_empty : (p : Parts) (type : ℕ) → IsPlain (empty p type)
+plain_empty p type =
     plain_if (type == types.binary) _ _ (tt, tt)
     (plain_if (types.is_table type) _ _ tt
     (plain_if (type == types.string) _ _ (tt, tt)
     (plain_if (types.is_array type) _ _ tt
-    (plain_if (type == types.int_vector) _ _ (tt, tt) tt))))
+    (plain_if (type == types.int_vector) _ _ (tt, tt)
+    (plain_if (reads_older p) _ _ (plain_older_empty type) tt)))))
+
+plain_older : (p : Parts) (type v : ℕ) → IsPlain (older_at p type v)
+plain_older p type v =
+    plain_if (type == types.old_string) _ _
+    (plain_map (λ x. leaf (string x)) (counted_text p v) (λ s. (tt, tt)))
+    (plain_if (type == types.alias) _ _
+    (plain_map (λ x. leaf (alias x)) (counted_text p v) (λ s. (tt, tt))) tt)
 
 plain_placed : (p : Parts) (type v : ℕ) → IsPlain (placed p type v)
 plain_placed p type v =
@@ -75,13 +89,13 @@ plain_placed p type v =
     (λ n. plain_map list (offsets_at p (v + 1) n) (λ ms. tt)))
     (plain_if (type == types.int_vector) _ _ (plain_counted (words_of p.body) v _
     (λ n. plain_map (λ x. leaf (int_vector x)) (part (words_of p.body) (v + 1) n) (λ ns. (tt, tt))))
-    tt)))))))
+    (plain_if (reads_older p) _ _ (plain_older p type v) tt))))))))
 
 plain_content : (p : Parts) (w : ℕ) → IsPlain (content_at p w)
 unfolding content_at
 plain_content p w =
     plain_if (w / 2 ^ 28 == types.integer) _ _ (tt, tt)
-    (plain_if (w % 2 ^ 28 == 0) _ _ (plain_empty (w / 2 ^ 28))
+    (plain_if (w % 2 ^ 28 == 0) _ _ (plain_empty p (w / 2 ^ 28))
     (plain_placed p (w / 2 ^ 28) (w % 2 ^ 28)))
 
 leaf_maps : {o : Option Content} {t : Tree} → o ≡ Some (leaf t)

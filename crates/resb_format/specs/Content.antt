@@ -2,13 +2,15 @@
 -- types.)
 --     content_at p w          a finished tree, or the members of a collection; none where the type
 --                             isn't read or a field lies outside
+--     counted_text p v        the text in the body that begins with a count, at a word
 use Rattle.std.specs.Prelude.{ℕ, ◌+◌, ◌*◌, ◌/◌, ◌%◌, ◌^◌, List, [], map, Option, Some, None}
 use Rattle.std.specs.Prelude.{option_map, option_and_then, ◌==◌, slice_get, if◌then◌else◌}
 use Rattle.std.specs.List.{zip}
-use Rattle.resb_tree.specs.Tree.{Tree, string, binary, integer, int_vector}
+use Rattle.resb_tree.specs.Tree.{Tree, string, alias, binary, integer, int_vector}
 use Rattle.resb_format.specs.Bytes.{units_of, words_of, part}
 use Rattle.resb_format.specs.Lookups.{text_in}
-use Rattle.resb_format.specs.Parts.{Parts}
+use Rattle.resb_format.specs.Parts.{Parts, reads_older}
+use Rattle.resb_format.specs.Strings.{text_of_units}
 use Rattle.resb_format.specs.Types as types
 
 -- a member of a collection: a resource's word, or a string's unit
@@ -84,6 +86,19 @@ table32_at p v =
 abbrev pub text_leaf : Parts → ℕ → Option Content
 text_leaf p u = option_map (λ s. leaf (string s)) (text_in p u)
 
+-- a text in the body: a count of 32 bits, and behind it as many units of UTF-16
+abbrev pub counted_text : Parts → ℕ → Option (List ℕ)
+counted_text p v =
+    behind_count (words_of p.body) v
+    (λ n. option_and_then text_of_units (part (units_of p.body) (2 * v + 2) n))
+
+-- a string of the older form, or an alias by its path: each is a text in the body
+abbrev pub older_at : Parts → ℕ → ℕ → Option Content
+older_at p type v =
+    if type == types.old_string then option_map (λ s. leaf (string s)) (counted_text p v)
+    else if type == types.alias then option_map (λ s. leaf (alias s)) (counted_text p v)
+    else None
+
 -- what a type with a value other than 0 leads to
 abbrev pub placed : Parts → ℕ → ℕ → Option Content
 placed p type v =
@@ -95,16 +110,25 @@ placed p type v =
     else if type == types.array then array_at p v
     else if type == types.array16 then array16_at p v
     else if type == types.int_vector then int_vector_at p v
+    else if reads_older p then older_at p type v
+    else None
+
+-- the empty string of the older form, or the alias with an empty path
+abbrev pub older_empty : ℕ → Option Content
+older_empty type =
+    if type == types.old_string then Some (leaf (string []))
+    else if type == types.alias then Some (leaf (alias []))
     else None
 
 -- the empty resource of a type
-abbrev pub empty : ℕ → Option Content
-empty type =
+abbrev pub empty : Parts → ℕ → Option Content
+empty p type =
     if type == types.binary then Some (leaf (binary []))
     else if types.is_table type then Some (entry_list [])
     else if type == types.string then Some (leaf (string []))
     else if types.is_array type then Some (list [])
     else if type == types.int_vector then Some (leaf (int_vector []))
+    else if reads_older p then older_empty type
     else None
 
 -- what a word leads to, by the type in its upper 4 bits and the value in its lower 28: a finished
@@ -114,5 +138,5 @@ content_at p w =
     let type = w / 2 ^ 28 in
     let value = w % 2 ^ 28 in
     if type == types.integer then Some (leaf (integer value))
-    else if value == 0 then empty type
+    else if value == 0 then empty p type
     else placed p type value

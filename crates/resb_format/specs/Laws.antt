@@ -1,13 +1,14 @@
 -- What the laws of this crate say.
 --     OneTree, ReachedIsCounted   a word has one tree and count, and reaches no more resources than
 --                                 that
+--     DenotedBesideNoPool     what is denoted where aliases aren't read is denoted where they are
 --     DenotedAreMaps              the tables of a denoted tree are finite maps
 --     Survives write reads        what is written is read back, and what is read is written as it
 --                                 stood
-use Rattle.std.specs.Prelude.{◌≡◌, ℕ, ◌^◌, ◌<◌, ◌≤◌, List, [], ◌∷◌, Ok, Result}
+use Rattle.std.specs.Prelude.{◌≡◌, ℕ, ◌^◌, ◌<◌, ◌≤◌, List, [], ◌∷◌, None, Ok, Result}
 use Rattle.resb_tree.specs.Tree.{Tree}
 use Rattle.resb_tree.specs.Maps.{AreMaps}
-use Rattle.resb_format.specs.Parts.{Parts}
+use Rattle.resb_format.specs.Parts.{Parts, beside_no_pool}
 use Rattle.resb_format.specs.Denotes.{Den, Reaches}
 use Rattle.resb_format.specs.declared.error.ReadingError.{ReadingError}
 
@@ -18,6 +19,12 @@ OneTree = (p : Parts) (w m n : ℕ) (t u : Tree) → Den p w t m → Den p w u n
 -- the tables of a denoted tree are maps, whose keys strictly ascend
 abbrev pub DenotedAreMaps : Type 0
 DenotedAreMaps = (p : Parts) (w n : ℕ) (t : Tree) → Den p w t n → AreMaps t
+
+-- what a word denotes in a file that uses no pool, it denotes too where aliases and strings of the
+-- older form are read
+abbrev pub DenotedBesideNoPool : Type 0
+DenotedBesideNoPool =
+    (p : Parts) (w n : ℕ) (t : Tree) → p.lent ≡ None → Den p w t n → Den (beside_no_pool p) w t n
 
 -- no more resources are reached than are denoted
 abbrev pub ReachedIsCounted : Type 0

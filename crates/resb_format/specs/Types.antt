@@ -1,9 +1,10 @@
 -- The numbers of resource types in a descriptor. (ICU's `uresdata.h`: `URES_STRING` and those
 -- below.)
---     is_read_type n          a type that is read: all but strings of the older formats and aliases
+--     is_read_type n          a type that each call reads: all but the next two
+--     is_older_type n         strings of the older formats, and aliases
 use Rattle.std.specs.Prelude.{ℕ, Bool, ◌==◌, ◌&&◌, ◌||◌, not, nat_le}
 
--- a string of an old format, which is not read
+-- a string of an older format, in the body
 abbrev pub old_string : ℕ
 old_string = 0
 
@@ -15,7 +16,7 @@ binary = 1
 abbrev pub table : ℕ
 table = 2
 
--- an alias of another bundle's resource, which is not read
+-- an alias of another resource, by its path, which stands in the body
 abbrev pub alias : ℕ
 alias = 3
 
@@ -55,6 +56,10 @@ is_table n = (n == table || n == table32) || n == table16
 abbrev pub is_array : ℕ → Bool
 is_array n = n == array || n == array16
 
--- a type that is read: each but the old string, the alias and the numbers that name none
+-- a type that each call reads: all but the old string, the alias and the numbers that name none
 abbrev pub is_read_type : ℕ → Bool
 is_read_type n = ((nat_le binary n && nat_le n array16) && not (n == alias)) || n == int_vector
+
+-- a type that is read beside a pool alone, the file's own or none
+abbrev pub is_older_type : ℕ → Bool
+is_older_type n = n == old_string || n == alias

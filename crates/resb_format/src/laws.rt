@@ -5,6 +5,7 @@ ghost use Rattle.resb_format.specs.Descriptor.{type_number, word_of};
 ghost use Rattle.resb_format.specs.DescriptorReading.{ReadsType, ReadsDescriptor};
 ghost use Rattle.resb_format.specs.Laws.{OneTree, ReachedIsCounted, CountedIsReached};
 ghost use Rattle.resb_format.specs.Laws.{ReachingGoesDown, Survives, DenotedAreMaps};
+ghost use Rattle.resb_format.specs.Laws.{DenotedBesideNoPool};
 
 /// In given parts a word denotes at most one tree, with one count.
 pub fn one_tree()
@@ -14,6 +15,12 @@ pub fn one_tree()
 /// The tables of a tree that a word denotes are finite maps: their keys strictly ascend.
 pub fn denoted_are_maps()
     ensures { DenotedAreMaps }
+{}
+
+/// What a word denotes in a file that uses no pool, it denotes too where aliases and strings of the
+/// older form are read.
+pub fn denoted_beside_no_pool()
+    ensures { DenotedBesideNoPool }
 {}
 
 /// A word that denotes a tree reaches no more resources than the tree has.

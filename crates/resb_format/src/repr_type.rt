@@ -10,13 +10,15 @@ use crate::error::BinaryDeserializerError;
 /// below.)
 #[derive(Clone, Copy, Debug, PartialEq, Eq)]
 pub enum ResourceReprType {
-    /// A string of the older formats, which is not read.
+    /// A string of the older formats, in words from the body's start. It is read beside a pool
+    /// bundle alone, the file's own or none.
     _String = 0,
     /// Bytes, in words from the body's start.
     Binary = 1,
     /// A table with 16-bit key positions, in words from the body's start.
     Table = 2,
-    /// Another name of a resource, which is not read.
+    /// Another name of a resource: a path, in words from the body's start. It is read as the old
+    /// string is.
     _Alias = 3,
     /// A table with 32-bit key positions, in words from the body's start.
     _Table32 = 4,

@@ -3,12 +3,14 @@
 --     parts_of bytes          its parts
 --     IsBundleFile bytes      the head names this format, and the blocks lie inside the file
 --     Denotes bytes t n       the file's root denotes the tree t, of n resources
+--     DenotesWithAliases bytes t n    so it does where aliases and strings of the older form are
+--                             read too
 --     budget bytes            one resource for each 16-bit unit of the file
 use Rattle.std.specs.Prelude.{◌≡◌, ℕ, ◌+◌, ◌-◌, ◌*◌, ◌/◌, ◌≤◌, min, List, [], ◌∷◌, length, take}
 use Rattle.std.specs.Prelude.{drop, slice_index, slice_range, codes, None}
 use Rattle.resb_tree.specs.Tree.{Tree}
 use Rattle.resb_format.specs.Bytes.{units_of, words_of}
-use Rattle.resb_format.specs.Parts.{Parts}
+use Rattle.resb_format.specs.Parts.{Parts, beside_no_pool}
 use Rattle.resb_format.specs.Denotes.{Den}
 
 -- how many bytes the header has: the first number of 16 bits of the file
@@ -87,6 +89,12 @@ pub record IsBundleFile (bytes : List ℕ) : Type 0 where
 pub record Denotes (bytes : List ℕ) (t : Tree) (n : ℕ) : Type 0 where
   pub head : IsBundleFile bytes
   pub root : Den (parts_of bytes) (root_word bytes) t n
+
+-- the bytes are a bundle file, and where aliases and strings of the older form are read too, its
+-- root's word denotes the tree, of n resources
+pub record DenotesWithAliases (bytes : List ℕ) (t : Tree) (n : ℕ) : Type 0 where
+  pub head : IsBundleFile bytes
+  pub root : Den (beside_no_pool (parts_of bytes)) (root_word bytes) t n
 
 -- half the number of the file's bytes, rounded down: one resource for each unit of 16 bits
 abbrev pub budget : List ℕ → ℕ

@@ -1,5 +1,6 @@
 -- A pool bundle and a file over it at a worked example, as ICU's compiler writes the two:
--- `a{alpha{"one two three"} beta{"x"}}`, of which the pool has `one two three`, and both keys.
+-- `a{alpha{"one two three"} beta{"x"}}`, of which the pool has `one two three`, and both keys. And
+-- a file over the same pool that has an alias: `d{alpha:alias{"/LOCALE/beta"} beta:int{5}}`.
 use Rattle.std.proofs.Common.{◌≡◌, ℕ, List, [], ◌∷◌, ◌++◌, Some, None, refl, codes, true, zero, suc}
 use Rattle.std.proofs.Common.{nat_lt, arith}
 use Rattle.std.specs.Char.Utf16.{utf16_chars}
@@ -8,10 +9,11 @@ use Rattle.std.specs.List.{flat_map, list_all}
 use Rattle.std.specs.Str.{is_utf8, IsAscii}
 use Rattle.std.proofs.lemmas.Bool.{and_parts, ltb-true}
 use Rattle.std.proofs.lemmas.Str.{is_utf8-from_IsUtf8, IsUtf8-from_ascii}
-use Rattle.resb_tree.specs.Tree.{Tree, string, table, no_entries, entry}
+use Rattle.resb_tree.specs.Tree.{Tree, string, alias, integer, table, no_entries, entry}
 use Rattle.resb_format.specs.Bytes.{units_of, words_of}
 use Rattle.resb_format.specs.Content.{content_at}
-use Rattle.resb_format.specs.Denotes.{den_entries, den_unit, entries_none, entries_more}
+use Rattle.resb_format.specs.Denotes.{den_leaf, den_entries, den_word, den_unit}
+use Rattle.resb_format.specs.Denotes.{entries_none, entries_more}
 use Rattle.resb_format.specs.Error.{unsupported}
 use Rattle.resb_format.specs.Lookups.{key_in, key_place_by, text_place_by, index_by}
 use Rattle.resb_format.specs.Strings.{string_at, text_at, key_at}
@@ -96,4 +98,33 @@ file_denotes =
       root =
           den_entries refl (entries_more alpha (den_unit refl)
           (entries_more beta (den_unit refl) entries_none));
+    }
+
+-- behind the index a word fills the 16-bit block, which is empty; the path is its count, 12, and
+-- its units, and stands at word 10, which the alias's word 0x3000000a says
+alias_file : List ℕ
+alias_file = header ++ flat_map (to_le_bytes w32) (
+    0x20000012 ∷ 8 ∷ 9 ∷ 0x16 ∷ 0x16 ∷ 2 ∷ 4 ∷ 0xa ∷ 0xe31610fa ∷ 0xaaaa0000
+    ∷ 0xc ∷ 0x4c002f ∷ 0x43004f ∷ 0x4c0041 ∷ 0x2f0045 ∷ 0x650062 ∷ 0x610074 ∷ 0xaaaa0000
+    ∷ 2 ∷ 0xaaaa0006 ∷ 0x3000000a ∷ 0x70000005 ∷ [])
+
+alias_tree : Tree
+alias_tree =
+    table (entry (codes "alpha") (alias (codes "/LOCALE/beta"))
+    (entry (codes "beta") (integer 5) no_entries))
+
+alias_denoted : DenotesWith (Some (pool_of pool_file)) alias_file alias_tree 3
+unfolding pool_file alias_file alias_tree units_of words_of pool_of parts_with content_at key_at
+    key_place_by refusal_with head_checks header_checks info_checks version_checks size_checks
+    lending_checks pool_given_checks utf16_chars lib.Utf8.encode
+alias_denoted =
+    let alpha : key_in (parts_with (Some (pool_of pool_file)) alias_file) 0
+    ≡ Some (codes "alpha") = rw (ascii_text (codes "alpha") refl) refl in
+    let beta : key_in (parts_with (Some (pool_of pool_file)) alias_file) 6
+    ≡ Some (codes "beta") = rw (ascii_text (codes "beta") refl) refl in
+    record {
+      head = refl;
+      root =
+          den_entries refl (entries_more alpha (den_word (den_leaf refl))
+          (entries_more beta (den_word (den_leaf refl)) entries_none));
     }

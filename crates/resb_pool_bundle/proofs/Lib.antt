@@ -5,4 +5,4 @@ mod VersionSteps
 mod SizeSteps
 mod HeadSteps
 mod PoolSteps
-mod OwnFiles
+pub mod OwnFiles

@@ -1,25 +1,28 @@
 -- Files of version 2.0 that have nothing to do with pools are refused, and have their parts, as
--- without pools.
+-- without pools, and aliases and strings of the older form are read of them.
 use Rattle.std.proofs.Common.{ℕ, List, [], ◌∷◌, ◌++◌, ◌≡◌, ◌+◌, ◌-◌, ◌*◌, ◌≤◌, inl}
 use Rattle.std.proofs.Common.{inr}
 use Rattle.std.proofs.Common.{length, min, take, drop, Bool, true, false}
-use Rattle.std.proofs.Common.{nat_le, Some, None, Option, refl, sym, ap, ◌∙◌, arith}
+use Rattle.std.proofs.Common.{nat_le, Some, None, Option, refl, sym, ap, ◌∙◌, arith, subst}
 use Rattle.std.proofs.Common.{get_or}
 use Rattle.std.proofs.Common.{slice_range, length-drop}
 use Rattle.std.proofs.lemmas.Bool.{cases_lt, lt-leb, le-leb}
 use Rattle.std.proofs.lemmas.List.{get_or-take, get_or-drop}
 use Rattle.resb_format.specs.Bytes.{words_of, units_of}
+use Rattle.resb_format.specs.Denotes.{Den}
 use Rattle.resb_format.specs.Error.{Refusal, end_of_input}
+use Rattle.resb_format.specs.Parts.{Parts, beside_no_pool}
 use Rattle.resb_head.specs.File.{body_of, field_count, keys_end, block_end, parts_of}
 use Rattle.resb_head.specs.HeadChecks.{first_refusal, header_checks, support_checks, index_checks}
 use Rattle.resb_head.specs.HeadChecks.{block_checks, body_checks, file_checks, file_refusal}
-use Rattle.resb_head.proofs.FileSteps.{field_behind}
+use Rattle.resb_head.specs.File.{root_word}
+use Rattle.resb_head.proofs.FileSteps.{field_behind, bundle_file_passes}
 use Rattle.resb_head.proofs.Lists.{range_behind_four}
 use Rattle.resb_pool_bundle.specs.Checks.{version_checks, size_checks, lending_checks, head_checks}
 use Rattle.resb_pool_bundle.specs.Checks.{pool_given_checks, refusal_with}
 use Rattle.resb_pool_bundle.specs.Fields.{major, index_length, is_pool, uses_pool, block_end_in}
 use Rattle.resb_pool_bundle.specs.Fields.{limit_in, short_limit_in}
-use Rattle.resb_pool_bundle.specs.Laws.{OwnFilesAreTheSame}
+use Rattle.resb_pool_bundle.specs.Laws.{OwnFilesAreTheSame, OwnFilesDenoteTheSame}
 use Rattle.resb_pool_bundle.specs.Inner.Sized.{field_checks, end_checks}
 use Rattle.resb_pool_bundle.specs.Pool.{Pool, own_keys, parts_with}
 use Rattle.resb_pool_bundle.proofs.PoolSteps.{unused_holds, lending_holds, nothing_lent}
@@ -148,7 +151,7 @@ refusals_agree pool bs v n p u =
     ∙ sizes_agree bs (major_is bs v) n))
 
 parts_agree : (pool : Option Pool) (bs : List ℕ) → major bs ≡ 2 → uses_pool bs ≡ false
-    → parts_with pool bs ≡ parts_of bs
+    → parts_with pool bs ≡ beside_no_pool (parts_of bs)
 unfolding parts_with parts_of
 parts_agree pool bs m u =
     let keys : own_keys bs ≡ take (4 * keys_end bs) (body_of bs) = rw u refl in
@@ -158,10 +161,26 @@ parts_agree pool bs m u =
       keys = keys i;
       block =
           units_of (take (4 * (end i - keys_end bs)) (drop (4 * keys_end bs) (body_of bs)));
-      lent = nothing_lent pool bs u i;
+      lent = Some (nothing_lent pool bs u i);
     }
 
 pub own_files_are_the_same : OwnFilesAreTheSame
-own_files_are_the_same pool bs v few p u =
-    let n : index_length bs ≡ field_count bs = omega (arith, few) in
-    (refusals_agree pool bs v n p u, parts_agree pool bs (major_is bs v) u)
+own_files_are_the_same pool bs own =
+    let n : index_length bs ≡ field_count bs = omega (arith, own.few) in (
+      refusals_agree pool bs own.version n own.no_pool own.uses_none,
+      parts_agree pool bs (major_is bs own.version) own.uses_none,
+    )
+
+pub own_files_denote_the_same : OwnFilesDenoteTheSame
+own_files_denote_the_same pool bs own t n =
+    let same = own_files_are_the_same pool bs own in
+    let P : Parts → Type 0 = λ p. Den p (root_word bs) t n in (
+      λ d. record {
+        head = same.0 ∙ (bundle_file_passes bs).1 d.head;
+        root = subst P (sym same.1) d.root;
+      },
+      λ d. record {
+        head = (bundle_file_passes bs).0 (sym same.0 ∙ d.head);
+        root = subst P same.1 d.root;
+      },
+    )

@@ -2,11 +2,12 @@
 use Rattle.std.proofs.Common.{ℕ, List, [], ◌∷◌, ◌≡◌, ◌≢◌, ◌+◌, ◌≤◌, ◌<◌, Bool, true, false}
 use Rattle.std.proofs.Common.{not, ◌&&◌, ◌||◌, ◌==◌, nat_le, Some, None, Option, refl, ◌∙◌}
 use Rattle.std.proofs.Common.{codes}
-use Rattle.std.specs.Prelude.{is_some, unwrap_or, if◌then◌else◌, option_map}
+use Rattle.std.specs.Prelude.{is_some, unwrap_or}
 use Rattle.std.proofs.lemmas.Bool.{le-leb, lt-leb, ne_eqb, eq-eqb}
 use Rattle.resb_format.specs.Error.{IsRefusal, IsInvalid, IsEndOfInput, Refusal, refusal_of}
 use Rattle.resb_format.specs.Error.{invalid}
 use Rattle.resb_format.specs.Error.{end_of_input}
+use Rattle.resb_format.specs.Parts.{no_pool as nothing}
 use Rattle.resb_format.specs.declared.error.ReadingError.{ReadingError}
 use Rattle.resb_format.specs.declared.error.ErrorKind.TheVariants.{UnsupportedFormat}
 use Rattle.resb_head.specs.File.{keys_end}
@@ -15,7 +16,7 @@ use Rattle.resb_pool_bundle.specs.Checks.{head_checks, head_refusal, lending_che
 use Rattle.resb_pool_bundle.specs.Checks.{pool_refusal, pool_given_checks, refusal_with}
 use Rattle.resb_pool_bundle.specs.Fields.{is_pool, uses_pool, checksum_in, limit_in, short_limit_in}
 use Rattle.resb_pool_bundle.specs.Fields.{index_length}
-use Rattle.resb_pool_bundle.specs.Pool.{Pool, lent_by}
+use Rattle.resb_pool_bundle.specs.Pool.{Pool, lent_by, lent_to}
 use Rattle.resb_pool_bundle.proofs.Steps.{earlier_refusal, later_refusal}
 
 -- the checksum is there, if it is due
@@ -100,12 +101,13 @@ right_given p bs h k = rw (h, eq-eqb (unwrap_or (checksum_in bs) 0) p.checksum k
 
 -- what is taken from a pool that is used, and from one that isn't
 pub nothing_lent : (pool : Option Pool) (bs : List ℕ) → uses_pool bs ≡ false
-    → (if uses_pool bs then option_map (lent_by bs) pool else None) ≡ None
-nothing_lent pool bs h = rw h refl
+    → lent_to pool bs ≡ nothing
+nothing_lent None bs h = refl
+nothing_lent (Some p) bs h = rw h refl
 
-pub all_lent : (pool : Option Pool) (bs : List ℕ) → uses_pool bs ≡ true
-    → (if uses_pool bs then option_map (lent_by bs) pool else None) ≡ option_map (lent_by bs) pool
-all_lent pool bs h = rw h refl
+pub all_lent : (p : Pool) (bs : List ℕ) → uses_pool bs ≡ true
+    → lent_to (Some p) bs ≡ lent_by bs p
+all_lent p bs h = rw h refl
 
 -- the checks of the pool that is given, once the head passes
 pub behind_all : (pool : Option Pool) (bs : List ℕ) → head_refusal bs ≡ None

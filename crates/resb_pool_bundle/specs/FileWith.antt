@@ -22,7 +22,8 @@ IsPoolFile bytes = pool_refusal bytes ≡ None
 abbrev pub IsFileWith : Option Pool → List ℕ → Type 0
 IsFileWith pool bytes = refusal_with pool bytes ≡ None
 
--- the bytes are a file beside the pool, and its root's word denotes the tree, of n resources
+-- the bytes are a file beside the pool, and its root's word denotes the tree, of n resources;
+-- aliases and strings of the older form are read
 pub record DenotesWith (pool : Option Pool) (bytes : List ℕ) (t : Tree) (n : ℕ) : Type 0 where
   pub head : IsFileWith pool bytes
   pub root : Den (parts_with pool bytes) (root_word bytes) t n

@@ -1,18 +1,36 @@
 -- What the laws of this crate say.
---     OwnFilesAreTheSame      files that have nothing to do with pools are what they are without
---                             this crate
-use Rattle.std.specs.Prelude.{◌≡◌, ℕ, ◌<◌, ◌^◌, List, [], ◌∷◌, Option, false, slice_range}
-use Rattle.resb_head.specs.File.{parts_of, field_count}
+--     IsOwnFile bytes         the file has nothing to do with pools
+--     OwnFilesAreTheSame      such files are refused, and have their parts, as without this crate
+--     OwnFilesDenoteTheSame   they denote what they do where aliases are read
+use Rattle.std.specs.Prelude.{◌≡◌, ◌↔◌, ℕ, ◌<◌, ◌^◌, List, [], ◌∷◌, Option, false, slice_range}
+use Rattle.resb_tree.specs.Tree.{Tree}
+use Rattle.resb_format.specs.Parts.{beside_no_pool}
+use Rattle.resb_head.specs.File.{parts_of, field_count, DenotesWithAliases}
 use Rattle.resb_head.specs.HeadChecks.{file_refusal}
 use Rattle.resb_pool_bundle.specs.Checks.{refusal_with}
 use Rattle.resb_pool_bundle.specs.Fields.{is_pool, uses_pool}
+use Rattle.resb_pool_bundle.specs.FileWith.{DenotesWith}
 use Rattle.resb_pool_bundle.specs.Pool.{Pool, parts_with}
 
 -- a file of version 2.0 that neither is nor uses a pool bundle, and whose index has fewer than 256
--- words, is refused and has its parts as such files are and do, whatever pool is given
+-- words
+pub record IsOwnFile (bytes : List ℕ) : Type 0 where
+  pub version : slice_range bytes 16 20 ≡ 2 ∷ 0 ∷ 0 ∷ 0 ∷ []
+  pub few : field_count bytes < 2 ^ 8
+  pub no_pool : is_pool bytes ≡ false
+  pub uses_none : uses_pool bytes ≡ false
+
+-- such a file is refused as files without pools are, whatever pool is given, and has the parts of
+-- one, beside a pool of which it takes nothing
 abbrev pub OwnFilesAreTheSame : Type 0
 OwnFilesAreTheSame =
-    (pool : Option Pool) (bytes : List ℕ)
-    → slice_range bytes 16 20 ≡ 2 ∷ 0 ∷ 0 ∷ 0 ∷ []
-    → field_count bytes < 2 ^ 8 → is_pool bytes ≡ false → uses_pool bytes ≡ false
-    → (refusal_with pool bytes ≡ file_refusal bytes) × (parts_with pool bytes ≡ parts_of bytes)
+    (pool : Option Pool) (bytes : List ℕ) → IsOwnFile bytes
+    → (refusal_with pool bytes ≡ file_refusal bytes)
+    × (parts_with pool bytes ≡ beside_no_pool (parts_of bytes))
+
+-- such a file denotes a tree beside a pool, or beside none, exactly where it does so as a file
+-- whose aliases and strings of the older form are read
+abbrev pub OwnFilesDenoteTheSame : Type 0
+OwnFilesDenoteTheSame =
+    (pool : Option Pool) (bytes : List ℕ) → IsOwnFile bytes → (t : Tree) (n : ℕ)
+    → DenotesWithAliases bytes t n ↔ DenotesWith pool bytes t n

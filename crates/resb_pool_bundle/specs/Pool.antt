@@ -2,12 +2,12 @@
 --     Pool                    keys, units and the checksum of a pool bundle
 --     pool_of bytes           those of a file that is one
 --     pool_in p               those that a value of the code shows
---     parts_with pool bytes   the parts of a file
+--     parts_with pool bytes   the parts of a file, of which aliases and strings of the older form
+--                             are read too
 use Rattle.std.specs.Prelude.{ℕ, ◌+◌, ◌-◌, ◌*◌, ◌&&◌, List, [], take, drop, nat_le, Option}
-use Rattle.std.specs.Prelude.{None}
-use Rattle.std.specs.Prelude.{option_map, unwrap_or, if◌then◌else◌}
+use Rattle.std.specs.Prelude.{Some, None, unwrap_or, if◌then◌else◌}
 use Rattle.resb_format.specs.Bytes.{units_of}
-use Rattle.resb_format.specs.Parts.{Parts, Lent}
+use Rattle.resb_format.specs.Parts.{Parts, Lent, no_pool}
 use Rattle.resb_head.specs.File.{body_of, keys_end}
 use Rattle.resb_pool_bundle.specs.Fields.{index_length, uses_pool, checksum_in, block_end_in}
 use Rattle.resb_pool_bundle.specs.Fields.{limit_in, short_limit_in}
@@ -58,11 +58,16 @@ lent_by bytes pool = record {
   short_limit = short_limit_in bytes;
 }
 
--- the parts of a file, which takes something from the pool only where it says so
+-- what a file takes from the pool that is given: nothing where it doesn't say that it uses one
+abbrev pub lent_to : Option Pool → List ℕ → Lent
+lent_to None bytes = no_pool
+lent_to (Some pool) bytes = if uses_pool bytes then lent_by bytes pool else no_pool
+
+-- the parts of a file beside the pool that is given
 unfoldable pub parts_with : Option Pool → List ℕ → Parts
 parts_with pool bytes = record {
   body = body_of bytes;
   keys = own_keys bytes;
   block = units_of (block_bytes bytes);
-  lent = if uses_pool bytes then option_map (lent_by bytes) pool else None;
+  lent = Some (lent_to pool bytes);
 }

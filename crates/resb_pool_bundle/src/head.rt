@@ -131,15 +131,12 @@ impl<'a> FileHead<'a> {
         keys
     }
 
-    /// What the file takes from the pool bundle that is given, if it uses one.
-    fn borrow(
-        self,
-        pool: Option<PoolBundle<'a>>,
-    ) -> Result<Option<PoolBlocks<'a>>, BinaryDeserializerError>
+    /// What the file takes from the pool bundle that is given: nothing where it uses none.
+    fn borrow(self, pool: Option<PoolBundle<'a>>) -> Result<PoolBlocks<'a>, BinaryDeserializerError>
         ensures { Lends (option_map pool_in pool.entry) (head_bytes self.entry) result }
     {
         if !self.uses_pool() {
-            return Ok(None);
+            return Ok(PoolBlocks::none());
         }
         let Some(pool) = pool else {
             return Err(BinaryDeserializerError::unsupported_format("file uses a pool bundle"));
@@ -147,16 +144,17 @@ impl<'a> FileHead<'a> {
         if self.index.checksum().unwrap_or(0) != pool.checksum {
             return Err(BinaryDeserializerError::invalid_data("pool bundle has another checksum"));
         }
-        Ok(Some(PoolBlocks {
+        Ok(PoolBlocks {
             keys: pool.keys,
             block: pool.block,
             limit: self.index.limit(),
             short_limit: self.index.short_limit(),
-        }))
+        })
     }
 
-    /// The parts of the file beside a pool bundle. Refused where the file uses one, and none or
-    /// another is given; to other files it doesn't matter.
+    /// The parts of the file beside a pool bundle, of which aliases and strings of the older form
+    /// are read too. Refused where the file uses a pool bundle, and none or another is given; to
+    /// other files it doesn't matter.
     pub fn beside(
         self,
         pool: Option<PoolBundle<'a>>,
@@ -168,7 +166,7 @@ impl<'a> FileHead<'a> {
             body: self.index.body,
             keys: self.keys(),
             block: self.block(),
-            pool,
+            pool: Some(pool),
         };
         let root = word_at(self.index.body, 0);
         Ok(CheckedFile { file, root })

@@ -1,14 +1,14 @@
 -- What stands at a place for the types that have no parts, with its count: 1 at a descriptor or a
 -- unit, 0 at a word or a key.
-use Rattle.std.specs.Prelude.{ℕ, ℤ, ◌≡◌, ◌≤ℤ◌, ◌≤◌, ◌+◌, ◌*◌, ◌/◌, ◌%◌, ◌^◌, ◌==◌, length}
+use Rattle.std.specs.Prelude.{ℕ, ℤ, ◌≡◌, ◌≤ℤ◌, ◌≤◌, ◌+◌, ◌*◌, ◌/◌, ◌%◌, ◌^◌, ◌==◌, ◌&&◌, length}
 use Rattle.std.specs.Prelude.{List, [], Bool, true, false, Option, Some, None, option_map}
 use Rattle.std.specs.Prelude.{if◌then◌else◌}
 use Rattle.std.specs.Int.{cast_signed, w32}
 use Rattle.resb_tree.specs.Int28.{signed}
 use Rattle.resb_format.specs.Bytes.{words_of, part}
 use Rattle.resb_format.specs.Lookups.{string_in, text_in, key_in, index_in}
-use Rattle.resb_format.specs.Parts.{Parts}
-use Rattle.resb_format.specs.Content.{behind_count}
+use Rattle.resb_format.specs.Parts.{Parts, reads_older}
+use Rattle.resb_format.specs.Content.{behind_count, counted_text}
 use Rattle.resb_format.specs.Types as types
 use Rattle.resb_read.specs.Places.{Place}
 use Rattle.resb_read.specs.Reading.{IsThere, CountsThere}
@@ -92,7 +92,10 @@ CountsBits p n = CountsThere any (bits_at p.at) n
 abbrev pub described_text : Parts → ℕ → Option (List ℕ)
 described_text p w =
     if type_in w == types.string then
-    (if value_in w == 0 then Some [] else text_in p (value_in w)) else None
+    (if value_in w == 0 then Some [] else text_in p (value_in w))
+    else if reads_older p && type_in w == types.old_string then
+    (if value_in w == 0 then Some [] else counted_text p (value_in w))
+    else None
 
 -- the text of a string, for one resource, or of a key, for none
 abbrev pub text_from : Parts → Spot → Option (List ℕ × ℕ)
@@ -126,13 +129,16 @@ CountsKey p n = CountsThere any (key_from p.parts p.at) n
 abbrev pub counted_bytes : Parts → ℕ → ℕ → Option (List ℕ)
 counted_bytes p each v = behind_count (words_of p.body) v (λ n. part p.body (4 * v + 4) (each * n))
 
--- the bytes of a binary, of a string's units or of a vector's numbers, none at value 0
+-- the bytes of a binary, of a string's units, also one of the older form, or of a vector's numbers;
+-- none at value 0
 abbrev pub bytes_of_type : Parts → ℕ → ℕ → Option (List ℕ)
 bytes_of_type p type v =
     if type == types.binary then (if v == 0 then Some [] else counted_bytes p 1 v)
     else if type == types.string then
     (if v == 0 then Some [] else option_map units_as_bytes (string_in p v))
     else if type == types.int_vector then (if v == 0 then Some [] else counted_bytes p 4 v)
+    else if reads_older p && type == types.old_string then
+    (if v == 0 then Some [] else counted_bytes p 2 v)
     else None
 
 -- the bytes of what a descriptor or a unit leads to, for one resource, or of a key, for none

@@ -1,21 +1,21 @@
 -- Why readings of what has no parts are refused: a kind and a message.
---     number_refusal s left, bool_refusal s left, bits_refusal s left
+--     number_refusal p left, bool_refusal p left, bits_refusal p left
 --                             what is answered where no number, bool or Int is read
 --     text_refusal p left, key_refusal p left, bytes_refusal p left, view_refusal p left
 --                             the same for a text, where memory isn't what is wanted, for a key,
 --                             for bytes and for a view of them
---     members_refusal s left, entries_refusal s left
+--     members_refusal p left, entries_refusal p left
 --                             the same for the members of a sequence, and the entries of a map
-use Rattle.std.specs.Prelude.{◌==◌, ◌||◌, nat_le, ℕ, List, Bool, false, Option, Some, None}
+use Rattle.std.specs.Prelude.{◌==◌, ◌&&◌, ◌||◌, nat_le, ℕ, List, Bool, false, Option, Some, None}
 use Rattle.std.specs.Prelude.{codes, if◌then◌else◌}
 use Rattle.resb_format.specs.Error.{Refusal, invalid, end_of_input}
-use Rattle.resb_format.specs.Parts.{Parts}
+use Rattle.resb_format.specs.Parts.{Parts, reads_older}
 use Rattle.resb_format.specs.Lookups.{index_in, text_place}
 use Rattle.resb_format.specs.StringMessage.{string_message}
 use Rattle.resb_format.specs.Types as types
 use Rattle.resb_format.specs.declared.error.ErrorKind.TheVariants.{ResourceTypeMismatch, Unknown}
-use Rattle.resb_walk.specs.BlockRefusals.{text_refusal_in, key_refusal_in}
-use Rattle.resb_walk.specs.BlockRefusals.{unread_type_refusal}
+use Rattle.resb_walk.specs.BlockRefusals.{text_refusal_in, key_refusal_in, counted_refusal}
+use Rattle.resb_walk.specs.BlockRefusals.{reads_type, unread_type_refusal}
 use Rattle.resb_read.specs.Places.{Place}
 use Rattle.resb_read.specs.Leaves.{type_in, value_in, bytes_from}
 use Rattle.resb_read.specs.declared.cursor.Spot.{Spot}
@@ -34,48 +34,64 @@ abbrev pub mismatch : List ℕ → Refusal
 mismatch expected = (ResourceTypeMismatch, expected)
 
 -- the refusal of a type that is not read; of any other type it is the one that is given
-abbrev pub type_refusal : ℕ → Refusal → Refusal
-type_refusal type other =
-    if types.is_read_type type then other else unread_type_refusal type
+abbrev pub type_refusal : Parts → ℕ → Refusal → Refusal
+type_refusal p type other = if reads_type p type then other else unread_type_refusal type
 
 -- one is paid before anything else is looked at
 abbrev pub paid : ℕ → Refusal → Refusal
 paid left later = if left == 0 then invalid (codes "resource budget spent") else later
 
 -- an Int that doesn't fit, or another type
-abbrev pub integer_refusal : ℕ → Refusal → Refusal
-integer_refusal type unfit =
+abbrev pub integer_refusal : Parts → ℕ → Refusal → Refusal
+integer_refusal p type unfit =
     if type == types.integer then unfit
-    else type_refusal type (mismatch (codes "expected integer resource"))
+    else type_refusal p type (mismatch (codes "expected integer resource"))
 
 -- why no number is read at a spot with so much left
-abbrev pub number_refusal : Spot → ℕ → Refusal
-number_refusal (spot.Descriptor w) left = paid left (integer_refusal (type_in w) out_of_range)
-number_refusal (spot.Unit u) left = paid left elsewhere
-number_refusal (spot.Word w) left = out_of_range
-number_refusal (spot.Key k) left = elsewhere
+abbrev pub number_refusal_from : Parts → Spot → ℕ → Refusal
+number_refusal_from p (spot.Descriptor w) left =
+    paid left (integer_refusal p (type_in w) out_of_range)
+number_refusal_from p (spot.Unit u) left = paid left elsewhere
+number_refusal_from p (spot.Word w) left = out_of_range
+number_refusal_from p (spot.Key k) left = elsewhere
+
+-- why no number is read at a place with so much left
+abbrev pub number_refusal : Place → ℕ → Refusal
+number_refusal p left = number_refusal_from p.parts p.at left
 
 -- why no bool is read at a spot with so much left
-abbrev pub bool_refusal : Spot → ℕ → Refusal
-bool_refusal (spot.Descriptor w) left =
-    paid left (integer_refusal (type_in w)
+abbrev pub bool_refusal_from : Parts → Spot → ℕ → Refusal
+bool_refusal_from p (spot.Descriptor w) left =
+    paid left (integer_refusal p (type_in w)
     (mismatch (codes "expected integer resource representable as boolean")))
-bool_refusal (spot.Unit u) left = paid left elsewhere
-bool_refusal s left = elsewhere
+bool_refusal_from p (spot.Unit u) left = paid left elsewhere
+bool_refusal_from p s left = elsewhere
+
+-- why no bool is read at a place with so much left
+abbrev pub bool_refusal : Place → ℕ → Refusal
+bool_refusal p left = bool_refusal_from p.parts p.at left
 
 -- why nothing is read where no value of a type can stand: at a resource of another type, at a
 -- word, or at a key
-abbrev pub no_value : Spot → ℕ → Refusal
-no_value (spot.Descriptor w) left = paid left (type_refusal (type_in w) elsewhere)
-no_value (spot.Unit u) left = paid left elsewhere
-no_value s left = elsewhere
+abbrev pub no_value_from : Parts → Spot → ℕ → Refusal
+no_value_from p (spot.Descriptor w) left = paid left (type_refusal p (type_in w) elsewhere)
+no_value_from p (spot.Unit u) left = paid left elsewhere
+no_value_from p s left = elsewhere
+
+-- the same of a place
+abbrev pub no_value : Place → ℕ → Refusal
+no_value p left = no_value_from p.parts p.at left
 
 -- why no 28 bits are read at a spot with so much left; each Int has them
-abbrev pub bits_refusal : Spot → ℕ → Refusal
-bits_refusal (spot.Descriptor w) left =
-    paid left (type_refusal (type_in w) (mismatch (codes "expected integer resource")))
-bits_refusal (spot.Unit u) left = paid left elsewhere
-bits_refusal s left = elsewhere
+abbrev pub bits_refusal_from : Parts → Spot → ℕ → Refusal
+bits_refusal_from p (spot.Descriptor w) left =
+    paid left (type_refusal p (type_in w) (mismatch (codes "expected integer resource")))
+bits_refusal_from p (spot.Unit u) left = paid left elsewhere
+bits_refusal_from p s left = elsewhere
+
+-- why no 28 bits are read at a place with so much left
+abbrev pub bits_refusal : Place → ℕ → Refusal
+bits_refusal p left = bits_refusal_from p.parts p.at left
 
 -- why no string stands at an index
 abbrev pub string_message_in : Parts → ℕ → List ℕ
@@ -84,7 +100,7 @@ string_message_in p i = string_message (text_place p i).0 (text_place p i).1
 -- why no key is read at a spot: it is another place, or the key's own fault
 abbrev pub key_refusal_from : Parts → Spot → ℕ → Refusal
 key_refusal_from p (spot.Key k) left = key_refusal_in p k
-key_refusal_from p s left = no_value s left
+key_refusal_from p s left = no_value_from p s left
 
 -- why no key is read at a place with so much left
 abbrev pub key_refusal : Place → ℕ → Refusal
@@ -94,7 +110,8 @@ key_refusal p left = key_refusal_from p.parts p.at left
 abbrev pub word_text_refusal : Parts → ℕ → Refusal
 word_text_refusal p w =
     if type_in w == types.string then text_refusal_in p (value_in w)
-    else type_refusal (type_in w) (mismatch (codes "expected string resource"))
+    else if reads_older p && type_in w == types.old_string then counted_refusal p (value_in w)
+    else type_refusal p (type_in w) (mismatch (codes "expected string resource"))
 
 -- why no text is read at a spot with so much left
 abbrev pub text_refusal_from : Parts → Spot → ℕ → Refusal
@@ -113,7 +130,8 @@ abbrev pub word_bytes_refusal : Parts → ℕ → Refusal
 word_bytes_refusal p w =
     if type_in w == types.string then invalid (string_message_in p (value_in w))
     else if type_in w == types.binary || type_in w == types.int_vector then end_of_input
-    else type_refusal (type_in w) (mismatch (codes "expected binary data resource"))
+    else if reads_older p && type_in w == types.old_string then end_of_input
+    else type_refusal p (type_in w) (mismatch (codes "expected binary data resource"))
 
 -- why no bytes are read at a spot with so much left
 abbrev pub bytes_refusal_from : Parts → Spot → ℕ → Refusal
@@ -139,29 +157,41 @@ view_refusal p left =
 
 -- why no members stand at a descriptor: a count or the fields behind it outside their block, or
 -- another type
-abbrev pub word_members_refusal : ℕ → Refusal
-word_members_refusal w =
+abbrev pub word_members_refusal : Parts → ℕ → Refusal
+word_members_refusal p w =
     if types.is_array (type_in w) || type_in w == types.int_vector then end_of_input
-    else type_refusal (type_in w) (mismatch (codes "expected array resource"))
+    else type_refusal p (type_in w) (mismatch (codes "expected array resource"))
 
 -- why no entries stand at a descriptor: a table's entries reach outside the body, or another type
 -- stands there
-abbrev pub word_entries_refusal : ℕ → Refusal
-word_entries_refusal w =
+abbrev pub word_entries_refusal : Parts → ℕ → Refusal
+word_entries_refusal p w =
     if types.is_table (type_in w) then end_of_input
-    else type_refusal (type_in w) (mismatch (codes "expected table resource"))
+    else type_refusal p (type_in w) (mismatch (codes "expected table resource"))
 
 -- why no members are read at a spot with so much left
-abbrev pub members_refusal : Spot → ℕ → Refusal
-members_refusal (spot.Descriptor w) left = paid left (word_members_refusal w)
-members_refusal s left = no_value s left
+abbrev pub members_refusal_from : Parts → Spot → ℕ → Refusal
+members_refusal_from p (spot.Descriptor w) left = paid left (word_members_refusal p w)
+members_refusal_from p s left = no_value_from p s left
+
+-- why no members are read at a place with so much left
+abbrev pub members_refusal : Place → ℕ → Refusal
+members_refusal p left = members_refusal_from p.parts p.at left
 
 -- why no entries are read at a spot with so much left
-abbrev pub entries_refusal : Spot → ℕ → Refusal
-entries_refusal (spot.Descriptor w) left = paid left (word_entries_refusal w)
-entries_refusal s left = no_value s left
+abbrev pub entries_refusal_from : Parts → Spot → ℕ → Refusal
+entries_refusal_from p (spot.Descriptor w) left = paid left (word_entries_refusal p w)
+entries_refusal_from p s left = no_value_from p s left
+
+-- why no entries are read at a place with so much left
+abbrev pub entries_refusal : Place → ℕ → Refusal
+entries_refusal p left = entries_refusal_from p.parts p.at left
+
+-- the type of what stands at a spot isn't told
+abbrev pub untold_from : Parts → Spot → Refusal
+untold_from p (spot.Descriptor w) = type_refusal p (type_in w) elsewhere
+untold_from p s = elsewhere
 
 -- the type of what stands at a place isn't told
-abbrev pub untold : Spot → Refusal
-untold (spot.Descriptor w) = type_refusal (type_in w) elsewhere
-untold s = elsewhere
+abbrev pub untold : Place → Refusal
+untold p = untold_from p.parts p.at

@@ -32,15 +32,15 @@ RefusesAs refusal p left left' e = Says (refusal p left) e × Takes p.at left le
 
 -- a number is refused: none stands there, or one that does not fit
 abbrev pub RefusesNumber : Place → ℕ → ℕ → ReadingError → Type 0
-RefusesNumber = RefusesAs (λ p left. number_refusal p.at left)
+RefusesNumber = RefusesAs number_refusal
 
 -- a bool is refused: no Int that is 0 or 1 stands there
 abbrev pub RefusesBool : Place → ℕ → ℕ → ReadingError → Type 0
-RefusesBool = RefusesAs (λ p left. bool_refusal p.at left)
+RefusesBool = RefusesAs bool_refusal
 
 -- 28 bits are refused: no Int stands there
 abbrev pub RefusesBits : Place → ℕ → ℕ → ReadingError → Type 0
-RefusesBits = RefusesAs (λ p left. bits_refusal p.at left)
+RefusesBits = RefusesAs bits_refusal
 
 -- a key is refused: none can be read there
 abbrev pub RefusesKey : Place → ℕ → ℕ → ReadingError → Type 0
@@ -75,11 +75,11 @@ RefusesTree p left left' e =
 
 -- members are refused: none can be read there
 abbrev pub RefusesMembers : Place → ℕ → ℕ → ReadingError → Type 0
-RefusesMembers = RefusesAs (λ p left. members_refusal p.at left)
+RefusesMembers = RefusesAs members_refusal
 
 -- entries are refused: none can be read there
 abbrev pub RefusesEntries : Place → ℕ → ℕ → ReadingError → Type 0
-RefusesEntries = RefusesAs (λ p left. entries_refusal p.at left)
+RefusesEntries = RefusesAs entries_refusal
 
 -- what is refused at a place, or at the places of an entry, where the counts are known
 abbrev pub RefusesThere : {P : Type 0} → (P → ℕ → Type 0) → (P → ℕ → ℕ → ReadingError → Type 0) → P

@@ -5,7 +5,7 @@ use Rattle.std.specs.Prelude.{◌≡◌, ◌+◌, ◌==◌, ◌||◌, ℕ, List,
 use Rattle.std.specs.Prelude.{option_map, if◌then◌else◌}
 use Rattle.std.specs.BTreeMap.{insert_entry}
 use Rattle.std.specs.declared.cmp.Ordering.{Ordering}
-use Rattle.resb_tree.specs.Tree.{Tree, string, array, table, binary, integer, int_vector}
+use Rattle.resb_tree.specs.Tree.{Tree, string, alias, array, table, binary, integer, int_vector}
 use Rattle.resb_format.specs.Parts.{Parts}
 use Rattle.resb_format.specs.Types as types
 use Rattle.resb_format.specs.Content.{Content, Member, leaf, list, entry_list, content_at}
@@ -22,6 +22,7 @@ at_spot p s = record { parts = p; at = s }
 abbrev pub numbers_in : Tree → Option (List Spot)
 numbers_in (int_vector ns) = Some (map spot.Word ns)
 numbers_in (string s) = None
+numbers_in (alias s) = None
 numbers_in (array ts) = None
 numbers_in (table es) = None
 numbers_in (binary s) = None

@@ -2,9 +2,12 @@
 use Rattle.std.specs.Prelude.{◌≡◌, ◌+◌, ◌<◌, ℕ, Option, Some, None, Result, MatchResult}
 use Rattle.std.specs.Prelude.{if◌then◌else◌}
 use Rattle.resb_format.specs.declared.error.ReadingError.{ReadingError}
+use Rattle.resb_format.specs.Parts.{Parts}
 use Rattle.resb_format.specs.Types as types
+use Rattle.resb_walk.specs.BlockRefusals.{reads_type}
 use Rattle.resb_walk.specs.Refusals.{IsSpent}
 use Rattle.resb_read.specs.Leaves.{type_in}
+use Rattle.resb_read.specs.Places.{Place}
 use Rattle.resb_read.specs.declared.cursor.Spot.{Spot}
 use Rattle.resb_read.specs.declared.cursor.Spot.TheVariants as spot
 
@@ -20,11 +23,15 @@ Skips s left left' r =
     MatchResult r (λ _. left' + cost_at s ≡ left)
     (λ e. IsSpent e × (left < cost_at s) × (left' ≡ left))
 
--- the type of the resource that stands there, where it is one that a reader knows
-abbrev pub type_at : Spot → Option ℕ
-type_at (spot.Descriptor w) = if types.is_read_type (type_in w) then Some (type_in w) else None
-type_at (spot.Unit u) = Some types.string
-type_at s = None
+-- the type of the resource that stands at a spot, where it is one that is read
+abbrev pub type_from : Parts → Spot → Option ℕ
+type_from p (spot.Descriptor w) = if reads_type p (type_in w) then Some (type_in w) else None
+type_from p (spot.Unit u) = Some types.string
+type_from p s = None
+
+-- the same of a place
+abbrev pub type_at : Place → Option ℕ
+type_at p = type_from p.parts p.at
 
 -- the spot is a member of 16 bits
 abbrev pub IsUnitSpot : Spot → Type 0

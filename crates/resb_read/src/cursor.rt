@@ -20,7 +20,7 @@ pub enum Spot {
     Unit(u16),
     /// At a vector's word.
     Word(u32),
-    /// At a key, by its position in bytes from the body's start.
+    /// At a key, by its position, which tells a byte of the file's own keys or of its pool's.
     Key(usize),
 }
 

@@ -168,9 +168,9 @@ fn entries_at<'de>(
 ) -> Result<TableParts<'de>, BinaryDeserializerError>
     ensures { let entries = sequences.entries_in (parts_in file.entry) word in
         MatchResult result (λ r. entries ≡ Some (keyed_members r))
-        (λ e. (entries ≡ None) × Says (word_entries_refusal word) e) }
+        (λ e. (entries ≡ None) × Says (word_entries_refusal (parts_in file.entry) word) e) }
 {
-    match readable(word)?.0 {
+    match readable(file, word)?.0 {
         ResourceReprType::Table | ResourceReprType::_Table32 | ResourceReprType::Table16 => {}
         _ => {
             return Err(BinaryDeserializerError::resource_type_mismatch("expected table resource"));
@@ -194,7 +194,7 @@ impl<'de> Cursor<'de> {
             × RefusesEntries (place_of self.entry) walk.old walk.new e) }
     {
         let Spot::Descriptor(word) = self.at else {
-            return Err(refused_here(self.at, walk));
+            return Err(refused_here(self, walk));
         };
         walk.pay()?;
         Ok(MapAccess {

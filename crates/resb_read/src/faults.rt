@@ -2,15 +2,17 @@
 //! Faults of the file itself are in `resb_walk::faults`.
 ghost use Rattle.std.specs.Prelude.{◌≡◌, ◌≢◌, ◌≤◌, IfOk, IfErr, true};
 ghost use Rattle.resb_format.specs.Descriptor.{type_number};
+ghost use Rattle.resb_format.specs.Parts.{parts_in};
 ghost use Rattle.resb_format.specs.Types.{is_read_type};
 ghost use Rattle.resb_walk.specs.BlockRefusals.{Says};
 ghost use Rattle.resb_walk.specs.Refusals.{IsFault};
 ghost use Rattle.resb_read.specs.Leaves.{type_in, value_in};
 ghost use Rattle.resb_read.specs.PlaceRefusals as refused;
+ghost use Rattle.resb_read.specs.Places.{place_of};
 ghost use Rattle.resb_read.specs.RefusedReadings.{Takes};
 
-use crate::cursor::Spot;
-use resb_format::{BinaryDeserializerError, ResourceReprType};
+use crate::cursor::{Cursor, Spot};
+use resb_format::{BinaryDeserializerError, FileBlocks, ResourceReprType};
 use resb_walk::Walk;
 use resb_walk::types::readable;
 
@@ -31,14 +33,14 @@ pub(crate) fn elsewhere() -> BinaryDeserializerError
 
 /// The refusal at a place that a type does not read. A descriptor and a string's unit cost one of
 /// the budget before they are looked at, and a descriptor's type has to be one that is read at all.
-pub(crate) fn refused_here(at: Spot, walk: &mut Walk) -> BinaryDeserializerError
+pub(crate) fn refused_here(place: Cursor<'_>, walk: &mut Walk) -> BinaryDeserializerError
     ensures falls { walk.new ≤ walk.old }
-    ensures says { Says (refused.no_value at walk.old) result }
-    ensures takes { Takes at walk.old walk.new }
+    ensures says { Says (refused.no_value (place_of place.entry) walk.old) result }
+    ensures takes { Takes place.entry.at walk.old walk.new }
 {
-    match at {
+    match place.at {
         Spot::Descriptor(word) => match walk.pay() {
-            Ok(()) => match readable(word) {
+            Ok(()) => match readable(place.file, word) {
                 Ok(_) => elsewhere(),
                 Err(unread) => unread,
             },
@@ -56,6 +58,7 @@ pub(crate) fn refused_here(at: Spot, walk: &mut Walk) -> BinaryDeserializerError
 /// such, or else as a mismatch.
 #[tactic(auto, using(resb_format::proofs::Apart::type_apart))]
 pub(crate) fn value_of(
+    file: FileBlocks<'_>,
     word: u32,
     wanted: ResourceReprType,
     expected: &'static str,
@@ -64,10 +67,10 @@ pub(crate) fn value_of(
     ensures ok { IfOk result
         (λ v. (type_in word ≡ type_number wanted) × (v ≡ value_in word)) }
     ensures err { IfErr result (λ e. type_in word ≢ type_number wanted) }
-    ensures says { IfErr result
-        (Says (refused.type_refusal (type_in word) (refused.mismatch expected.entry.now))) }
+    ensures says { let other = refused.mismatch expected.entry.now in
+        IfErr result (Says (refused.type_refusal (parts_in file.entry) (type_in word) other)) }
 {
-    let (kind, value) = readable(word)?;
+    let (kind, value) = readable(file, word)?;
     if kind != wanted {
         return Err(BinaryDeserializerError::resource_type_mismatch(expected));
     }

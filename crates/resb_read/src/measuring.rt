@@ -28,8 +28,9 @@ pub struct Measured {
 
 impl Measured {
     /// How many bytes the tree takes in memory, or none where that doesn't fit in 64 bits: 72 for
-    /// each resource, 3 more for each byte of a text, 4 for each number of a vector, 1024 for each
-    /// table that has entries, and 192 for each entry. Binaries and keys are slices of the file.
+    /// each resource, 3 more for each byte of a string or of an alias's path, 4 for each number of
+    /// a vector, 1024 for each table that has entries, and 192 for each entry. Binaries and keys
+    /// are slices of the file or of its pool.
     pub fn tree_bytes(self) -> Option<u64>
         ensures { (xs : List Piece) → IsMeasured self xs → result ≡ fitting (tree_bytes xs) }
     {
@@ -83,7 +84,8 @@ impl<'de> Cursor<'de> {
 }
 
 /// Counts the resources of a file's tree, sums what they hold, and makes no tree. It is refused as
-/// `count_resources` is. No key and no string is looked at twice as a whole.
+/// `count_resources` is. No key and no string, but short ones, is looked at again and again as a
+/// whole.
 pub fn measure(alloc: Global, bytes: &[u8]) -> Result<Measured, BinaryDeserializerError>
     ensures { AnswersMeasure bytes.now result }
 {

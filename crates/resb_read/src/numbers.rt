@@ -26,11 +26,11 @@ impl<'de> Cursor<'de> {
         match self.at {
             Spot::Descriptor(word) => {
                 walk.pay()?;
-                let value = value_of(word, ResourceReprType::Int, NO_INTEGER)?;
+                let value = value_of(self.file, word, ResourceReprType::Int, NO_INTEGER)?;
                 Ok(i32::from(Int28::from(value)))
             }
             Spot::Word(word) => Ok(word.cast_signed()),
-            Spot::Unit(_) | Spot::Key(_) => Err(refused_here(self.at, walk)),
+            Spot::Unit(_) | Spot::Key(_) => Err(refused_here(self, walk)),
         }
     }
 
@@ -43,10 +43,10 @@ impl<'de> Cursor<'de> {
         match self.at {
             Spot::Descriptor(word) => {
                 walk.pay()?;
-                value_of(word, ResourceReprType::Int, NO_INTEGER)
+                value_of(self.file, word, ResourceReprType::Int, NO_INTEGER)
             }
             Spot::Word(word) => Ok(word),
-            Spot::Unit(_) | Spot::Key(_) => Err(refused_here(self.at, walk)),
+            Spot::Unit(_) | Spot::Key(_) => Err(refused_here(self, walk)),
         }
     }
 
@@ -57,10 +57,10 @@ impl<'de> Cursor<'de> {
             walk.new result }
     {
         let Spot::Descriptor(word) = self.at else {
-            return Err(refused_here(self.at, walk));
+            return Err(refused_here(self, walk));
         };
         walk.pay()?;
-        match value_of(word, ResourceReprType::Int, NO_INTEGER)? {
+        match value_of(self.file, word, ResourceReprType::Int, NO_INTEGER)? {
             0 => Ok(false),
             1 => Ok(true),
             _ => Err(BinaryDeserializerError::resource_type_mismatch(
@@ -76,10 +76,10 @@ impl<'de> Cursor<'de> {
             walk.new result }
     {
         let Spot::Descriptor(word) = self.at else {
-            return Err(refused_here(self.at, walk));
+            return Err(refused_here(self, walk));
         };
         walk.pay()?;
-        let value = value_of(word, ResourceReprType::Int, NO_INTEGER)?;
+        let value = value_of(self.file, word, ResourceReprType::Int, NO_INTEGER)?;
         Ok(Int28::from(value))
     }
 

@@ -123,9 +123,9 @@ fn members_at<'de>(
 ) -> Result<Elements<'de>, BinaryDeserializerError>
     ensures { let members = members_in (parts_in file.entry) word in
         MatchResult result (λ r. members ≡ Some (spots_to_come r))
-        (λ e. (members ≡ None) × Says (word_members_refusal word) e) }
+        (λ e. (members ≡ None) × Says (word_members_refusal (parts_in file.entry) word) e) }
 {
-    match readable(word)?.0 {
+    match readable(file, word)?.0 {
         ResourceReprType::Array | ResourceReprType::Array16 | ResourceReprType::IntVector => {}
         _ => {
             return Err(BinaryDeserializerError::resource_type_mismatch("expected array resource"));
@@ -150,7 +150,7 @@ impl<'de> Cursor<'de> {
             × RefusesMembers (place_of self.entry) walk.old walk.new e) }
     {
         let Spot::Descriptor(word) = self.at else {
-            return Err(refused_here(self.at, walk));
+            return Err(refused_here(self, walk));
         };
         walk.pay()?;
         Ok(SeqAccess {

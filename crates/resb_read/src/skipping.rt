@@ -2,6 +2,7 @@
 //! The places below a descriptor have deserializers of their own in `named`.
 ghost use Rattle.std.specs.Prelude.{◌≡◌, Some, None, MatchResult};
 ghost use Rattle.resb_format.specs.Descriptor.{type_number};
+ghost use Rattle.resb_read.specs.Places.{place_of};
 ghost use Rattle.resb_read.specs.Spots.{Skips, type_at};
 ghost use Rattle.resb_walk.specs.BlockRefusals.{Says};
 ghost use Rattle.resb_read.specs.PlaceRefusals.{untold};
@@ -23,14 +24,16 @@ impl<'de> Cursor<'de> {
         }
     }
 
-    /// The type of the resource here. Types that aren't read are refused.
+    /// The type of the resource here. Types that aren't read are refused, as those of aliases and
+    /// of strings of the older form are in a file that is read alone.
     pub fn resource_type(self) -> Result<ResourceReprType, BinaryDeserializerError>
-        ensures { MatchResult result (λ t. type_at self.entry.at ≡ Some (type_number t))
-            (λ e. (type_at self.entry.at ≡ None) × Says (untold self.entry.at) e) }
+        ensures { let p = place_of self.entry in
+            MatchResult result (λ t. type_at p ≡ Some (type_number t))
+            (λ e. (type_at p ≡ None) × Says (untold p) e) }
     {
         match self.at {
             Spot::Descriptor(word) => {
-                let (kind, _) = readable(word)?;
+                let (kind, _) = readable(self.file, word)?;
                 Ok(kind)
             }
             Spot::Unit(_) => Ok(ResourceReprType::StringV2),

@@ -11,8 +11,10 @@ ghost use Rattle.resb_walk.specs.BlockRefusals.{Says};
 ghost use Rattle.resb_format.specs.Parts.{parts_in};
 ghost use Rattle.resb_read.specs.Places.{place_of};
 ghost use Rattle.resb_read.specs.Reading.{Reads, LacksOrMemory};
-ghost use Rattle.resb_read.specs.PlaceRefusals.{word_bytes_refusal};
+ghost use Rattle.resb_walk.specs.Inner.Members.{text_of_bytes};
+ghost use Rattle.resb_read.specs.PlaceRefusals.{word_text_refusal, word_bytes_refusal};
 ghost use Rattle.resb_read.specs.RefusedReadings.{RefusesText, RefusesKey, RefusesBytes};
+ghost use Rattle.resb_read.specs.Leaves.{described_text as text_there};
 ghost use Rattle.resb_read.specs.Leaves.{type_in, value_in, counted_bytes};
 ghost use Rattle.resb_format.specs.Bytes.{units_as_bytes};
 ghost use Rattle.resb_read.specs.Leaves.{bytes_of_type, ReadsText, CountsText, ReadsKey, CountsKey};
@@ -22,7 +24,7 @@ ghost use Rattle.resb_read.specs.TypeLaws.{bytes_counted, bytes_one};
 
 use crate::cursor::{Cursor, Spot};
 use crate::deserialize::Deserialize;
-use crate::faults::{elsewhere, refused_here, value_of};
+use crate::faults::{elsewhere, refused_here};
 use resb_format::bytes::{some_bytes, some_word};
 use resb_format::{
     BinaryDeserializerError, FileBlocks, Key, ReadingError, ResourceReprType, string_at,
@@ -30,7 +32,7 @@ use resb_format::{
 use resb_walk::faults::past_end;
 use resb_walk::places::{index_of, text_place};
 use resb_walk::types::readable;
-use resb_walk::{Walk, key_at, text_at, text_of_units};
+use resb_walk::{Walk, counted_text_at, key_at, text_at, text_of_units};
 use std::alloc::Global;
 
 /// Bytes in pairs, which are those that their units are written as.
@@ -76,23 +78,44 @@ fn described(file: FileBlocks<'_>, word: u32) -> Result<&[u8], BinaryDeserialize
         MatchResult result (λ b. there ≡ Some b.now) (λ _. there ≡ None) }
     ensures says { IfErr result (Says (word_bytes_refusal (parts_in file.entry) word)) }
 {
-    let (kind, value) = readable(word)?;
+    let (kind, value) = readable(file, word)?;
     let value = value as usize;
     match kind {
-        ResourceReprType::Binary | ResourceReprType::StringV2 | ResourceReprType::IntVector
+        ResourceReprType::Binary
+        | ResourceReprType::StringV2
+        | ResourceReprType::_String
+        | ResourceReprType::IntVector
             if value == 0 => { Ok(&[]) }
         ResourceReprType::Binary => counted_at(file, 1, value),
         ResourceReprType::StringV2 => {
             let (block, unit) = text_place(file, value);
             units_at(block, unit)
         }
+        ResourceReprType::_String => counted_at(file, 2, value),
         ResourceReprType::IntVector => counted_at(file, 4, value),
         _ => Err(BinaryDeserializerError::resource_type_mismatch("expected binary data resource")),
     }
 }
 
+/// The units of the string at a descriptor, which are a text.
+#[tactic(auto, unfolding(resb_format::specs::Bytes::units_of))]
+fn described_text(file: FileBlocks<'_>, word: u32) -> Result<&[u8], BinaryDeserializerError>
+    ensures stands { let there = text_there (parts_in file.entry) word in
+        MatchResult result (λ v. there ≡ Some (text_of_bytes v.now)) (λ _. there ≡ None) }
+    ensures says { IfErr result (Says (word_text_refusal (parts_in file.entry) word)) }
+{
+    let (kind, value) = readable(file, word)?;
+    let value = value as usize;
+    match kind {
+        ResourceReprType::StringV2 | ResourceReprType::_String if value == 0 => Ok(&[]),
+        ResourceReprType::StringV2 => text_at(file, value),
+        ResourceReprType::_String => counted_text_at(file, value),
+        _ => Err(BinaryDeserializerError::resource_type_mismatch("expected string resource")),
+    }
+}
+
 impl<'de> Cursor<'de> {
-    /// Reads a text: a string, or a key.
+    /// Reads a text: a string, of the older form too where that is read, or a key.
     pub fn read_string(
         self,
         alloc: Global,
@@ -107,11 +130,7 @@ impl<'de> Cursor<'de> {
         match self.at {
             Spot::Descriptor(word) => {
                 walk.pay()?;
-                let unit = value_of(word, ResourceReprType::StringV2, "expected string resource")?;
-                if unit == 0 {
-                    return Ok(String::new(alloc));
-                }
-                let units = text_at(self.file, unit as usize)?;
+                let units = described_text(self.file, word)?;
                 Ok(text_of_units(alloc, units)?)
             }
             Spot::Unit(unit) => {
@@ -135,9 +154,7 @@ impl<'de> Cursor<'de> {
     {
         match self.at {
             Spot::Key(position) => key_at(self.file, position),
-            Spot::Descriptor(_) | Spot::Unit(_) | Spot::Word(_) => {
-                Err(refused_here(self.at, walk))
-            }
+            Spot::Descriptor(_) | Spot::Unit(_) | Spot::Word(_) => { Err(refused_here(self, walk)) }
         }
     }
 

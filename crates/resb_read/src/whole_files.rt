@@ -17,6 +17,10 @@ use resb_walk::Walk;
 use std::alloc::Global;
 
 /// Reads a value from a file, with the whole budget of the file.
+///
+/// The file is read as one that uses no pool bundle, whatever its head says of that: keys of one
+/// that does are refused, or read as other bytes of the file. Read files of others by
+/// `from_bytes_with_pool` with `None`, which refuses a file that uses a pool bundle.
 pub fn from_bytes<'a, 'm, T: Deserialize<'a>>(
     alloc: Global,
     bytes: &'a [u8],

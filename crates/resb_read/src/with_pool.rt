@@ -1,6 +1,6 @@
-//! Files beside a pool bundle: any type at the root, its count, the file's tree, and its sums.
-//! What a file takes from a pool is found in `resb_pool_bundle`; `whole_files` and `measuring` read
-//! files alone.
+//! Files beside a pool bundle, or beside none: any type at the root, its count, the file's tree,
+//! and its sums. Aliases and strings of the older form are read here; `whole_files` and `measuring`
+//! read files alone, and refuse them. What a file takes from a pool is found in `resb_pool_bundle`.
 ghost use Rattle.std.specs.Prelude.{◌≡◌, ◌≤◌, ℕ, Some, option_map, IfOk, IfErr};
 ghost use Rattle.resb_format.specs.Error as reading;
 ghost use Rattle.resb_format.specs.Error.{refusal_of};
@@ -41,7 +41,8 @@ impl<'de> Cursor<'de> {
 
 /// Reads a value from a file as `from_bytes` does, beside the pool bundle that is given, with the
 /// whole budget of the file. Keys and bytes that the value borrows are slices of the file or of the
-/// pool.
+/// pool. Aliases and strings of the older form are read too: such a string as any other, an alias
+/// as a `Resource` alone.
 pub fn from_bytes_with_pool<'a, 'm, T: Deserialize<'a>>(
     alloc: Global,
     bytes: &'a [u8],

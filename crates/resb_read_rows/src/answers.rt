@@ -6,8 +6,8 @@ use std::alloc::Global;
 use std::process::Abort;
 use std::test::Fail;
 
-/// Adds a tree of few levels: `"text"`, `[item, ..]`, `{key=item, ..}`, `<bytes>`, `number`,
-/// `(numbers)`.
+/// Adds a tree of few levels: `"text"`, `@"path"`, `[item, ..]`, `{key=item, ..}`, `<bytes>`,
+/// `number`, `(numbers)`.
 fn push_tree(
     alloc: Global,
     line: &mut String,
@@ -20,6 +20,7 @@ fn push_tree(
     }
     match tree {
         Resource::String(text) => push_text(line, text.as_str())?,
+        Resource::Alias(path) => push_alias(line, path.as_str())?,
         Resource::Array(items) => {
             line.push_str("[")?;
             for item in items {
@@ -51,6 +52,12 @@ fn push_text(line: &mut String, text: &str) -> Result<(), Fail> {
     line.push_str(text)?;
     line.push_str("\"")?;
     Ok(())
+}
+
+/// Adds an alias's path.
+fn push_alias(line: &mut String, path: &str) -> Result<(), Fail> {
+    line.push_str("@")?;
+    push_text(line, path)
 }
 
 /// Adds a number.

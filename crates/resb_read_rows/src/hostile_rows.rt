@@ -86,7 +86,7 @@ fn line_of_kind(alloc: Global, kind: &str, bytes: &[u8]) -> Result<String, Fail>
 }
 
 /// The line, or of a long one the first 31 and the last 18 bytes, and how many there are.
-fn ends_of(alloc: Global, line: String) -> Result<String, Fail> {
+pub(crate) fn ends_of(alloc: Global, line: String) -> Result<String, Fail> {
     let length = line.len();
     if length < 1000 {
         return Ok(line);

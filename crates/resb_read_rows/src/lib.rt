@@ -22,6 +22,8 @@ mod hostile_rows;
 #[cfg(test)]
 mod measure_rows;
 #[cfg(test)]
+mod older_rows;
+#[cfg(test)]
 mod places;
 #[cfg(test)]
 mod pool_rows;

@@ -23,12 +23,12 @@ entries 65535 k => 65536: 1, 65535, 65535, 0, 0, 0; 17302336 bytes;
 ";
 
 /// The number of a sum that fits.
-fn fit(sum: Option<u64>) -> Result<u64, Fail> {
+pub(crate) fn fit(sum: Option<u64>) -> Result<u64, Fail> {
     Ok(sum.ok_or("a sum that doesn't fit")?)
 }
 
 /// The line of the sums.
-fn line_of_sums(alloc: Global, sums: Sums) -> Result<String, Fail> {
+pub(crate) fn line_of_sums(alloc: Global, sums: Sums) -> Result<String, Fail> {
     let tables = fit(sums.tables)?;
     let entries = fit(sums.entries)?;
     let keys = fit(sums.key_bytes)?;

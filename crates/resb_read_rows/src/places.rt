@@ -45,7 +45,17 @@ fn below<'a>(at: Cursor<'a>, walk: &mut Walk, step: &str) -> Result<Cursor<'a>, 
 
 /// The place of a file that is named by `root` and the steps below it.
 pub(crate) fn place<'a>(bytes: &'a [u8], path: &str) -> Result<Cursor<'a>, Fail> {
-    let (mut at, mut walk) = Cursor::root(bytes)?;
+    let (root, walk) = Cursor::root(bytes)?;
+    place_below(root, walk, path)
+}
+
+/// The same, below the root of a file that is read in another way.
+pub(crate) fn place_below<'a>(
+    root: Cursor<'a>,
+    mut walk: Walk,
+    path: &str,
+) -> Result<Cursor<'a>, Fail> {
+    let mut at = root;
     for step in path.split(' ') {
         if step != "root" {
             at = below(at, &mut walk, step)?;

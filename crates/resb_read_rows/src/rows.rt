@@ -1,7 +1,9 @@
 //! The tests of the rows that are lines of text: what answers a row of each kind, and one loop,
 //! which is proved once. The rows and what answers them stand in the other modules.
 use crate::answers::parts;
-use crate::{both_rows, cursor_rows, file_rows, head_rows, hostile_rows, measure_rows, type_rows};
+use crate::{
+    both_rows, cursor_rows, file_rows, head_rows, hostile_rows, measure_rows, older_rows, type_rows,
+};
 use std::alloc::Global;
 use std::process::Abort;
 use std::test::Fail;
@@ -25,6 +27,11 @@ enum Kind {
     Measure,
     Type,
     Sweep,
+    Beside,
+    AskBeside,
+    MeasureBeside,
+    OneText,
+    LongText,
 }
 
 /// The line of a row of this kind.
@@ -46,6 +53,11 @@ fn answered(alloc: Global, kind: Kind, input: &str) -> Result<String, Fail> {
         Kind::Measure => measure_rows::line_of_measure(alloc, input),
         Kind::Type => type_rows::line_of_ask(alloc, input),
         Kind::Sweep => type_rows::line_of_places(alloc, input),
+        Kind::Beside => older_rows::line_beside(alloc, input),
+        Kind::AskBeside => older_rows::line_of_ask(alloc, input),
+        Kind::MeasureBeside => older_rows::line_of_measure(alloc, input),
+        Kind::OneText => older_rows::line_of_one_text(alloc, input),
+        Kind::LongText => older_rows::line_of_long_text(alloc, input),
     }
 }
 
@@ -116,4 +128,18 @@ fn types_are_read_at_places(rt: HostRuntime) -> Result<(), Fail> {
 #[test]
 fn trees_are_measured_before_they_are_made(rt: HostRuntime) -> Result<(), Fail> {
     assert_rows(&rt, rt.alloc(), Kind::Measure, measure_rows::MEASURES)
+}
+
+#[test]
+fn aliases_and_older_strings_are_read_beside_no_pool(rt: HostRuntime) -> Result<(), Fail> {
+    assert_rows(&rt, rt.alloc(), Kind::Beside, older_rows::BESIDE)?;
+    assert_rows(&rt, rt.alloc(), Kind::Index, older_rows::ALONE)?;
+    assert_rows(&rt, rt.alloc(), Kind::AskBeside, older_rows::TYPES)?;
+    assert_rows(&rt, rt.alloc(), Kind::MeasureBeside, older_rows::MEASURES)?;
+    assert_rows(&rt, rt.alloc(), Kind::OneText, older_rows::ONE_TEXT)
+}
+
+#[test]
+fn a_long_text_is_measured_in_the_time_of_its_file(rt: HostRuntime) -> Result<(), Fail> {
+    assert_rows(&rt, rt.alloc(), Kind::LongText, older_rows::LONG_TEXT)
 }

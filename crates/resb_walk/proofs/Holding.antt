@@ -9,7 +9,7 @@ use Rattle.resb_format.specs.Lookups.{key_in, text_in, index_in}
 use Rattle.resb_format.specs.Parts.{Parts}
 use Rattle.resb_format.specs.Content.{Member, word, unit, leaf, list, entry_list}
 use Rattle.resb_format.specs.Content.{content_at}
-use Rattle.resb_format.specs.Content.{text_leaf}
+use Rattle.resb_format.specs.Content.{text_leaf, counted_text}
 use Rattle.resb_format.specs.Denotes.{Den, den_leaf, den_list, den_entries, DenMember, den_word}
 use Rattle.resb_format.specs.Denotes.{den_unit, DenEach, each_none, each_more, DenEntries}
 use Rattle.resb_format.specs.Denotes.{entries_none}
@@ -17,6 +17,7 @@ use Rattle.resb_format.specs.Denotes.{entries_more}
 use Rattle.resb_format.proofs.Denoting.{same_list, same_entries, leaf_list, leaf_entries}
 use Rattle.resb_format.proofs.Denoting.{list_entries}
 use Rattle.resb_format.proofs.Denoting.{same_leaf}
+use Rattle.resb_walk.specs.Inner.MemberContent.{counted_leaf}
 use Rattle.resb_walk.specs.Pieces.{Piece, leaf_piece, array_piece, table_piece, key_piece}
 use Rattle.resb_walk.specs.Pieces.{Holds, holds_leaf, holds_list, holds_entries, HoldsMember}
 use Rattle.resb_walk.specs.Pieces.{holds_word, holds_unit, HoldsEach, holds_none, holds_more}
@@ -61,15 +62,21 @@ module _ (p : Parts) where
   none_holds e (holds_list f h) = some_none e f
   none_holds e (holds_entries f h) = some_none e f
 
+  -- a string or an alias, by its text
+  with_text_holds : (is : List ℕ → Tree) (o : Option (List ℕ)) (w : ℕ) (xs : List Piece)
+      → content_at p w ≡ option_map (λ s. leaf (is s)) o → Holds p w xs
+      → (s : List ℕ) × (o ≡ Some s) × (xs ≡ leaf_piece (is s) ∷ [])
+  with_text_holds is None w xs e h = absurd (none_holds e h)
+  with_text_holds is (Some s) w xs e h = (s, refl, leaf_holds e h)
+
   pub text_holds : (w u : ℕ) (xs : List Piece) → content_at p w ≡ text_leaf p u → Holds p w xs
       → (s : List ℕ) × (text_in p u ≡ Some s) × (xs ≡ leaf_piece (string s) ∷ [])
-  text_holds w u xs e h = at h (text_in p u) refl
-    where
-      at : Holds p w xs → (o : Option (List ℕ)) → text_in p u ≡ o
-          → (s : List ℕ) × (text_in p u ≡ Some s) × (xs ≡ leaf_piece (string s) ∷ [])
-      at g None f = absurd (none_holds (e ∙ ap (option_map (λ s. leaf (string s))) f) g)
-      at g (Some s) f =
-          (s, f, leaf_holds (e ∙ ap (option_map (λ s. leaf (string s))) f) g)
+  text_holds w u xs e h = with_text_holds string (text_in p u) w xs e h
+
+  pub counted_holds : (is : List ℕ → Tree) (w v : ℕ) (xs : List Piece)
+      → content_at p w ≡ counted_leaf is p v → Holds p w xs
+      → (s : List ℕ) × (counted_text p v ≡ Some s) × (xs ≡ leaf_piece (is s) ∷ [])
+  counted_holds is w v xs e h = with_text_holds is (counted_text p v) w xs e h
 
   pub unit_holds : (u : ℕ) (xs : List Piece) → HoldsMember p (unit u) xs
       → (s : List ℕ) × (text_in p (index_in p u) ≡ Some s) × (xs ≡ leaf_piece (string s) ∷ [])

@@ -13,6 +13,7 @@ mod Made
 mod Surrogates
 mod Keys
 mod Plain
+pub mod Counted
 mod Marked
 mod Paths
 pub mod Holding

@@ -1,16 +1,16 @@
 -- Strings with a marker, by where their units begin and how many there are.
 use Rattle.std.proofs.Common.{refl, ℕ, List, ◌≡◌, ◌+◌, ◌≤◌, length, take, drop, get_or, Some, Ok, Err}
-use Rattle.std.proofs.Common.{Option, Bool, true, false, encode_utf8_all, ap, sym, ◌∙◌, subst}
+use Rattle.std.proofs.Common.{Option, false, encode_utf8_all, sym, ◌∙◌, subst}
 use Rattle.std.specs.Prelude.{Result, IfSome, MatchResult}
 use Rattle.std.specs.Result.{result_ok}
 use Rattle.std.specs.Char.Utf16.{has_unpaired_surrogate, utf16_lossy_chars}
 use Rattle.resb_format.specs.Bytes.{part}
 use Rattle.resb_format.specs.declared.error.ReadingError.{ReadingError}
-use Rattle.resb_format.specs.Strings.{string_from, string_at, text_at, text_of_units}
+use Rattle.resb_format.specs.Strings.{string_from, string_at, text_at}
 use Rattle.resb_format.proofs.StringsIn.{at_marker}
 use Rattle.resb_format.proofs.Inside.{part_in}
 use Rattle.resb_blocks.specs.Wide.{text_width}
-use Rattle.resb_blocks.proofs.WideLemmas.{text_is_wide}
+use Rattle.resb_walk.proofs.Counted.{spelled_width}
 
 -- where the units behind a marker lie inside the block, they are those of the string
 pub marked_here : (Q : ReadingError → Type 0) (us : List ℕ) (u first : ℕ)
@@ -39,17 +39,4 @@ pub marked_width : (block : List ℕ) (u i n : ℕ) (s : List ℕ)
     → string_at block u ≡ Some (take n (drop i block)) → text_at block u ≡ Some s
     → length s ≡ text_width (take n (drop i block))
 unfolding text_at
-marked_width block u i n s at e =
-    let us = take n (drop i block) in
-    let f : text_of_units us ≡ Some s = rw at at e in
-    cases (has_unpaired_surrogate us) refl f
-  where
-    cases : (b : Bool) → has_unpaired_surrogate (take n (drop i block)) ≡ b
-        → text_of_units (take n (drop i block)) ≡ Some s
-        → length s ≡ text_width (take n (drop i block))
-    cases true well f = absurd (let g = rw well at f in cc)
-    cases false well f =
-        let g : Some (encode_utf8_all (utf16_lossy_chars (take n (drop i block)))) ≡ Some s =
-        rw well at f in
-        let h : encode_utf8_all (utf16_lossy_chars (take n (drop i block))) ≡ s = cc in
-        ap length (sym h) ∙ text_is_wide (take n (drop i block)) well
+marked_width block u i n s at e = spelled_width (take n (drop i block)) s (rw at at e)

@@ -4,7 +4,7 @@ use Rattle.std.proofs.Common.{Some, None, Bool, true, false, ◌<◌, ◌≤◌,
 use Rattle.std.proofs.lemmas.Bool.Decides.{nat_tests}
 use Rattle.std.proofs.lemmas.List.Sums.{sum_by_push, sum_by-cons}
 use Rattle.std.specs.Prelude.{sum_by}
-use Rattle.resb_tree.specs.Tree.{string, array, table, binary, integer, int_vector}
+use Rattle.resb_tree.specs.Tree.{string, alias, array, table, binary, integer, int_vector}
 use Rattle.resb_walk.specs.Pieces.{Piece, leaf_piece, array_piece, empty_table, filled_table}
 use Rattle.resb_walk.specs.Pieces.{key_piece}
 use Rattle.resb_walk.specs.Sums.{AddsUp, fitting, table_count_in, entry_count_in, key_bytes_in}
@@ -75,6 +75,7 @@ one_piece : (x : Piece)
     → piece_bytes x ≡ 72 * resource_count_in x + 1024 * table_count_in x + 192 * entry_count_in x
     + 3 * text_bytes_in x + 4 * number_count_in x
 one_piece (leaf_piece (string s)) = omega arith
+one_piece (leaf_piece (alias s)) = omega arith
 one_piece (leaf_piece (array ts)) = omega arith
 one_piece (leaf_piece (table es)) = omega arith
 one_piece (leaf_piece (binary s)) = omega arith

@@ -6,7 +6,7 @@ use Rattle.std.specs.Ordering.{match_ordering, nat_cmp}
 use Rattle.std.proofs.Common.{Ordering, Less, Equal, Greater}
 use Rattle.std.specs.Cmp.Lexicographic.{slice_cmp}
 use Rattle.std.proofs.lemmas.List.Sums.{sum_by-cons, sum_by-append}
-use Rattle.resb_tree.specs.Tree.{Tree, string, array, table, binary, integer, int_vector}
+use Rattle.resb_tree.specs.Tree.{Tree, string, alias, array, table, binary, integer, int_vector}
 use Rattle.resb_tree.specs.Tree.{Entries, no_entries, entry, trees_of, map_of, put, put_all}
 use Rattle.resb_tree.specs.Tree.{tree_count, trees_count, entries_count}
 use Rattle.resb_format.specs.Parts.{Parts}
@@ -68,6 +68,7 @@ as_within e f g h i j k l w = rw (i, j, k, l) w
 -- a leaf is one piece, and one resource
 leaf_piece_of : (t : Tree) → IsNoCollection t → (pieces t ≡ leaf_piece t ∷ []) × (tree_count t ≡ 1)
 leaf_piece_of (string s) h = (refl, refl)
+leaf_piece_of (alias s) h = (refl, refl)
 leaf_piece_of (array ts) h = absurd h
 leaf_piece_of (table es) h = absurd h
 leaf_piece_of (binary s) h = (refl, refl)
@@ -76,6 +77,7 @@ leaf_piece_of (int_vector ns) h = (refl, refl)
 
 one_at_least : (t : Tree) → 1 ≤ tree_count t
 one_at_least (string s) = omega arith
+one_at_least (alias s) = omega arith
 one_at_least (array ts) = omega arith
 one_at_least (table es) = omega arith
 one_at_least (binary s) = omega arith

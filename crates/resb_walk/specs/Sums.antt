@@ -5,7 +5,7 @@
 --     AddsUp s xs             the sums s are those of the pieces xs
 use Rattle.std.specs.Prelude.{◌≡◌, ℕ, ◌^◌, List, length, Option, Some, None, nat_lt, sum_by}
 use Rattle.std.specs.Prelude.{if◌then◌else◌}
-use Rattle.resb_tree.specs.Tree.{string, binary, int_vector}
+use Rattle.resb_tree.specs.Tree.{string, alias, binary, int_vector}
 use Rattle.resb_walk.specs.Pieces.{Piece, leaf_piece, filled_table}
 use Rattle.resb_walk.specs.Pieces.{key_piece}
 use Rattle.resb_walk.specs.declared.sums.Sums.{Sums}
@@ -34,9 +34,10 @@ abbrev pub key_bytes_in : Piece → ℕ
 key_bytes_in (key_piece k) = length k
 key_bytes_in _ = 0
 
--- the UTF-8 bytes of a string
+-- the UTF-8 bytes of a string, or of an alias's path
 abbrev pub text_bytes_in : Piece → ℕ
 text_bytes_in (leaf_piece (string s)) = length s
+text_bytes_in (leaf_piece (alias s)) = length s
 text_bytes_in _ = 0
 
 -- the bytes of a binary

@@ -1,35 +1,40 @@
-//! Looks at the keys and strings of a file, at none of them twice as a whole.
-//! What is known of its blocks and of its pool's is in `known`; the rounds are in `count`.
-ghost use Rattle.std.specs.Prelude.{◌≡◌, ℕ, List, Some, IfOk, IfSome, IsTrue};
+//! Looks at the keys and strings of a file, and at none of them, but short ones, again and again as
+//! a whole. What is known of its blocks and of its pool's is in `known`; the rounds are in `count`.
+ghost use Rattle.std.specs.Prelude.{◌≡◌, ◌<◌, ◌^◌, ℕ, List, Some, IfOk, IfSome, IsTrue};
 ghost use Rattle.std.specs.Option.{ForSome};
 ghost use Rattle.resb_format.specs.Lookups.{key_in, text_in};
 ghost use Rattle.resb_format.specs.Parts.{parts_in};
-ghost use Rattle.resb_walk.specs.Inner.Counting.{LooksKey, LooksText, LooksAt};
+ghost use Rattle.resb_walk.specs.Inner.Counting.{LooksKey, LooksText, LooksCounted, LooksAt};
 ghost use Rattle.resb_walk.specs.Inner.Members.{member_of};
 ghost use Rattle.resb_walk.specs.Inner.Places.{pool_keys, pool_block};
 
-use crate::known::{Known, SHORT_STRING};
+use crate::faults::not_utf16;
+use crate::known::{Known, KnownTexts, SHORT_STRING};
 use crate::members::{Member, Rest, Standing};
 use crate::places::{Place, key_spot, text_spot};
-use crate::standing::{key_at, member_at, text_at};
-use crate::strings::string_index;
+use crate::standing::{counted_units, key_at, member_at, text_at};
+use crate::strings::{counted_word, string_index};
+use crate::units::is_well_formed;
 use resb_blocks::SHORT_TAIL;
 use resb_format::{BinaryDeserializerError, FileBlocks};
 use resb_tree::NoMemory;
 use std::alloc::Global;
 
-/// A file, and what is known of its own blocks and of those of its pool. Each is found once more
-/// bytes of it were looked at than it has. So a walk costs at most the file and the pool together,
-/// and one that looks at little of a large pool doesn't pay for the whole of it.
+/// A file, and what is known of its own blocks, of those of its pool, and of its body, in which the
+/// texts stand that begin with a count. Each is found once more bytes of it were looked at than it
+/// has. So a walk costs at most the file and the pool together, and one that looks at little of a
+/// large pool, or at no text in the body, doesn't pay for the whole of it.
 #[derive(Drop)]
 pub struct Checker<'a> {
     pub file: FileBlocks<'a>,
     own: Known<'a>,
     lent: Option<Known<'a>>,
+    counted: KnownTexts<'a>,
     ghost own_keys: { own.keys.keys ≡ file.keys },
     ghost own_block: { own.texts.block ≡ file.block },
     ghost lent_keys: { ForSome lent (λ k. pool_keys file.pool ≡ Some k.keys.keys.now) },
     ghost lent_block: { ForSome lent (λ k. pool_block file.pool ≡ Some k.texts.block.now) },
+    ghost of_body: { counted.block ≡ file.body },
 }
 
 impl<'a> Checker<'a> {
@@ -44,6 +49,7 @@ impl<'a> Checker<'a> {
                 Some(pool) => Some(Known::new(pool.keys, pool.block)),
                 None => None,
             },
+            counted: KnownTexts::new(file.body),
         }
     }
 
@@ -75,7 +81,7 @@ impl<'a> Checker<'a> {
         }
     }
 
-    /// Looks at the key at a position, in bytes from the body's start.
+    /// Looks at the key at a position, the file's own or the pool's.
     #[inline(always)]
     pub fn key(&mut self, alloc: Global, at: usize) -> Result<(), BinaryDeserializerError>
         ensures looks { LooksKey (parts_in self.old.file) at result }
@@ -136,6 +142,25 @@ impl<'a> Checker<'a> {
         Ok(())
     }
 
+    /// Looks at the text in the body whose count stands at a word.
+    pub fn counted(&mut self, alloc: Global, word: usize) -> Result<(), BinaryDeserializerError>
+        requires { word < 2 ^ 28 }
+        ensures looks { LooksCounted (parts_in self.old.file) word result }
+        ensures file { self.new.file ≡ self.old.file }
+    {
+        let units = counted_units(self.file, word)?;
+        if self.counted.has_units(2 * word + 2, units.len() / 2) {
+            return Ok(());
+        }
+        if !is_well_formed(units) {
+            return Err(not_utf16());
+        }
+        if units.len() > SHORT_STRING {
+            self.counted.note(alloc, units.len())?;
+        }
+        Ok(())
+    }
+
     /// Looks at a member: at its own members, if it is a collection.
     #[inline(always)]
     pub fn look(
@@ -148,6 +173,10 @@ impl<'a> Checker<'a> {
     {
         if let Some(unit) = string_index(self.file, member) {
             self.text(alloc, unit)?;
+            return Ok(None);
+        }
+        if let Some(word) = counted_word(self.file, member) {
+            self.counted(alloc, word)?;
             return Ok(None);
         }
         Ok(match member_at(self.file, member)? {

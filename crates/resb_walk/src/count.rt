@@ -152,7 +152,8 @@ pub fn count_string_at<'m>(
     Ok(())
 }
 
-/// Counts the resources at a word. No key and no string is looked at twice as a whole.
+/// Counts the resources at a word. No key and no string, but short ones, is looked at again and
+/// again as a whole.
 pub fn count_word<'m>(
     alloc: Global,
     file: FileBlocks<'_>,

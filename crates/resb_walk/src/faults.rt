@@ -15,7 +15,7 @@ pub fn past_end() -> BinaryDeserializerError
     BinaryDeserializerError::end_of_input()
 }
 
-/// A string of the older formats, or an alias.
+/// A string of the older form, or an alias, where those aren't read.
 pub fn unsupported_type() -> BinaryDeserializerError
     ensures says { IsRefusal result UnsupportedFormat (codes "resource type is not supported") }
     ensures fault { IsFault result }

@@ -1,10 +1,12 @@
-//! What is known of a key block and a 16-bit block, so that no key and no string of them is looked
-//! at twice as a whole. Which of a file's blocks a position tells is found in `places`.
-ghost use Rattle.std.specs.Prelude.{◌≡◌, ℕ, List, length, Some, IfOk, IfSome, IsTrue};
+//! What is known of a block of keys or of units, so that no key and no string of it, but short ones,
+//! is looked at again and again as a whole. Which block a position tells is found in `places`.
+ghost use Rattle.std.specs.Prelude.{◌≡◌, ◌+◌, ◌≤◌, ℕ, List, length, take, drop, Some, IfOk, IfSome};
+ghost use Rattle.std.specs.Prelude.{IsTrue};
 ghost use Rattle.std.specs.Option.{ForSome};
 ghost use Rattle.resb_format.specs.Bytes.{units_of};
 ghost use Rattle.resb_format.specs.Strings.{key_at, text_at};
 ghost use Rattle.resb_blocks.specs.Blocks.{breaks_block, tails_keys};
+ghost use Rattle.resb_blocks.specs.Links.{IsWellFormed};
 
 use crate::strings::marked;
 use resb_blocks::{Breaks, LongTails};
@@ -78,7 +80,7 @@ impl<'a> KnownKeys<'a> {
     }
 }
 
-/// A 16-bit block, and where its units break, if that was counted. That is done once more bytes of
+/// A block of units, and where they break, if that was counted. That is done once more bytes of
 /// long strings were looked at than the block has.
 #[derive(Drop)]
 pub(crate) struct KnownTexts<'a> {
@@ -89,7 +91,7 @@ pub(crate) struct KnownTexts<'a> {
 }
 
 impl<'a> KnownTexts<'a> {
-    /// A 16-bit block of which nothing is looked at yet.
+    /// A block of units of which nothing is looked at yet.
     pub fn new(block: &'a [u8]) -> KnownTexts<'a>
         ensures { result.block ≡ block.entry }
     {
@@ -100,16 +102,13 @@ impl<'a> KnownTexts<'a> {
         }
     }
 
-    /// Whether the breaks show that a text stands at a unit.
+    /// Whether the breaks show that so many units from this one on are a text.
     #[inline(always)]
-    pub fn has_text(&self, unit: usize) -> bool
+    pub fn has_units(&self, from: usize, count: usize) -> bool
         ensures { let block = units_of self.now.block.now in IsTrue result
-            → (text : List ℕ) × (text_at block unit ≡ Some text) }
+            → (from + count ≤ length block) × IsWellFormed (take count (drop from block)) }
     {
         let Some(breaks) = &self.breaks else {
-            return false;
-        };
-        let Some((from, count)) = marked(self.block, unit) else {
             return false;
         };
         let units = self.block.len() / 2;
@@ -117,6 +116,21 @@ impl<'a> KnownTexts<'a> {
             return false;
         }
         breaks.is_text(from, count)
+    }
+
+    /// Whether the breaks show that a text stands at a unit of a 16-bit block.
+    #[inline(always)]
+    pub fn has_text(&self, unit: usize) -> bool
+        ensures { let block = units_of self.now.block.now in IsTrue result
+            → (text : List ℕ) × (text_at block unit ≡ Some text) }
+    {
+        if self.breaks.is_none() {
+            return false;
+        }
+        match marked(self.block, unit) {
+            Some((from, count)) => self.has_units(from, count),
+            None => false,
+        }
     }
 
     /// Notes that a long string was looked at, and counts the breaks where that is worth it.

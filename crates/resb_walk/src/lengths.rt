@@ -1,10 +1,11 @@
-//! How long the keys and strings of a key block and a 16-bit block are, as far as that was found
-//! for all of them at once. Which of a file's blocks a position tells is found in `places`.
-ghost use Rattle.std.specs.Prelude.{◌≡◌, ℕ, List, length, Some, IfOk, IfSome};
+//! How long the keys and strings of a block of keys or of units are, as far as that was found for
+//! all of them at once. Which of a file's blocks a position tells is found in `places`.
+ghost use Rattle.std.specs.Prelude.{◌≡◌, ◌+◌, ◌≤◌, ℕ, List, length, take, drop, Some, IfOk, IfSome};
 ghost use Rattle.std.specs.Option.{ForSome};
 ghost use Rattle.resb_format.specs.Bytes.{units_of};
 ghost use Rattle.resb_format.specs.Strings.{text_at};
 ghost use Rattle.resb_blocks.specs.Blocks.{widths_block};
+ghost use Rattle.resb_blocks.specs.Wide.{text_width};
 
 use crate::known::KnownKeys;
 use crate::strings::marked;
@@ -12,8 +13,8 @@ use resb_blocks::Widths;
 use resb_tree::NoMemory;
 use std::alloc::Global;
 
-/// A 16-bit block, and how many bytes of UTF-8 its units take, if that was summed. That is done
-/// once more bytes of long strings were looked at than the block has.
+/// A block of units, and how many bytes of UTF-8 they take, if that was summed. That is done once
+/// more bytes of long strings were looked at than the block has.
 #[derive(Drop)]
 pub(crate) struct KnownWidths<'a> {
     pub block: &'a [u8],
@@ -23,7 +24,7 @@ pub(crate) struct KnownWidths<'a> {
 }
 
 impl<'a> KnownWidths<'a> {
-    /// A 16-bit block of which nothing is looked at yet.
+    /// A block of units of which nothing is looked at yet.
     pub fn new(block: &'a [u8]) -> KnownWidths<'a>
         ensures { result.block ≡ block.entry }
     {
@@ -34,21 +35,34 @@ impl<'a> KnownWidths<'a> {
         }
     }
 
-    /// How many bytes the text at a unit has, if the sums show it.
+    /// How many bytes of UTF-8 so many units from this one on take, if the sums show it.
     #[inline(always)]
-    pub fn text_len(&self, unit: usize) -> Option<usize>
+    pub fn units_len(&self, from: usize, count: usize) -> Option<usize>
         ensures { let block = units_of self.now.block.now in
-            IfSome result (λ n. (s : List ℕ) → text_at block unit ≡ Some s → length s ≡ n) }
+            IfSome result (λ n. (from + count ≤ length block)
+            × (n ≡ text_width (take count (drop from block)))) }
     {
         let Some(widths) = &self.widths else {
             return None;
         };
-        let (from, count) = marked(self.block, unit)?;
         let units = self.block.len() / 2;
         if from > units || count > units - from {
             return None;
         }
         Some(widths.utf8_len(from, count))
+    }
+
+    /// How many bytes the text at a unit of a 16-bit block has, if the sums show it.
+    #[inline(always)]
+    pub fn text_len(&self, unit: usize) -> Option<usize>
+        ensures { let block = units_of self.now.block.now in
+            IfSome result (λ n. (s : List ℕ) → text_at block unit ≡ Some s → length s ≡ n) }
+    {
+        if self.widths.is_none() {
+            return None;
+        }
+        let (from, count) = marked(self.block, unit)?;
+        self.units_len(from, count)
     }
 
     /// Notes that a long string was looked at, and sums the widths where that is worth it.

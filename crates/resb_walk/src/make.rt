@@ -25,7 +25,8 @@ pub trait Make<'de>: Sized + Drop {
     /// The table has what stands for the entries so far.
     ghost tables: { Self.Table → List (List ℕ × Tree) → Type 0 };
 
-    /// What has no members. A binary is borrowed from the file, a string's text is made.
+    /// What has no members. A binary is borrowed from the file; a string's text is made, and so is
+    /// an alias's path.
     fn leaf(alloc: Global, leaf: Leaf<'de>) -> Result<Self, NoMemory>
         ensures { IfOk result (λ x. is x (leaf_tree leaf.entry)) };
 

@@ -13,6 +13,8 @@ pub enum Leaf<'a> {
     Text(&'a [u8]),
     /// The empty text.
     Empty,
+    /// An alias's path: well-formed UTF-16, two bytes for each unit.
+    Alias(&'a [u8]),
     /// Bytes.
     Binary(&'a [u8]),
     /// A word whose lower 28 bits are the number.

@@ -10,8 +10,8 @@ use std::alloc::Global;
 
 /// Whether a word's type is that of a collection. Leaves have no members, and needn't be looked at.
 #[inline(always)]
-fn is_collection(word: u32) -> bool {
-    match readable(word) {
+fn is_collection(file: FileBlocks<'_>, word: u32) -> bool {
+    match readable(file, word) {
         Ok((kind, _)) => matches!(
             kind,
             ResourceReprType::Table
@@ -60,7 +60,7 @@ pub(crate) fn can_be_paid(
         }
         left -= 1;
         words = rest;
-        if !is_collection(inner) {
+        if !is_collection(file, inner) {
             continue;
         }
         match members_at(file, inner) {

@@ -1,15 +1,16 @@
 //! How long the keys and strings of a file are, and the sums of one piece after another. No key and
-//! no string is looked at twice as a whole. Going from member to member is the business of `weigh`.
-ghost use Rattle.std.specs.Prelude.{◌≡◌, ℕ, List, length, Some, IfOk, IfSome};
+//! no string, but short ones, is looked at again and again as a whole. Going from member to member
+//! is the business of `weigh`.
+ghost use Rattle.std.specs.Prelude.{◌≡◌, Some};
 ghost use Rattle.std.specs.Option.{ForSome};
 ghost use Rattle.resb_walk.specs.Inner.Places.{pool_keys, pool_block};
 
 use crate::count::Inner;
-use crate::lengths::Lengths;
+use crate::lengths::{KnownWidths, Lengths};
 use crate::members::{Member, Rest, Standing};
 use crate::places::{Place, index_of, key_spot, text_spot};
-use crate::standing::{key_at, standing_at, text_at};
-use crate::strings::string_index;
+use crate::standing::{counted_units, key_at, standing_at, text_at};
+use crate::strings::{counted_word, string_index};
 use crate::sums::Sums;
 use crate::units::text_len;
 use resb_blocks::SHORT_TAIL;
@@ -21,23 +22,27 @@ use std::alloc::Global;
 /// no longer than sums of widths would.
 const SHORT_TEXT: usize = 128;
 
-/// A file, and what is known of the lengths in its own blocks and in those of its pool. Each is
-/// found once more bytes of it were looked at than it has. So a weighing costs at most the file and
-/// the pool together, and one that looks at little of a large pool doesn't pay for the whole of it.
+/// A file, and what is known of the lengths in its own blocks, in those of its pool, and in its
+/// body, where the texts stand that begin with a count. Each is found once more bytes of it were
+/// looked at than it has. So a weighing costs at most the file and the pool together, and one that
+/// looks at little of a large pool, or at no text in the body, doesn't pay for the whole of it.
 #[derive(Drop)]
 pub struct Scale<'a> {
     pub file: FileBlocks<'a>,
     alloc: Global,
     own: Lengths<'a>,
     lent: Option<Lengths<'a>>,
+    counted: KnownWidths<'a>,
     ghost own_keys: { own.keys.keys ≡ file.keys },
     ghost own_block: { own.texts.block ≡ file.block },
     ghost lent_keys: { ForSome lent (λ k. pool_keys file.pool ≡ Some k.keys.keys.now) },
     ghost lent_block: { ForSome lent (λ k. pool_block file.pool ≡ Some k.texts.block.now) },
+    ghost of_body: { counted.block ≡ file.body },
 }
 
 impl<'a> Scale<'a> {
-    ghost use Rattle.std.specs.Prelude.{◌≡◌, ℕ, List, length, Some, IfOk, IfSome};
+    ghost use Rattle.std.specs.Prelude.{◌≡◌, ◌<◌, ◌^◌, ℕ, List, length, Some, IfOk, IfSome};
+    ghost use Rattle.resb_format.specs.Content.{counted_text};
     ghost use Rattle.resb_format.specs.Lookups.{key_in, text_in};
     ghost use Rattle.resb_format.specs.Parts.{parts_in};
     ghost use Rattle.resb_walk.specs.Inner.Members.{member_of};
@@ -57,6 +62,7 @@ impl<'a> Scale<'a> {
                 Some(pool) => Some(Lengths::new(pool.keys, pool.block)),
                 None => None,
             },
+            counted: KnownWidths::new(file.body),
         }
     }
 
@@ -150,6 +156,25 @@ impl<'a> Scale<'a> {
         Ok(text_len(text))
     }
 
+    /// How many bytes the text in the body has whose count stands at a word.
+    fn counted_len(&mut self, word: usize) -> Result<usize, NoMemory>
+        requires { word < 2 ^ 28 }
+        ensures len { let p = parts_in self.old.file in
+            IfOk result (λ n. (s : List ℕ) → counted_text p word ≡ Some s → length s ≡ n) }
+        ensures file { self.new.file ≡ self.old.file }
+    {
+        let Ok(units) = counted_units(self.file, word) else {
+            return Ok(0);
+        };
+        if let Some(len) = self.counted.units_len(2 * word + 2, units.len() / 2) {
+            return Ok(len);
+        }
+        if units.len() > SHORT_TEXT {
+            self.counted.note(self.alloc, units.len())?;
+        }
+        Ok(text_len(units))
+    }
+
     /// Sums what stands at a word, by a look at all of it. Where it has members, they are still to
     /// come.
     fn look_plainly(&self, word: u32, sums: &mut Sums) -> Option<Inner<'a>>
@@ -183,6 +208,11 @@ impl<'a> Scale<'a> {
     {
         if let Some(index) = string_index(self.file, Member::Word(word)) {
             let len = self.text_len(index)?;
+            *sums = sums.with_text(len);
+            return Ok(None);
+        }
+        if let Some(place) = counted_word(self.file, Member::Word(word)) {
+            let len = self.counted_len(place)?;
             *sums = sums.with_text(len);
             return Ok(None);
         }

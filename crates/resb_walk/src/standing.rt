@@ -1,22 +1,21 @@
 //! What stands at a word, at a unit of the 16-bit block, and at a key's position.
 //! Bytes are looked at in `resb_format::bytes` alone.
 ghost use Rattle.std.specs.Prelude.{◌≡◌, ◌≢◌, ◌<◌, ◌^◌, Some, None, true};
-ghost use Rattle.std.specs.Prelude.{MatchResult, IfErr, IfSome};
+ghost use Rattle.std.specs.Prelude.{MatchResult, IfErr, IfOk, IfSome};
 ghost use Rattle.resb_format.specs.Bytes.{units_of};
 ghost use Rattle.resb_format.specs.Strings as strings;
 ghost use Rattle.resb_format.specs.Descriptor.{type_number};
-ghost use Rattle.resb_format.specs.Types.{is_read_type};
 ghost use Rattle.resb_format.specs.Content as at;
 ghost use Rattle.resb_format.specs.Content.{content_at};
 ghost use Rattle.resb_format.specs.Error as reading;
 ghost use Rattle.resb_walk.specs.BlockRefusals as refusals;
 ghost use Rattle.resb_walk.specs.BlockRefusals.{Says, block_text_refusal, block_key_refusal};
-ghost use Rattle.resb_walk.specs.BlockRefusals.{word_refusal};
+ghost use Rattle.resb_walk.specs.BlockRefusals.{word_refusal, reads_type, counted_refusal};
 ghost use Rattle.resb_format.specs.Parts.{parts_in};
 ghost use Rattle.resb_format.specs.Lookups.{key_in, text_in, index_in};
 ghost use Rattle.resb_walk.specs.BlockRefusals.{key_refusal_in, text_refusal_in};
 ghost use Rattle.resb_walk.specs.Inner.Members.{content_of, text_of_bytes, member_of};
-ghost use Rattle.resb_walk.specs.Inner.MemberContent.{member_content, content_refusal};
+ghost use Rattle.resb_walk.specs.Inner.MemberContent.{member_content, content_refusal, IsPartOf};
 ghost use Rattle.resb_walk.specs.Refusals.{IsFault};
 
 use crate::faults::{key_not_utf8, key_past_end, key_unterminated, not_utf16, past_end};
@@ -109,6 +108,38 @@ pub fn text_at(file: FileBlocks<'_>, index: usize) -> Result<&[u8], BinaryDeseri
     block_text(units, unit)
 }
 
+/// The units behind the count at a word of the body, two bytes for each.
+pub(crate) fn counted_units(
+    file: FileBlocks<'_>,
+    word: usize,
+) -> Result<&[u8], BinaryDeserializerError>
+    requires { word < 2 ^ 28 }
+    ensures stands { let found = refusals.counted_units (parts_in file.entry) word in
+        MatchResult result (λ v. found ≡ Some (units_of v.now))
+        (λ e. (found ≡ None) × IsFault e) }
+    ensures place { IfOk result (λ v. IsPartOf file.entry.body.now word v.now) }
+    ensures says { IfErr result (Says reading.end_of_input) }
+{
+    let count = some_word(file.body, word).ok_or(past_end())?;
+    let units = some_units(file.body, 2 * word + 2, count as usize).ok_or(past_end())?;
+    Ok(units)
+}
+
+/// The units behind the count at a word of the body, which are a text.
+pub fn counted_text_at(file: FileBlocks<'_>, word: usize) -> Result<&[u8], BinaryDeserializerError>
+    requires { word < 2 ^ 28 }
+    ensures stands { let found = at.counted_text (parts_in file.entry) word in
+        MatchResult result (λ v. found ≡ Some (text_of_bytes v.now))
+        (λ e. (found ≡ None) × IsFault e) }
+    ensures says { IfErr result (Says (counted_refusal (parts_in file.entry) word)) }
+{
+    let units = counted_units(file, word)?;
+    if !is_well_formed(units) {
+        return Err(not_utf16());
+    }
+    Ok(units)
+}
+
 /// What stands at a word.
 #[inline(always)]
 #[tactic(auto, unfolding(resb_format::specs::Content::content_at))]
@@ -118,9 +149,9 @@ pub fn standing_at(file: FileBlocks<'_>, word: u32) -> Result<Standing<'_>, Bina
         (λ e. (content_at p word ≡ None) × IsFault e) }
     ensures says { IfErr result (Says (word_refusal (parts_in file.entry) word)) }
 {
-    match readable(word)? {
+    match readable(file, word)? {
         (ResourceReprType::Int, _) => Ok(Standing::Leaf(Leaf::Integer(word))),
-        (kind, 0) => Ok(empty(kind)),
+        (kind, 0) => Ok(empty(file, kind)),
         (kind, value) => placed(file, kind, value as usize),
     }
 }
@@ -154,7 +185,7 @@ fn placed(
     kind: ResourceReprType,
     value: usize,
 ) -> Result<Standing<'_>, BinaryDeserializerError>
-    requires read { is_read_type (type_number kind) ≡ true }
+    requires read { reads_type (parts_in file) (type_number kind) ≡ true }
     requires no_number { kind ≢ ResourceReprType.Int }
     requires small { value < 2 ^ 28 }
     ensures stands { let found = at.placed (parts_in file.entry) (type_number kind) value in
@@ -172,9 +203,9 @@ fn placed(
         ResourceReprType::Array => array_at(file, value),
         ResourceReprType::Array16 => array16_at(file, value),
         ResourceReprType::IntVector => int_vector_at(file, value),
-        ResourceReprType::_String | ResourceReprType::_Alias | ResourceReprType::Int => {
-            unreachable!()
-        }
+        ResourceReprType::_String => Ok(Standing::Leaf(Leaf::Text(counted_text_at(file, value)?))),
+        ResourceReprType::_Alias => Ok(Standing::Leaf(Leaf::Alias(counted_text_at(file, value)?))),
+        ResourceReprType::Int => unreachable!(),
     }
 }
 
@@ -289,10 +320,10 @@ fn table32_at(file: FileBlocks<'_>, value: usize) -> Result<Standing<'_>, Binary
 
 /// The empty resource of a type.
 #[tactic(auto, unfolding(resb_format::specs::Bytes::words_of, resb_format::specs::Bytes::units_of))]
-fn empty<'a>(kind: ResourceReprType) -> Standing<'a>
-    requires read { is_read_type (type_number kind) ≡ true }
+fn empty(file: FileBlocks<'_>, kind: ResourceReprType) -> Standing<'_>
+    requires read { reads_type (parts_in file) (type_number kind) ≡ true }
     requires no_number { kind ≢ ResourceReprType.Int }
-    ensures { at.empty (type_number kind) ≡ Some (content_of result) }
+    ensures { at.empty (parts_in file.entry) (type_number kind) ≡ Some (content_of result) }
 {
     match kind {
         ResourceReprType::Binary => Standing::Leaf(Leaf::Binary(&[])),
@@ -302,11 +333,10 @@ fn empty<'a>(kind: ResourceReprType) -> Standing<'a>
                 members: Members::Words(&[]),
             })
         }
-        ResourceReprType::StringV2 => Standing::Leaf(Leaf::Empty),
+        ResourceReprType::StringV2 | ResourceReprType::_String => Standing::Leaf(Leaf::Empty),
         ResourceReprType::Array | ResourceReprType::Array16 => Standing::List(Members::Words(&[])),
         ResourceReprType::IntVector => Standing::Leaf(Leaf::Numbers(&[])),
-        ResourceReprType::_String | ResourceReprType::_Alias | ResourceReprType::Int => {
-            unreachable!()
-        }
+        ResourceReprType::_Alias => Standing::Leaf(Leaf::Alias(&[])),
+        ResourceReprType::Int => unreachable!(),
     }
 }

@@ -16,7 +16,7 @@ pub struct Sums {
     pub entries: Option<u64>,
     /// The bytes of the entries' keys.
     pub key_bytes: Option<u64>,
-    /// The UTF-8 bytes of the strings.
+    /// The UTF-8 bytes of the strings, and of the aliases' paths.
     pub text_bytes: Option<u64>,
     /// The bytes of the binaries.
     pub binary_bytes: Option<u64>,
@@ -33,7 +33,7 @@ fn plus(sum: Option<u64>, more: usize) -> Option<u64>
 
 impl Sums {
     ghost use Rattle.std.specs.Prelude.{◌≡◌, ℕ, ◌+◌, ◌<◌, List, [], ◌∷◌, ◌++◌, length};
-    ghost use Rattle.resb_tree.specs.Tree.{Tree, string};
+    ghost use Rattle.resb_tree.specs.Tree.{Tree, string, alias};
     ghost use Rattle.resb_format.specs.Content as at;
     ghost use Rattle.resb_walk.specs.Pieces.{Piece, leaf_piece, table_piece, key_piece};
     ghost use Rattle.resb_walk.specs.Sums.{AddsUp};
@@ -53,10 +53,12 @@ impl Sums {
         }
     }
 
-    /// With a string of so many bytes.
+    /// With a string, or an alias's path, of so many bytes.
     pub fn with_text(self, len: usize) -> Sums
-        ensures { (xs : List Piece) (s : List ℕ) → AddsUp self xs → length s ≡ len
+        ensures a_string { (xs : List Piece) (s : List ℕ) → AddsUp self xs → length s ≡ len
             → AddsUp result (xs ++ leaf_piece (string s) ∷ []) }
+        ensures an_alias { (xs : List Piece) (s : List ℕ) → AddsUp self xs → length s ≡ len
+            → AddsUp result (xs ++ leaf_piece (alias s) ∷ []) }
     {
         Sums {
             text_bytes: plus(self.text_bytes, len),
@@ -71,6 +73,7 @@ impl Sums {
     {
         match leaf {
             Leaf::Text(units) => self.with_text(text_len(units)),
+            Leaf::Alias(path) => self.with_text(text_len(path)),
             Leaf::Empty | Leaf::Integer(_) => self,
             Leaf::Binary(bytes) => Sums {
                 binary_bytes: plus(self.binary_bytes, bytes.len()),

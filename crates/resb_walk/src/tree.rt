@@ -46,6 +46,7 @@ impl<'de> Make<'de> for Resource<'de> {
         Ok(match leaf {
             Leaf::Text(bytes) => Resource::String(CowStr::Owned(text_of_units(alloc, bytes)?)),
             Leaf::Empty => Resource::String(CowStr::Borrowed("")),
+            Leaf::Alias(bytes) => Resource::Alias(CowStr::Owned(text_of_units(alloc, bytes)?)),
             Leaf::Binary(bytes) => Resource::Binary(CowSlice::Borrowed(bytes)),
             Leaf::Integer(number) => Resource::Integer(Int28::from(number)),
             Leaf::Numbers(bytes) => Resource::IntVector(numbers(alloc, bytes)?),

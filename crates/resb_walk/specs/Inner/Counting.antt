@@ -8,12 +8,13 @@ use Rattle.std.specs.Prelude.{None}
 use Rattle.std.specs.Prelude.{Option, Result, Ok, Err}
 use Rattle.resb_tree.specs.Tree.{Tree}
 use Rattle.resb_format.specs.Content.{Member, word, leaf, list, entry_list, content_at}
+use Rattle.resb_format.specs.Content.{counted_text}
 use Rattle.resb_format.specs.Denotes.{Den, DenMember, Reaches, ReachesMember}
 use Rattle.resb_format.specs.Error.{IsWantOfMemory}
 use Rattle.resb_format.specs.Parts.{Parts}
 use Rattle.resb_format.specs.declared.error.ReadingError.{ReadingError}
 use Rattle.resb_format.specs.Lookups.{text_in, key_in}
-use Rattle.resb_walk.specs.BlockRefusals.{Says, text_refusal_in, key_refusal_in}
+use Rattle.resb_walk.specs.BlockRefusals.{Says, text_refusal_in, key_refusal_in, counted_refusal}
 use Rattle.resb_walk.specs.Inner.Frames.{OpenedList, OpenedTable, ListWaits, TableWaits}
 use Rattle.resb_walk.specs.Inner.MemberContent.{member_content, content_refusal}
 use Rattle.resb_walk.specs.Inner.Members.{member_of, members_of, keyed_members, rest_length}
@@ -42,6 +43,12 @@ abbrev pub LooksText : {A : Type 0} → Parts → ℕ → Result A ReadingError 
 LooksText p u (Ok _) = (text : List ℕ) × (text_in p u ≡ Some text)
 LooksText p u (Err e) =
     IsWantOfMemory e ⊎ ((text_in p u ≡ None) × IsFault e × Says (text_refusal_in p u) e)
+
+-- some text stands in the body behind its count, or the fault of it is said
+abbrev pub LooksCounted : {A : Type 0} → Parts → ℕ → Result A ReadingError → Type 0
+LooksCounted p v (Ok _) = (text : List ℕ) × (counted_text p v ≡ Some text)
+LooksCounted p v (Err e) =
+    IsWantOfMemory e ⊎ ((counted_text p v ≡ None) × IsFault e × Says (counted_refusal p v) e)
 
 -- the collection waits, by its word and by how many members are still to come
 abbrev pub KeepsOuter : Inner → Outer → Type 0

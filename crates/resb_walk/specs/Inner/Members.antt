@@ -2,11 +2,12 @@
 use Rattle.std.specs.Prelude.{ℕ, ◌%◌, ◌^◌, List, [], map, length, encode_utf8_all}
 use Rattle.std.specs.List.{zip}
 use Rattle.std.specs.Char.Utf16.{utf16_lossy_chars}
-use Rattle.resb_tree.specs.Tree.{Tree, string, binary, integer, int_vector}
+use Rattle.resb_tree.specs.Tree.{Tree, string, alias, binary, integer, int_vector}
 use Rattle.resb_format.specs.Bytes.{units_of, words_of}
 use Rattle.resb_format.specs.Content as at
 use Rattle.resb_walk.specs.declared.members.Leaf.{Leaf}
-use Rattle.resb_walk.specs.declared.members.Leaf.TheVariants.{Text, Empty, Binary, Integer, Numbers}
+use Rattle.resb_walk.specs.declared.members.Leaf.TheVariants.{Text, Empty, Alias, Binary, Integer}
+use Rattle.resb_walk.specs.declared.members.Leaf.TheVariants.{Numbers}
 use Rattle.resb_walk.specs.declared.members.Member.{Member}
 use Rattle.resb_walk.specs.declared.members.Member.TheVariants as one
 use Rattle.resb_walk.specs.declared.members.Members.{Members}
@@ -30,6 +31,7 @@ leaf_tree (Binary b) = binary b.now
 leaf_tree (Integer w) = integer (w % 2 ^ 28)
 leaf_tree (Numbers b) = int_vector (words_of b.now)
 leaf_tree Empty = string []
+leaf_tree (Alias b) = alias (text_of_bytes b.now)
 
 -- a member that was read: the same word or unit
 abbrev pub member_of : Member → at.Member

@@ -27,7 +27,7 @@ returns c =
         body = i.cut j;
         keys = c.keys.ensures j;
         block = units_of (c.block.ensures j);
-        lent = c.in_ok-pool.ensures.1 j;
+        lent = Some (c.in_ok-pool.ensures.1 j);
       },
       c.word_at-root.ensures ∙ ap (λ b. get_or (words_of b) 0 0) i.cut,
     )

@@ -1,5 +1,5 @@
 -- Each refusal is that of the first check that fails.
-use Rattle.std.proofs.Common.{ℕ, List, Some, Option, ap, sym, ◌∙◌}
+use Rattle.std.proofs.Common.{ℕ, List, Option, ap, sym, ◌∙◌}
 use Rattle.std.specs.Prelude.{unwrap_or, option_map}
 use Rattle.resb_format.specs.Bytes.{units_of}
 use Rattle.resb_pool_bundle.specs.Pool.{Pool, pool_in}
@@ -12,7 +12,7 @@ returns-then-not-uses_pool c =
     let bs : List ℕ = c.args.self.index.bytes.now in
     let pool : Option Pool = option_map pool_in c.args.pool in
     let no = sym c.uses_pool.ensures ∙ c.if-not-uses_pool.true in
-    (unused_holds pool bs no, sym (nothing_lent pool bs no))
+    (unused_holds pool bs no, c.none.ensures ∙ sym (nothing_lent pool bs no))
 
 pub returns-in_default : goal.returns-in_default
 returns-in_default c =
@@ -35,14 +35,14 @@ returns c =
     let bs : List ℕ = c.args.self.index.bytes.now in
     let uses = sym c.uses_pool.ensures ∙ c.if-not-uses_pool.false in
     let said = c.unwrap_or.ensures ∙ ap (λ o. unwrap_or o 0) c.checksum.ensures in
-    let pool : Option Pool = Some (pool_in c.in-Some.pool) in
+    let pool : Pool = pool_in c.in-Some.pool in
     rw c.in-Some.is (
-      right_given (pool_in c.in-Some.pool) bs uses (sym said ∙ c.if-unwrap_or-pool.false),
-      (λ j. Some (record {
+      right_given pool bs uses (sym said ∙ c.if-unwrap_or-pool.false),
+      (λ j. record {
         keys = c.in-Some.pool.keys.now;
         block = units_of c.in-Some.pool.block.now;
         limit = c.limit.ensures j;
         short_limit = c.short_limit.ensures j;
-      }))
+      })
           ∙ sym (all_lent pool bs uses),
     )

@@ -11,4 +11,4 @@ returns-in_ok-len-in-Unit-clause-looked c xs zs h adds =
     let g = subst (λ m. HoldsMember p (member_of m) xs) c.in-Unit.is h in
     let t = unit_holds p c.in-Unit.unit xs g in
     let len = rw c.index_of.ensures at (c.in_ok-len-in-Unit.ensures.len t.0) in
-    rw t.2 (refl, c.with_text.ensures zs t.0 adds (len t.1))
+    rw t.2 (refl, c.with_text.ensures.a_string zs t.0 adds (len t.1))

@@ -42,5 +42,9 @@ returns-in-Numbers c xs h =
     })
 
 pub returns-in-Text : goal.returns-in-Text
-returns-in-Text c xs h = rw c.in-Text.is (c.with_text.ensures xs
+returns-in-Text c xs h = rw c.in-Text.is (c.with_text.ensures.a_string xs
     (text_of_bytes c.in-Text.units.now) h (sym c.text_len.ensures))
+
+pub returns-in-Alias : goal.returns-in-Alias
+returns-in-Alias c xs h = rw c.in-Alias.is (c.with_text-in-Alias.ensures.an_alias xs
+    (text_of_bytes c.in-Alias.path.now) h (sym c.text_len-in-Alias.ensures))

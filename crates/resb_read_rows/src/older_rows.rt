@@ -1,0 +1,269 @@
+//! Aliases and strings of the older form: a count in the body, and behind it so many units. They
+//! are read of files beside a pool bundle or beside none, as here, and are refused where a file is
+//! read alone. The tests are in `rows`.
+use crate::answers::{line_of_refusal, line_of_tree, same};
+use crate::asks::asked;
+use crate::files::{file_of, file_of_words};
+use crate::hostile_rows::ends_of;
+use crate::measure_rows::{fit, line_of_sums};
+use crate::places::place_below;
+use resb_format::Resource;
+use resb_read::{
+    Cursor, Measured, count_resources_with_pool, from_bytes_counted_with_pool, measure_with_pool,
+    tree_from_bytes_with_pool, tree_from_bytes_within_with_pool,
+};
+use std::alloc::Global;
+use std::test::Fail;
+
+/// Files, and what is answered of each beside no pool. An alias is shown by its path behind an `@`.
+/// The unit 0 that stands behind a text in real files is looked at by nobody.
+pub(crate) const BESIDE: &str = "\
+30000009 7 8 11 11 0 0 9 aaaa0000 c 4c002f 43004f 4c0041 2f0045 650062 610074 aaaa0000 =>
+    1 @\"/LOCALE/beta\";
+30000000 7 8 9 9 0 0 9 aaaa0000 => 1 @\"\";
+30000009 7 8 a a 0 0 9 aaaa0000 0 => 1 @\"\";
+0 7 8 9 9 0 0 9 aaaa0000 => 1 \"\";
+9 7 8 a a 0 0 9 aaaa0000 0 => 1 \"\";
+9 7 8 b b 0 0 9 aaaa0000 2 620061 => 1 \"ab\";
+9 7 8 b b 0 0 9 aaaa0000 1 620061 => 1 \"a\";
+80000009 7 8 c c 0 0 9 aaaa0000 2 0 70000005 => 3 [\"\",5,];
+8000000b 7 8 e e 0 0 9 aaaa0000 1 61 2 9 30000009 => 3 [\"a\",@\"a\",];
+20000014 7 b 18 18 2 0 c 68706c61 65620061 aa006174 aaaa0000 c 4c002f 43004f 4c0041 2f0045 650062
+  610074 aaaa0000 200002 aaaa0026 3000000c 70000005 =>
+    3 {alpha=@\"/LOCALE/beta\",beta=5,};
+30000009 7 8 b b 0 0 9 aaaa0000 3 620061 =>
+    Invalid resource bundle data: unexpected end of input;
+9 7 8 b b 0 0 9 aaaa0000 ffffffff 620061 =>
+    Invalid resource bundle data: unexpected end of input;
+3000000a 7 8 a a 0 0 9 aaaa0000 0 =>
+    Invalid resource bundle data: unexpected end of input;
+30000009 7 8 b b 0 0 9 aaaa0000 1 d800 =>
+    Invalid resource bundle data: string resource is not valid UTF-16;
+9 7 8 b b 0 0 9 aaaa0000 1 dc00d800 =>
+    Invalid resource bundle data: string resource is not valid UTF-16;
+9 7 8 b b 0 0 9 aaaa0000 2 dc00d800 => 1 \"\u{10000}\";
+a0000000 7 8 9 9 0 0 9 aaaa0000 =>
+    Invalid resource bundle data: unrecognized value for ResourceReprType;
+80000009 7 8 b b 0 0 9 aaaa0000 1 80000009 => Invalid resource bundle data: resource budget spent;
+";
+
+/// The same of files that are read alone.
+pub(crate) const ALONE: &str = "\
+30000009 7 8 11 11 0 0 9 aaaa0000 c 4c002f 43004f 4c0041 2f0045 650062 610074 aaaa0000 =>
+    Unsupported resource bundle format: resource type is not supported;
+30000000 7 8 9 9 0 0 9 aaaa0000 =>
+    Unsupported resource bundle format: resource type is not supported;
+0 7 8 9 9 0 0 9 aaaa0000 =>
+    Unsupported resource bundle format: resource type is not supported;
+9 7 8 b b 0 0 9 aaaa0000 2 620061 =>
+    Unsupported resource bundle format: resource type is not supported;
+80000009 7 8 c c 0 0 9 aaaa0000 2 0 70000005 =>
+    Unsupported resource bundle format: resource type is not supported;
+20000014 7 b 18 18 2 0 c 68706c61 65620061 aa006174 aaaa0000 c 4c002f 43004f 4c0041 2f0045 650062
+  610074 aaaa0000 200002 aaaa0026 3000000c 70000005 =>
+    Unsupported resource bundle format: resource type is not supported;
+30000009 7 8 b b 0 0 9 aaaa0000 3 620061 =>
+    Unsupported resource bundle format: resource type is not supported;
+";
+
+/// Files, places in them, what is left of a budget and what is asked for, and the answer, beside no
+/// pool. A string of the older form is read where strings are; an alias is a tree, and no string.
+pub(crate) const TYPES: &str = "\
+20000014 7 b 18 18 2 0 c 68706c61 65620061 aa006174 aaaa0000 c 4c002f 43004f 4c0041 2f0045 650062
+  610074 aaaa0000 200002 aaaa0026 3000000c 70000005 / root / 9 text-map =>
+    Resource did not match expected data type: expected string resource, 7 left;
+30000000 7 8 9 9 0 0 9 aaaa0000 / root / 9 text =>
+    Resource did not match expected data type: expected string resource, 8 left;
+30000000 7 8 9 9 0 0 9 aaaa0000 / root / 9 bytes =>
+    Resource did not match expected data type: expected binary data resource, 8 left;
+30000000 7 8 9 9 0 0 9 aaaa0000 / root / 9 u8 =>
+    Resource did not match expected data type: expected integer resource, 8 left;
+30000000 7 8 9 9 0 0 9 aaaa0000 / root / 9 text-list =>
+    Resource did not match expected data type: expected array resource, 8 left;
+30000000 7 8 9 9 0 0 9 aaaa0000 / root / 9 byte-map =>
+    Resource did not match expected data type: expected table resource, 8 left;
+30000000 7 8 9 9 0 0 9 aaaa0000 / root / 9 key =>
+    Unknown error: value cannot be read here, 8 left;
+30000000 7 8 9 9 0 0 9 aaaa0000 / root / 0 text =>
+    Invalid resource bundle data: resource budget spent, 0 left;
+30000000 7 8 9 9 0 0 9 aaaa0000 / root / 9 type => _Alias, 9 left;
+30000009 7 8 b b 0 0 9 aaaa0000 2 620061 / root / 9 tree => @\"ab\", 8 left;
+0 7 8 9 9 0 0 9 aaaa0000 / root / 9 text => \"\", 8 left;
+0 7 8 9 9 0 0 9 aaaa0000 / root / 9 bytes => [], 8 left;
+0 7 8 9 9 0 0 9 aaaa0000 / root / 9 type => _String, 9 left;
+9 7 8 b b 0 0 9 aaaa0000 2 620061 / root / 9 text => \"ab\", 8 left;
+9 7 8 b b 0 0 9 aaaa0000 2 620061 / root / 9 bytes => [97, 0, 98, 0], 8 left;
+9 7 8 b b 0 0 9 aaaa0000 2 620061 / root / 9 unit-view => [97, 98], 8 left;
+8000000b 7 8 e e 0 0 9 aaaa0000 1 61 2 9 0 / root / 9 text-list => [\"a\", \"\"], 6 left;
+9 7 8 b b 0 0 9 aaaa0000 1 d800 / root / 9 text =>
+    Invalid resource bundle data: string resource is not valid UTF-16, 8 left;
+9 7 8 b b 0 0 9 aaaa0000 1 d800 / root / 9 bytes => [0, 216], 8 left;
+9 7 8 b b 0 0 9 aaaa0000 3 620061 / root / 9 text =>
+    Invalid resource bundle data: unexpected end of input, 8 left;
+9 7 8 b b 0 0 9 aaaa0000 3 620061 / root / 9 bytes =>
+    Invalid resource bundle data: unexpected end of input, 8 left;
+";
+
+/// Files, and what they add up to beside no pool: as in `measure_rows`. The bytes of a path are 3
+/// each.
+pub(crate) const MEASURES: &str = "\
+30000009 7 8 11 11 0 0 9 aaaa0000 c 4c002f 43004f 4c0041 2f0045 650062 610074 aaaa0000 =>
+    1: 0, 0, 0, 12, 0, 0; 108 bytes;
+8000000b 7 8 e e 0 0 9 aaaa0000 1 20ac 2 9 0 => 3: 0, 0, 0, 3, 0, 0; 225 bytes;
+20000014 7 b 18 18 2 0 c 68706c61 65620061 aa006174 aaaa0000 c 4c002f 43004f 4c0041 2f0045 650062
+  610074 aaaa0000 200002 aaaa0026 3000000c 70000005 =>
+    3: 1, 2, 9, 12, 0, 0; 1660 bytes;
+9 7 8 b b 0 0 9 aaaa0000 3 620061 => Invalid resource bundle data: unexpected end of input;
+";
+
+/// Arrays whose members all lead to one text but for the last: the word of the others, how many
+/// pairs of units the text has, how many members there are, and the last one. The tree, and what it
+/// adds up to.
+pub(crate) const ONE_TEXT: &str = "\
+30000009 503 500 0 =>
+    501 [@\"\u{10002}\u{10002}\u{10002}\u{10002}\u{10002}\u{10002} and \
+    \u{10002}\u{10002}\u{10002}\",\"\",] in 1005993 bytes,
+    501: 0, 0, 0, 1003988, 0, 0; 3048036 bytes;
+9 503 1000 0 =>
+    1001 [\"\u{10002}\u{10002}\u{10002}\u{10002}\u{10002}\u{10002} and \
+    \u{10002}\u{10002}\u{10002}\",\"\",] in 2012995 bytes,
+    1001: 0, 0, 0, 2009988, 0, 0; 6102036 bytes;
+30000009 503 500 3000000a =>
+    Invalid resource bundle data: unexpected end of input,
+    Invalid resource bundle data: unexpected end of input;
+";
+
+/// The same of a text of a million units, and what the tree adds up to that nobody makes. A look at
+/// the whole text for each member would take minutes.
+pub(crate) const LONG_TEXT: &str = "\
+30000009 524288 262144 0 => 262145: 0, 0, 0, 549753716736, 0, 0; 1649280024648 bytes;
+9 524288 262144 30000000 => 262145: 0, 0, 0, 549753716736, 0, 0; 1649280024648 bytes;
+";
+
+/// The line of a file beside no pool, by `from_bytes_counted_with_pool`.
+fn line_by_counted(alloc: Global, bytes: &[u8]) -> Result<String, Fail> {
+    match from_bytes_counted_with_pool::<Resource<'_>>(alloc, bytes, None) {
+        Ok((tree, count)) => line_of_tree(alloc, count, &tree),
+        Err(error) => line_of_refusal(alloc, error),
+    }
+}
+
+/// The line of a file beside no pool, by its count and its tree.
+fn line_by_tree(alloc: Global, bytes: &[u8]) -> Result<String, Fail> {
+    match count_resources_with_pool(alloc, bytes, None) {
+        Ok(count) => {
+            let tree = tree_from_bytes_with_pool(alloc, bytes, None)?;
+            line_of_tree(alloc, count, &tree)
+        }
+        Err(error) => line_of_refusal(alloc, error),
+    }
+}
+
+/// The line of a file beside no pool, which is the same by each of the calls.
+fn line_of(alloc: Global, bytes: &[u8]) -> Result<String, Fail> {
+    same(line_by_counted(alloc, bytes)?, line_by_tree(alloc, bytes)?)
+}
+
+/// The line of a file of these words, beside no pool.
+pub(crate) fn line_beside(alloc: Global, words: &str) -> Result<String, Fail> {
+    let bytes = file_of(alloc, words)?;
+    line_of(alloc, &bytes)
+}
+
+/// The line of what is asked for at a place of a file, beside no pool.
+pub(crate) fn line_of_ask(alloc: Global, input: &str) -> Result<String, Fail> {
+    let (words, rest) = input.split_once(" / ").ok_or("a row without a place")?;
+    let (path, rest) = rest.split_once(" / ").ok_or("a row without a budget")?;
+    let (left, ask) = rest.split_once(' ').ok_or("a row that asks for nothing")?;
+    let left = left.parse::<usize>()?;
+    let bytes = file_of(alloc, words)?;
+    let (root, walk) = Cursor::root_with_pool(&bytes, None)?;
+    asked(alloc, ask, place_below(root, walk, path)?, left)
+}
+
+/// The line of what was measured.
+fn line_of_measured(alloc: Global, measured: Measured) -> Result<String, Fail> {
+    let (count, sums) = (measured.resources, line_of_sums(alloc, measured.sums)?);
+    let limit = fit(measured.tree_bytes())?;
+    Ok(format!(in alloc; "{count}: {sums}; {limit} bytes")?)
+}
+
+/// The line of what a file adds up to, beside no pool.
+fn measured_of(alloc: Global, bytes: &[u8]) -> Result<String, Fail> {
+    match measure_with_pool(alloc, bytes, None) {
+        Ok(measured) => line_of_measured(alloc, measured),
+        Err(error) => line_of_refusal(alloc, error),
+    }
+}
+
+/// Whether the tree of a file is read within just its bytes, and not within fewer.
+fn is_within(alloc: Global, bytes: &[u8]) -> Result<bool, Fail> {
+    let measured = match measure_with_pool(alloc, bytes, None) {
+        Ok(measured) => measured,
+        Err(_) => return Ok(true),
+    };
+    let limit = fit(measured.tree_bytes())?;
+    let tree = tree_from_bytes_within_with_pool(alloc, bytes, None, limit)?;
+    let line = line_of_tree(alloc, measured.resources, &tree)?;
+    let fewer = tree_from_bytes_within_with_pool(alloc, bytes, None, limit.saturating_sub(1));
+    Ok(line == line_by_tree(alloc, bytes)? && fewer.is_err())
+}
+
+/// The line of what a file of these words adds up to, beside no pool.
+pub(crate) fn line_of_measure(alloc: Global, words: &str) -> Result<String, Fail> {
+    let bytes = file_of(alloc, words)?;
+    if !is_within(alloc, &bytes)? {
+        return Err("another tree within the limit")?;
+    }
+    measured_of(alloc, &bytes)
+}
+
+/// An array of so many members: one word again and again, and a last one. A text of so many pairs
+/// of units has its count at word 9.
+fn of_one_text(
+    alloc: Global,
+    word: u32,
+    pairs: u32,
+    members: u32,
+    last: u32,
+) -> Result<Vec<u8>, Fail> {
+    let place = pairs.saturating_add(10);
+    let root = place.saturating_add(0x8000_0000);
+    let end = members.saturating_add(place).saturating_add(1);
+    let count = pairs.saturating_mul(2);
+    let mut words = Vec::from_slice(alloc, &[root, 7, 8, end, end, 0, 0, 9, 0xaaaa_0000, count])?;
+    for _ in 0..pairs {
+        words.push(0xdc02_d800)?;
+    }
+    words.push(members)?;
+    for _ in 1..members {
+        words.push(word)?;
+    }
+    words.push(last)?;
+    file_of_words(alloc, &words)
+}
+
+/// The file of a row that says word, pairs, members and the last one.
+fn file_of_one_text(alloc: Global, row: &str) -> Result<Vec<u8>, Fail> {
+    let (word, rest) = row.split_once(' ').ok_or("a row without pairs")?;
+    let (pairs, rest) = rest.split_once(' ').ok_or("a row without a count")?;
+    let (members, last) = rest.split_once(' ').ok_or("a row without a last word")?;
+    let word = u32::from_str_radix(word, 16)?;
+    let last = u32::from_str_radix(last, 16)?;
+    let (pairs, members) = (pairs.parse::<u32>()?, members.parse::<u32>()?);
+    of_one_text(alloc, word, pairs, members, last)
+}
+
+/// The line of such an array, and of what it adds up to.
+pub(crate) fn line_of_one_text(alloc: Global, row: &str) -> Result<String, Fail> {
+    let bytes = file_of_one_text(alloc, row)?;
+    let tree = ends_of(alloc, line_of(alloc, &bytes)?)?;
+    let sums = measured_of(alloc, &bytes)?;
+    Ok(format!(in alloc; "{tree},\n    {sums}")?)
+}
+
+/// The line of what such an array adds up to.
+pub(crate) fn line_of_long_text(alloc: Global, row: &str) -> Result<String, Fail> {
+    let bytes = file_of_one_text(alloc, row)?;
+    measured_of(alloc, &bytes)
+}

@@ -1,0 +1,12 @@
+use Rattle.std.proofs.Common.{◌+◌, ◌≤◌, length, arith}
+use Rattle.resb_format.specs.Bytes.{units_of}
+use Rattle.resb_format.proofs.Spelled.{units_length}
+use Rattle.resb_walk.proofs.lengths.KnownWidths.units_len.Goals as goal
+
+pub returns : goal.returns
+returns c =
+    let block = c.args.self.now.block.now in
+    let same = c.args.self.now.of_block c.in-Some.widths c.in-Some.is in
+    let inside : c.args.from + c.args.count ≤ length (units_of block) =
+    omega (arith, units_length block) in
+    (inside, rw same at c.utf8_len.ensures)

@@ -1,0 +1,18 @@
+-- The path of an empty alias is that of no units.
+use Rattle.std.proofs.Common.{◌≡◌, [], Some, true, refl, ◌&&◌}
+use Rattle.std.proofs.lemmas.Bool.{and_parts}
+use Rattle.resb_tree.specs.Tree.{alias}
+use Rattle.resb_format.specs.Content.{leaf, empty}
+use Rattle.resb_format.specs.Parts.{Parts, parts_in, reads_older}
+use Rattle.resb_format.specs.Types as types
+use Rattle.resb_walk.proofs.Counted.{no_units_no_text}
+use Rattle.resb_walk.proofs.standing.empty.Goals as goal
+
+empty_alias : (p : Parts) → reads_older p ≡ true → empty p types.alias ≡ Some (leaf (alias []))
+empty_alias p h = rw h refl
+
+pub returns-in-_Alias : goal.returns-in-_Alias
+returns-in-_Alias c =
+    let p = parts_in c.args.file in
+    let read : (reads_older p && true) ≡ true = rw c.in-_Alias.is at c.requires.read in
+    rw (c.in-_Alias.is, no_units_no_text) (empty_alias p (and_parts (reads_older p) true read).0)

@@ -1,6 +1,8 @@
 -- A written file is read back as its tree, and so is a compiled text; a text of a bundle, in either
 -- form, is read back as that bundle; and what isn't read as a tree denotes none.
-use Rattle.std.proofs.Common.{◌⊎◌, ◌≤◌, ℕ, Result, Ok, Err, inl, inr}
+use Rattle.std.proofs.Common.{◌⊎◌, ◌≤◌, ◌<◌, ◌≡◌, ℕ, Result, Ok, Err, inl, inr, Bool, true, false}
+use Rattle.std.proofs.Common.{List, refl, sym, ap, ◌∙◌, subst, arith, ◌==◌}
+use Rattle.std.specs.Prelude.{◌/◌, ◌%◌, ◌^◌, ◌&&◌, ◌||◌, nat_le, if◌then◌else◌}
 use Rattle.std.specs.Result.{IfErr}
 use Rattle.resb_tree.specs.declared.resource.Resource.{Resource}
 use Rattle.resb_format.specs.Error.{IsWantOfMemory}
@@ -12,20 +14,73 @@ use Rattle.resb_read.specs.Resources.{CountsTree}
 use Rattle.resb_read.specs.Roots.{Whole, HoldsAt}
 use Rattle.resb_tree.specs.Tree.{Tree, tree_count}
 use Rattle.resb_format.proofs.Denoting.{unique}
+use Rattle.resb_layout.specs.Written.{Written}
+use Rattle.resb_pool_bundle.specs.Fields.{index_length, major, minor}
+use Rattle.resb_pool_bundle.specs.Laws.{IsOwnFile}
+use Rattle.resb_pool_bundle.specs.Pool.{parts_with}
+use Rattle.resb_pool_bundle.proofs.OwnFiles.{own_files_denote_the_same}
 use Rattle.resb_grammar.proofs.GrammarLaws.{one_bundle}
+use Rattle.resb_grammar.proofs.NoAlias.{bundle_none}
 use Rattle.resb_icu_grammar.proofs.Groups.{one_icu_text}
 use Rattle.resb.specs.Laws.{WrittenIsRead, CompiledIsRead, BundleTextIsRead, IcuTextIsRead}
+use Rattle.resb.specs.Laws.{WrittenIsReadWithPool, IcuCompiledIsRead}
 
 pub written_is_read : WrittenIsRead
-written_is_read bytes t f ks (Ok r) w h = (unique (parts_of bytes) h.1.root.0 w.tree.root).0
-written_is_read bytes t f ks (Err e) w (inl m) = m
-written_is_read bytes t f ks (Err e) w (inr lacks) =
-    absurd (lacks (tree_count t) (record { head = w.tree.head; root = (t, w.tree.root) })
-    w.within_budget)
+written_is_read bytes t f ks (Ok r) none w h =
+    (unique (parts_of bytes) h.1.root.0 (w.alone none).root).0
+written_is_read bytes t f ks (Err e) none w (inl m) = m
+written_is_read bytes t f ks (Err e) none w (inr lacks) =
+    let d = w.alone none in
+    absurd (lacks (tree_count t) (record { head = d.head; root = (t, d.root) }) w.within_budget)
 
 pub compiled_is_read : CompiledIsRead
 compiled_is_read text bytes c r h =
-    written_is_read bytes c.bundle.tree c.bundle.fallback c.bundle.keys r c.file h
+    let b = c.bundle in
+    let none = bundle_none text b.name b.fallback b.tree b.keys b.is in
+    written_is_read bytes b.tree b.fallback b.keys r none c.file h
+
+-- the attributes of a written file tell no pool
+no_second_bit : (b fallback : Bool)
+    → ((if b then (if fallback then 0 else 1) else 0) / 2 % 2 == 1) ≡ false
+no_second_bit true true = refl
+no_second_bit true false = refl
+no_second_bit false fallback = refl
+
+no_third_bit : (b fallback : Bool)
+    → ((if b then (if fallback then 0 else 1) else 0) / 4 % 2 == 1) ≡ false
+no_third_bit true true = refl
+no_third_bit true false = refl
+no_third_bit false fallback = refl
+
+-- a written file has nothing to do with pools
+own_file : {bytes : List ℕ} {t : Tree} {fallback : Bool} {ks : List (List ℕ)}
+    → Written bytes t fallback ks → IsOwnFile bytes
+own_file {bytes} {t} {fallback} {ks} w =
+    let has = nat_le 6 (index_length bytes) && (nat_le 2 (major bytes) || nat_le 2 (minor bytes)) in
+    let few : 7 < 2 ^ 8 = omega arith in
+    record {
+      version = w.tree.head.version;
+      few = subst (λ n. n < 2 ^ 8) (sym w.index.fields) few;
+      no_pool =
+          ap (λ a. (if has then a else 0) / 2 % 2 == 1) w.index.no_fallback
+          ∙ no_second_bit has fallback;
+      uses_none =
+          ap (λ a. (if has then a else 0) / 4 % 2 == 1) w.index.no_fallback
+          ∙ no_third_bit has fallback;
+    }
+
+pub written_is_read_with_pool : WrittenIsReadWithPool
+written_is_read_with_pool pool bytes t f ks (Ok r) w h =
+    let d = (own_files_denote_the_same pool bytes (own_file w) t (tree_count t)).0 w.tree in
+    (unique (parts_with pool bytes) h.1.root.0 d.root).0
+written_is_read_with_pool pool bytes t f ks (Err e) w (inl m) = m
+written_is_read_with_pool pool bytes t f ks (Err e) w (inr lacks) =
+    let d = (own_files_denote_the_same pool bytes (own_file w) t (tree_count t)).0 w.tree in
+    absurd (lacks (tree_count t) (record { head = d.head; root = (t, d.root) }) w.within_budget)
+
+pub icu_compiled_is_read : IcuCompiledIsRead
+icu_compiled_is_read pool text bytes c r h =
+    written_is_read_with_pool pool bytes c.bundle.tree c.bundle.fallback c.bundle.keys r c.file h
 
 -- where no tree is counted, none is denoted
 pub tree_or_none : (w : Whole)

@@ -1,12 +1,16 @@
 -- What the laws of the whole way say.
 --     ReadsRoot bytes r       what `from_bytes::<Resource>` promises of its answer
+--     ReadsRootWithPool pool bytes r      the same of `from_bytes_with_pool::<Resource>`
 --     WrittenIsRead           a file of a tree is read back as that tree, memory aside
+--     WrittenIsReadWithPool   so it is by the calls that take a pool, aliases too
 --     CompiledIsRead          a compiled text is read back as its tree, memory aside
+--     IcuCompiledIsRead       so is a compiled text of ICU's form
 --     BundleTextIsRead        a text of a bundle is read back as that bundle, memory aside
 --     IcuTextIsRead           so is a text of ICU's form
-use Rattle.std.specs.Prelude.{◌≡◌, ◌≤◌, ◌⊎◌, ℕ, Bool, List, Result, Ok, Err}
+use Rattle.std.specs.Prelude.{◌≡◌, ◌≤◌, ◌⊎◌, ℕ, Bool, false, List, Option, Result, Ok, Err}
 use Rattle.std.specs.declared.vec.Vec.{Vec}
 use Rattle.std.specs.declared.alloc.Global.{Global}
+use Rattle.resb_tree.specs.Aliases.{has_alias}
 use Rattle.resb_tree.specs.Tree.{Tree}
 use Rattle.resb_tree.specs.View.{tree_of}
 use Rattle.resb_tree.specs.Bundle.{name_of, root_of}
@@ -26,9 +30,12 @@ use Rattle.resb_head.specs.File.{budget}
 use Rattle.resb_format.specs.declared.error.ReadingError.{ReadingError}
 use Rattle.resb_read.specs.Reading.{LacksOrMemory}
 use Rattle.resb_read.specs.Resources.{ReadsTree, CountsTree}
-use Rattle.resb_read.specs.Roots.{HoldsAtRoot}
+use Rattle.resb_pool_bundle.specs.Pool.{Pool}
+use Rattle.resb_read.specs.Roots.{HoldsAt, HoldsAtRoot}
+use Rattle.resb_read.specs.WithPool.{over}
 use Rattle.resb_layout.specs.Written.{Written}
 use Rattle.resb_compile.specs.Compiling.{IsCompiled}
+use Rattle.resb_compile.specs.CompilingIcu.{IsIcuCompiled}
 
 -- what reading a file as a tree promises: a tree at the root, paid for, or memory, or no such tree
 abbrev pub ReadsRoot : List ℕ → Result Resource ReadingError → Type 0
@@ -41,19 +48,41 @@ abbrev pub IsTree : Tree → Result Resource ReadingError → Type 0
 IsTree t (Ok r) = tree_of r ≡ t
 IsTree t (Err e) = IsWantOfMemory e
 
--- what was written of a tree is read back as that tree, whoever wrote the file and in whatever
--- order its keys were listed
+-- the same of a file beside the pool bundle that is given, if one is
+abbrev pub ReadsRootWithPool : Option Pool → List ℕ → Result Resource ReadingError → Type 0
+ReadsRootWithPool pool bytes (Ok r) =
+    (n : ℕ) × HoldsAt (λ p. ReadsTree p r n) (over pool bytes) × (n ≤ budget bytes)
+ReadsRootWithPool pool bytes (Err e) =
+    LacksOrMemory (λ n. HoldsAt (λ p. CountsTree p n) (over pool bytes)) (budget bytes) e
+
+-- what was written of a tree without aliases is read back as that tree, whoever wrote the file and
+-- in whatever order its keys were listed
 abbrev pub WrittenIsRead : Type 0
 WrittenIsRead =
     (bytes : List ℕ) (t : Tree) (fallback : Bool) (ks : List (List ℕ))
     (r : Result Resource ReadingError)
-    → Written bytes t fallback ks → ReadsRoot bytes r → IsTree t r
+    → has_alias t ≡ false → Written bytes t fallback ks → ReadsRoot bytes r → IsTree t r
+
+-- what was written of any tree is read back as that tree by the calls that take a pool bundle,
+-- whether one is given or not
+abbrev pub WrittenIsReadWithPool : Type 0
+WrittenIsReadWithPool =
+    (pool : Option Pool) (bytes : List ℕ) (t : Tree) (fallback : Bool) (ks : List (List ℕ))
+    (r : Result Resource ReadingError)
+    → Written bytes t fallback ks → ReadsRootWithPool pool bytes r → IsTree t r
 
 -- whatever reads a compiled file as a tree answers the text's tree, memory aside
 abbrev pub CompiledIsRead : Type 0
 CompiledIsRead =
     (text bytes : List ℕ) (c : IsCompiled text bytes) (r : Result Resource ReadingError)
     → ReadsRoot bytes r → IsTree c.bundle.tree r
+
+-- whatever reads a compiled text of ICU's form as a tree, by the calls that take a pool bundle,
+-- answers the text's tree, memory aside
+abbrev pub IcuCompiledIsRead : Type 0
+IcuCompiledIsRead =
+    (pool : Option Pool) (text bytes : List ℕ) (c : IsIcuCompiled text bytes)
+    (r : Result Resource ReadingError) → ReadsRootWithPool pool bytes r → IsTree c.bundle.tree r
 
 -- what reading a text promises: a bundle that the text is, or want of memory, or it is none
 abbrev pub AnswersText : List ℕ → Result (ResourceBundle × Vec Key Global) TextParserError → Type 0

@@ -7,6 +7,7 @@ pub use Rattle.resb_tree.specs.Bundle
 pub use Rattle.resb_tree.specs.Borrowing
 pub use Rattle.resb_tree.specs.Maps
 pub use Rattle.resb_tree.specs.Keys
+pub use Rattle.resb_tree.specs.Aliases
 pub use Rattle.resb_tree.specs.Int28
 pub use Rattle.resb_tree.specs.LayingOrder
 pub use Rattle.resb_tree.specs.Laws as TreeLaws

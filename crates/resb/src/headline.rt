@@ -31,7 +31,7 @@ pub use resb_write::laws::one_file;
 // Beside one pool bundle a file denotes one tree, with one count of resources.
 pub use resb_read::laws::one_tree_of_a_file_with_pool;
 // And back again: what was written is read as the tree, what was compiled as the text's tree.
-pub use crate::laws::{compiled_is_read, written_is_read};
+pub use crate::laws::{compiled_is_read, written_is_read, written_is_read_with_pool};
 
 /// Reads a text: `Ok` only with the bundle that the text is by the grammar, and its keys. An error
 /// is want of memory, or the place where a reading of the text gets stuck with what was expected
@@ -65,7 +65,8 @@ pub fn read_text_in_turns<'a>(
 }
 
 /// Writes a bundle, with its keys in the order of a list: `Ok` only with a file that denotes the
-/// bundle's tree, within its own budget, with exactly the records that are needed. An error is want
+/// bundle's tree, for readers of aliases if it has any, within its own budget, with exactly the
+/// records that are needed. An error is want
 /// of memory, the first fault of keys or counts, or a size of 2^28 and more.
 pub fn write_bundle(
     alloc: Global,
@@ -98,8 +99,9 @@ pub fn one_tree_of_a_file()
 /// Reads the tree of a file of version 1.1 to 3.0, beside the pool bundle that is given, if one is:
 /// `Ok` only with a tree that the bytes denote there, of no more resources than the budget. An
 /// error is want of memory, or no such tree is denoted, as by a file that uses a pool bundle and is
-/// given none or another. A file of version 2.0 that has nothing to do with pool bundles is what it
-/// is alone (`laws`).
+/// given none or another. Aliases and strings of the older form are read
+/// here alone; but for them a file of version 2.0 that has nothing to do with pool bundles is what
+/// it is for `read_tree` (`laws`).
 pub fn read_tree_with_pool<'a, 'm>(
     alloc: Global,
     file: &'a [u8],

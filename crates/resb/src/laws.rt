@@ -2,6 +2,7 @@
 //! contract is the law. What a single call promises stands with that call, and the few laws that
 //! the headline needs stand beside its calls, in `headline`.
 ghost use Rattle.resb.specs.Laws.{BundleTextIsRead, IcuTextIsRead, CompiledIsRead, WrittenIsRead};
+ghost use Rattle.resb.specs.Laws.{WrittenIsReadWithPool, IcuCompiledIsRead};
 
 // Trees and integers.
 
@@ -28,6 +29,8 @@ pub use resb_text::laws::stuck_is_no_bundle;
 pub use resb_text::laws::keys_are_distinct;
 // The discovered keys hold each key of the tree.
 pub use resb_text::laws::keys_are_listed;
+// The tree of a bundle's text has no alias.
+pub use resb_grammar::laws::bundle_texts_have_no_alias;
 // What the whole reading of a text makes is one number of bytes.
 pub use resb_text::laws::one_making;
 // A bundle's text is read to its end, and its reading makes some number of bytes.
@@ -71,9 +74,11 @@ pub use resb_print::laws::printed_is_linear;
 pub use resb_head::laws::header_passes;
 // The checks of a file's head let through exactly the bundle files.
 pub use resb_head::laws::bundle_file_passes;
-// A file of version 2.0 that neither is nor uses a pool bundle has beside any the parts and the
-// refusal that it has alone.
-pub use resb_pool_bundle::laws::own_files_are_the_same;
+// A file of version 2.0 that neither is nor uses a pool bundle has beside any the refusal that it
+// has alone, and its parts, of which aliases are read; and it denotes what it does where they are.
+pub use resb_pool_bundle::laws::{own_files_are_the_same, own_files_denote_the_same};
+// What is denoted where aliases aren't read is denoted where they are.
+pub use resb_format::laws::denoted_beside_no_pool;
 // A word denotes at most one tree, with one count.
 pub use resb_format::laws::one_tree;
 // Each table of a denoted tree is a map whose keys strictly ascend.
@@ -134,6 +139,8 @@ pub use resb_layout::laws::laid_is_paid;
 pub use resb_write::laws::one_block;
 // So they stand in each written file.
 pub use resb_write::laws::written_in_order;
+// A written file denotes its tree: without aliases alone too.
+pub use resb_write::laws::written_is_denoted;
 // A bundle and a list of keys leave one file.
 pub use resb_write::laws::one_file;
 
@@ -169,9 +176,22 @@ pub fn icu_text_is_read()
     ensures { IcuTextIsRead }
 {}
 
-/// What was written of a tree is read back by `from_bytes::<Resource>` as that tree, memory aside.
+/// What was written of a tree without aliases is read back by `from_bytes::<Resource>` as that
+/// tree, memory aside.
 pub fn written_is_read()
     ensures { WrittenIsRead }
+{}
+
+/// What was written of any tree is read back by `from_bytes_with_pool::<Resource>` as that tree,
+/// memory aside.
+pub fn written_is_read_with_pool()
+    ensures { WrittenIsReadWithPool }
+{}
+
+/// A compiled text of ICU's form is read back by `from_bytes_with_pool::<Resource>` as the text's
+/// tree, memory aside.
+pub fn icu_compiled_is_read()
+    ensures { IcuCompiledIsRead }
 {}
 
 /// A compiled text is read back by `from_bytes::<Resource>` as the text's tree, memory aside.

@@ -1,7 +1,16 @@
 -- Little-endian bytes that were written, read back as words and units.
 use Rattle.std.proofs.Common.{◌≡◌, ℕ, zero, suc, ◌+◌, ◌*◌, ◌^◌, ◌<◌, List, [], ◌∷◌, ◌++◌}
-use Rattle.std.proofs.Common.{length, refl, ap, length-append, arith}
+use Rattle.std.proofs.Common.{length, refl, ap, length-append, arith, true, inl, inr, sym, subst}
 use Rattle.std.specs.Int.{to_le_bytes, w16, w32}
+use Rattle.std.specs.List.{flat_map}
+use Rattle.std.specs.Char.Escape.{encode_utf16}
+use Rattle.std.specs.Str.{chars, IsUtf8}
+use Rattle.std.proofs.Math.Utf8.{scalar, scalars, scalar_cases}
+use Rattle.std.proofs.lemmas.Bool.{and_parts, cases_lt}
+use Rattle.std.proofs.lemmas.Str.{scalars-chars}
+use Rattle.resb_format.specs.Units.{units}
+use Rattle.resb_format.proofs.TextUnits.{low_char}
+use Rattle.resb_pool.proofs.Utf16.{high_char}
 use Rattle.resb_format.specs.Bytes.{units_of, words_of}
 use Rattle.resb_layout.specs.Laid.{words}
 use Rattle.resb_format.specs.Bytes.{units_as_bytes}
@@ -70,3 +79,27 @@ units_behind (suc at) (a ∷ b ∷ front) rest e =
     ap (λ us. (a + 256 * b) ∷ us) (units_behind at front rest (omega (arith, e)))
 units_behind (suc at) [] rest e = absurd (omega (arith, e))
 units_behind (suc at) (a ∷ []) rest e = absurd (omega (arith, e))
+
+below_both : (n : ℕ) (xs ys : List ℕ) → EachBelow n xs → EachBelow n ys → EachBelow n (xs ++ ys)
+below_both n [] ys h k = k
+below_both n (x ∷ xs) ys h k = (h.0, below_both n xs ys h.1 k)
+
+char_small : (c : ℕ) → scalar c ≡ true → EachBelow (2 ^ 16) (encode_utf16 c)
+char_small c s = elim (cases_lt c 0x1_0000) [
+  | inl h ↦ subst (EachBelow (2 ^ 16)) (sym (low_char c h)) (omega arith, tt)
+  | inr h ↦ subst (EachBelow (2 ^ 16)) (sym (high_char c h)) (elim (scalar_cases c s) [
+    | inl l ↦ absurd (omega arith)
+    | inr l ↦ (omega arith, (omega arith, tt))
+  ])
+]
+
+chars_small : (cs : List ℕ) → scalars cs ≡ true → EachBelow (2 ^ 16) (flat_map encode_utf16 cs)
+chars_small [] s = tt
+chars_small (c ∷ cs) s =
+    let both = and_parts (scalar c) (scalars cs) s in
+    below_both (2 ^ 16) (encode_utf16 c) (flat_map encode_utf16 cs) (char_small c both.0)
+    (chars_small cs both.1)
+
+-- the units of a text are numbers of 16 bits
+pub units_small : (s : List ℕ) → IsUtf8 s → EachBelow (2 ^ 16) (units s)
+units_small s u = chars_small (chars s) (scalars-chars s u)

@@ -9,22 +9,26 @@ use Rattle.std.specs.List.{zip}
 use Rattle.std.proofs.lemmas.Bool.{le-leb, ne_eqb}
 use Rattle.std.proofs.lemmas.Bool.Decides.{nat_tests}
 use Rattle.std.proofs.lemmas.List.{take_at, drop_at}
-use Rattle.resb_tree.specs.Tree.{binary, integer, int_vector}
+use Rattle.std.specs.Str.{IsUtf8}
+use Rattle.resb_tree.specs.Tree.{alias, binary, integer, int_vector}
 use Rattle.resb_format.specs.Bytes.{units_of, words_of, part}
-use Rattle.resb_format.specs.Parts.{Parts}
+use Rattle.resb_format.specs.Parts.{Parts, reads_older}
 use Rattle.resb_format.specs.Content.{word, unit, leaf, list, entry_list, behind_count}
 use Rattle.resb_format.specs.Content.{content_at, placed, empty, paired, words_at, offsets_at}
 use Rattle.resb_format.specs.Content.{binary_at, int_vector_at, array_at, array16_at, table_at}
-use Rattle.resb_format.specs.Content.{table16_at, table32_at}
+use Rattle.resb_format.specs.Content.{table16_at, table32_at, counted_text}
+use Rattle.resb_format.specs.Strings.{text_of_units}
+use Rattle.resb_format.specs.Units.{units}
 use Rattle.resb_format.proofs.Spelled.{words_length, units_length}
 use Rattle.resb_layout.specs.Laid.{Given, Laid, here, more_units, more_bytes, words, fill}
 use Rattle.resb_format.specs.Bytes.{units_as_bytes}
 use Rattle.resb_layout.specs.Laid.{to_data, to_word, pad, binary_body, words_body, near_table_body}
-use Rattle.resb_layout.specs.Laid.{wide_table_body}
+use Rattle.resb_layout.specs.Laid.{wide_table_body, path_body}
 use Rattle.resb_layout.specs.Laws.{StandsIn}
 use Rattle.resb_layout.proofs.BytesLemmas.{EachBelow, written_word_read, unit_read, words_read}
 use Rattle.resb_layout.proofs.BytesLemmas.{halves_read}
-use Rattle.resb_layout.proofs.BytesLemmas.{halves_len, words_behind, units_behind}
+use Rattle.resb_layout.proofs.BytesLemmas.{halves_len, words_behind, units_behind, units_small}
+use Rattle.resb_pool.proofs.Utf16.{text_of_units-units}
 
 -- a part that stands between two others
 pub part_found : (xs front ys back : List ℕ) (at n : ℕ) → xs ≡ front ++ (ys ++ back)
@@ -89,10 +93,10 @@ content_placed p type value t s h l =
     let f : w % 2 ^ 28 ≡ value = omega arith in
     let z : (value == 0) ≡ false = ne_eqb value 0 (λ (q : value ≡ 0). omega (arith, q)) in
     (λ i. cond (e i == 7) (Some (leaf (integer (f i))))
-    (cond (f i == 0) (empty (e i)) (placed p (e i) (f i))))
+    (cond (f i == 0) (empty p (e i)) (placed p (e i) (f i))))
     ∙ ap (λ c. cond c (Some (leaf (integer value)))
-    (cond (value == 0) (empty type) (placed p type value))) s
-    ∙ ap (λ c. cond c (empty type) (placed p type value)) z
+    (cond (value == 0) (empty p type) (placed p type value))) s
+    ∙ ap (λ c. cond c (empty p type) (placed p type value)) z
 
 -- the bytes before a body, and it and what follows
 module _ (p : Parts) (g : Given) (s : Laid) (body : List ℕ)
@@ -339,6 +343,65 @@ module _ (p : Parts) (g : Given) (s : Laid) (bytes : List ℕ) (at : ℕ) (e : h
       ∙ ap (option_map (λ b. leaf (binary b))) (part_found p.body _ bytes _ (4 * at
       + 4) (length bytes) data_is l refl)
 
+-- u32 n, n units
+module _ (p : Parts) (g : Given) (s : Laid) (path : List ℕ) (at : ℕ) (e : here g s
+    ≡ 4 * at) (text : IsUtf8 path) (few : length (units path) < 2 ^ 32)
+    (stands : StandsIn p g (more_bytes s (path_body (units path)))) where
+  abbrev us : List ℕ
+  us = units path
+
+  -- what stands behind the units
+  abbrev behind_path : List ℕ
+  behind_path = (0 ∷ 0 ∷ pad (length us)) ++ stands.bytes_behind
+
+  body_split : path_body us ++ stands.bytes_behind
+      ≡ to_le_bytes w32 (length us) ++ (units_as_bytes us ++ behind_path)
+  body_split =
+      append_assoc (to_le_bytes w32 (length us)) (units_as_bytes us
+      ++ 0 ∷ 0 ∷ pad (length us)) stands.bytes_behind
+      ∙ ap (λ l. to_le_bytes w32 (length us) ++ l)
+      (append_assoc (units_as_bytes us) (0 ∷ 0 ∷ pad (length us)) stands.bytes_behind)
+
+  path_words : words_of p.body ≡ words_of (before p g s (path_body us) stands)
+      ++ length us ∷ words_of (units_as_bytes us ++ behind_path)
+  path_words =
+      words_are p g s (path_body us) stands at e
+      ∙ ap (λ l. words_of (before p g s (path_body us) stands) ++ l) (
+      ap words_of body_split ∙ written_word_read (length us) (units_as_bytes us ++ behind_path) few
+      )
+
+  -- the bytes before the units
+  abbrev ahead_of_path : List ℕ
+  ahead_of_path = before p g s (path_body us) stands ++ to_le_bytes w32 (length us)
+
+  ahead_of_path_len : length ahead_of_path ≡ 2 * (2 * at + 2)
+  ahead_of_path_len = omega (
+    arith,
+    e,
+    before_len p g s (path_body us) stands,
+    length-append (before p g s (path_body us) stands) (to_le_bytes w32 (length us)),
+  )
+
+  path_units : units_of p.body ≡ units_of ahead_of_path ++ (us ++ units_of behind_path)
+  path_units =
+      ap units_of (body_is p g s (path_body us) stands
+      ∙ ap (λ l. before p g s (path_body us) stands ++ l) body_split
+      ∙ sym (append_assoc (before p g s (path_body us) stands) (to_le_bytes w32 (length us))
+      (units_as_bytes us ++ behind_path)))
+      ∙ units_behind (2 * at + 2) ahead_of_path (units_as_bytes us ++ behind_path) ahead_of_path_len
+      ∙ ap (λ l. units_of ahead_of_path ++ l) (halves_read us behind_path (units_small path text))
+
+  pub path_found : counted_text p at ≡ Some path
+  path_found =
+      let l : 2 * at + 2 ≡ length (units_of ahead_of_path) =
+      omega (arith, units_length ahead_of_path, ahead_of_path_len) in
+      counted_found (words_of p.body) _ (length us) _ at
+      (λ n. option_and_then text_of_units (part (units_of p.body) (2 * at + 2) n)) path_words
+      (front_words p g s (path_body us) stands at e)
+      ∙ ap (option_and_then text_of_units) (part_found (units_of p.body) _ us _ (2 * at + 2)
+      (length us) path_units l refl)
+      ∙ text_of_units-units path text
+
 -- unit n, n offsets
 module _ (p : Parts) (g : Given) (s : Laid) (os : List ℕ)
     (stands : StandsIn p g (more_units s (length os ∷ os))) where
@@ -392,6 +455,11 @@ word_of_table16 p at h l = content_placed p 5 at (omega arith) refl h l
 pub word_of_table32 : (p : Parts) (at : ℕ) → 0 < at → at < 2 ^ 28
     → content_at p (0x4000_0000 + at) ≡ table32_at p at
 word_of_table32 p at h l = content_placed p 4 at (omega arith) refl h l
+
+pub word_of_alias : (p : Parts) (at : ℕ) → reads_older p ≡ true → 0 < at → at < 2 ^ 28
+    → content_at p (0x3000_0000 + at) ≡ option_map (λ s. leaf (alias s)) (counted_text p at)
+word_of_alias p at reads h l = content_placed p 3 at (omega arith) refl h l
+    ∙ ap (λ c. cond c (option_map (λ s. leaf (alias s)) (counted_text p at)) None) reads
 
 pub word_of_binary : (p : Parts) (at : ℕ) → 0 < at → at < 2 ^ 28
     → content_at p (0x1000_0000 + at) ≡ binary_at p at

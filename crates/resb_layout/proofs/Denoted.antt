@@ -2,17 +2,19 @@
 use Rattle.std.proofs.Common.{zero, suc, ◌≡◌, ℕ, ◌+◌, ◌-◌, ◌*◌, ◌/◌, ◌%◌, ◌^◌, ◌<◌, ◌≤◌, List, []}
 use Rattle.std.proofs.Common.{◌∷◌, ◌++◌, length, map, Some, true, false, cond}
 use Rattle.std.proofs.Common.{◌==◌, option_map, nat_le, refl, sym, ◌∙◌, ap, subst, arith}
+use Rattle.std.proofs.Common.{◌⊎◌, inl, inr, ◌||◌, None}
 use Rattle.std.specs.Prelude.{All}
 use Rattle.std.specs.List.{zip, list_all}
 use Rattle.std.specs.List.Sorted.{IsStrictlySortedBy}
-use Rattle.std.proofs.lemmas.Bool.{and_parts, leb-true, ne_eqb}
+use Rattle.std.proofs.lemmas.Bool.{and_parts, or_parts, leb-true, ne_eqb}
 use Rattle.std.proofs.lemmas.List.{length-map}
-use Rattle.resb_tree.specs.Tree.{Tree, string, array, table, binary, integer, int_vector, Trees}
-use Rattle.resb_tree.specs.Tree.{no_trees, more_trees, Entries, no_entries, entry, trees_of}
+use Rattle.resb_tree.specs.Aliases.{has_alias, has_alias_in, has_alias_of}
+use Rattle.resb_tree.specs.Tree.{Tree, string, alias, array, table, binary, integer, int_vector}
+use Rattle.resb_tree.specs.Tree.{Trees, no_trees, more_trees, Entries, no_entries, entry, trees_of}
 use Rattle.resb_tree.specs.Tree.{map_of, tree_count, trees_count, entries_count}
 use Rattle.resb_tree.specs.Maps.{keyed_trees}
 use Rattle.resb_format.specs.Lookups.{key_in, text_in}
-use Rattle.resb_format.specs.Parts.{Parts}
+use Rattle.resb_format.specs.Parts.{Parts, reads_older}
 use Rattle.resb_format.specs.Content.{Member, word, unit, leaf, list, entry_list, content_at}
 use Rattle.resb_format.specs.Content.{placed, empty}
 use Rattle.resb_format.specs.Denotes.{Den, den_leaf, den_list, den_entries, DenMember, den_word}
@@ -20,20 +22,20 @@ use Rattle.resb_format.specs.Denotes.{den_unit, DenEach, each_none as none_denot
 use Rattle.resb_format.specs.Denotes.{each_more as more_denoted, DenEntries, entries_none}
 use Rattle.resb_format.specs.Denotes.{entries_more}
 use Rattle.resb_layout.specs.Laid.{Given, Laid, here, more_units, to_data, words_body}
-use Rattle.resb_layout.specs.Laid.{near_table_body}
-use Rattle.resb_layout.specs.Laid.{wide_table_body, is_short_string}
-use Rattle.resb_layout.specs.Laid.{offsets_in, ClosesArray, short_array, long_array, ClosesTable}
-use Rattle.resb_layout.specs.Laid.{short_table, long_table, wide_table, entry_trees}
+use Rattle.resb_layout.specs.Laid.{near_table_body, wide_table_body, is_short_string, offsets_in}
+use Rattle.resb_layout.specs.Laid.{ClosesArray, short_array, long_array, ClosesTable, short_table}
+use Rattle.resb_layout.specs.Laid.{long_table, wide_table, entry_trees, ArePlaced, Lays}
+use Rattle.resb_layout.specs.Laid.{lays_integer, lays_string, lays_no_path, lays_path}
+use Rattle.resb_layout.specs.Laid.{lays_no_bytes, lays_bytes, lays_no_numbers, lays_numbers}
+use Rattle.resb_layout.specs.Laid.{lays_no_members, lays_members, lays_no_entries, lays_entries}
+use Rattle.resb_layout.specs.Laid.{LaysEach, each_none, each_more}
 use Rattle.resb_tree.specs.LayingOrder.{entry_keys}
-use Rattle.resb_layout.specs.Laid.{ArePlaced, Lays, lays_integer, lays_string, lays_no_bytes}
-use Rattle.resb_layout.specs.Laid.{lays_bytes, lays_no_numbers, lays_numbers, lays_no_members}
-use Rattle.resb_layout.specs.Laid.{lays_members, lays_no_entries, lays_entries, LaysEach, each_none}
-use Rattle.resb_layout.specs.Laid.{each_more}
-use Rattle.resb_layout.specs.Laws.{IsRead, StandsIn, LaidIsDenoted}
+use Rattle.resb_layout.specs.Laws.{IsRead, StandsIn, ReadsAliasesOf, LaidIsDenoted}
 use Rattle.resb_layout.proofs.BytesLemmas.{EachBelow}
 use Rattle.resb_layout.proofs.Grows.{grows, grows_each, by_bytes, parts_stood, units_stay}
 use Rattle.resb_layout.proofs.Contents.{array_found, vector_found, wide_found, table_found}
-use Rattle.resb_layout.proofs.Contents.{binary_found, array16_found, table16_found, word_of_array}
+use Rattle.resb_layout.proofs.Contents.{binary_found, array16_found, table16_found, path_found}
+use Rattle.resb_layout.proofs.Contents.{word_of_array, word_of_alias}
 use Rattle.resb_layout.proofs.Contents.{word_of_array16, word_of_table, word_of_table16}
 use Rattle.resb_layout.proofs.Contents.{word_of_table32, word_of_binary, word_of_vector}
 use Rattle.resb_tree.proofs.MapsLemmas.{map_of-keyed_trees}
@@ -76,6 +78,8 @@ table_word (wide_table at n e l q r) = (omega arith, omega arith)
 word_small : {g : Given} {s e : Laid} {t : Tree} {w : ℕ} → Lays g s t e w → w < 2 ^ 32
 word_small (lays_integer h) = omega arith
 word_small (lays_string h l) = omega arith
+word_small lays_no_path = omega arith
+word_small (lays_path at some u n e l) = omega arith
 word_small lays_no_bytes = omega arith
 word_small (lays_bytes at some n e l) = omega arith
 word_small lays_no_numbers = omega arith
@@ -107,6 +111,8 @@ string_word : {g : Given} {s e : Laid} {t : Tree} {w : ℕ} → Lays g s t e w �
 string_word (lays_integer h) a b = absurd (omega arith)
 string_word {g = g} (lays_string {text = text} {k = k} h l) a b =
     record { text = text; is = refl; offset = some_with (g.offset text) k h }
+string_word lays_no_path a b = absurd (omega arith)
+string_word (lays_path at some u n e l) a b = absurd (omega arith)
 string_word lays_no_bytes a b = absurd (omega arith)
 string_word (lays_bytes at some n e l) a b = absurd (omega arith)
 string_word lays_no_numbers a b = absurd (omega arith)
@@ -173,6 +179,33 @@ pub members_count : (es : Entries) → trees_count (entry_trees es) ≡ entries_
 members_count no_entries = refl
 members_count (entry k t es) = ap (λ n. tree_count t + n) (members_count es)
 
+-- an alias is not among trees, or it is read
+abbrev EachReadsAliases : Parts → Trees → Type 0
+EachReadsAliases p ts = (has_alias_in ts ≡ false) ⊎ (reads_older p ≡ true)
+
+alias_read : (p : Parts) (path : List ℕ) → ReadsAliasesOf p (alias path) → reads_older p ≡ true
+alias_read p path (inl none) = absurd (let no : ⊥ = cc in no)
+alias_read p path (inr reads) = reads
+
+first_reads : (p : Parts) (t : Tree) (ts : Trees) → EachReadsAliases p (more_trees t ts)
+    → ReadsAliasesOf p t
+first_reads p t ts (inl none) = inl (or_parts (has_alias t) (has_alias_in ts) none).0
+first_reads p t ts (inr reads) = inr reads
+
+rest_reads : (p : Parts) (t : Tree) (ts : Trees) → EachReadsAliases p (more_trees t ts)
+    → EachReadsAliases p ts
+rest_reads p t ts (inl none) = inl (or_parts (has_alias t) (has_alias_in ts) none).1
+rest_reads p t ts (inr reads) = inr reads
+
+values_alias : (es : Entries) → has_alias_in (entry_trees es) ≡ has_alias_of es
+values_alias no_entries = refl
+values_alias (entry k t es) = ap (λ b. has_alias t || b) (values_alias es)
+
+values_read : (p : Parts) (es : Entries) → ReadsAliasesOf p (table es)
+    → EachReadsAliases p (entry_trees es)
+values_read p es (inl none) = inl (values_alias es ∙ none)
+values_read p es (inr reads) = inr reads
+
 module _ (p : Parts) (g : Given) (read : IsRead p g) where
   some_here : (s : Laid) (at : ℕ) → here g s ≡ 4 * at → 0 < at
   some_here s at e = omega (arith, e, read.base)
@@ -215,7 +248,11 @@ module _ (p : Parts) (g : Given) (read : IsRead p g) where
       let e : (0x7000_0000 + n) / 2 ^ 28 ≡ 7 = omega arith in
       let f : (0x7000_0000 + n) % 2 ^ 28 ≡ n = omega arith in
       λ i. cond (e i == 7) (Some (leaf (integer (f i))))
-      (cond (f i == 0) (empty (e i)) (placed p (e i) (f i)))
+      (cond (f i == 0) (empty p (e i)) (placed p (e i) (f i)))
+
+  no_path : reads_older p ≡ true → content_at p 0x3000_0000 ≡ Some (leaf (alias []))
+  unfolding content_at
+  no_path reads = ap (λ c. cond c (Some (leaf (alias []))) None) reads
 
   no_bytes : content_at p 0x1000_0000 ≡ Some (leaf (binary []))
   unfolding content_at
@@ -245,8 +282,8 @@ module _ (p : Parts) (g : Given) (read : IsRead p g) where
       let f : (0x6000_0000 + suc k) % 2 ^ 28 ≡ suc k = omega arith in
       let z : (suc k == 0) ≡ false = ne_eqb (suc k) 0 (λ (q : suc k ≡ 0). omega (arith, q)) in
       (λ i. cond (e i == 7) (Some (leaf (integer (f i))))
-      (cond (f i == 0) (empty (e i)) (placed p (e i) (f i))))
-      ∙ ap (λ c. cond c (empty 6) (placed p 6 (suc k))) z
+      (cond (f i == 0) (empty p (e i)) (placed p (e i) (f i))))
+      ∙ ap (λ c. cond c (empty p 6) (placed p 6 (suc k))) z
       ∙ ap (option_map (λ s. leaf (string s))) (read.texts text (suc k) h)
 
   array_denoted : (s : Laid) (ts : Trees) (ws : List ℕ) (e : Laid) (w : ℕ) → 0 < length s.units
@@ -302,40 +339,45 @@ module _ (p : Parts) (g : Given) (read : IsRead p g) where
       (long (parts_stood (by_bytes s (wide_table_body ps ws)) i))
 
   mutual
-    pub denoted : {s e : Laid} {t : Tree} {w : ℕ} → 0 < length s.units → Lays g s t e w
-        → StandsIn p g e → Den p w t (tree_count t)
-    denoted u (lays_integer {n = n} h) i = den_leaf (integer_word n h)
-    denoted u (lays_string {text = text} {k = k} h l) i = den_leaf (string_leaf text k h l)
-    denoted u lays_no_bytes i = den_leaf no_bytes
-    denoted u (lays_bytes {s = s'} {bytes = bytes'} at some n e l) i =
+    pub denoted : {s e : Laid} {t : Tree} {w : ℕ} → ReadsAliasesOf p t → 0 < length s.units
+        → Lays g s t e w → StandsIn p g e → Den p w t (tree_count t)
+    denoted r u (lays_integer {n = n} h) i = den_leaf (integer_word n h)
+    denoted r u (lays_string {text = text} {k = k} h l) i = den_leaf (string_leaf text k h l)
+    denoted r u lays_no_path i = den_leaf (no_path (alias_read p [] r))
+    denoted r u (lays_path {s = s'} {path = path'} at some text n e l) i =
+        den_leaf (word_of_alias p at (alias_read p path' r) (some_here s' at e) l
+        ∙ ap (option_map (λ s. leaf (alias s))) (path_found p g s' path' at e text n i))
+    denoted r u lays_no_bytes i = den_leaf no_bytes
+    denoted r u (lays_bytes {s = s'} {bytes = bytes'} at some n e l) i =
         let z : 0 < at = some_filled (here g s') (to_data_of s') at (some_base s') e in
         den_leaf (word_of_binary p at z l ∙ binary_found p g s' bytes' at e n i)
-    denoted u lays_no_numbers i = den_leaf no_numbers
-    denoted u (lays_numbers {s = s'} {ns = ns'} at some n a e l) i =
+    denoted r u lays_no_numbers i = den_leaf no_numbers
+    denoted r u (lays_numbers {s = s'} {ns = ns'} at some n a e l) i =
         den_leaf (word_of_vector p at (some_here s' at e) l
         ∙ vector_found p g s' ns' at e (each_below (2 ^ 32) ns' a) n i)
-    denoted u lays_no_members i = as_array 0x8000_0000 [] no_trees empty_array_stands none_denoted
-    denoted {e = e'} u (lays_members {s = s'} {mid = m'} {ts = ts'} {ws = ws'} {w = w'} h some
+    denoted r u lays_no_members i = as_array 0x8000_0000 [] no_trees empty_array_stands none_denoted
+    denoted {e = e'} r u (lays_members {s = s'} {mid = m'} {ts = ts'} {ws = ws'} {w = w'} h some
         c) i =
         array_denoted m' ts' ws' e' w' (units_stay (grows_each h) u) c i (words_small h)
-        (λ k. denoted_each u h k) (λ k. short_each p g read h k)
-    denoted u lays_no_entries i =
+        (λ k. denoted_each r u h k) (λ k. short_each p g read h k)
+    denoted r u lays_no_entries i =
         as_table 0x2000_0000 [] [] no_entries (none_placed g) empty_table_stands none_denoted
-    denoted {e = e'} u (lays_entries {s = s'} {mid = m'} {es = es'} {ws = ws'} {w =
+    denoted {e = e'} r u (lays_entries {s = s'} {mid = m'} {es = es'} {ws = ws'} {w =
         w'} ps q h some c) i =
         let same : length ps ≡ length ws' = sym (positions_many g (entry_keys es') ps q.positions)
         ∙ members_many es' ∙ sym (words_many h) in
         table_denoted m' es' ps ws' e' w' (units_stay (grows_each h) u) c i q same (words_small h)
-        (λ k. denoted_each u h k) (λ k. short_each p g read h k)
+        (λ k. denoted_each (values_read p es' r) u h k) (λ k. short_each p g read h k)
 
-    denoted_each : {s e : Laid} {ts : Trees} {ws : List ℕ} → 0 < length s.units
-        → LaysEach g s ts e ws → StandsIn p g e
+    denoted_each : {s e : Laid} {ts : Trees} {ws : List ℕ} → EachReadsAliases p ts
+        → 0 < length s.units → LaysEach g s ts e ws → StandsIn p g e
         → DenEach p (map word ws) (list_of ts) (trees_count ts)
-    denoted_each u each_none i = none_denoted
-    denoted_each u (each_more h k) i =
-        more_denoted (den_word (denoted u h (parts_stood (grows_each k) i)))
-        (denoted_each (units_stay (grows h) u) k i)
+    denoted_each r u each_none i = none_denoted
+    denoted_each r u (each_more {t = t'} {ts = ts'} h k) i =
+        let first = first_reads p t' ts' r in
+        more_denoted (den_word (denoted first u h (parts_stood (grows_each k) i)))
+        (denoted_each (rest_reads p t' ts' r) (units_stay (grows h) u) k i)
 
 -- a tree that is laid is what its word denotes
 pub laid_is_denoted : LaidIsDenoted
-laid_is_denoted p g before after t w read u h i = denoted p g read u h i
+laid_is_denoted p g before after t w read aliases u h i = denoted p g read aliases u h i

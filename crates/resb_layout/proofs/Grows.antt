@@ -5,9 +5,10 @@ use Rattle.resb_tree.specs.Tree.{Tree, Trees}
 use Rattle.resb_format.specs.Parts.{Parts}
 use Rattle.resb_layout.specs.Laid.{Given, Laid, more_units, more_bytes, ClosesArray, short_array}
 use Rattle.resb_layout.specs.Laid.{long_array, ClosesTable, short_table, long_table, wide_table}
-use Rattle.resb_layout.specs.Laid.{Lays, lays_integer, lays_string, lays_no_bytes, lays_bytes}
-use Rattle.resb_layout.specs.Laid.{lays_no_numbers, lays_numbers, lays_no_members, lays_members}
-use Rattle.resb_layout.specs.Laid.{lays_no_entries, lays_entries, LaysEach, each_none, each_more}
+use Rattle.resb_layout.specs.Laid.{Lays, lays_integer, lays_string, lays_no_path, lays_path}
+use Rattle.resb_layout.specs.Laid.{lays_no_bytes, lays_bytes, lays_no_numbers, lays_numbers}
+use Rattle.resb_layout.specs.Laid.{lays_no_members, lays_members, lays_no_entries, lays_entries}
+use Rattle.resb_layout.specs.Laid.{LaysEach, each_none, each_more}
 use Rattle.resb_layout.specs.Laws.{StandsIn}
 
 pub record Grows (a b : Laid) : Type 0 where
@@ -66,6 +67,8 @@ mutual
   pub grows : {g : Given} {s e : Laid} {t : Tree} {w : ℕ} → Lays g s t e w → Grows s e
   grows (lays_integer h) = grows_by_nothing _
   grows (lays_string h l) = grows_by_nothing _
+  grows lays_no_path = grows_by_nothing _
+  grows (lays_path at some u n e l) = by_bytes _ _
   grows lays_no_bytes = grows_by_nothing _
   grows (lays_bytes at some n e l) = by_bytes _ _
   grows lays_no_numbers = grows_by_nothing _

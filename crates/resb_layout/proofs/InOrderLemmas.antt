@@ -6,20 +6,23 @@ use Rattle.std.proofs.Common.{◌⊎◌, inl, inr, Bool, true, false, cond, nat_
 use Rattle.std.proofs.lemmas.Bool.{eqb-true, eqb-false}
 use Rattle.std.specs.Int.{to_le_bytes, w16, w32}
 use Rattle.std.proofs.lemmas.List.{length-replicate}
-use Rattle.resb_tree.specs.Tree.{Tree, array, table, binary, int_vector, Trees, Entries}
+use Rattle.resb_tree.specs.Tree.{Tree, alias, array, table, binary, int_vector, Trees, Entries}
 use Rattle.resb_tree.specs.Tree.{no_entries, entry}
 use Rattle.resb_tree.specs.LayingOrder.{laying_order, laying_each, laying_values}
 use Rattle.resb_format.proofs.WordsBack.{written_length}
 use Rattle.resb_layout.specs.Laid.{Given, Laid, more_units, more_bytes, here, words, pad}
 use Rattle.resb_format.specs.Bytes.{units_as_bytes}
 use Rattle.resb_layout.specs.Laid.{to_data, to_word, fill, offsets_in, words_body, near_table_body}
-use Rattle.resb_layout.specs.Laid.{wide_table_body, binary_body, entry_trees}
+use Rattle.resb_layout.specs.Laid.{wide_table_body, binary_body, path_body, entry_trees}
+use Rattle.resb_format.specs.Units.{units}
 use Rattle.resb_layout.specs.Laid.{ClosesArray, short_array, long_array, ClosesTable}
 use Rattle.resb_layout.specs.Laid.{short_table, long_table, wide_table, Lays, lays_integer}
-use Rattle.resb_layout.specs.Laid.{lays_string, lays_no_bytes, lays_bytes, lays_no_numbers}
+use Rattle.resb_layout.specs.Laid.{lays_string, lays_no_path, lays_path, lays_no_bytes}
+use Rattle.resb_layout.specs.Laid.{lays_bytes, lays_no_numbers}
 use Rattle.resb_layout.specs.Laid.{lays_numbers, lays_no_members, lays_members, lays_no_entries}
 use Rattle.resb_layout.specs.Laid.{lays_entries, LaysEach, each_none, each_more}
-use Rattle.resb_layout.specs.InOrder.{TailBody, tail_bytes, tail_numbers, tail_array, tail_table}
+use Rattle.resb_layout.specs.InOrder.{TailBody, tail_path, tail_bytes, tail_numbers, tail_array}
+use Rattle.resb_layout.specs.InOrder.{tail_table}
 use Rattle.resb_layout.specs.InOrder.{tail_wide_table, FillsTail, tail_ends, tail_without}
 use Rattle.resb_layout.specs.InOrder.{tail_with, BlockBody, block_array, block_table, FillsBlock}
 use Rattle.resb_layout.specs.InOrder.{block_ends, block_without, block_with}
@@ -174,6 +177,23 @@ near_whole at ps ws word =
       | inr p ↦ omega (arith, word, near_long ps ws, p.0, p.1)
     ]
 
+pub path_long : (us : List ℕ)
+    → length (path_body us) ≡ 6 + (2 * length us + length (pad (length us)))
+path_long us =
+    omega (
+      arith,
+      halves_len us,
+      length-append (to_le_bytes w32 (length us)) (units_as_bytes us ++ 0 ∷ 0 ∷ pad (length us)),
+      length-append (units_as_bytes us) (0 ∷ 0 ∷ pad (length us)),
+    )
+
+path_whole : (at : ℕ) (us : List ℕ) → at % 4 ≡ 0 → (at + length (path_body us)) % 4 ≡ 0
+path_whole at us word =
+    elim (pad_long (length us)) [
+      | inl p ↦ omega (arith, word, path_long us, p.0, p.1)
+      | inr p ↦ omega (arith, word, path_long us, p.0, p.1)
+    ]
+
 binary_whole : (at : ℕ) (bytes : List ℕ) → (at + length (binary_body at bytes)) % 4 ≡ 0
 binary_whole at bytes =
     let n = length bytes in
@@ -219,6 +239,10 @@ mutual
       → StandsInOrder g s e (laying_order t)
   in_order {g = g} (lays_integer {s = s'} h) word = nothing g s' _ word
   in_order {g = g} (lays_string {s = s'} h l) word = nothing g s' _ word
+  in_order {g = g} (lays_no_path {s = s'}) word = nothing g s' _ word
+  in_order {g = g} (lays_path {s = s'} {path = p'} at some u n e l) word =
+      in_tail g s' (alias p') (path_body (units p')) word (tail_path some)
+      (path_whole (here g s') (units p') word)
   in_order {g = g} (lays_no_bytes {s = s'}) word = nothing g s' _ word
   in_order {g = g} (lays_bytes {s = s'} {bytes = b'} at some n e l) word =
       in_tail g s' (binary b') (binary_body (here g s') b') word (tail_bytes some)

@@ -6,7 +6,8 @@ use Rattle.resb_layout.specs.Laid.{Given, Laid, here}
 use Rattle.resb_layout.specs.Laid.{to_data}
 use Rattle.resb_layout.specs.Laid.{ClosesArray, short_array, long_array, ClosesTable, short_table}
 use Rattle.resb_layout.specs.Laid.{long_table, wide_table, Lays}
-use Rattle.resb_layout.specs.Laid.{lays_integer, lays_string, lays_no_bytes, lays_bytes}
+use Rattle.resb_layout.specs.Laid.{lays_integer, lays_string, lays_no_path, lays_path}
+use Rattle.resb_layout.specs.Laid.{lays_no_bytes, lays_bytes}
 use Rattle.resb_layout.specs.Laid.{lays_no_numbers, lays_numbers, lays_no_members, lays_members}
 use Rattle.resb_layout.specs.Laid.{lays_no_entries, lays_entries, LaysEach, each_none, each_more}
 use Rattle.resb_layout.specs.Laws.{OneLayout}
@@ -46,6 +47,11 @@ mutual
   once (lays_integer h) (lays_integer k) = (refl, refl)
   once (lays_string {k = m} h l) (lays_string {k = n} k o) = let e : m ≡ n =
       cc in (refl, ap (λ i. 0x6000_0000 + i) e)
+  once lays_no_path lays_no_path = (refl, refl)
+  once lays_no_path (lays_path at some u n e l) = absurd (zero_not_positive some refl)
+  once (lays_path at some u n e l) lays_no_path = absurd (zero_not_positive some refl)
+  once {g = g} {s = s} (lays_path at some u n e l) (lays_path at2 some2 u2 n2 f l2) =
+      (refl, ap (λ i. 0x3000_0000 + i) (one_quarter (here g s) at at2 e f))
   once lays_no_bytes lays_no_bytes = (refl, refl)
   once lays_no_bytes (lays_bytes at some n e l) = absurd (zero_not_positive some refl)
   once (lays_bytes at some n e l) lays_no_bytes = absurd (zero_not_positive some refl)

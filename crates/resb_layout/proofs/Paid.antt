@@ -7,10 +7,12 @@ use Rattle.resb_tree.specs.Tree.{Tree, Trees, tree_count, trees_count}
 use Rattle.resb_layout.specs.Laid.{Given, Laid, more_units, more_bytes, here, words, pad}
 use Rattle.resb_format.specs.Bytes.{units_as_bytes}
 use Rattle.resb_layout.specs.Laid.{offsets_in, words_body, near_table_body, wide_table_body}
-use Rattle.resb_layout.specs.Laid.{binary_body}
+use Rattle.resb_layout.specs.Laid.{binary_body, path_body}
+use Rattle.resb_format.specs.Units.{units}
 use Rattle.resb_layout.specs.Laid.{ClosesArray, short_array, long_array, ClosesTable}
 use Rattle.resb_layout.specs.Laid.{short_table, long_table, wide_table, Lays, lays_integer}
-use Rattle.resb_layout.specs.Laid.{lays_string, lays_no_bytes, lays_bytes, lays_no_numbers}
+use Rattle.resb_layout.specs.Laid.{lays_string, lays_no_path, lays_path, lays_no_bytes}
+use Rattle.resb_layout.specs.Laid.{lays_bytes, lays_no_numbers}
 use Rattle.resb_layout.specs.Laid.{lays_numbers, lays_no_members, lays_members, lays_no_entries}
 use Rattle.resb_layout.specs.Laid.{lays_entries, LaysEach, each_none, each_more}
 use Rattle.resb_layout.specs.Laws.{taken, LaidIsPaid}
@@ -69,6 +71,9 @@ mutual
       → taken s + 2 * tree_count t ≤ taken e + 2
   paid (lays_integer h) = omega arith
   paid (lays_string h l) = omega arith
+  paid lays_no_path = omega arith
+  paid (lays_path {s = s'} {path = p'} at some u n e l) =
+      omega (arith, bytes_taken s' (path_body (units p')))
   paid lays_no_bytes = omega arith
   paid {g = g} (lays_bytes {s = s'} {bytes = b'} at some n e l) =
       omega (arith, bytes_taken s' (binary_body (here g s') b'))

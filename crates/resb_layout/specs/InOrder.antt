@@ -4,15 +4,18 @@
 --     FillsTail at ts bytes   those bodies of the trees ts that stand in the tail are these bytes
 --     BlockBody t us, FillsBlock ts us    the same of the units of the 16-bit block
 use Rattle.std.specs.Prelude.{◌≡◌, ℕ, ◌+◌, ◌%◌, ◌<◌, List, [], ◌∷◌, ◌++◌, length}
-use Rattle.resb_tree.specs.Tree.{Tree, array, table, binary, int_vector, Trees, Entries}
-use Rattle.resb_layout.specs.Laid.{binary_body, words_body, near_table_body, wide_table_body}
-use Rattle.resb_layout.specs.Laid.{offsets_in}
+use Rattle.resb_tree.specs.Tree.{Tree, alias, array, table, binary, int_vector, Trees, Entries}
+use Rattle.resb_format.specs.Units.{units}
+use Rattle.resb_layout.specs.Laid.{path_body, binary_body, words_body, near_table_body}
+use Rattle.resb_layout.specs.Laid.{wide_table_body, offsets_in}
 
 -- the body of a tree in the tail; all fillings are bytes 0xaa: up to the place of a binary's bytes,
--- behind these, and behind an even number of a table's 16-bit positions
+-- behind these, and behind an even number of a table's 16-bit positions or of a path's units
 pub data TailBody : ℕ → Tree → List ℕ → Type 0 where
   tail_bytes : {at : ℕ} {bytes : List ℕ} → 0 < length bytes
       → TailBody at (binary bytes) (binary_body at bytes)
+  tail_path : {at : ℕ} {path : List ℕ} → 0 < length path
+      → TailBody at (alias path) (path_body (units path))
   tail_numbers : {at : ℕ} {ns : List ℕ} → 0 < length ns
       → TailBody at (int_vector ns) (words_body ns)
   tail_array : {at : ℕ} {ts : Trees} (ws : List ℕ) → 0 < length ws

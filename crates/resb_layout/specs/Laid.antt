@@ -10,11 +10,13 @@ use Rattle.std.specs.Prelude.{nat_le, nat_eq, if◌then◌else◌}
 use Rattle.std.specs.List.{flat_map, list_all}
 use Rattle.std.specs.List.Sorted.{IsStrictlySortedBy}
 use Rattle.std.specs.Int.{to_le_bytes, w16, w32}
-use Rattle.resb_tree.specs.Tree.{Tree, string, array, table, binary, integer, int_vector, Trees}
-use Rattle.resb_tree.specs.Tree.{no_trees, more_trees, Entries, no_entries, entry}
+use Rattle.std.specs.Str.{IsUtf8}
+use Rattle.resb_tree.specs.Tree.{Tree, string, alias, array, table, binary, integer, int_vector}
+use Rattle.resb_tree.specs.Tree.{Trees, no_trees, more_trees, Entries, no_entries, entry}
 use Rattle.resb_tree.specs.Maps.{text_cmp}
 use Rattle.resb_tree.specs.LayingOrder.{entry_keys}
 use Rattle.resb_format.specs.Bytes.{units_as_bytes}
+use Rattle.resb_format.specs.Units.{units}
 
 -- where keys and strings stand, and where the tail begins: positions of keys and that place are in
 -- bytes of the body, offsets of strings in units of the 16-bit block
@@ -67,9 +69,14 @@ binary_body at bytes =
 abbrev pub words_body : List ℕ → List ℕ
 words_body ws = to_le_bytes w32 (length ws) ++ words ws
 
--- a unit 0xaaaa behind an even number of positions, so that words follow
+-- a unit 0xaaaa where n is even, so that n units and one more end at a word
 abbrev pub pad : ℕ → List ℕ
 pad n = if nat_eq (n % 2) 0 then 0xaa ∷ 0xaa ∷ [] else []
+
+-- a path's body: a count of 32 bits, as many units of UTF-16, a unit 0, which the count leaves out,
+-- and padding, so that words follow
+abbrev pub path_body : List ℕ → List ℕ
+path_body us = to_le_bytes w32 (length us) ++ (units_as_bytes us ++ 0 ∷ 0 ∷ pad (length us))
 
 -- a table's body: a count of 16 bits, as many positions, padding, and as many descriptors
 abbrev pub near_table_body : List ℕ → List ℕ → List ℕ
@@ -129,11 +136,15 @@ pub record ArePlaced (g : Given) (ks : List (List ℕ)) (ps : List ℕ) : Type 0
 
 mutual
   -- behind what is laid, what a tree takes in the 16-bit block and in the tail, members first, and
-  -- its word: an empty collection, binary or vector is its type with value 0
+  -- its word: an empty collection, path, binary or vector is its type with value 0
   pub data Lays (g : Given) : Laid → Tree → Laid → ℕ → Type 0 where
     lays_integer : {s : Laid} {n : ℕ} → n < 2 ^ 28 → Lays g s (integer n) s (0x7000_0000 + n)
     lays_string : {s : Laid} {text : List ℕ} {k : ℕ} → g.offset text ≡ Some k → k < 2 ^ 28
         → Lays g s (string text) s (0x6000_0000 + k)
+    lays_no_path : {s : Laid} → Lays g s (alias []) s 0x3000_0000
+    lays_path : {s : Laid} {path : List ℕ} (at : ℕ) → 0 < length path → IsUtf8 path
+        → length (units path) < 2 ^ 32 → here g s ≡ 4 * at → at < 2 ^ 28
+        → Lays g s (alias path) (more_bytes s (path_body (units path))) (0x3000_0000 + at)
     lays_no_bytes : {s : Laid} → Lays g s (binary []) s 0x1000_0000
     lays_bytes : {s : Laid} {bytes : List ℕ} (at : ℕ) → 0 < length bytes → length bytes < 2 ^ 32
         → here g s + to_data (here g s) ≡ 4 * at → at < 2 ^ 28

@@ -1,13 +1,16 @@
 -- What the laws of layouts say.
 --     OneLayout               behind what is laid a tree has one end and one word
+--     ReadsAliasesOf p t      if the tree has an alias, it is read in the parts
 --     LaidIsDenoted           in a file whose blocks hold what was laid, its word denotes the tree
 --     LaidInOrder             what is laid are the bodies of the tree's resources in laying order,
 --                             without a gap
 --     LaidIsPaid              what was laid has two bytes for each resource but the root
 use Rattle.std.specs.Prelude.{◌≡◌, ℕ, ◌+◌, ◌*◌, ◌%◌, ◌<◌, ◌≤◌, List, [], ◌++◌, length, Some}
+use Rattle.std.specs.Prelude.{◌⊎◌, true, false}
 use Rattle.resb_tree.specs.Tree.{Tree, tree_count}
+use Rattle.resb_tree.specs.Aliases.{has_alias}
 use Rattle.resb_format.specs.Lookups.{text_in, key_in, index_in}
-use Rattle.resb_format.specs.Parts.{Parts}
+use Rattle.resb_format.specs.Parts.{Parts, reads_older}
 use Rattle.resb_format.specs.Denotes.{Den}
 use Rattle.resb_tree.specs.LayingOrder.{laying_order}
 use Rattle.resb_layout.specs.Laid.{Given, Laid, Lays, here}
@@ -37,12 +40,16 @@ pub record StandsIn (p : Parts) (g : Given) (s : Laid) : Type 0 where
   pub block_is : p.block ≡ s.units ++ units_behind
   pub body_is : p.body ≡ front ++ (s.tail ++ bytes_behind)
 
+-- the tree has no alias, or aliases are read in the parts
+abbrev pub ReadsAliasesOf : Parts → Tree → Type 0
+ReadsAliasesOf p t = (has_alias t ≡ false) ⊎ (reads_older p ≡ true)
+
 -- in a file that holds what was laid for a tree, its word denotes the tree, each resource counted
--- once
+-- once, if the tree has no alias or aliases are read
 abbrev pub LaidIsDenoted : Type 0
 LaidIsDenoted =
     (p : Parts) (g : Given) (before after : Laid) (t : Tree) (w : ℕ) → IsRead p g
-    → 0 < length before.units → Lays g before t after w → StandsIn p g after
+    → ReadsAliasesOf p t → 0 < length before.units → Lays g before t after w → StandsIn p g after
     → Den p w t (tree_count t)
 
 -- behind what stands before, what stands after has these bytes and units more

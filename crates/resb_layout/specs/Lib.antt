@@ -1,6 +1,7 @@
 -- The words of the contracts: how a tree is laid out in a file, what that layout promises, what a
 -- written file is, and why none is written.
 pub use Rattle.resb_tree.specs.Tree
+pub use Rattle.resb_tree.specs.Aliases
 pub use Rattle.resb_format.specs.Bytes
 pub use Rattle.resb_format.specs.Strings
 pub use Rattle.resb_format.specs.Parts

@@ -3,13 +3,14 @@
 --     plain_size t ks         of a tree, with the keys of a list
 use Rattle.std.specs.Prelude.{ℕ, ◌+◌, ◌*◌, ◌/◌, List, length}
 use Rattle.std.specs.List.{sum_by}
-use Rattle.resb_tree.specs.Tree.{Tree, string, array, table, binary, integer, int_vector}
+use Rattle.resb_tree.specs.Tree.{Tree, string, alias, array, table, binary, integer, int_vector}
 use Rattle.resb_format.specs.Units.{units}
 use Rattle.resb_tree.specs.LayingOrder.{laying_order, array_members, values_of}
 
--- a string's units, 4 for each child, half the bytes, 2 for each number
+-- a string's or a path's units, 4 for each child, half the bytes, 2 for each number
 abbrev pub held_size : Tree → ℕ
 held_size (string s) = length (units s)
+held_size (alias s) = length (units s)
 held_size (array ts) = 4 * length (array_members ts)
 held_size (table es) = 4 * length (values_of es)
 held_size (binary s) = (length s + 1) / 2

@@ -5,7 +5,8 @@ use Rattle.std.specs.Prelude.{◌≡◌, ℕ, ◌^◌, ◌≤◌, List, length, 
 use Rattle.std.specs.Prelude.{Option, Some, None, option_map, unwrap_or, if◌then◌else◌}
 use Rattle.std.specs.List.{list_any}
 use Rattle.std.specs.Option.{is_none}
-use Rattle.resb_tree.specs.Tree.{Tree, array, binary, int_vector}
+use Rattle.resb_tree.specs.Tree.{Tree, alias, array, binary, int_vector}
+use Rattle.resb_format.specs.Units.{units}
 use Rattle.resb_layout.specs.WritingFault.{WritingFault, string_too_long, unexpected, limit}
 use Rattle.resb_layout.specs.WritingFault.{out_of_memory}
 use Rattle.resb_pool.specs.Plan.{first_too_long}
@@ -34,8 +35,9 @@ key_fault us js =
     else if list_any (is_far js) us then Some (limit (codes "key position over 2147483647"))
     else None
 
--- an array, binary or vector whose count doesn't fit 32 bits
+-- an array, binary or vector, or an alias's path, whose count doesn't fit 32 bits
 abbrev pub is_over_32_bits : Tree → Bool
+is_over_32_bits (alias s) = nat_lt 4294967295 (length (units s))
 is_over_32_bits (array ts) = nat_lt 4294967295 (length (array_members ts))
 is_over_32_bits (binary bytes) = nat_lt 4294967295 (length bytes)
 is_over_32_bits (int_vector ns) = nat_lt 4294967295 (length ns)

@@ -2,9 +2,11 @@
 --     Blocks t ks             what a file of the tree t and the keys ks is made of
 --     Written bytes t f ks    the file of a bundle of t, with locale fallback or not
 use Rattle.std.specs.Prelude.{◌≡◌, ℕ, ◌+◌, ◌*◌, ◌%◌, ◌≤◌, ◌==◌, List, [], ◌∷◌, ◌++◌, length, drop}
-use Rattle.std.specs.Prelude.{Bool, Option, None, if◌then◌else◌}
+use Rattle.std.specs.Prelude.{Bool, false, Option, None, if◌then◌else◌}
 use Rattle.resb_tree.specs.Tree.{Tree, tree_count}
-use Rattle.resb_head.specs.File.{body_of, root_word, keys_end, block_end, Denotes, budget}
+use Rattle.resb_tree.specs.Aliases.{has_alias}
+use Rattle.resb_head.specs.File.{body_of, root_word, keys_end, block_end, Denotes}
+use Rattle.resb_head.specs.File.{DenotesWithAliases, budget}
 use Rattle.resb_pool.specs.Plan.{IsPlan}
 use Rattle.resb_layout.specs.Laid.{Laid, Lays}
 use Rattle.resb_format.specs.Bytes.{units_as_bytes}
@@ -47,8 +49,10 @@ block_bytes {t} {ks} b = key_block t ks ++ (units_as_bytes (even b.laid.units) +
 -- blocks
 pub record Written (bytes : List ℕ) (t : Tree) (fallback : Bool) (ks : List (List ℕ)) : Type 0 where
   pub faultless : tree_fault t ks ≡ None
-  -- it denotes the tree, and holds each of its resources once
-  pub tree : Denotes bytes t (tree_count t)
+  -- where aliases are read too, it denotes the tree, and holds each of its resources once
+  pub tree : DenotesWithAliases bytes t (tree_count t)
+  -- so it does where aliases are refused, if the tree has none
+  pub alone : has_alias t ≡ false → Denotes bytes t (tree_count t)
   pub within_budget : tree_count t ≤ budget bytes
   pub index : IndexOf bytes t fallback
   pub blocks : Blocks t ks

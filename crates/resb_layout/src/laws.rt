@@ -7,7 +7,8 @@ pub fn one_layout()
     ensures { OneLayout }
 {}
 
-/// In a file that holds what was laid out for a tree, the tree's word denotes it.
+/// In a file that holds what was laid out for a tree, the tree's word denotes it, if the tree has
+/// no alias or aliases are read.
 pub fn laid_is_denoted()
     ensures { LaidIsDenoted }
 {}

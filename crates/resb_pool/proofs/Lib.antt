@@ -1,7 +1,7 @@
 -- For crates above: those that are `pub`.
 pub mod TextLists
 pub mod Zeros
-mod Utf16
+pub mod Utf16
 pub mod TextLoops
 mod Distinct
 pub mod Sizes

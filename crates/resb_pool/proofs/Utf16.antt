@@ -18,7 +18,7 @@ use Rattle.resb_format.proofs.TextUnits.{low_char}
 use Rattle.resb_pool.proofs.Zeros.{has_zero, has_zero-append}
 use Rattle.resb_pool.proofs.Numbers.{positive_is_not_zero}
 
-high_char : (c : ℕ) → 0x1_0000 ≤ c → encode_utf16 c ≡ (0xD800 + (c - 0x1_0000) / 0x400) ∷
+pub high_char : (c : ℕ) → 0x1_0000 ≤ c → encode_utf16 c ≡ (0xD800 + (c - 0x1_0000) / 0x400) ∷
     (0xDC00 + (c - 0x1_0000) % 0x400) ∷ []
 high_char c h = grind (arith, nat_tests)
 

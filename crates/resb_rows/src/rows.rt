@@ -16,6 +16,7 @@ enum Kind {
     Strings,
     List,
     Root,
+    Entries,
     FarTable,
     KeyFault,
     Error,
@@ -33,6 +34,7 @@ fn answered(alloc: Global, kind: Kind, input: &str) -> Result<String, Fail> {
         Kind::Strings => write_rows::line_of_strings(alloc, input),
         Kind::List => write_rows::line_of_list(alloc, input),
         Kind::Root => write_rows::line_of_root(alloc, input),
+        Kind::Entries => write_rows::line_of_entries(alloc, input),
         Kind::FarTable => write_rows::line_of_far(alloc, input),
         Kind::KeyFault => write_rows::line_of_keys(alloc, input),
         Kind::Error => write_rows::line_of_error(alloc, input),
@@ -74,6 +76,7 @@ fn trees_have_their_files(rt: HostRuntime) -> Result<(), Fail> {
     assert_rows(&rt, rt.alloc(), Kind::Strings, write_rows::STRINGS)?;
     assert_rows(&rt, rt.alloc(), Kind::List, write_rows::LISTS)?;
     assert_rows(&rt, rt.alloc(), Kind::Root, write_rows::ROOTS)?;
+    assert_rows(&rt, rt.alloc(), Kind::Entries, write_rows::ALIASES)?;
     assert_rows(&rt, rt.alloc(), Kind::FarTable, write_rows::FAR_TABLES)?;
     assert_rows(&rt, rt.alloc(), Kind::KeyFault, write_rows::KEY_FAULTS)?;
     assert_rows(&rt, rt.alloc(), Kind::Error, write_rows::ERRORS)

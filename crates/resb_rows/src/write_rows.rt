@@ -158,6 +158,67 @@ pub(crate) fn line_of_root(alloc: Global, name: &str) -> Result<String, Fail> {
     told(alloc, written(alloc, root_named(alloc, name)?, &[]))
 }
 
+/// Entries of a root table, whose keys are listed in their order: an alias behind `@`, a number
+/// behind `#`, or a string; and the file. An alias is the number of its path's units, these, a unit
+/// 0, and two bytes 0xaa where a word isn't full; one with an empty path is a word alone. A path
+/// may be any text.
+pub(crate) const ALIASES: &str = "\
+alpha=@/LOCALE/beta beta=#5 =>
+    14000020070000000b000000180000001800000002000000000000000c000000616c706861006265746100aa
+    0000aaaa0c0000002f004c004f00430041004c0045002f0062006500740061000000aaaa020020002600aaaa
+    0c00003005000070;
+a=@ =>
+    0a00002007000000090000000c0000000c00000001000000000000000a0000006100aaaa0000aaaa01002000
+    00000030;
+a=@b c=x =>
+    0d0000200700000009000000110000001100000002000000000000000b00000061006300000078000000aaaa
+    0100000062000000020020002200aaaa0b00003001000060;
+a=@😀 =>
+    0d00002007000000090000000f0000000f00000001000000000000000a0000006100aaaa0000aaaa02000000
+    3dd800de0000aaaa010020000a000030;
+a=@~ =>
+    0c00002007000000090000000e0000000e00000001000000000000000a0000006100aaaa0000aaaa01000000
+    00000000010020000a000030;
+";
+
+/// What an entry has behind its key.
+fn value_of<'a>(alloc: Global, word: &str) -> Result<Resource<'a>, Fail> {
+    if let Some(path) = word.strip_prefix('@') {
+        return Ok(Resource::Alias(CowStr::Owned(text_of(alloc, path)?)));
+    }
+    match word.strip_prefix('#') {
+        Some(number) => Ok(Resource::Integer(Int28::from(number.parse::<u32>()?))),
+        None => string(alloc, word),
+    }
+}
+
+/// The table of entries.
+fn table_of_words<'k>(alloc: Global, words: &'k str) -> Result<Table<'k>, Fail> {
+    let mut table: Table = BTreeMap::new(alloc);
+    for word in words.split(' ') {
+        let (key, value) = word.split_once('=').ok_or("an entry without a value")?;
+        table.insert(Key::from(key), value_of(alloc, value)?)?;
+    }
+    Ok(table)
+}
+
+/// The keys of entries, in their order.
+fn keys_of_words<'k>(alloc: Global, words: &'k str) -> Result<Vec<Key<'k>>, Fail> {
+    let mut keys = Vec::new(alloc);
+    for word in words.split(' ') {
+        let (key, _value) = word.split_once('=').ok_or("an entry without a value")?;
+        keys.push(Key::from(key))?;
+    }
+    Ok(keys)
+}
+
+/// The line of the file of a table of entries.
+pub(crate) fn line_of_entries(alloc: Global, words: &str) -> Result<String, Fail> {
+    let keys = keys_of_words(alloc, words)?;
+    let table = table_of_words(alloc, words)?;
+    told(alloc, written(alloc, Resource::Table(table), &keys))
+}
+
 /// The word with this number behind the header.
 fn word(file: &[u8], number: usize) -> Result<u32, Fail> {
     let start = number.saturating_mul(4).saturating_add(32);

@@ -1,9 +1,10 @@
 -- What a body is depends on where the tail begins, and not on where keys and strings stand.
 use Rattle.std.proofs.Common.{◌≡◌, ℕ, List, sym, subst}
-use Rattle.resb_tree.specs.Tree.{binary, int_vector}
-use Rattle.resb_layout.specs.Laid.{Given, Laid, Lays, lays_no_bytes, lays_bytes, lays_no_numbers}
-use Rattle.resb_layout.specs.Laid.{lays_numbers, ClosesArray, short_array, long_array, ClosesTable}
-use Rattle.resb_layout.specs.Laid.{short_table, long_table, wide_table}
+use Rattle.resb_tree.specs.Tree.{alias, binary, int_vector}
+use Rattle.resb_layout.specs.Laid.{Given, Laid, Lays, lays_no_path, lays_path, lays_no_bytes}
+use Rattle.resb_layout.specs.Laid.{lays_bytes, lays_no_numbers, lays_numbers, ClosesArray}
+use Rattle.resb_layout.specs.Laid.{short_array, long_array, ClosesTable, short_table, long_table}
+use Rattle.resb_layout.specs.Laid.{wide_table}
 use Rattle.resb_write.specs.Inner.Room.{at_base}
 
 abbrev with_base : Given → ℕ → Given
@@ -20,6 +21,11 @@ module _ (g : Given) (n : ℕ) where
   table_with (short_table r m l) = short_table r m l
   table_with (long_table at r m f p) = long_table at r m f p
   table_with (wide_table at r f p q z) = wide_table at r f p q z
+
+  path_with : {s : Laid} {path : List ℕ} {e : Laid} {w : ℕ} → Lays (at_base n) s (alias path) e w
+      → Lays (with_base g n) s (alias path) e w
+  path_with lays_no_path = lays_no_path
+  path_with (lays_path at some text m f l) = lays_path at some text m f l
 
   bytes_with : {s : Laid} {bs : List ℕ} {e : Laid} {w : ℕ} → Lays (at_base n) s (binary bs) e w
       → Lays (with_base g n) s (binary bs) e w
@@ -46,6 +52,11 @@ module _ (g : Given) (n : ℕ) (e : g.base ≡ n) where
       → ClosesTable g s ps ws e w
   table_anywhere {s} {ps} {ws} {e} {w} h =
       there (λ k. ClosesTable k s ps ws e w) (table_with g n h)
+
+  pub path_anywhere : {s : Laid} {path : List ℕ} {e : Laid} {w : ℕ}
+      → Lays (at_base n) s (alias path) e w
+      → Lays g s (alias path) e w
+  path_anywhere {s} {path} {e} {w} h = there (λ k. Lays k s (alias path) e w) (path_with g n h)
 
   pub bytes_anywhere : {s : Laid} {bs : List ℕ} {e : Laid} {w : ℕ}
       → Lays (at_base n) s (binary bs) e w

@@ -6,9 +6,9 @@ use Rattle.std.proofs.Common.{arith}
 use Rattle.std.specs.Str.{IsUtf8}
 use Rattle.std.proofs.lemmas.Str.{is_utf8-from_IsUtf8}
 use Rattle.std.proofs.lemmas.List.{drop_at}
-use Rattle.resb_tree.specs.Tree.{Tree, string, array, table, binary, integer, int_vector, Trees}
-use Rattle.resb_tree.specs.Tree.{no_trees, more_trees, Entries, no_entries, entry, largest_table}
-use Rattle.resb_tree.specs.Tree.{trees_largest, entries_largest}
+use Rattle.resb_tree.specs.Tree.{Tree, string, alias, array, table, binary, integer, int_vector}
+use Rattle.resb_tree.specs.Tree.{Trees, no_trees, more_trees, Entries, no_entries, entry}
+use Rattle.resb_tree.specs.Tree.{largest_table, trees_largest, entries_largest}
 use Rattle.resb_format.specs.Strings.{key_at, before_zero, if_utf8}
 use Rattle.resb_pool.proofs.Zeros.{has_zero, before_zero-found}
 use Rattle.resb_layout.proofs.BytesLemmas.{EachBelow}
@@ -83,6 +83,7 @@ mutual
   -- the largest table of a tree is the largest in its laying order
   pub largest_laid : (t : Tree) → largest_of (laying_order t) ≡ largest_table t
   largest_laid (string s) = refl
+  largest_laid (alias s) = refl
   largest_laid (array ts) = omega (
     arith,
     largest-append (laying_each ts) (array ts ∷ []),
@@ -118,6 +119,7 @@ mutual
 -- there is a resource in the laying order of each tree
 pub laying_order_long : (t : Tree) → 0 < length (laying_order t)
 laying_order_long (string s) = omega arith
+laying_order_long (alias s) = omega arith
 laying_order_long (array ts) = omega (arith, length-append (laying_each ts) (array ts ∷ []))
 laying_order_long (table es) = omega (arith, length-append (laying_values es) (table es ∷ []))
 laying_order_long (binary s) = omega arith

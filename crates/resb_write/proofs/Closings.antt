@@ -1,20 +1,22 @@
 -- What was appended closes an array or a table, and takes no more than there is room for.
-use Rattle.std.proofs.Common.{◌≡◌, ℕ, zero, suc, ◌+◌, ◌*◌, ◌%◌, ◌^◌, ◌<◌, ◌≤◌, List, [], ◌∷◌, ◌++◌}
-use Rattle.std.proofs.Common.{length, true, false, inl, inr, refl, sym}
+use Rattle.std.proofs.Common.{◌≡◌, ℕ, zero, suc, ◌+◌, ◌*◌, ◌/◌, ◌%◌, ◌^◌, ◌<◌, ◌≤◌, List, [], ◌∷◌}
+use Rattle.std.proofs.Common.{◌++◌, length, true, false, inl, inr, refl, sym}
 use Rattle.std.proofs.Common.{◌∙◌, ap, subst, append_assoc, length-append, arith}
 use Rattle.std.specs.Int.{to_le_bytes, w16, w32}
 use Rattle.std.specs.List.{All}
-use Rattle.resb_tree.specs.Tree.{binary, int_vector}
-use Rattle.resb_layout.specs.Laid.{Lays, lays_bytes, lays_numbers, fill, to_word, to_data}
-use Rattle.resb_layout.specs.Laid.{binary_body, Given, Laid, ClosesArray, short_array, long_array}
-use Rattle.resb_layout.specs.Laid.{ClosesTable, short_table, long_table, wide_table, here, words}
-use Rattle.resb_layout.specs.Laid.{words_body, near_table_body, wide_table_body, pad}
+use Rattle.std.specs.Str.{IsUtf8}
+use Rattle.resb_tree.specs.Tree.{alias, binary, int_vector}
+use Rattle.resb_layout.specs.Laid.{Lays, lays_path, lays_bytes, lays_numbers, fill, to_word}
+use Rattle.resb_layout.specs.Laid.{to_data, binary_body, Given, Laid, ClosesArray, short_array}
+use Rattle.resb_layout.specs.Laid.{long_array, ClosesTable, short_table, long_table, wide_table}
+use Rattle.resb_layout.specs.Laid.{here, words, words_body, path_body, near_table_body}
+use Rattle.resb_layout.specs.Laid.{wide_table_body, pad, are_short, more_bytes, are_near}
+use Rattle.resb_layout.specs.Laid.{offsets_in}
 use Rattle.resb_format.specs.Bytes.{units_as_bytes}
-use Rattle.resb_layout.specs.Laid.{are_short, more_bytes}
-use Rattle.resb_layout.specs.Laid.{are_near, offsets_in}
+use Rattle.resb_format.specs.Units.{units}
 use Rattle.resb_layout.proofs.BytesLemmas.{halves_len}
 use Rattle.resb_format.proofs.WordsBack.{written_length}
-use Rattle.resb_layout.proofs.InOrderLemmas.{pad_long}
+use Rattle.resb_layout.proofs.InOrderLemmas.{pad_long, path_long}
 
 pub body_long : (ws : List ℕ) → length (words_body ws) ≡ 4 + 4 * length ws
 body_long ws = omega (
@@ -140,6 +142,23 @@ table_taken bs cs ps ws n e =
       )
     ]
 
+-- an even number of a path's units is padded
+pub path_taken : (bs cs us : List ℕ) → cs ≡ bs ++ path_body us
+    → (length cs ≤ length bs + (8 * ((length us + 3) / 4) + 32))
+    × (length cs % 4 ≡ length bs % 4)
+path_taken bs cs us e =
+    let a = length-append bs (path_body us) in
+    elim (pad_long (length us)) [
+      | inl p ↦ (
+        omega (arith, ap length e, a, path_long us, p.1),
+        omega (arith, ap length e, a, path_long us, p.0, p.1),
+      )
+      | inr p ↦ (
+        omega (arith, ap length e, a, path_long us, p.1),
+        omega (arith, ap length e, a, path_long us, p.0, p.1),
+      )
+    ]
+
 -- one byte more
 fill_more : (n : ℕ) → fill (suc n) ≡ fill n ++ 0xaa ∷ []
 fill_more zero = refl
@@ -157,6 +176,15 @@ module _ (g : Given) (s : Laid) where
       subst (λ x. Lays g s (int_vector ns) (record { units = s.units; tail = x }) w) (sym e)
       (subst (Lays g s (int_vector ns) (record { units = s.units; tail = s.tail ++ words_body ns }))
       (sym v) (lays_numbers at some many small a room))
+
+  pub path_laid : (path bs : List ℕ) (w at : ℕ) → 0 < length path → IsUtf8 path
+      → length (units path) < 2 ^ 32 → here g s ≡ 4 * at → at < 2 ^ 28
+      → bs ≡ s.tail ++ path_body (units path) → w ≡ 0x3000_0000 + at
+      → Lays g s (alias path) (record { units = s.units; tail = bs }) w
+  path_laid path bs w at some text few a room e v =
+      subst (λ x. Lays g s (alias path) (record { units = s.units; tail = x }) w) (sym e)
+      (subst (Lays g s (alias path) (more_bytes s (path_body (units path)))) (sym v)
+      (lays_path at some text few a room))
 
   pub bytes_laid : (xs bs : List ℕ) (w at : ℕ) → 0 < length xs → length xs < 2 ^ 32
       → here g s + to_data (here g s) ≡ 4 * at → at < 2 ^ 28

@@ -17,7 +17,8 @@ use Rattle.resb_tree.specs.LayingOrder.{entry_keys}
 use Rattle.resb_layout.specs.Laid.{Given, Laid, is_short_string, are_short, are_near, offsets_in}
 use Rattle.resb_layout.specs.Laid.{ClosesArray, short_array, long_array, ClosesTable, short_table}
 use Rattle.resb_layout.specs.Laid.{long_table, wide_table, Lays, lays_integer}
-use Rattle.resb_layout.specs.Laid.{lays_string, lays_no_bytes, lays_bytes, lays_no_numbers}
+use Rattle.resb_layout.specs.Laid.{lays_string, lays_no_path, lays_path, lays_no_bytes}
+use Rattle.resb_layout.specs.Laid.{lays_bytes, lays_no_numbers}
 use Rattle.resb_layout.specs.Laid.{lays_numbers, lays_no_members, lays_members, lays_no_entries}
 use Rattle.resb_layout.specs.Laid.{lays_entries, LaysEach, each_none, each_more, entry_trees}
 use Rattle.resb_write.specs.Inner.Counted.{fits_unit, is_near, are_near_strings, are_near_keys}
@@ -152,6 +153,9 @@ module _ (g : Given) where
         (leaf s t refl, above_short_strings (0x7000_0000 + n) (omega arith))
     units {s} {e} {t} (lays_string {text = x} {k = m} k l) =
         (leaf s t refl, short_offset m ∙ sym (ap fits_unit k))
+    units {s} {e} {t} lays_no_path = (leaf s t refl, refl)
+    units {s} {e} {t} (lays_path at some u n f l) =
+        (leaf s t refl, below_strings (0x3000_0000 + at) (omega (arith, l)))
     units {s} {e} {t} lays_no_bytes = (leaf s t refl, refl)
     units {s} {e} {t} (lays_bytes at some n f l) =
         (leaf s t refl, below_strings (0x1000_0000 + at) (omega (arith, l)))

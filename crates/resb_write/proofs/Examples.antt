@@ -1,16 +1,17 @@
 -- The definitions at worked examples: what they accept, and what they refuse.
 use Rattle.std.proofs.Common.{◌≡◌, ℕ, zero, suc, List, [], ◌∷◌, ◌++◌, Some, None, true, refl, sym}
-use Rattle.std.proofs.Common.{inl, inr, arith}
+use Rattle.std.proofs.Common.{inl, inr, length, arith}
 use Rattle.std.specs.Prelude.{codes, Contains}
 use Rattle.std.specs.Str.{chars}
-use Rattle.resb_tree.specs.Tree.{Tree, string, array, table, binary, integer, no_trees, more_trees}
-use Rattle.resb_tree.specs.Tree.{no_entries, entry}
-use Rattle.resb_format.specs.Units.{size}
+use Rattle.std.proofs.Math.Utf8.{encode}
+use Rattle.resb_tree.specs.Tree.{Tree, string, alias, array, table, binary, integer, no_trees}
+use Rattle.resb_tree.specs.Tree.{more_trees, no_entries, entry}
+use Rattle.resb_format.specs.Units.{units, size}
 use Rattle.resb_format.specs.Bytes.{units_of, words_of}
 use Rattle.resb_layout.specs.WritingFault.{unexpected, limit, out_of_memory, message_of}
 use Rattle.resb_pool.specs.Records.{IsRecord, IsHeldBy}
 use Rattle.resb_layout.specs.Laid.{Lays, lays_integer, lays_members, each_none, each_more}
-use Rattle.resb_layout.specs.Laid.{long_array}
+use Rattle.resb_layout.specs.Laid.{long_array, lays_path}
 use Rattle.resb_layout.specs.KeyBlock.{key_block, key_position, key_bytes, padded}
 use Rattle.resb_layout.specs.PlainSize.{plain_size}
 use Rattle.resb_layout.specs.TreeFaults.{tree_fault}
@@ -68,6 +69,19 @@ array_laid : Lays (record { position = λ k. None; offset = λ s. None; base = 3
     (record { units = 0 ∷ []; tail = 1 ∷ 0 ∷ 0 ∷ 0 ∷ 5 ∷ 0 ∷ 0 ∷ 0x70 ∷ [] }) 0x8000_0009
 array_laid = lays_members (each_more (lays_integer (omega arith)) each_none) (omega arith)
     (long_array 9 refl refl (omega arith) (omega arith))
+
+-- An alias of the path ab, from byte 36 of the body: two units, a unit 0 and padding.
+alias_laid : Lays (record { position = λ k. None; offset = λ s. None; base = 36 })
+    (record { units = 0 ∷ []; tail = [] }) (alias (97 ∷ 98 ∷ []))
+    (record {
+      units = 0 ∷ [];
+      tail = 2 ∷ 0 ∷ 0 ∷ 0 ∷ 97 ∷ 0 ∷ 98 ∷ 0 ∷ 0 ∷ 0 ∷ 0xaa ∷ 0xaa ∷ [];
+    }) 0x3000_0009
+unfolding chars encode
+alias_laid =
+    let two : length (units (97 ∷ 98 ∷ [])) ≡ 2 = refl in
+    lays_path {path = 97 ∷ 98 ∷ []} 9 (omega arith) (97 ∷ 98 ∷ [], (refl, refl))
+    (omega (arith, two)) refl (omega arith)
 
 -- The file of one entry, as ICU's rules ask for it: `b{k{v}}`.
 one_file : file_of 0x5000_0003 1 true (padded (key_bytes ((107 ∷ []) ∷ [])))

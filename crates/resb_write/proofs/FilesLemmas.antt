@@ -2,17 +2,17 @@
 use Rattle.std.proofs.Common.{◌≡◌, ℕ, ◌+◌, ◌-◌, ◌*◌, ◌%◌, ◌^◌, ◌<◌, ◌≤◌, List, [], ◌∷◌, ◌++◌}
 use Rattle.std.proofs.Common.{length, get_or, Option, Some, None, option_map, Bool, true, false}
 use Rattle.std.proofs.Common.{cond, refl, sym, ◌∙◌, ap, subst, append_assoc, append-nil}
-use Rattle.std.proofs.Common.{length-append, arith}
+use Rattle.std.proofs.Common.{length-append, inl, inr, arith}
 use Rattle.std.specs.List.{All}
 use Rattle.std.specs.Str.{IsUtf8}
 use Rattle.std.proofs.lemmas.List.{take_at}
 use Rattle.std.proofs.lemmas.List.Elements.{All-contains}
 use Rattle.std.proofs.lemmas.List.Sums.{sum_by-cons}
-use Rattle.resb_tree.specs.Tree.{Tree, string, array, table, binary, integer, int_vector, Entries}
-use Rattle.resb_tree.specs.Tree.{no_entries, entry, entries_len, tree_count}
+use Rattle.resb_tree.specs.Tree.{Tree, string, alias, array, table, binary, integer, int_vector}
+use Rattle.resb_tree.specs.Tree.{Entries, no_entries, entry, entries_len, tree_count}
 use Rattle.resb_format.specs.Strings.{text_at, key_at}
-use Rattle.resb_format.specs.Parts.{Parts}
-use Rattle.resb_head.specs.File.{root_word}
+use Rattle.resb_format.specs.Parts.{Parts, beside_no_pool}
+use Rattle.resb_head.specs.File.{root_word, parts_of}
 use Rattle.resb_format.specs.Denotes.{Den}
 use Rattle.resb_pool.specs.Plan.{IsPlan}
 use Rattle.resb_pool.proofs.IsRead.{pool_is_read}
@@ -20,7 +20,7 @@ use Rattle.resb_pool.proofs.ReadBack.{text_at-zero}
 use Rattle.resb_layout.specs.Laid.{Given, Laid, Lays, fill}
 use Rattle.resb_format.specs.Bytes.{units_as_bytes}
 use Rattle.resb_format.specs.Lookups.{key_place_by, text_place_by, index_by}
-use Rattle.resb_layout.specs.Laws.{IsRead, StandsIn}
+use Rattle.resb_layout.specs.Laws.{IsRead, StandsIn, ReadsAliasesOf}
 use Rattle.resb_layout.proofs.BytesLemmas.{EachBelow, halves_len}
 use Rattle.resb_layout.proofs.Grows.{grows}
 use Rattle.resb_layout.proofs.Denoted.{laid_is_denoted}
@@ -42,6 +42,7 @@ use Rattle.resb_write.proofs.Room.{small_sizes, used_room, length-padded}
 use Rattle.resb_write.proofs.Known.{is_used, no_nul}
 use Rattle.resb_write.proofs.Blocks.{written_key_read, even_is, even_long, each_below, below_even}
 use Rattle.resb_write.proofs.Blocks.{largest_laid}
+use Rattle.resb_write.proofs.Beside.{read_beside, stands_beside}
 use Rattle.resb_write.proofs.Heads as heads
 use Rattle.resb_write.proofs.Heads.{Whole}
 
@@ -61,6 +62,7 @@ largest_room (t ∷ ts) = omega (
   where
     by : (u : Tree) → entry_count_of u ≤ held_size u
     by (string s) = omega arith
+    by (alias s) = omega arith
     by (array us) = omega arith
     by (table es) = omega (arith, entries_values es)
     by (binary s) = omega arith
@@ -237,9 +239,18 @@ module _ (t : Tree) (ks js : List (List ℕ)) (m : Made t ks js) (largest : ℕ)
   pool_long : 0 < length m.pool
   pool_long = omega (arith, ap length pool_first.1)
 
-  den : Den parts m.root t (tree_count t)
-  den = laid_is_denoted parts given (record { units = m.pool; tail = [] }) m.laid t m.root is_read
-      pool_long m.lays stands
+  denoted_in : (p : Parts) → IsRead p given → StandsIn p given m.laid → ReadsAliasesOf p t
+      → Den p m.root t (tree_count t)
+  denoted_in p read inside aliases =
+      laid_is_denoted p given (record { units = m.pool; tail = [] }) m.laid t m.root read aliases
+      pool_long m.lays inside
+
+  -- what the root denotes in these parts, the file's root word does in those that are the same
+  at_root : (p q : Parts) → p ≡ q → Den q m.root t (tree_count t)
+      → Den p (root_word file) t (tree_count t)
+  at_root p q e d =
+      subst (λ r. Den r (root_word file) t (tree_count t)) (sym e)
+      (subst (λ w. Den q w t (tree_count t)) (sym (heads.root_is whole)) d)
 
   few : 2 * tree_count t ≤ 2 * length m.laid.units + length m.laid.tail
   few = omega (
@@ -290,8 +301,16 @@ module _ (t : Tree) (ks js : List (List ℕ)) (m : Made t ks js) (largest : ℕ)
     faultless = no_fault;
     tree = record {
       head = heads.is_bundle_file whole;
-      root = subst (λ p. Den p (root_word file) t (tree_count t)) (sym (heads.parts_are whole))
-          (subst (λ w. Den parts w t (tree_count t)) (sym (heads.root_is whole)) den);
+      root = at_root (beside_no_pool (parts_of file)) (beside_no_pool parts)
+          (ap beside_no_pool (heads.parts_are whole))
+          (denoted_in (beside_no_pool parts)
+          (read_beside parts.body parts.keys parts.block given is_read)
+          (stands_beside parts.body parts.keys parts.block given stands) (inr refl));
+    };
+    alone = λ none. record {
+      head = heads.is_bundle_file whole;
+      root = at_root (parts_of file) parts (heads.parts_are whole)
+          (denoted_in parts is_read stands (inl none));
     };
     within_budget = omega (
       arith,

@@ -8,7 +8,7 @@ use Rattle.std.proofs.Math.Bool.{or-false}
 use Rattle.std.proofs.lemmas.List.Concat.{flat_map-append}
 use Rattle.std.proofs.lemmas.List.Folds.{list_any-append}
 use Rattle.std.proofs.lemmas.List.Sums.{sum_by-append, sum_by-cons}
-use Rattle.resb_tree.specs.Tree.{Tree, string, array, table, binary, integer, int_vector}
+use Rattle.resb_tree.specs.Tree.{Tree, string, alias, array, table, binary, integer, int_vector}
 use Rattle.resb_tree.specs.Tree.{Entries, no_entries, entry, entries_len}
 use Rattle.resb_format.specs.Units.{units}
 use Rattle.resb_pool.specs.Plan.{nows, first_too_long}
@@ -161,6 +161,7 @@ sizes_split (t ∷ ts) = omega (
   where
     own : (u : Tree) → held_size u ≡ other_size u + units_in (text_in u)
     own (string s) = omega (arith, sum_by-cons (λ (r : List ℕ). length (units r)) s [])
+    own (alias s) = omega arith
     own (array us) = omega arith
     own (table es) = omega arith
     own (binary s) = omega arith

@@ -21,6 +21,7 @@ mod Room
 mod Known
 mod Heads
 mod Blocks
+mod Beside
 mod FilesLemmas
 mod Refusals
 pub mod Listed

@@ -6,8 +6,8 @@ use Rattle.std.specs.List.{Contains, list_any, flat_map}
 use Rattle.std.specs.Option.{is_none}
 use Rattle.std.specs.Cmp.Lexicographic.{bytes_decides}
 use Rattle.std.proofs.lemmas.Bool.{or_left, or_right, true≢false}
-use Rattle.resb_tree.specs.Tree.{Tree, string, array, table, binary, integer, int_vector, Trees}
-use Rattle.resb_tree.specs.Tree.{no_trees, more_trees, Entries, no_entries, entry}
+use Rattle.resb_tree.specs.Tree.{Tree, string, alias, array, table, binary, integer, int_vector}
+use Rattle.resb_tree.specs.Tree.{Trees, no_trees, more_trees, Entries, no_entries, entry}
 use Rattle.resb_tree.specs.Keys.{same_text, is_key, is_key_in, is_key_of}
 use Rattle.resb_layout.specs.WritingFault.{WritingFault, string_too_long, unexpected, limit}
 use Rattle.resb_layout.specs.WritingFault.{out_of_memory}
@@ -44,6 +44,7 @@ mutual
       (λ g. contained_own k es (subst (λ l. Contains l k) (append-nil (entry_keys es)) g))
       (Contains-append_cases (flat_map own_keys (laying_values es)) (entry_keys es ++ []) k
       (subst (λ l. Contains l k) (flat_map-append own_keys (laying_values es) (table es ∷ [])) h))
+  contained_is_key k (alias s) h = absurd (omega (arith, h.1))
   contained_is_key k (binary s) h = absurd (omega (arith, h.1))
   contained_is_key k (integer n) h = absurd (omega (arith, h.1))
   contained_is_key k (int_vector s) h = absurd (omega (arith, h.1))

@@ -7,8 +7,8 @@ use Rattle.std.specs.List.{list_all}
 use Rattle.std.proofs.Math.Seq.{drop-append_seam, take-append_seam}
 use Rattle.std.proofs.lemmas.List.{length-append, length-map, map-append, map_push}
 use Rattle.std.proofs.lemmas.List.Folds.{list_all-map}
-use Rattle.resb_tree.specs.Tree.{Tree, string, array, table, binary, integer, int_vector, Trees}
-use Rattle.resb_tree.specs.Tree.{Entries}
+use Rattle.resb_tree.specs.Tree.{Tree, string, alias, array, table, binary, integer, int_vector}
+use Rattle.resb_tree.specs.Tree.{Trees, Entries}
 use Rattle.resb_tree.specs.LayingOrder.{array_members, values_of, children, entry_keys}
 use Rattle.resb_layout.specs.Laid.{Given, are_near}
 use Rattle.resb_write.specs.Inner.Room.{GivesInTurn, most_units}
@@ -126,6 +126,7 @@ own_few g (string s) = omega arith
 own_few g (array ts) = few (are_near_strings g (array_members ts)) (length (array_members ts)) 1
     (omega arith)
 own_few g (table es) = few _ (length (values_of es)) 2 (omega arith)
+own_few g (alias s) = omega arith
 own_few g (binary s) = omega arith
 own_few g (integer n) = omega arith
 own_few g (int_vector ns) = omega arith

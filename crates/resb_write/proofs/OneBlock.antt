@@ -8,7 +8,8 @@ use Rattle.resb_layout.specs.Laid.{Given, Laid, is_short_string, are_short, are_
 use Rattle.resb_layout.specs.Laid.{ClosesArray, short_array, long_array, ClosesTable, short_table}
 use Rattle.resb_layout.specs.Laid.{long_table, wide_table, ArePlaced, Lays, lays_integer}
 use Rattle.resb_tree.specs.LayingOrder.{entry_keys}
-use Rattle.resb_layout.specs.Laid.{lays_string, lays_no_bytes, lays_bytes, lays_no_numbers}
+use Rattle.resb_layout.specs.Laid.{lays_string, lays_no_path, lays_path, lays_no_bytes}
+use Rattle.resb_layout.specs.Laid.{lays_bytes, lays_no_numbers}
 use Rattle.resb_layout.specs.Laid.{lays_numbers, lays_no_members, lays_members, lays_no_entries}
 use Rattle.resb_layout.specs.Laid.{lays_entries, LaysEach, each_none, each_more}
 use Rattle.resb_layout.proofs.Once.{none_inside}
@@ -126,6 +127,14 @@ module _ (g h : Given) (positions : g.position ≡ h.position) (offsets : g.offs
     block e (lays_integer k) (lays_integer l) = (e, same refl)
     block e (lays_string {text = x} {k = m} k l) (lays_string {k = n} o p) =
         (e, same (ap (λ i. 0x6000_0000 + i) (same_offset x m n k o)))
+    block e lays_no_path lays_no_path = (e, same refl)
+    block e lays_no_path (lays_path at some t n f l) = absurd (zero_not_positive some refl)
+    block e (lays_path at some t n f l) lays_no_path = absurd (zero_not_positive some refl)
+    block e (lays_path at some t n f l) (lays_path at2 some2 t2 n2 f2 l2) = (
+      e,
+      apart (below_strings (0x3000_0000 + at) (omega (arith, l)))
+          (below_strings (0x3000_0000 + at2) (omega (arith, l2))),
+    )
     block e lays_no_bytes lays_no_bytes = (e, same refl)
     block e lays_no_bytes (lays_bytes at some n f l) = absurd (zero_not_positive some refl)
     block e (lays_bytes at some n f l) lays_no_bytes = absurd (zero_not_positive some refl)

@@ -1,7 +1,7 @@
 -- Each resource of a tree in laying order finds its members as the last of those before it.
 use Rattle.std.proofs.Common.{List, [], ◌∷◌, ◌++◌, refl, sym, subst, append_assoc, append-nil}
-use Rattle.resb_tree.specs.Tree.{Tree, string, array, table, binary, integer, int_vector, Trees}
-use Rattle.resb_tree.specs.Tree.{no_trees, more_trees, Entries, no_entries, entry}
+use Rattle.resb_tree.specs.Tree.{Tree, string, alias, array, table, binary, integer, int_vector}
+use Rattle.resb_tree.specs.Tree.{Trees, no_trees, more_trees, Entries, no_entries, entry}
 use Rattle.resb_tree.specs.LayingOrder.{array_members, values_of, laying_order, laying_each}
 use Rattle.resb_tree.specs.LayingOrder.{laying_values}
 use Rattle.resb_write.specs.Inner.Counted.{Pending}
@@ -10,6 +10,7 @@ mutual
   pending_tree : (t : Tree) (st rest : List Tree) → Pending (st ++ t ∷ []) rest
       → Pending st (laying_order t ++ rest)
   pending_tree (string x) st rest h = (st, sym (append-nil st), h)
+  pending_tree (alias x) st rest h = (st, sym (append-nil st), h)
   pending_tree (binary x) st rest h = (st, sym (append-nil st), h)
   pending_tree (integer x) st rest h = (st, sym (append-nil st), h)
   pending_tree (int_vector x) st rest h = (st, sym (append-nil st), h)

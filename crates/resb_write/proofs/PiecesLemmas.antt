@@ -4,7 +4,7 @@ use Rattle.std.proofs.Common.{get_or, arith}
 use Rattle.std.proofs.lemmas.Bool.{and_parts, false≢true, eqb-true}
 use Rattle.std.specs.Prelude.{nat_eq}
 use Rattle.resb_tree.specs.LayingOrder.{values_of, entry_keys}
-use Rattle.resb_tree.specs.Tree.{Tree, string, array, table, binary, integer, int_vector}
+use Rattle.resb_tree.specs.Tree.{Tree, string, alias, array, table, binary, integer, int_vector}
 use Rattle.resb_draft.proofs.EntriesLemmas.{texts_sorted}
 use Rattle.resb_draft.specs.Pieces.{is_piece, are_pieces, has_entries}
 use Rattle.resb_draft.specs.declared.draft.Piece.{Piece}
@@ -31,6 +31,7 @@ piece_at (q ∷ ps) (t ∷ ts) (suc i) p h k =
 -- a table that a piece fits
 pub entries_fit : (n : ℕ) (t : Tree) → has_entries n t ≡ true → IsTableOf n t
 entries_fit n (string s) h = absurd (false≢true h)
+entries_fit n (alias s) h = absurd (false≢true h)
 entries_fit n (array ts) h = absurd (false≢true h)
 entries_fit n (table es) h =
     let both = and_parts (nat_eq n (length (values_of es))) _ h in

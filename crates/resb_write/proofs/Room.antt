@@ -6,7 +6,7 @@ use Rattle.std.specs.List.{list_any, flat_map, sum_by}
 use Rattle.std.proofs.lemmas.Bool.{le-leb, le-ltb}
 use Rattle.std.proofs.lemmas.List.{length-replicate}
 use Rattle.std.proofs.lemmas.List.Sums.{sum_by-append, sum_by-cons}
-use Rattle.resb_tree.specs.Tree.{Tree, string, array, table, binary, integer, int_vector}
+use Rattle.resb_tree.specs.Tree.{Tree, string, alias, array, table, binary, integer, int_vector}
 use Rattle.resb_format.specs.Units.{units, size}
 use Rattle.resb_pool.specs.Plan.{first_too_long, texts_size, IsPlan}
 use Rattle.resb_pool.proofs.Least.{into_least}
@@ -35,6 +35,7 @@ texts_within (t ∷ ts) = omega (arith, by t, size_cons t ts, texts_within ts)
     by : (u : Tree) → texts_size (text_in u ++ flat_map text_in ts) ≤ 16 + held_size u + texts_size
         (flat_map text_in ts)
     by (string s) = omega (arith, texts_cons s (flat_map text_in ts))
+    by (alias s) = omega arith
     by (array us) = omega arith
     by (table es) = omega arith
     by (binary s) = omega arith
@@ -59,6 +60,7 @@ none_over (t ∷ ts) h =
   where
     by : (u : Tree) → held_size u < 2 ^ 28 → is_over_32_bits u ≡ false
     by (string s) l = refl
+    by (alias s) l = le-ltb 4294967295 (length (units s)) (omega (arith, l))
     by (array us) l = le-ltb 4294967295 (length (array_members us)) (omega (arith, l))
     by (table es) l = refl
     by (binary s) l = le-ltb 4294967295 (length s) (omega (arith, l))
@@ -101,6 +103,7 @@ units_room (t ∷ ts) = omega (
   where
     by : (u : Tree) → sum_by size (text_in u) + most_units u + 11 ≤ 16 + held_size u
     by (string s) = omega (arith, one_size s)
+    by (alias s) = omega arith
     by (array us) = omega arith
     by (table es) = omega arith
     by (binary s) = omega arith
@@ -125,6 +128,7 @@ bytes_room (t ∷ ts) = omega (
     by : (u : Tree) → 2 * (2 * (sum_by size (text_in u) + most_units u) + most_bytes u) ≤ 7 *
         (16 + held_size u)
     by (string s) = omega (arith, one_size s)
+    by (alias s) = omega arith
     by (array us) = omega arith
     by (table es) = omega arith
     by (binary s) = omega arith

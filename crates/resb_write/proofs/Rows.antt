@@ -3,8 +3,8 @@ use Rattle.std.proofs.Common.{◌≡◌, ℕ, ◌+◌, ◌-◌, List, [], ◌∷
 use Rattle.std.proofs.Common.{append_assoc, append-nil, length-append, arith, ◌<◌, ◌^◌}
 use Rattle.std.specs.List.{sum_by}
 use Rattle.std.proofs.lemmas.List.Sums.{sum_by-cons}
-use Rattle.resb_tree.specs.Tree.{Tree, string, array, table, binary, integer, int_vector, Trees}
-use Rattle.resb_tree.specs.Tree.{no_trees, more_trees, Entries, no_entries, entry}
+use Rattle.resb_tree.specs.Tree.{Tree, string, alias, array, table, binary, integer, int_vector}
+use Rattle.resb_tree.specs.Tree.{Trees, no_trees, more_trees, Entries, no_entries, entry}
 use Rattle.resb_layout.specs.Laid.{Given, Laid}
 use Rattle.resb_tree.specs.LayingOrder.{array_members, values_of, children, laying_order}
 use Rattle.resb_tree.specs.LayingOrder.{laying_each}
@@ -43,6 +43,7 @@ mutual
   suffices_tree : (t : Tree) (n : ℕ) (rest : List Tree) → Suffices (n + 1) rest
       → Suffices n (laying_order t ++ rest)
   suffices_tree (string x) n rest h = (omega arith, to rest (omega arith) h)
+  suffices_tree (alias x) n rest h = (omega arith, to rest (omega arith) h)
   suffices_tree (binary x) n rest h = (omega arith, to rest (omega arith) h)
   suffices_tree (integer x) n rest h = (omega arith, to rest (omega arith) h)
   suffices_tree (int_vector x) n rest h = (omega arith, to rest (omega arith) h)

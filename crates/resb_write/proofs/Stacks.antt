@@ -2,8 +2,8 @@
 use Rattle.std.proofs.Common.{◌≡◌, ℕ, ◌-◌, ◌<◌, ◌≤◌, take, drop, List}
 use Rattle.std.proofs.Common.{[], ◌∷◌, ◌++◌, length, refl, sym, ◌∙◌, ap, subst, append_assoc}
 use Rattle.std.proofs.Common.{append-nil, arith}
-use Rattle.resb_tree.specs.Tree.{Tree, string, array, table, binary, integer, int_vector, Trees}
-use Rattle.resb_tree.specs.Tree.{no_trees, more_trees, Entries, no_entries, entry, trees_of}
+use Rattle.resb_tree.specs.Tree.{Tree, string, alias, array, table, binary, integer, int_vector}
+use Rattle.resb_tree.specs.Tree.{Trees, no_trees, more_trees, Entries, no_entries, entry, trees_of}
 use Rattle.resb_layout.specs.Laid.{Given, Laid, Lays, LaysEach, each_none, each_more, lays_members}
 use Rattle.resb_layout.specs.Laid.{lays_no_members, lays_entries, lays_no_entries, ClosesArray}
 use Rattle.resb_layout.specs.Laid.{ClosesTable, ArePlaced, entry_trees}
@@ -57,6 +57,7 @@ module _ (g : Given) where
     steps_tree : (t : Tree) (s e : Laid) (ws ys : List ℕ) (rest : List Tree)
         → LaysRow g s ws (laying_order t ++ rest) e ys → Split s ws t rest e ys
     steps_tree (string x) s e ws ys rest h = leaf s e ws ys (string x) rest refl h
+    steps_tree (alias x) s e ws ys rest h = leaf s e ws ys (alias x) rest refl h
     steps_tree (binary x) s e ws ys rest h = leaf s e ws ys (binary x) rest refl h
     steps_tree (integer n) s e ws ys rest h = leaf s e ws ys (integer n) rest refl h
     steps_tree (int_vector x) s e ws ys rest h = leaf s e ws ys (int_vector x) rest refl h

@@ -1,11 +1,13 @@
 -- What the laws of written files say.
 --     OneBlock                the units that a tree takes don't depend on where the tail begins
 --     OneFile                 a bundle and a list of keys leave one file
+--     WrittenIsDenoted        it denotes the tree, each resource once
 --     WrittenInOrder          its tail is the bodies of the tree's resources, without a gap
-use Rattle.std.specs.Prelude.{◌≡◌, ℕ, ◌*◌, List, ◌++◌, drop, Bool}
-use Rattle.resb_tree.specs.Tree.{Tree}
+use Rattle.std.specs.Prelude.{◌≡◌, ℕ, ◌*◌, List, ◌++◌, drop, Bool, false}
+use Rattle.resb_tree.specs.Tree.{Tree, tree_count}
+use Rattle.resb_tree.specs.Aliases.{has_alias}
 use Rattle.resb_tree.specs.LayingOrder.{laying_order}
-use Rattle.resb_head.specs.File.{body_of, block_end}
+use Rattle.resb_head.specs.File.{body_of, block_end, Denotes, DenotesWithAliases}
 use Rattle.resb_layout.specs.InOrder.{FillsTail, FillsBlock}
 use Rattle.resb_layout.specs.Laid.{Given, Laid, Lays}
 use Rattle.resb_format.specs.Laws.{EachFits}
@@ -16,6 +18,15 @@ abbrev pub OneBlock : Type 0
 OneBlock =
     (g h : Given) (s u a b : Laid) (t : Tree) (v w : ℕ) → g.position ≡ h.position
     → g.offset ≡ h.offset → s.units ≡ u.units → Lays g s t a v → Lays h u t b w → a.units ≡ b.units
+
+-- a written file denotes its tree where aliases are read too, and, if the tree has none, also where
+-- they are refused
+abbrev pub WrittenIsDenoted : Type 0
+WrittenIsDenoted =
+    (bytes : List ℕ) (t : Tree) (fallback : Bool) (ks : List (List ℕ))
+    → Written bytes t fallback ks
+    → DenotesWithAliases bytes t (tree_count t)
+    × (has_alias t ≡ false → Denotes bytes t (tree_count t))
 
 -- Behind the 16-bit block, and up to the file's end, the bodies of the tree's resources in laying
 -- order stand one right behind another, each from a word on; behind the pool of the strings the

@@ -2,15 +2,16 @@
 //! What is laid for a body is said in `resource_bodies`.
 ghost use Rattle.std.specs.Prelude.{◌≡◌, ◌++◌, ◌∷◌, ◌+◌, ◌-◌, ◌/◌, ◌^◌, ◌<◌, ◌≤◌};
 ghost use Rattle.std.specs.Prelude.{ℕ, List, Some, [], length, map, take, OnOk};
-ghost use Rattle.resb_tree.specs.Tree.{Entries, Trees, array, binary, int_vector, integer, string};
-ghost use Rattle.resb_tree.specs.Tree.{table};
+ghost use Rattle.resb_tree.specs.Tree.{Entries, Trees, alias, array, binary, int_vector, integer};
+ghost use Rattle.resb_tree.specs.Tree.{string, table};
+ghost use Rattle.resb_format.specs.Units.{units};
 ghost use Rattle.resb_layout.specs.Laid.{Given, Laid, ArePlaced};
 ghost use Rattle.resb_tree.specs.LayingOrder.{array_members, entry_keys, values_of};
 ghost use Rattle.resb_write.specs.Inner.StackSteps.{LaysNext};
 ghost use Rattle.resb_write.specs.Inner.Room.{laid_of};
 ghost use Rattle.resb_write.specs.Inner.Seen.{Anywhere, HasRoom, TakesNoMore};
 
-use crate::resource_bodies::{close_array, close_table, lay_bytes, lay_numbers, word};
+use crate::resource_bodies::{close_array, close_table, lay_bytes, lay_numbers, lay_path, word};
 use crate::sites::Bodies;
 use resb_format::ResourceReprType;
 use std::alloc::AllocError;
@@ -153,5 +154,24 @@ pub(crate) fn step_string(words: &mut Vec<u32>, offset: u32) -> Result<(), Alloc
         → LaysNext g s words.old.items (string text) s words.new.items) }
 {
     words.push(word(ResourceReprType::StringV2, offset))?;
+    Ok(())
+}
+
+/// Lays an alias's path, and puts the alias's word.
+#[inline(never)]
+pub(crate) fn step_path(
+    base: usize,
+    bodies: &mut Bodies,
+    words: &mut Vec<u32>,
+    path: &str,
+) -> Result<(), AllocError>
+    requires { HasRoom base bodies.old ((length (units path.now) + 3) / 4) }
+    ensures step { OnOk result (Anywhere base (λ g. LaysNext g (laid_of bodies.old)
+        words.old.items (alias path.now) (laid_of bodies.new) words.new.items)) }
+    ensures takes { OnOk result (TakesNoMore base bodies.old bodies.new
+        ((length (units path.now) + 3) / 4)) }
+{
+    let word = lay_path(base, bodies, path)?;
+    words.push(word)?;
     Ok(())
 }

@@ -11,10 +11,12 @@ ghost use Rattle.resb_write.specs.Inner.Gathered.{Gathered};
 ghost use Rattle.resb_write.specs.Inner.Nodes.{IsNode};
 
 use crate::nodes::{Node, Nodes};
+use resb_format::utf16_len;
 use resb_pool::excessive_len;
 use std::alloc::{AllocError, Global};
 
-/// The greatest number of 32 bits: the most members of an array, binary or vector.
+/// The greatest number of 32 bits: the most members of an array, binary or vector, and the most
+/// units of a path.
 const GREATEST: usize = 0xffff_ffff;
 
 /// What resources hold.
@@ -31,7 +33,7 @@ pub(crate) struct Contents<'t> {
     pub(crate) largest_table: usize,
     /// The number of units of the first string of more than 4294967295.
     pub(crate) too_long: Option<usize>,
-    /// Whether the count of some array, binary or vector doesn't fit 32 bits.
+    /// Whether the count of some array, binary or vector, or path, doesn't fit 32 bits.
     pub(crate) has_count_over_32_bits: bool,
 }
 
@@ -63,6 +65,7 @@ impl<'t> Contents<'t> {
     {
         match node {
             Node::String(text) => self.add_text(text)?,
+            Node::Alias(path) => self.add_counted(utf16_len(path), 1),
             Node::Array(count) => self.add_counted(count, 4),
             Node::Table(count) => self.add_table(count),
             Node::Binary(bytes) => self.add_bytes(bytes.len()),
@@ -81,7 +84,7 @@ impl<'t> Contents<'t> {
         self.size = self.size.saturating_add(size.saturating_add(16));
     }
 
-    /// Adds a collection or vector of so many members or numbers, each of some size.
+    /// Adds a collection, path or vector of so many members, units or numbers, each of some size.
     fn add_counted(&mut self, count: usize, each: usize)
         ensures { self.new ≡ record self.old {
           size = min (self.old.size + (16 + count * each)) (2 ^ 64 - 1);

@@ -1,7 +1,7 @@
 //! The laws of written files and of their 16-bit block, each the contract of a call that does
 //! nothing.
 //! Their statements are in `specs/Laws.antt`.
-ghost use Rattle.resb_write.specs.Laws.{OneBlock, OneFile, WrittenInOrder};
+ghost use Rattle.resb_write.specs.Laws.{OneBlock, OneFile, WrittenIsDenoted, WrittenInOrder};
 
 /// The units that a tree takes in the 16-bit block don't depend on where the tail begins.
 pub fn one_block()
@@ -11,6 +11,12 @@ pub fn one_block()
 /// A bundle and a list of keys leave one file.
 pub fn one_file()
     ensures { OneFile }
+{}
+
+/// A written file denotes its tree for a reader of aliases, and a tree without aliases for each
+/// reader.
+pub fn written_is_denoted()
+    ensures { WrittenIsDenoted }
 {}
 
 /// In a written file no byte is left between two bodies, and each filling is of bytes 0xaa.

@@ -19,6 +19,8 @@ use std::alloc::{AllocError, Global};
 pub(crate) enum Node<'t> {
     /// A text.
     String(&'t str),
+    /// An alias's path.
+    Alias(&'t str),
     /// An array of so many members.
     Array(usize),
     /// A table of so many entries.
@@ -81,6 +83,7 @@ pub(crate) fn node_of<'t>(resource: &'t Resource<'_>) -> Node<'t>
 {
     match resource {
         Resource::String(text) => Node::String(text.as_str()),
+        Resource::Alias(path) => Node::Alias(path.as_str()),
         Resource::Array(items) => Node::Array(items.len()),
         Resource::Table(table) => Node::Table(table.len()),
         Resource::Binary(bytes) => Node::Binary(bytes.as_slice()),
@@ -112,6 +115,7 @@ fn add_keys<'t>(keys: &mut NumberedKeys<'t>, resource: &'t Resource<'_>) -> Resu
     match resource {
         Resource::Table(table) => add_table_keys(keys, table),
         Resource::String(_)
+        | Resource::Alias(_)
         | Resource::Array(_)
         | Resource::Binary(_)
         | Resource::Integer(_)

@@ -2,7 +2,8 @@
 //! In which order resources come is said in `tree_bodies`.
 ghost use Rattle.std.specs.Prelude.{◌≡◌, ◌++◌, ◌∷◌, ◌+◌, ◌*◌, ◌/◌, ◌%◌, ◌<◌, ◌^◌, length, IfOk};
 ghost use Rattle.std.specs.Prelude.{OnOk, true};
-ghost use Rattle.resb_tree.specs.Tree.{binary, int_vector};
+ghost use Rattle.resb_tree.specs.Tree.{alias, binary, int_vector};
+ghost use Rattle.resb_format.specs.Units.{units};
 ghost use Rattle.resb_format.specs.Descriptor.{type_number};
 ghost use Rattle.resb_layout.specs.Laid.{Lays, ClosesArray, ClosesTable, are_short, are_near};
 ghost use Rattle.resb_layout.specs.Laid.{offsets_in};
@@ -10,7 +11,9 @@ ghost use Rattle.resb_write.specs.Inner.Room.{at_base, laid_of};
 ghost use Rattle.resb_write.specs.Inner.Seen.{HasRoom, TakesNoMore};
 
 use crate::sites::Bodies;
-use crate::tail_bytes::{put_counted, put_fill, put_short_table, put_wide_table, put_word};
+use crate::tail_bytes::{
+    put_counted, put_fill, put_path, put_short_table, put_wide_table, put_word,
+};
 use resb_format::{ResDescriptor, ResourceReprType};
 use std::alloc::AllocError;
 
@@ -196,4 +199,20 @@ pub(crate) fn lay_numbers(
     let at = tail_value(base, &bodies.tail, 0);
     put_counted(&mut bodies.tail, numbers)?;
     Ok(word(ResourceReprType::IntVector, at))
+}
+
+/// Lays an alias's path.
+pub(crate) fn lay_path(base: usize, bodies: &mut Bodies, path: &str) -> Result<u32, AllocError>
+    requires { HasRoom base bodies.old ((length (units path.now) + 3) / 4) }
+    ensures lays { IfOk result (λ w. Lays (at_base base) (laid_of bodies.old)
+        (alias path.now) (laid_of bodies.new) w) }
+    ensures takes { OnOk result (TakesNoMore base bodies.old bodies.new
+        ((length (units path.now) + 3) / 4)) }
+{
+    if path.is_empty() {
+        return Ok(word(ResourceReprType::_Alias, 0));
+    }
+    let at = tail_value(base, &bodies.tail, 0);
+    put_path(&mut bodies.tail, path)?;
+    Ok(word(ResourceReprType::_Alias, at))
 }

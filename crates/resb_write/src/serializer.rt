@@ -43,8 +43,9 @@ impl Serializer {
     ///
     /// Refused is the first of these: a used key that isn't in the list; one that holds U+0000; one
     /// that would stand at a position over 2147483647; a string of more than 4294967295 16-bit
-    /// units; an array, binary or vector of more than 4294967295 members; and then, as `file too
-    /// large`, a plain size of 2^28 or more. Want of memory may come before any of them.
+    /// units; an array, binary or vector of more than 4294967295 members, or a path of more units;
+    /// and then, as `file too large`, a plain size of 2^28 or more. Want of memory may come before
+    /// any of them.
     pub fn to_bytes(
         alloc: Global,
         bundle: &ResourceBundle<'_>,

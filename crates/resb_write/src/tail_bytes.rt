@@ -2,10 +2,13 @@
 //! Which numbers make a body is said in `resource_bodies`.
 ghost use Rattle.std.specs.Prelude.{◌≡◌, ◌++◌, ◌<◌, ◌^◌, length, true, OnOk};
 ghost use Rattle.std.specs.Int.{to_le_bytes, w32, w16};
-ghost use Rattle.resb_layout.specs.Laid.{words as words_bytes, fill, words_body};
+ghost use Rattle.std.specs.Char.Escape.{encode_utf16};
+ghost use Rattle.resb_layout.specs.Laid.{words as words_bytes, fill, words_body, path_body};
 ghost use Rattle.resb_format.specs.Bytes.{units_as_bytes};
+ghost use Rattle.resb_format.specs.Units.{units as units_of};
 ghost use Rattle.resb_layout.specs.Laid.{near_table_body, wide_table_body, are_near};
 
+use resb_format::utf16_len;
 use std::alloc::AllocError;
 
 /// Appends the 4 bytes of a word, the lowest first.
@@ -84,6 +87,52 @@ pub(crate) fn put_wide_table(
 {
     put_counted(tail, positions)?;
     put_words(tail, words)
+}
+
+/// Appends units, the lower byte of each first.
+fn put_units(tail: &mut Vec<u8>, units: &[u16]) -> Result<(), AllocError>
+    ensures { OnOk result (tail.new.items ≡ tail.old.items ++ units_as_bytes units.now) }
+{
+    for unit in units {
+        put_half(tail, *unit)?;
+    }
+    Ok(())
+}
+
+/// Appends the one or two units of a character.
+fn put_char(tail: &mut Vec<u8>, c: char) -> Result<(), AllocError>
+    ensures { OnOk result (tail.new.items ≡ tail.old.items ++ units_as_bytes (encode_utf16 c)) }
+{
+    let mut buffer = [0u16; 2];
+    put_units(tail, c.encode_utf16(&mut buffer))
+}
+
+/// Appends the units of a text.
+fn put_text(tail: &mut Vec<u8>, text: &str) -> Result<(), AllocError>
+    ensures { OnOk result (tail.new.items
+        ≡ tail.old.items ++ units_as_bytes (units_of text.now)) }
+{
+    for c in text.chars() {
+        put_char(tail, c)?;
+    }
+    Ok(())
+}
+
+/// Appends the body of a path: the number of its units, these, a unit 0, and a padding unit where
+/// their number is even.
+pub(crate) fn put_path(tail: &mut Vec<u8>, path: &str) -> Result<(), AllocError>
+    requires { length (units_of path.now) < 2 ^ 32 }
+    ensures { OnOk result (tail.new.items
+        ≡ tail.old.items ++ path_body (units_of path.now)) }
+{
+    let count = utf16_len(path);
+    put_word(tail, count as u32)?;
+    put_text(tail, path)?;
+    put_half(tail, 0)?;
+    if count % 2 == 0 {
+        put_half(tail, 0xaaaa)?;
+    }
+    Ok(())
 }
 
 /// Appends so many bytes 0xaa.

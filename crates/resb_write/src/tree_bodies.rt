@@ -12,7 +12,7 @@ ghost use Rattle.resb_write.specs.Inner.Seen.{Anywhere, HasRoom, TakesNoMore, Ca
 ghost use Rattle.resb_write.specs.Inner.Nodes.{IsNode};
 
 use crate::body_steps::{
-    step_array, step_bytes, step_integer, step_numbers, step_string, step_table,
+    step_array, step_bytes, step_integer, step_numbers, step_path, step_string, step_table,
 };
 use crate::nodes::{Node, Nodes};
 use crate::sites::{Bodies, Coming, Sites};
@@ -45,6 +45,7 @@ fn step(
 {
     match node {
         Node::String(_) => step_string(words, coming.take_offset()),
+        Node::Alias(path) => step_path(base, bodies, words, path),
         Node::Array(count) => step_array(base, bodies, words, count),
         Node::Table(count) => {
             let positions = coming.take_positions(count);

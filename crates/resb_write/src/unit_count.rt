@@ -125,6 +125,7 @@ fn count_own(
 {
     match node {
         Node::String(_) => count_string(coming, marks),
+        Node::Alias(_) => count_other(marks),
         Node::Array(count) => count_array(marks, count),
         Node::Table(count) => count_table(marks, coming.take_positions(count)),
         Node::Binary(_) => count_other(marks),

@@ -12,11 +12,11 @@ integer_type = 7
 
 -- an integer stands at a place
 abbrev pub IsInteger : Place → Type 0
-IsInteger p = type_at p.at ≡ Some integer_type
+IsInteger p = type_at p ≡ Some integer_type
 
 -- something stands at a place that is no integer
 abbrev pub IsOther : Place → Type 0
-IsOther p = (t : ℕ) × (type_at p.at ≡ Some t) × (t ≢ integer_type)
+IsOther p = (t : ℕ) × (type_at p ≡ Some t) × (t ≢ integer_type)
 
 -- a number of 32 bits with a sign is read
 abbrev pub ReadsNumber : Place → ℤ → ℕ → Type 0

@@ -3,12 +3,12 @@
 --     AreNodes ns ts          each of some trees is known by the node at its place
 use Rattle.std.specs.Prelude.{◌≡◌, ℕ, ◌^◌, ◌<◌, List, [], ◌∷◌, length}
 use Rattle.std.specs.List.Sorted.{IsStrictlySortedBy}
-use Rattle.resb_tree.specs.Tree.{Tree, string, array, table, binary, integer, int_vector, Trees}
-use Rattle.resb_tree.specs.Tree.{Entries}
+use Rattle.resb_tree.specs.Tree.{Tree, string, alias, array, table, binary, integer, int_vector}
+use Rattle.resb_tree.specs.Tree.{Trees, Entries}
 use Rattle.resb_tree.specs.Maps.{text_cmp}
 use Rattle.resb_tree.specs.LayingOrder.{array_members, values_of, entry_keys}
 use Rattle.resb_write.specs.declared.nodes.Node.{Node}
-use Rattle.resb_write.specs.declared.nodes.Node.TheVariants.{String, Array, Table, Binary}
+use Rattle.resb_write.specs.declared.nodes.Node.TheVariants.{String, Alias, Array, Table, Binary}
 use Rattle.resb_write.specs.declared.nodes.Node.TheVariants.{Integer, IntVector}
 
 -- a tree that stands at no place
@@ -31,6 +31,7 @@ pub record IsTableOf (n : ℕ) (t : Tree) : Type 0 where
 -- what is known of a tree by its node
 abbrev pub IsNode : Node → Tree → Type 0
 IsNode (String s) t = t ≡ string s.now
+IsNode (Alias s) t = t ≡ alias s.now
 IsNode (Array n) t = IsArrayOf n t
 IsNode (Table n) t = IsTableOf n t
 IsNode (Binary bytes) t = t ≡ binary bytes.now

@@ -8,7 +8,8 @@
 use Rattle.std.specs.Prelude.{◌≡◌, ℕ, ◌+◌, ◌*◌, ◌/◌, ◌%◌, ◌^◌, ◌<◌, List, length, map, All}
 use Rattle.std.specs.Prelude.{Some, None}
 use Rattle.std.specs.List.{sum_by, flat_map}
-use Rattle.resb_tree.specs.Tree.{Tree, string, array, table, binary, integer, int_vector}
+use Rattle.resb_tree.specs.Tree.{Tree, string, alias, array, table, binary, integer, int_vector}
+use Rattle.resb_format.specs.Units.{units as units_of}
 use Rattle.resb_layout.specs.Laid.{Given, Laid}
 use Rattle.resb_tree.specs.LayingOrder.{array_members, values_of, own_keys, text_in}
 use Rattle.resb_write.specs.declared.sites.Bodies.{Bodies}
@@ -28,10 +29,11 @@ pub record GivesInTurn (g : Given) (ps os : List ℕ) (ts : List Tree) : Type 0 
   pub texts : map g.offset (flat_map text_in ts) ≡ map Some os
   pub near : All (λ k. k < 2 ^ 28) os
 
--- how many members a collection has, how many pairs of numbers a vector, and how many eights of
--- bytes a binary
+-- how many members a collection has, how many pairs of numbers a vector, how many eights of bytes
+-- a binary, and how many fours of units a path
 abbrev pub own_size : Tree → ℕ
 own_size (string s) = 0
+own_size (alias s) = (length (units_of s) + 3) / 4
 own_size (array ts) = length (array_members ts)
 own_size (table es) = length (values_of es)
 own_size (binary s) = (length s + 7) / 8

@@ -10,8 +10,8 @@ use Rattle.resb_write.specs.declared.sites.Bodies.{Bodies}
 abbrev pub Anywhere : ℕ → (Given → Type 0) → Type 0
 Anywhere n P = (g : Given) → g.base ≡ n → P g
 
--- there is room for the body of a resource of so many members, pairs of numbers or eights of
--- bytes
+-- there is room for the body of a resource of so many members, pairs of numbers, eights of bytes
+-- or fours of units
 pub record HasRoom (base : ℕ) (b : Bodies) (n : ℕ) : Type 0 where
   pub aligned : (base + length b.tail.items) % 4 ≡ 0
   pub units : length b.units.items + (2 * n + 1) < 2 ^ 28

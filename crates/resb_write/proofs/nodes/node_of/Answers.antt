@@ -1,7 +1,7 @@
 use Rattle.std.proofs.Common.{rules, ◌≡◌, ◌∙◌, ap, sym, subst}
 use Rattle.std.specs.List.Sorted.{IsStrictlySortedBy}
 use Rattle.std.specs.Cow.{cow_str_bytes, cow_slice_items}
-use Rattle.resb_tree.specs.Tree.{string, array, table, binary, integer, int_vector}
+use Rattle.resb_tree.specs.Tree.{string, alias, array, table, binary, integer, int_vector}
 use Rattle.resb_tree.specs.Maps.{text_cmp}
 use Rattle.resb_tree.specs.View.{tree_of, items_view, entries_view}
 use Rattle.resb_tree.specs.declared.resource.Resource.{the_lemmas}
@@ -15,6 +15,12 @@ returns-in-String c =
     let e : tree_of c.args.resource.now ≡ string (cow_str_bytes c.in-String.text) =
     search (rules, the_lemmas) in
     e ∙ ap string (sym c.as_str.ensures.value)
+
+pub returns-in-Alias : goal.returns-in-Alias
+returns-in-Alias c =
+    let e : tree_of c.args.resource.now ≡ alias (cow_str_bytes c.in-Alias.path) =
+    search (rules, the_lemmas) in
+    e ∙ ap alias (sym c.as_str-in-Alias.ensures.value)
 
 pub returns-in-Array : goal.returns-in-Array
 returns-in-Array c =

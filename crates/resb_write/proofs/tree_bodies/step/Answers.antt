@@ -1,7 +1,7 @@
 use Rattle.std.proofs.Common.{◌≡◌, ◌∙◌, ◌∷◌, length, length-take, ap, sym, subst}
 use Rattle.std.proofs.Common.{arith}
 use Rattle.std.proofs.lemmas.Result.{on_ok_weaker}
-use Rattle.resb_tree.specs.Tree.{string, binary, integer, int_vector}
+use Rattle.resb_tree.specs.Tree.{string, alias, binary, integer, int_vector}
 use Rattle.resb_tree.specs.LayingOrder.{children}
 use Rattle.resb_write.specs.Inner.StackSteps.{LaysNext}
 use Rattle.resb_write.specs.Inner.Room.{laid_of, own_size, GivesInTurn}
@@ -64,6 +64,37 @@ returns-in-String-clause-takes c =
       units = omega arith;
       bytes = omega arith;
     }) c.step_string.ensures
+
+pub step_path-requires : goal.step_path-requires
+step_path-requires c =
+    let r = c.requires in
+    let e : r.0 ≡ alias c.in-Alias.path.now = subst (λ m. IsNode m r.0) c.in-Alias.is r.1 in
+    subst (λ u. HasRoom c.args.base c.args.bodies.now (own_size u)) e r.2
+
+pub returns-in-Alias-clause-step : goal.returns-in-Alias-clause-step
+returns-in-Alias-clause-step c =
+    on_ok_weaker c.step_path.result (λ h given at t rest is n.
+    let e : t ≡ alias c.in-Alias.path.now = subst (λ m. IsNode m t) c.in-Alias.is is in
+    subst (λ u. LaysNext given (laid_of c.args.bodies.now) c.args.words.now.items u
+    (laid_of c.step_path.new.bodies) c.step_path.new.words.items) (sym e) (h given at))
+    c.step_path.ensures.step
+
+pub returns-in-Alias-clause-left : goal.returns-in-Alias-clause-left
+returns-in-Alias-clause-left c =
+    let ps = c.args.coming.now.positions.now in
+    let os = c.args.coming.now.offsets.now in
+    on_ok_weaker c.step_path.result (λ h given t rest is n.
+    let e : t ≡ alias c.in-Alias.path.now = subst (λ m. IsNode m t) c.in-Alias.is is in
+    let k = subst (λ u. GivesInTurn given ps os (u ∷ rest)) e n in
+    record { keys = k.keys; texts = k.texts; near = k.near }) c.step_path.ensures.step
+
+pub returns-in-Alias-clause-takes : goal.returns-in-Alias-clause-takes
+returns-in-Alias-clause-takes c =
+    on_ok_weaker c.step_path.result (λ h t is.
+    let e : t ≡ alias c.in-Alias.path.now = subst (λ m. IsNode m t) c.in-Alias.is is in
+    subst (λ u. TakesNoMore c.args.base c.args.bodies.now c.step_path.new.bodies (own_size u))
+    (sym e) h)
+    c.step_path.ensures.takes
 
 pub step_array-requires-clause-room : goal.step_array-requires-clause-room
 step_array-requires-clause-room c =

@@ -1,7 +1,7 @@
 use Rattle.std.proofs.Common.{◌≡◌, ◌∙◌, ◌++◌, ◌∷◌, length, map, refl, ap, sym, subst, arith}
 use Rattle.std.proofs.Common.{length-take}
 use Rattle.std.proofs.lemmas.Result.{IfOk-weaker}
-use Rattle.resb_tree.specs.Tree.{string, binary, integer, int_vector}
+use Rattle.resb_tree.specs.Tree.{string, alias, binary, integer, int_vector}
 use Rattle.resb_tree.specs.LayingOrder.{children, entry_keys}
 use Rattle.resb_write.specs.Inner.Room.{GivesInTurn}
 use Rattle.resb_write.specs.Inner.Counted.{is_near, CountsOne}
@@ -107,22 +107,40 @@ returns-in-Table c =
           c.count_table.ensures;
     }
 
-pub returns-in-Binary : goal.returns-in-Binary
-returns-in-Binary c =
-    let b = binary c.in-Binary.field-0.now in
+pub returns-in-Alias : goal.returns-in-Alias
+returns-in-Alias c =
+    let b = alias c.in-Alias.field-0.now in
     let ps = c.args.coming.now.positions.now in
     let os = c.args.coming.now.offsets.now in
     let ms = c.args.marks.now.items in
     let out = c.count_other.new.marks.items in
     record {
       counts = IfOk-weaker c.count_other.result _ _ (λ n h given t rest below is m are.
-          let e = subst (λ k. IsNode k t) c.in-Binary.is is in
+          let e = subst (λ k. IsNode k t) c.in-Alias.is is in
           let k = subst (λ u. GivesInTurn given ps os (u ∷ rest)) e m in
           subst (λ u. CountsOne given u rest below n c.args.coming.now out) (sym e)
           (other_one given rest below ps os c.args.coming.now ms out n b refl refl refl
           (record { keys = k.keys; texts = k.texts; near = k.near })
           (subst (λ u. ms ≡ map (is_near given) (below ++ children u)) e are) h))
           c.count_other.ensures;
+    }
+
+pub returns-in-Binary : goal.returns-in-Binary
+returns-in-Binary c =
+    let b = binary c.in-Binary.field-0.now in
+    let ps = c.args.coming.now.positions.now in
+    let os = c.args.coming.now.offsets.now in
+    let ms = c.args.marks.now.items in
+    let out = c.count_other-in-Binary.new.marks.items in
+    record {
+      counts = IfOk-weaker c.count_other-in-Binary.result _ _ (λ n h given t rest below is m are.
+          let e = subst (λ k. IsNode k t) c.in-Binary.is is in
+          let k = subst (λ u. GivesInTurn given ps os (u ∷ rest)) e m in
+          subst (λ u. CountsOne given u rest below n c.args.coming.now out) (sym e)
+          (other_one given rest below ps os c.args.coming.now ms out n b refl refl refl
+          (record { keys = k.keys; texts = k.texts; near = k.near })
+          (subst (λ u. ms ≡ map (is_near given) (below ++ children u)) e are) h))
+          c.count_other-in-Binary.ensures;
     }
 
 pub returns-in-Integer : goal.returns-in-Integer

@@ -1,7 +1,9 @@
 -- What each kind of resource adds.
-use Rattle.std.proofs.Common.{◌≡◌, ◌+◌, ◌*◌, ◌/◌, [], ◌∷◌, ◌++◌, length, nat_lt, refl, sym}
+use Rattle.std.proofs.Common.{◌≡◌, ◌+◌, ◌*◌, ◌/◌, ℕ, List, [], ◌∷◌, ◌++◌, length, nat_lt, refl}
+use Rattle.std.proofs.Common.{sym}
 use Rattle.std.proofs.Common.{◌∙◌, ap, subst, append-nil, arith}
-use Rattle.resb_tree.specs.Tree.{string, array, table, binary, integer, int_vector}
+use Rattle.resb_tree.specs.Tree.{string, alias, array, table, binary, integer, int_vector}
+use Rattle.resb_format.specs.Units.{units}
 use Rattle.resb_pool.specs.Plan.{nows}
 use Rattle.resb_write.specs.Inner.Gathered.{Gathered}
 use Rattle.resb_write.specs.Inner.Nodes.{IsNode, IsArrayOf, IsTableOf}
@@ -11,16 +13,29 @@ use Rattle.resb_write.proofs.Lists.{or_none}
 use Rattle.std.proofs.Math.Bool.{or-false}
 use Rattle.resb_write.proofs.contents.Contents.add.Goals as goal
 
+pub returns-in-Alias : goal.returns-in-Alias
+returns-in-Alias c = λ ts t h n.
+    let path = c.in-Alias.path.now in
+    let us : List ℕ = units path in
+    let k : t ≡ alias path = subst (λ m. IsNode m t) c.in-Alias.is n in
+    let count : c.utf16_len.result ≡ length us = c.utf16_len.ensures.count in
+    subst (λ u. Gathered (ts ++ u ∷ []) c.add_counted.new.self) (sym k)
+    (added c.args.self.now c.add_counted.new.self (alias path)
+    (adds_plain c.args.self.now c.add_counted.new.self (alias path) (c.utf16_len.result * 1)
+    (nat_lt 4294967295 c.utf16_len.result) refl refl (omega (arith, count))
+    (ap (nat_lt 4294967295) (sym count)) c.add_counted.ensures)
+    ts h)
+
 pub returns-in-Array : goal.returns-in-Array
 returns-in-Array c = λ ts t h n.
     let k : IsArrayOf c.in-Array.count t =
     subst (λ m. IsNode m t) c.in-Array.is n in
     let a = array k.members in
-    subst (λ u. Gathered (ts ++ u ∷ []) c.add_counted.new.self) (sym k.is)
-    (added c.args.self.now c.add_counted.new.self a
-    (adds_plain c.args.self.now c.add_counted.new.self a (c.in-Array.count * 4)
+    subst (λ u. Gathered (ts ++ u ∷ []) c.add_counted-in-Array.new.self) (sym k.is)
+    (added c.args.self.now c.add_counted-in-Array.new.self a
+    (adds_plain c.args.self.now c.add_counted-in-Array.new.self a (c.in-Array.count * 4)
     (nat_lt 4294967295 c.in-Array.count) refl refl (omega (arith, k.many))
-    (ap (nat_lt 4294967295) k.many) c.add_counted.ensures)
+    (ap (nat_lt 4294967295) k.many) c.add_counted-in-Array.ensures)
     ts h)
 
 pub returns-in-Binary : goal.returns-in-Binary

@@ -9,8 +9,8 @@ use Rattle.std.proofs.lemmas.List.{get_or_append_left, get_or_push, length-appen
 use Rattle.resb_tree.proofs.LayingOrderLemmas.{members-trees_of}
 use Rattle.resb_tree.specs.Inner.EqualityLemmas.{tree_eq_refl}
 use Rattle.resb_tree.specs.LayingOrder.{values_of, entry_keys, children, own_keys}
-use Rattle.resb_tree.specs.Tree.{Tree, string, array, table, binary, integer, int_vector, trees_of}
-use Rattle.resb_tree.specs.Tree.{entries_of}
+use Rattle.resb_tree.specs.Tree.{Tree, string, alias, array, table, binary, integer, int_vector}
+use Rattle.resb_tree.specs.Tree.{trees_of, entries_of}
 use Rattle.resb_tree.specs.View.{tree_of}
 use Rattle.resb_tree.specs.Borrowing.{all_true}
 use Rattle.resb_tree.specs.declared.resource.Resource.{Resource}
@@ -197,6 +197,7 @@ table_keys d n m k w =
 -- a leaf has nothing inside, and no keys
 leaf_empty : (t : Tree) → is_leaf t ≡ true → (children t ≡ []) × (own_keys t ≡ [])
 leaf_empty (string s) h = (refl, refl)
+leaf_empty (alias s) h = (refl, refl)
 leaf_empty (array ts) h = absurd (false≢true h)
 leaf_empty (table es) h = absurd (false≢true h)
 leaf_empty (binary bs) h = (refl, refl)

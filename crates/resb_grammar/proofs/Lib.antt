@@ -11,6 +11,7 @@ pub mod Complete
 pub mod Sound
 pub mod GrammarLaws
 pub mod Listed
+pub mod NoAlias
 pub mod KeyPlaces
 pub mod Making
 pub mod MadeOnce

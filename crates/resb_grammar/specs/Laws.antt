@@ -1,9 +1,10 @@
 -- What the laws of the text form say.
-use Rattle.std.specs.Prelude.{◌≡◌, ℕ, Bool, true, nat_eq, List, length, Contains}
+use Rattle.std.specs.Prelude.{◌≡◌, ℕ, Bool, true, false, nat_eq, List, length, Contains}
 use Rattle.std.specs.List.{IsDistinct}
 use Rattle.std.specs.Cmp.Lexicographic.{pointwise}
 use Rattle.resb_tree.specs.Tree.{Tree}
 use Rattle.resb_tree.specs.Keys.{is_key}
+use Rattle.resb_tree.specs.Aliases.{has_alias}
 use Rattle.resb_grammar.specs.Items.{Item, a_table, tree_in, keys_in}
 use Rattle.resb_grammar.specs.BundleText.{BundleText, first_places}
 use Rattle.resb_grammar.specs.Machine.{Title, At, finished}
@@ -58,6 +59,12 @@ abbrev pub KeysAreListed : Type 0
 KeysAreListed =
     (text name : List ℕ) (fallback : Bool) (t : Tree) (ks : List (List ℕ))
     → BundleText text name fallback t ks → (k : List ℕ) → is_key k t ≡ true → Contains ks k
+
+-- the tree of a bundle's text has no alias, since this form has no way to write one
+abbrev pub BundleTextsHaveNoAlias : Type 0
+BundleTextsHaveNoAlias =
+    (text name : List ℕ) (fallback : Bool) (tree : Tree) (keys : List (List ℕ))
+    → BundleText text name fallback tree keys → has_alias tree ≡ false
 
 -- what the whole reading of a text makes is one number of bytes
 abbrev pub OneMaking : Type 0

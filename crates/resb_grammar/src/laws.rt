@@ -2,7 +2,7 @@
 //! They speak of the definitions alone; what a reader answers is said where one stands.
 ghost use Rattle.resb_grammar.specs.Laws.{OneBundleText, StuckInOneWay, StuckIsNoBundle};
 ghost use Rattle.resb_grammar.specs.Laws.{ReadToTheEndIsABundle, ABundleIsReadToTheEnd};
-ghost use Rattle.resb_grammar.specs.Laws.{KeysAreDistinct, KeysAreListed};
+ghost use Rattle.resb_grammar.specs.Laws.{KeysAreDistinct, KeysAreListed, BundleTextsHaveNoAlias};
 ghost use Rattle.resb_grammar.specs.Laws.{OneMaking, BundlesAreMade, WithinIsNeverMore};
 
 /// A text has at most one name, fallback, tree and list of keys.
@@ -38,6 +38,11 @@ pub fn keys_are_distinct()
 /// The discovered keys of a bundle's text hold every key of its tree.
 pub fn keys_are_listed()
     ensures { KeysAreListed }
+{}
+
+/// The tree of a bundle's text has no alias.
+pub fn bundle_texts_have_no_alias()
+    ensures { BundleTextsHaveNoAlias }
 {}
 
 /// What the whole reading of a text makes is one number of bytes.

@@ -1,6 +1,6 @@
 //! The text form of resource bundles as definitions: its grammar, the readings of a text token by
-//! token, and the laws of both. What both text forms need beside stands here too: the types that a
-//! group may name, the bytes of hex digits, runs of blanks and of digits, and lists of keys.
+//! token, and the laws of both. What both text forms need beside stands here too: the bytes of hex
+//! digits, runs of blanks and of digits, and lists of keys.
 #![tactic(auto)]
 
 mod expected;

@@ -3,21 +3,23 @@ use Rattle.std.proofs.Common.{◌≡◌, ◌≢◌, ℕ, zero, suc, ◌+◌, ◌
 use Rattle.std.proofs.Common.{◌∷◌, length, refl, sym, ap, arith, lit≤, subst, encode_utf8, ◌<◌}
 use Rattle.std.specs.Prelude.{slice_index, slice_range, codes}
 use Rattle.std.proofs.lemmas.Bool.{false≢true}
-use Rattle.resb_tree.specs.Tree.{string, array, table, trees_of, map_of}
+use Rattle.resb_tree.specs.Tree.{string, alias, array, table, trees_of, map_of}
 use Rattle.resb_grammar.specs.ByteRuns.{is_white}
-use Rattle.resb_grammar.specs.GroupTypes.{Kind, Names, string_kind, array_kind, table_kind}
-use Rattle.resb_grammar.specs.GroupTypes.{binary_kind, integer_kind, vector_kind}
+use Rattle.resb_icu_grammar.specs.Kinds.{Kind, Names, string_kind, alias_kind, array_kind}
+use Rattle.resb_icu_grammar.specs.Kinds.{table_kind, binary_kind, integer_kind, vector_kind}
 use Rattle.resb_icu_grammar.specs.Bytes.{is_word, is_key_byte}
 use Rattle.resb_icu_grammar.specs.Blanks.{Comment, line, block, none, white, Skip, without_a_mark}
 use Rattle.resb_icu_grammar.specs.Escapes.{Escape, itself, line_feed, carriage_return, tab}
 use Rattle.resb_icu_grammar.specs.Escapes.{four_digits, eight_digits}
-use Rattle.resb_icu_grammar.specs.Pieces.{ends, byte, escape, Joined, last_piece, one_more}
+use Rattle.resb_icu_grammar.specs.Pieces.{QuotedBytes, ends, byte, escape, Joined, last_piece}
+use Rattle.resb_icu_grammar.specs.Pieces.{one_more}
 use Rattle.resb_icu_grammar.specs.Faults.{NoEscapeAt, StringFault, this_piece, later_piece}
 use Rattle.resb_icu_grammar.specs.Faults as fault
 use Rattle.resb_icu_grammar.specs.Words as words
-use Rattle.resb_icu_grammar.specs.Words.{Word, Text, a_word, KeyText, Name, Number}
+use Rattle.resb_icu_grammar.specs.Words.{Word, Text, a_word, quoted, KeyText, Name, Number}
+use Rattle.resb_icu_grammar.specs.Words.{TypeName}
 use Rattle.resb_icu_grammar.specs.Groups.{Group, untyped, an_empty_array, one_string, no_entry}
-use Rattle.resb_icu_grammar.specs.Groups.{one_entry}
+use Rattle.resb_icu_grammar.specs.Groups.{one_entry, Entries, typed, leaf, alias_content}
 use Rattle.resb_icu_grammar.specs.Bundle.{without, IcuText}
 use Rattle.resb_icu_grammar.specs.Machine.{in_table, among_entries, before_group, reading_at}
 use Rattle.resb_icu_grammar.specs.Machine.{BeginsGroup, key_of_entry}
@@ -232,9 +234,62 @@ stuck_nowhere_else : (at : ℕ) (x : IcuExpected) → Stuck (codes "b{a}") at x
     → (at ≡ 3) × (x ≡ expect.Group)
 stuck_nowhere_else at x s = stuck_in_one_way (codes "b{a}") at 3 x expect.Group s stuck_there
 
--- `:alias` is no type of a tree, and that is told by its name
-alias_refused : TypeStuck (codes ":alias{") 0 expect.NoAlias
-alias_refused = no_tree 6 (codes "alias") (record {
+-- the entry of an alias, whose path is a string
+alias_accepted : Entries (codes "x:alias{\"/a/b\"}") 0 15
+    ((codes "x", alias (codes "/a/b")) ∷ []) (codes "x" ∷ [])
+alias_accepted =
+    one_entry 0 1 1 15 15 15 (codes "x") (alias (codes "/a/b")) [] [] []
+    (words.a_word (word_of_one _ 0 refl refl (lit≤ tt)) refl)
+    (stays _ 1 refl (λ h. absurd (omega arith)))
+    (typed 1 8 14 alias_kind (alias (codes "/a/b")) []
+    (record {
+      ends = 7;
+      brace = 7;
+      named = record { name = codes "alias"; stands = type_stands; names = refl };
+      between = stays _ 7 refl (λ h. absurd (omega arith));
+      opens = refl;
+      after = stays _ 8 refl (λ h. absurd (omega arith));
+    })
+    (leaf alias_kind 8 14 (alias (codes "/a/b"))
+    (alias_content 14 (codes "/a/b")
+    (quoted (last_piece 8 14 14 (codes "/a/b")
+    (record { last = 13; opens = refl; inside = path; ends = refl })
+    (stays _ 14 refl (λ h. absurd (omega arith))) (λ h. absurd (omega arith))))
+    (stays _ 14 refl (λ h. absurd (omega arith)))))
+    refl)
+    refl (stays _ 15 refl (λ h. absurd (omega arith))) (no_entry 15) refl
+  where
+    each : (k : ℕ) → 2 ≤ k → k < 7 → is_word (slice_index (codes "x:alias{\"/a/b\"}") k) ≡ true
+    each zero low high = absurd (omega arith)
+    each (suc zero) low high = absurd (omega arith)
+    each (suc (suc zero)) low high = refl
+    each (suc (suc (suc zero))) low high = refl
+    each (suc (suc (suc (suc zero)))) low high = refl
+    each (suc (suc (suc (suc (suc zero))))) low high = refl
+    each (suc (suc (suc (suc (suc (suc zero)))))) low high = refl
+    each (suc (suc (suc (suc (suc (suc (suc n))))))) low high = absurd (omega arith)
+
+    type_stands : TypeName (codes "x:alias{\"/a/b\"}") 1 7 (codes "alias")
+    type_stands = record {
+      colon = refl;
+      word = record {
+        run = record { order = lit≤ tt; fits = lit≤ tt; each = each; longest = refl };
+        some = lit≤ tt;
+        means = refl;
+      };
+    }
+
+    path : QuotedBytes (codes "x:alias{\"/a/b\"}") 9 13 (codes "/a/b")
+    path =
+        byte 9 13 (codes "a/b") (lit≤ tt) (λ h. absurd (omega arith)) (λ h. absurd (omega arith))
+        (byte 10 13 (codes "/b") (lit≤ tt) (λ h. absurd (omega arith)) (λ h. absurd (omega arith))
+        (byte 11 13 (codes "b") (lit≤ tt) (λ h. absurd (omega arith)) (λ h. absurd (omega arith))
+        (byte 12 13 [] (lit≤ tt) (λ h. absurd (omega arith)) (λ h. absurd (omega arith))
+        (ends 13 refl))))
+
+-- `:import` is no type of a tree, and that is told by its name
+import_refused : TypeStuck (codes ":import{") 0 expect.NoImport
+import_refused = no_tree 7 (codes "import") (record {
   colon = refl;
   word = record {
     run = record { order = lit≤ tt; fits = lit≤ tt; each = each; longest = refl };
@@ -243,20 +298,22 @@ alias_refused = no_tree 6 (codes "alias") (record {
   };
 }) never
   where
-    each : (k : ℕ) → 1 ≤ k → k < 6 → is_word (slice_index (codes ":alias{") k) ≡ true
+    each : (k : ℕ) → 1 ≤ k → k < 7 → is_word (slice_index (codes ":import{") k) ≡ true
     each zero low high = absurd (omega arith)
     each (suc zero) low high = refl
     each (suc (suc zero)) low high = refl
     each (suc (suc (suc zero))) low high = refl
     each (suc (suc (suc (suc zero)))) low high = refl
     each (suc (suc (suc (suc (suc zero))))) low high = refl
-    each (suc (suc (suc (suc (suc (suc n)))))) low high = absurd (omega arith)
+    each (suc (suc (suc (suc (suc (suc zero)))))) low high = refl
+    each (suc (suc (suc (suc (suc (suc (suc n))))))) low high = absurd (omega arith)
 
-    second : (w : List ℕ) → codes "alias" ≡ w → slice_index w 1 ≡ 108
+    second : (w : List ℕ) → codes "import" ≡ w → slice_index w 1 ≡ 109
     second w e = ap (λ (v : List ℕ). slice_index v 1) (sym e)
 
-    never : (kind : Kind) → Names (codes "alias") kind → ⊥
+    never : (kind : Kind) → Names (codes "import") kind → ⊥
     never string_kind e = let h = second (codes "string") e in absurd (omega arith)
+    never alias_kind e = let h = second (codes "alias") e in absurd (omega arith)
     never array_kind e = let h = second (codes "array") e in absurd (omega arith)
     never table_kind e = let h = second (codes "table") e in absurd (omega arith)
     never binary_kind (inl e) = let h = second (codes "binary") e in absurd (omega arith)

@@ -5,14 +5,15 @@ use Rattle.std.specs.Prelude.{◌%◌, ◌^◌, slice_index}
 use Rattle.std.proofs.lemmas.Bool.{false≢true}
 use Rattle.resb_grammar.specs.Ascii as ascii
 use Rattle.resb_grammar.specs.Group.{hex_bytes}
-use Rattle.resb_grammar.specs.GroupTypes.{Kind}
+use Rattle.resb_icu_grammar.specs.Kinds.{Kind}
 use Rattle.resb_grammar.specs.BundleText.{first_places}
-use Rattle.resb_tree.specs.Tree.{Tree, string, array, table, binary, integer, int_vector}
-use Rattle.resb_tree.specs.Tree.{trees_of, map_of}
+use Rattle.resb_tree.specs.Tree.{Tree, string, alias, array, table, binary, integer}
+use Rattle.resb_tree.specs.Tree.{int_vector, trees_of, map_of}
 use Rattle.resb_icu_grammar.specs.Blanks.{Skip}
 use Rattle.resb_icu_grammar.specs.Words.{Text, KeyText, Name, Number}
 use Rattle.resb_icu_grammar.specs.Groups.{TypedOpening, Numbers, last_number, last_comma, one_more}
-use Rattle.resb_icu_grammar.specs.Groups.{LeafContent, string_content, binary_content}
+use Rattle.resb_icu_grammar.specs.Groups.{LeafContent, string_content, alias_content}
+use Rattle.resb_icu_grammar.specs.Groups.{binary_content}
 use Rattle.resb_icu_grammar.specs.Groups.{integer_content, no_numbers, numbers, Last, nothing}
 use Rattle.resb_icu_grammar.specs.Groups.{a_string, a_group, a_comma}
 use Rattle.resb_icu_grammar.specs.Groups.{BeginsArray, with_a_group, with_a_string, Members}
@@ -147,6 +148,8 @@ pub LeafContent-one : (text : List ℕ) (from a b : ℕ) (kind : Kind) (t u : Tr
     → Closes text b → (a ≡ b) × (t ≡ u)
 LeafContent-one text from a b _ t u (string_content i s p k) (string_content j r q l) c d =
     let both = string_skipped text from i j a b s r p k q l in (both.0, ap string both.1)
+LeafContent-one text from a b _ t u (alias_content i s p k) (alias_content j r q l) c d =
+    let both = string_skipped text from i j a b s r p k q l in (both.0, ap alias both.1)
 LeafContent-one text from a b _ t u (binary_content i s bs p h k) (binary_content j r cs q g l) c d
     =
     let both = string_skipped text from i j a b s r p k q l in

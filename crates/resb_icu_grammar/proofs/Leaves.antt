@@ -6,17 +6,19 @@ use Rattle.std.proofs.lemmas.Bool.{false≢true}
 use Rattle.std.proofs.lemmas.Option.{none-some}
 use Rattle.resb_grammar.specs.Ascii as ascii
 use Rattle.resb_grammar.specs.Group.{hex_bytes}
-use Rattle.resb_grammar.specs.GroupTypes.{Kind, array_kind, table_kind}
-use Rattle.resb_grammar.specs.GroupTypes.{vector_kind}
+use Rattle.resb_icu_grammar.specs.Kinds.{Kind, array_kind, table_kind}
+use Rattle.resb_icu_grammar.specs.Kinds.{vector_kind}
 use Rattle.resb_tree.specs.Tree.{Tree}
 use Rattle.resb_icu_grammar.specs.Blanks.{Skip}
 use Rattle.resb_icu_grammar.specs.Words.{Number}
 use Rattle.resb_icu_grammar.specs.Groups.{Numbers, last_number, last_comma, one_more, LeafContent}
-use Rattle.resb_icu_grammar.specs.Groups.{string_content, binary_content, integer_content}
+use Rattle.resb_icu_grammar.specs.Groups.{string_content, alias_content, binary_content}
+use Rattle.resb_icu_grammar.specs.Groups.{integer_content}
 use Rattle.resb_icu_grammar.specs.Groups.{no_numbers, numbers}
 use Rattle.resb_icu_grammar.specs.declared.expected.IcuExpected.{IcuExpected}
 use Rattle.resb_icu_grammar.specs.Stuck.{NoNumberAt, NumbersSoFar, none_yet, one_number, LeafStuck}
-use Rattle.resb_icu_grammar.specs.Stuck.{no_string, open_string, no_digits, odd_digits, open_binary}
+use Rattle.resb_icu_grammar.specs.Stuck.{no_string, open_string, no_path, open_alias, no_digits}
+use Rattle.resb_icu_grammar.specs.Stuck.{odd_digits, open_binary}
 use Rattle.resb_icu_grammar.specs.Stuck.{no_integer, open_integer, no_number, open_vector}
 use Rattle.resb_icu_grammar.proofs.Groups.{Closes}
 use Rattle.resb_icu_grammar.proofs.Lexical.{Skip-one, String-one, Number-one, number_first}
@@ -130,6 +132,11 @@ no_leaf_there text from _ at _ (open_string j _ s p l n) to _ (string_content i 
     let same = String-one text from i j u s q p in
     n (ap (λ w. slice_index text w) (sym (Skip-one text j to at
     (subst (λ w. Skip text w to) same.0 k) l)) ∙ c)
+no_leaf_there text from _ _ _ (no_path _ _ f w) to _ (alias_content i s p k) c = f i s p
+no_leaf_there text from _ at _ (open_alias j _ s p l n) to _ (alias_content i u q k) c =
+    let same = String-one text from i j u s q p in
+    n (ap (λ w. slice_index text w) (sym (Skip-one text j to at
+    (subst (λ w. Skip text w to) same.0 k) l)) ∙ c)
 no_leaf_there text from _ _ _ (no_digits _ _ f w) to _ (binary_content i s bytes p e k) c = f i s p
 no_leaf_there text from _ _ _ (odd_digits j s p n) to _ (binary_content i u bytes q e k) c =
     none-some bytes (sym n ∙ ap hex_bytes (sym (String-one text from i j u s q p).1) ∙ e)
@@ -157,6 +164,8 @@ no_items : (text : List ℕ) (from : ℕ) (kind : Kind) (at : ℕ) (x : IcuExpec
     → LeafStuck text from kind at x → has_items kind ≡ false
 no_items text from _ _ _ (no_string _ _ f w) = refl
 no_items text from _ _ _ (open_string j _ s p l n) = refl
+no_items text from _ _ _ (no_path _ _ f w) = refl
+no_items text from _ _ _ (open_alias j _ s p l n) = refl
 no_items text from _ _ _ (no_digits _ _ f w) = refl
 no_items text from _ _ _ (odd_digits j s p n) = refl
 no_items text from _ _ _ (open_binary j _ s p h l n) = refl

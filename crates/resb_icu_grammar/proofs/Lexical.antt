@@ -8,11 +8,13 @@ use Rattle.std.proofs.lemmas.Bool.Decides.{nat_tests}
 use Rattle.resb_grammar.specs.Ascii as ascii
 use Rattle.resb_grammar.specs.ByteRuns.{is_white, is_digit}
 use Rattle.resb_grammar.specs.Lexical as plain
-use Rattle.resb_grammar.specs.GroupTypes.{Kind, Names, NoFallback}
+use Rattle.resb_grammar.specs.GroupTypes.{NoFallback}
+use Rattle.resb_icu_grammar.specs.Kinds.{Kind, Names}
 use Rattle.resb_grammar.proofs.ByteRunsLemmas.{Run-one}
-use Rattle.resb_grammar.proofs.Unique.{FirstCloser-one, Digits-one, Names-one}
+use Rattle.resb_grammar.proofs.Unique.{FirstCloser-one, Digits-one}
 use Rattle.resb_grammar.proofs.Numbers.{places_meet}
 use Rattle.resb_icu_grammar.specs.Bytes.{is_word}
+use Rattle.resb_icu_grammar.proofs.KindNames.{Names-one}
 use Rattle.resb_icu_grammar.specs.Blanks.{Begins, behind_the_mark, without_a_mark}
 use Rattle.resb_icu_grammar.specs.Blanks.{LineRest, Comment, line, block, Blanks, none}
 use Rattle.resb_grammar.specs.ByteRuns.{is_line_end}

@@ -1,4 +1,5 @@
 -- Each text of ICU's form is one bundle.
+pub mod KindNames
 pub mod Lexical
 pub mod Listed
 pub mod Groups

@@ -5,7 +5,7 @@ use Rattle.std.proofs.lemmas.Bool.{false≢true}
 use Rattle.std.specs.Prelude.{Contains}
 use Rattle.resb_tree.specs.Tree.{Tree, no_entries, trees_of, table, map_of}
 use Rattle.resb_tree.specs.Keys.{is_key, is_key_in}
-use Rattle.resb_grammar.specs.GroupTypes.{Kind}
+use Rattle.resb_icu_grammar.specs.Kinds.{Kind}
 use Rattle.resb_grammar.proofs.Listed.{In, in_left, in_right, KeyOf, put_all_key}
 use Rattle.resb_grammar.proofs.Numbers.{one_of_or}
 use Rattle.resb_grammar.proofs.Listed.{first_place, contains}
@@ -13,13 +13,15 @@ use Rattle.resb_icu_grammar.specs.Groups.{Last, Members, no_member, string_membe
 use Rattle.resb_icu_grammar.specs.Groups.{comma_behind, Entries, no_entry, one_entry, Untyped}
 use Rattle.resb_icu_grammar.specs.Groups.{an_empty_array, one_string, an_array, a_table, Typed}
 use Rattle.resb_icu_grammar.specs.Groups.{members, entries, leaf, Group, untyped, typed}
-use Rattle.resb_icu_grammar.specs.Groups.{LeafContent, string_content, binary_content}
+use Rattle.resb_icu_grammar.specs.Groups.{LeafContent, string_content, alias_content}
+use Rattle.resb_icu_grammar.specs.Groups.{binary_content}
 use Rattle.resb_icu_grammar.specs.Groups.{integer_content, no_numbers, numbers}
 use Rattle.resb_icu_grammar.specs.Bundle.{IcuText}
 
 leaf_listed : (text : List ℕ) (from to : ℕ) (kind : Kind) (t : Tree)
     → LeafContent text from to kind t → (k : List ℕ) → is_key k t ≡ true → ⊥
 leaf_listed text from to kind t (string_content i s x y) k e = false≢true e
+leaf_listed text from to kind t (alias_content i s x y) k e = false≢true e
 leaf_listed text from to kind t (binary_content i s bytes x y z) k e = false≢true e
 leaf_listed text from to kind t (integer_content i v x y) k e = false≢true e
 leaf_listed text from to kind t (no_numbers x) k e = false≢true e

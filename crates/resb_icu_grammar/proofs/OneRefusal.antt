@@ -5,7 +5,7 @@ use Rattle.std.specs.Prelude.{slice_index}
 use Rattle.std.proofs.lemmas.Bool.{false≢true}
 use Rattle.resb_grammar.specs.Ascii as ascii
 use Rattle.resb_grammar.specs.Group.{hex_bytes}
-use Rattle.resb_grammar.specs.GroupTypes.{Kind}
+use Rattle.resb_icu_grammar.specs.Kinds.{Kind}
 use Rattle.resb_tree.specs.Tree.{Tree}
 use Rattle.resb_icu_grammar.specs.Blanks.{Begins, Skip}
 use Rattle.resb_icu_grammar.specs.Words.{Text, Name, Number, RootType}
@@ -19,7 +19,8 @@ use Rattle.resb_icu_grammar.specs.Stuck.{NoNumberAt, NumbersSoFar, none_yet, one
 use Rattle.resb_icu_grammar.specs.Stuck.{member_behind}
 use Rattle.resb_icu_grammar.specs.Stuck.{StepStuck, EndStuck, HeaderStuck}
 use Rattle.resb_icu_grammar.specs.Stuck.{ReadStuck, StuckFrom, Stuck}
-use Rattle.resb_icu_grammar.specs.Stuck.{no_string, open_string, no_digits, odd_digits, open_binary}
+use Rattle.resb_icu_grammar.specs.Stuck.{no_string, open_string, no_path, open_alias, no_digits}
+use Rattle.resb_icu_grammar.specs.Stuck.{odd_digits, open_binary}
 use Rattle.resb_icu_grammar.specs.Stuck.{no_integer, open_integer, no_number, open_vector}
 use Rattle.resb_icu_grammar.specs.Stuck.{a_collation, more_text, no_name, no_root_type}
 use Rattle.resb_icu_grammar.specs.Stuck.{no_root_brace, no_typed_brace, in_header, in_root}
@@ -248,6 +249,12 @@ LeafStuck-one text from _ to end x y (no_string _ _ f w) (no_string _ _ g z) =
 LeafStuck-one text from _ _ _ _ _ (no_string _ _ f w) (open_string i _ s p k n) = absurd (f i s p)
 LeafStuck-one text from _ _ _ _ _ (open_string i _ s p k n) (no_string _ _ f w) = absurd (f i s p)
 LeafStuck-one text from _ to end _ _ (open_string i _ s p k n) (open_string j _ t q l m) =
+    (behind_string text from i j to end s t p k q l, refl)
+LeafStuck-one text from _ to end x y (no_path _ _ f w) (no_path _ _ g z) =
+    Told-one text from to end expect.String x y w z
+LeafStuck-one text from _ _ _ _ _ (no_path _ _ f w) (open_alias i _ s p k n) = absurd (f i s p)
+LeafStuck-one text from _ _ _ _ _ (open_alias i _ s p k n) (no_path _ _ f w) = absurd (f i s p)
+LeafStuck-one text from _ to end _ _ (open_alias i _ s p k n) (open_alias j _ t q l m) =
     (behind_string text from i j to end s t p k q l, refl)
 LeafStuck-one text from _ to end x y (no_digits _ _ f w) (no_digits _ _ g z) =
     Told-one text from to end expect.String x y w z

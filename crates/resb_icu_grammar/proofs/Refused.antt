@@ -4,7 +4,7 @@ use Rattle.std.proofs.Common.{inr}
 use Rattle.std.specs.Prelude.{slice_index}
 use Rattle.std.proofs.lemmas.Bool.{false≢true}
 use Rattle.resb_grammar.specs.Ascii as ascii
-use Rattle.resb_grammar.specs.GroupTypes.{Kind}
+use Rattle.resb_icu_grammar.specs.Kinds.{Kind}
 use Rattle.resb_tree.specs.Tree.{Tree}
 use Rattle.resb_icu_grammar.specs.Blanks.{Begins, Skip}
 use Rattle.resb_icu_grammar.specs.Words.{KeyText, Name, GroupType, RootType}

@@ -5,7 +5,7 @@ use Rattle.std.proofs.Common.{subst, sym, refl}
 use Rattle.std.proofs.Common.{append-nil}
 use Rattle.std.specs.Prelude.{slice_index}
 use Rattle.resb_grammar.specs.Ascii as ascii
-use Rattle.resb_grammar.specs.GroupTypes.{Kind, array_kind, table_kind}
+use Rattle.resb_icu_grammar.specs.Kinds.{Kind, array_kind, table_kind}
 use Rattle.resb_tree.specs.Tree.{Tree, array, table, trees_of, map_of}
 use Rattle.resb_icu_grammar.specs.Blanks.{Skip}
 use Rattle.resb_icu_grammar.specs.Groups.{TypedOpening, LeafContent, nothing}

@@ -1,6 +1,6 @@
 -- Where no type of a group stands, none does, and one thing is expected in its place.
 use Rattle.std.proofs.Common.{◌≡◌, ℕ, List, refl, sym, ap, subst}
-use Rattle.resb_grammar.specs.GroupTypes.{Kind, Names}
+use Rattle.resb_icu_grammar.specs.Kinds.{Kind, Names}
 use Rattle.resb_icu_grammar.specs.Words.{GroupType}
 use Rattle.resb_icu_grammar.specs.Expected.{instead_of}
 use Rattle.resb_icu_grammar.specs.Stuck.{TypeStuck, no_type_name, no_tree}

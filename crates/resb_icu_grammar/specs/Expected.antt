@@ -9,7 +9,6 @@ abbrev pub item_of : IcuExpected → List ℕ
 item_of expect.Name = codes "the name of the bundle"
 item_of expect.RootType = codes "'table' or 'table(nofallback)'"
 item_of expect.GroupType = codes "a type"
-item_of expect.NoAlias = codes "a type of a tree, and 'alias' is none"
 item_of expect.NoImport = codes "a type of a tree, and 'import' is none"
 item_of expect.NoInclude = codes "a type of a tree, and 'include' is none"
 item_of expect.NoProcess = codes "a type of a tree, and 'process' is none"
@@ -38,8 +37,7 @@ item_of expect.Memory = codes "memory"
 -- such a type, another than that
 abbrev pub instead_of : List ℕ → IcuExpected
 instead_of name =
-    if pointwise nat_eq name (codes "alias") then expect.NoAlias
-    else (if pointwise nat_eq name (codes "import") then expect.NoImport
+    if pointwise nat_eq name (codes "import") then expect.NoImport
     else (if pointwise nat_eq name (codes "include") then expect.NoInclude
     else (if pointwise nat_eq name (codes "process") then expect.NoProcess
-    else expect.GroupType)))
+    else expect.GroupType))

@@ -5,12 +5,12 @@ use Rattle.std.specs.Prelude.{List, [], ◌∷◌, ◌++◌, Some, slice_index, 
 use Rattle.std.specs.List.{list_any}
 use Rattle.std.specs.Cmp.Lexicographic.{pointwise}
 use Rattle.resb_grammar.specs.Ascii as ascii
-use Rattle.resb_grammar.specs.GroupTypes.{Kind, string_kind, array_kind, table_kind, binary_kind}
-use Rattle.resb_grammar.specs.GroupTypes.{integer_kind, vector_kind}
 use Rattle.resb_grammar.specs.Group.{hex_bytes}
-use Rattle.resb_tree.specs.Tree.{Tree, string, array, table, binary, integer, int_vector}
-use Rattle.resb_tree.specs.Tree.{trees_of, map_of}
+use Rattle.resb_tree.specs.Tree.{Tree, string, alias, array, table, binary, integer}
+use Rattle.resb_tree.specs.Tree.{int_vector, trees_of, map_of}
 use Rattle.resb_icu_grammar.specs.Blanks.{Skip}
+use Rattle.resb_icu_grammar.specs.Kinds.{Kind, string_kind, alias_kind, array_kind, table_kind}
+use Rattle.resb_icu_grammar.specs.Kinds.{binary_kind, integer_kind, vector_kind}
 use Rattle.resb_icu_grammar.specs.Words.{Text, KeyText, Number, GroupType}
 
 -- a type, its `{`, and the blanks around that
@@ -36,6 +36,8 @@ pub data Numbers (text : List ℕ) : ℕ → ℕ → List ℕ → Type 0 where
 pub data LeafContent (text : List ℕ) (from to : ℕ) : Kind → Tree → Type 0 where
   string_content : (i : ℕ) (s : List ℕ) → Text text from i s → Skip text i to
       → LeafContent text from to string_kind (string s)
+  alias_content : (i : ℕ) (s : List ℕ) → Text text from i s → Skip text i to
+      → LeafContent text from to alias_kind (alias s)
   binary_content : (i : ℕ) (s bytes : List ℕ) → Text text from i s → hex_bytes s ≡ Some bytes
       → Skip text i to → LeafContent text from to binary_kind (binary bytes)
   integer_content : (i v : ℕ) → Number text from i v → Skip text i to

@@ -3,6 +3,7 @@ pub mod Bytes
 pub mod Blanks
 pub mod Escapes
 pub mod Pieces
+pub mod Kinds
 pub mod Words
 pub mod Groups
 pub mod Bundle

@@ -3,10 +3,10 @@
 use Rattle.std.specs.Prelude.{◌≡◌, ◌⊎◌, ◌+◌, ◌&&◌, ℕ, Bool, true, false, List, [], ◌∷◌, ◌++◌}
 use Rattle.std.specs.Prelude.{length, slice_index}
 use Rattle.resb_grammar.specs.Ascii as ascii
-use Rattle.resb_grammar.specs.GroupTypes.{Kind, array_kind, table_kind}
 use Rattle.resb_grammar.specs.BundleText.{first_places}
 use Rattle.resb_tree.specs.Tree.{Tree, string, array, table, trees_of, map_of}
 use Rattle.resb_icu_grammar.specs.Blanks.{Skip}
+use Rattle.resb_icu_grammar.specs.Kinds.{Kind, array_kind, table_kind}
 use Rattle.resb_icu_grammar.specs.Words.{Text, KeyText}
 use Rattle.resb_icu_grammar.specs.Groups.{Last, nothing, a_string, a_group, a_comma, TypedOpening}
 use Rattle.resb_icu_grammar.specs.Groups.{LeafContent, is_member, ends_in_string, is_new}

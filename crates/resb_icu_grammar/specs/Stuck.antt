@@ -3,10 +3,10 @@ use Rattle.std.specs.Prelude.{◌≡◌, ◌≢◌, ◌+◌, ◌<◌, ◌&&◌, 
 use Rattle.std.specs.Prelude.{◌∷◌, length, slice_index, if◌then◌else◌}
 use Rattle.resb_grammar.specs.Ascii as ascii
 use Rattle.resb_grammar.specs.Group.{hex_bytes}
-use Rattle.resb_grammar.specs.GroupTypes.{Kind, string_kind, binary_kind, integer_kind, vector_kind}
-use Rattle.resb_grammar.specs.GroupTypes.{Names}
 use Rattle.resb_tree.specs.Tree.{Tree}
 use Rattle.resb_icu_grammar.specs.Blanks.{Begins, Skip}
+use Rattle.resb_icu_grammar.specs.Kinds.{Kind, Names, string_kind, alias_kind, binary_kind}
+use Rattle.resb_icu_grammar.specs.Kinds.{integer_kind, vector_kind}
 use Rattle.resb_icu_grammar.specs.Words.{Text, KeyText, Name, Number, TypeName, GroupType, RootType}
 use Rattle.resb_icu_grammar.specs.Expected.{instead_of}
 use Rattle.resb_icu_grammar.specs.Faults.{Told}
@@ -62,6 +62,12 @@ pub data LeafStuck (text : List ℕ) (from : ℕ) : Kind → ℕ → IcuExpected
   open_string : (i j : ℕ) (s : List ℕ) → Text text from i s → Skip text i j
       → slice_index text j ≢ ascii.right_brace
       → LeafStuck text from string_kind j expect.RightBrace
+  -- in `:alias{..}` a string as well, the path
+  no_path : (to : ℕ) (x : IcuExpected) → NoStringAt text from → Told text from expect.String to x
+      → LeafStuck text from alias_kind to x
+  open_alias : (i j : ℕ) (s : List ℕ) → Text text from i s → Skip text i j
+      → slice_index text j ≢ ascii.right_brace
+      → LeafStuck text from alias_kind j expect.RightBrace
   -- in `:bin{..}` a string of pairs of hex digits, and a `}` behind it
   no_digits : (to : ℕ) (x : IcuExpected) → NoStringAt text from → Told text from expect.String to x
       → LeafStuck text from binary_kind to x

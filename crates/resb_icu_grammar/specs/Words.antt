@@ -4,8 +4,9 @@ use Rattle.std.specs.Prelude.{slice_index, slice_range, codes}
 use Rattle.resb_grammar.specs.Ascii as ascii
 use Rattle.resb_grammar.specs.ByteRuns.{Run}
 use Rattle.resb_grammar.specs.Lexical as plain
-use Rattle.resb_grammar.specs.GroupTypes.{Kind, Names, NoFallback}
+use Rattle.resb_grammar.specs.GroupTypes.{NoFallback}
 use Rattle.resb_icu_grammar.specs.Bytes.{is_word, are_key_bytes, backslash}
+use Rattle.resb_icu_grammar.specs.Kinds.{Kind, Names}
 use Rattle.resb_icu_grammar.specs.Pieces.{Joined, QuotedPiece}
 
 -- a longest run of at least one word character

@@ -14,8 +14,6 @@ pub enum IcuExpected {
     RootType,
     /// A type that this form has.
     GroupType,
-    /// A type that makes a tree, and not `:alias`.
-    NoAlias,
     /// A type that makes a tree, and not `:import`.
     NoImport,
     /// A type that makes a tree, and not `:include`.
@@ -72,7 +70,6 @@ impl fmt::Display for IcuExpected {
             IcuExpected::Name => "the name of the bundle",
             IcuExpected::RootType => "'table' or 'table(nofallback)'",
             IcuExpected::GroupType => "a type",
-            IcuExpected::NoAlias => "a type of a tree, and 'alias' is none",
             IcuExpected::NoImport => "a type of a tree, and 'import' is none",
             IcuExpected::NoInclude => "a type of a tree, and 'include' is none",
             IcuExpected::NoProcess => "a type of a tree, and 'process' is none",
@@ -105,9 +102,7 @@ impl fmt::Display for IcuExpected {
 pub fn instead_of(name: &str) -> IcuExpected
     ensures { result ≡ instead_of name.now }
 {
-    if name == "alias" {
-        IcuExpected::NoAlias
-    } else if name == "import" {
+    if name == "import" {
         IcuExpected::NoImport
     } else if name == "include" {
         IcuExpected::NoInclude

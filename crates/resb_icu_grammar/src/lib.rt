@@ -6,8 +6,10 @@
 #![tactic(auto)]
 
 mod expected;
+mod group_kind;
 mod keys;
 pub mod laws;
 
 pub use expected::{IcuExpected, instead_of};
+pub use group_kind::{IcuKind, icu_kind_named};
 pub use keys::{are_key_bytes, is_collation, is_table, is_word};

@@ -2,8 +2,8 @@
 use Rattle.std.proofs.Common.{◌≡◌, ℕ, suc, Bool, true, false, not, List, [], ◌∷◌, ◌++◌, refl}
 use Rattle.std.proofs.Common.{Option, None}
 use Rattle.std.specs.Prelude.{◌||◌, is_some}
-use Rattle.resb_tree.specs.Tree.{Tree, string, array, table, binary, integer, int_vector, Trees}
-use Rattle.resb_tree.specs.Tree.{no_trees, more_trees, Entries, no_entries, entry}
+use Rattle.resb_tree.specs.Tree.{Tree, string, alias, array, table, binary, integer, int_vector}
+use Rattle.resb_tree.specs.Tree.{Trees, no_trees, more_trees, Entries, no_entries, entry}
 use Rattle.resb_print.specs.Paths.{Step, by_key, by_number, path_if, path_else, member_path_else}
 use Rattle.resb_print.specs.Paths.{entry_path_else}
 use Rattle.resb_icu_print.specs.declared.cause.IcuCause.{IcuCause}
@@ -29,6 +29,7 @@ mutual
       → is_some later ≡ is_some cause
       → is_some (path_else icu_tests path t later) ≡ is_some (cause_else t cause)
   found_both path (string s) later cause h = h
+  found_both path (alias s) later cause h = h
   found_both path (array ts) later cause h = found_among path 0 ts later cause h
   found_both path (table es) later cause h = found_in path es later cause h
   found_both path (binary bs) later cause h = h
@@ -56,6 +57,7 @@ mutual
 pub path_where_cause : (name : List ℕ) (t : Tree)
     → is_some (icu_cause_path name t) ≡ is_some (first_cause name t)
 path_where_cause name (string s) = refl
+path_where_cause name (alias s) = refl
 path_where_cause name (array ts) = refl
 path_where_cause name (table es) =
     one_test (not (is_bare name)) [] _ (entry_path_else icu_tests [] es None)

@@ -3,7 +3,7 @@
 use Rattle.std.proofs.Common.{◌≡◌, true, false, [], ◌∷◌, ◌++◌, refl, Some, None}
 use Rattle.std.specs.Prelude.{codes}
 use Rattle.hex.specs.Hex.{encode_with}
-use Rattle.resb_tree.specs.Tree.{string, array, table, binary}
+use Rattle.resb_tree.specs.Tree.{string, alias, array, table, binary}
 use Rattle.resb_tree.specs.Tree.{no_trees, more_trees, no_entries, entry}
 use Rattle.resb_icu_print.specs.declared.cause.IcuCause.TheVariants as cause
 use Rattle.resb_icu_print.specs.Printed.{printed_icu_bundle}
@@ -19,6 +19,13 @@ escapes : printed_icu_bundle (codes "de_AT") false
     ≡ codes "de_AT:table(nofallback){\n    \"a b\"{\"x\\\"\\u000a\\\\\"}\n    k%{\"\"}\n}\n"
 unfolding encode_with
 escapes = refl
+
+-- an alias has its path in quotes, as a string
+aliases : printed_icu_bundle (codes "b") true
+    (entry (codes "x") (alias (codes "/a/b"))
+    (entry (codes "y") (array (more_trees (alias (codes "\"")) no_trees)) no_entries))
+    ≡ codes "b{\n    x:alias{\"/a/b\"}\n    y:array{\n        :alias{\"\\\"\"},\n    }\n}\n"
+aliases = refl
 
 -- each item of an array has a comma behind it, and an entry none
 groups : printed_icu_bundle (codes "b") true

@@ -10,16 +10,16 @@ use Rattle.std.specs.Ordering.{is_eq}
 use Rattle.hex.specs.Hex.{encode_lower}
 use Rattle.std.proofs.lemmas.Bool.{and_parts}
 use Rattle.std.proofs.lemmas.Bool.Decides.{nat_tests}
-use Rattle.resb_tree.specs.Tree.{Tree, string, array, table, binary, integer, int_vector, Trees}
-use Rattle.resb_tree.specs.Tree.{no_trees, more_trees, Entries, no_entries, entry}
+use Rattle.resb_tree.specs.Tree.{Tree, string, alias, array, table, binary, integer, int_vector}
+use Rattle.resb_tree.specs.Tree.{Trees, no_trees, more_trees, Entries, no_entries, entry}
 use Rattle.resb_tree.specs.Maps.{text_cmp, keyed_trees}
 use Rattle.resb_tree.specs.LayingOrder.{array_members as members_in, entry_keys}
 use Rattle.resb_grammar.specs.Ascii as ascii
-use Rattle.resb_grammar.specs.GroupTypes.{Kind, array_kind, table_kind, binary_kind}
-use Rattle.resb_grammar.specs.GroupTypes.{integer_kind, vector_kind}
+use Rattle.resb_icu_grammar.specs.Kinds.{Kind, alias_kind, array_kind, table_kind, binary_kind}
+use Rattle.resb_icu_grammar.specs.Kinds.{integer_kind, vector_kind}
 use Rattle.resb_icu_grammar.specs.Blanks.{Blanks, Skip, IsSolid}
 use Rattle.resb_icu_grammar.specs.Words as words
-use Rattle.resb_icu_grammar.specs.Groups.{TypedOpening, LeafContent, binary_content}
+use Rattle.resb_icu_grammar.specs.Groups.{TypedOpening, LeafContent, alias_content, binary_content}
 use Rattle.resb_icu_grammar.specs.Groups.{integer_content}
 use Rattle.resb_icu_grammar.specs.Groups.{Last, nothing, a_string, a_group, a_comma, ends_in_string}
 use Rattle.resb_icu_grammar.specs.Groups.{is_new, Members, no_member, string_member, group_member}
@@ -111,6 +111,7 @@ starts_with b more h = record { b = b; more = more; is = refl; stop = opens_stop
 starts : (n : ℕ) (t : Tree) (rest : List ℕ) → Starts (tree_on InTable n t rest)
 unfolding opens
 starts n (string s) rest = starts_with _ _ refl
+starts n (alias s) rest = starts_with _ _ refl
 starts n (array ts) rest = starts_with _ _ refl
 starts n (table no_entries) rest = starts_with _ _ refl
 starts n (table (entry k t es)) rest = starts_with _ _ refl
@@ -285,6 +286,9 @@ module _ (text : List ℕ) where
       → TreesAt at (more_trees t ts) rest
   member_more n (string s) ts tail group more h =
       let (p, blanks, f) = line_blanks text n h in string_done s ts tail blanks f more
+  member_more n (alias s) ts tail group more h =
+      let (p, blanks, f) = line_blanks text n h in
+      group_done (alias s) ts tail blanks (solid_at text f refl refl) (group p f) more
   member_more n (array us) ts tail group more h =
       let (p, blanks, f) = line_blanks text n h in
       group_done (array us) ts tail blanks (solid_at text f refl refl) (group p f) more
@@ -363,6 +367,12 @@ module _ (text : List ℕ) where
     pub group_at : (n : ℕ) (t : Tree) (at : ℕ) (rest : List ℕ) → IsHeld t → IsTaken t
         → From text at (tree_on InTable n t rest) → GroupAt at t rest
     group_at n (string s) at rest held taken h = string_group s h
+    group_at n (alias s) at rest held taken h =
+        let (brace, f, head) = opening_at text alias_kind (codes "alias") refl refl h in
+        let (q, joined, piece, g) = piece_read text s ascii.right_brace rest brace_stop f in
+        leaf_done alias_kind (alias s)
+        (head (brace + 1) (no_skip text (solid_at text f refl refl)))
+        (alias_content q s (words.quoted joined) (no_skip text (solid_at text g refl refl))) g
     group_at n (array ts) at rest held taken h =
         let (brace, f, head) = opening_at text array_kind (codes "array") refl refl h in
         let r = trees_at (deeper n) ts (trees_end ts n rest) (brace + 1) rest held taken

@@ -8,13 +8,13 @@ use Rattle.std.proofs.lemmas.Fmt.{decimal_by_steps}
 use Rattle.resb_grammar.specs.Ascii as ascii
 use Rattle.resb_grammar.specs.ByteRuns.{is_white, is_digit}
 use Rattle.resb_grammar.specs.Lexical.{digits_value}
-use Rattle.resb_grammar.specs.GroupTypes.{Kind, Names}
+use Rattle.resb_icu_grammar.specs.Kinds.{Kind, Names}
 use Rattle.resb_icu_grammar.specs.Bytes.{is_word}
 use Rattle.resb_icu_grammar.specs.Blanks.{IsSolid, Skip}
 use Rattle.resb_icu_grammar.specs.Words.{Number, unsigned}
 use Rattle.resb_icu_grammar.specs.Groups.{TypedOpening, Numbers, last_number, one_more, LeafContent}
 use Rattle.resb_icu_grammar.specs.Groups.{no_numbers, numbers}
-use Rattle.resb_grammar.specs.GroupTypes.{vector_kind}
+use Rattle.resb_icu_grammar.specs.Kinds.{vector_kind}
 use Rattle.resb_tree.specs.Tree.{int_vector}
 use Rattle.resb_print.specs.Printed.{numbers_on, more_numbers_on}
 use Rattle.resb_print.specs.Held.{AreBelow}

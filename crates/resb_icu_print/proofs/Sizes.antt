@@ -5,8 +5,9 @@ use Rattle.std.specs.Prelude.{cond, codes}
 use Rattle.std.proofs.lemmas.List.{length-append}
 use Rattle.hex.specs.Hex.{encode_lower, lower_digits}
 use Rattle.hex.proofs.HexLemmas.{length-encode_with}
-use Rattle.resb_tree.specs.Tree.{Tree, string, array, table, binary, integer, int_vector, Trees}
-use Rattle.resb_tree.specs.Tree.{no_trees, more_trees, Entries, no_entries, entry, tree_count}
+use Rattle.resb_tree.specs.Tree.{Tree, string, alias, array, table, binary, integer, int_vector}
+use Rattle.resb_tree.specs.Tree.{Trees, no_trees, more_trees, Entries, no_entries, entry}
+use Rattle.resb_tree.specs.Tree.{tree_count}
 use Rattle.resb_tree.specs.Tree.{trees_count, entries_count}
 use Rattle.resb_print.specs.declared.place.Place.{Place}
 use Rattle.resb_print.specs.declared.place.Place.TheVariants.{InTable, InArray}
@@ -60,6 +61,8 @@ mutual
   tree_length : (p : Place) (n : ℕ) (t : Tree) (rest : List ℕ) → n ≤ 32 → IsHeld t
       → 131 + length (tree_on p n t rest) ≤ 270 * tree_count t + data_length t + length rest
   tree_length p n (string s) rest h held = omega (arith, string_length p s rest)
+  tree_length p n (alias s) rest h held =
+      omega (arith, inside_length s (34 ∷ 125 ∷ end_on p rest), end_length p rest)
   tree_length p n (array ts) rest h held =
       let end = trees_end ts n (end_on p rest) in
       omega (

@@ -9,19 +9,21 @@ use Rattle.std.specs.Ordering.{match_ordering, is_eq}
 use Rattle.std.proofs.lemmas.Bool.{false≢true, and_from, or_from}
 use Rattle.std.proofs.lemmas.Bool.Decides.{nat_tests}
 use Rattle.std.proofs.lemmas.List.{length-take, get_or-take, get_or-drop}
-use Rattle.resb_tree.specs.Tree.{Tree, string, array, table, binary, integer, int_vector, Trees}
-use Rattle.resb_tree.specs.Tree.{no_trees, more_trees, Entries, no_entries, entry, trees_of, put}
+use Rattle.resb_tree.specs.Tree.{Tree, string, alias, array, table, binary, integer, int_vector}
+use Rattle.resb_tree.specs.Tree.{Trees, no_trees, more_trees, Entries, no_entries, entry, trees_of}
+use Rattle.resb_tree.specs.Tree.{put}
 use Rattle.resb_tree.specs.Tree.{put_all, map_of}
 use Rattle.resb_tree.specs.Maps.{text_cmp}
 use Rattle.resb_grammar.specs.Ascii as ascii
-use Rattle.resb_grammar.specs.GroupTypes.{Kind}
+use Rattle.resb_icu_grammar.specs.Kinds.{Kind}
 use Rattle.resb_icu_grammar.specs.Bytes.{is_word, are_key_bytes, backslash}
 use Rattle.resb_icu_grammar.specs.Escapes.{Escape, itself, line_feed, carriage_return, tab}
 use Rattle.resb_icu_grammar.specs.Escapes.{four_digits, eight_digits}
 use Rattle.resb_icu_grammar.specs.Pieces.{QuotedBytes, ends, byte, escape}
 use Rattle.resb_icu_grammar.specs.Words.{Word, KeyText, a_word, quoted}
 use Rattle.resb_icu_grammar.specs.Groups as groups
-use Rattle.resb_icu_grammar.specs.Groups.{LeafContent, string_content, binary_content}
+use Rattle.resb_icu_grammar.specs.Groups.{LeafContent, string_content, alias_content}
+use Rattle.resb_icu_grammar.specs.Groups.{binary_content}
 use Rattle.resb_icu_grammar.specs.Groups.{integer_content, no_numbers, numbers, Last, Members}
 use Rattle.resb_icu_grammar.specs.Groups.{no_member, string_member, group_member, comma_behind}
 use Rattle.resb_icu_grammar.specs.Groups.{no_entry, one_entry, Untyped, an_empty_array, one_string}
@@ -147,6 +149,7 @@ map_taken ps h = put_all_taken no_entries ps tt h
 leaf_taken : (text : List ℕ) (from to : ℕ) (kind : Kind) (t : Tree)
     → LeafContent text from to kind t → IsTaken t
 leaf_taken text from to kind t (string_content i s x y) = tt
+leaf_taken text from to kind t (alias_content i s x y) = tt
 leaf_taken text from to kind t (binary_content i s bytes x y z) = tt
 leaf_taken text from to kind t (integer_content i v x y) = tt
 leaf_taken text from to kind t (no_numbers e) = tt
@@ -200,6 +203,7 @@ mutual
 mutual
   taken_no_cause : (t : Tree) (later : Option IcuCause) → IsTaken t → cause_else t later ≡ later
   taken_no_cause (string s) later h = refl
+  taken_no_cause (alias s) later h = refl
   taken_no_cause (array ts) later h = taken_no_causes ts later h
   taken_no_cause (table es) later h = taken_none_in es later h
   taken_no_cause (binary bs) later h = refl
@@ -229,6 +233,7 @@ mutual
   no_cause_taken : (t : Tree) (later : Option IcuCause) → cause_else t later ≡ None
       → IsTaken t × (later ≡ None)
   no_cause_taken (string s) later h = (tt, h)
+  no_cause_taken (alias s) later h = (tt, h)
   no_cause_taken (array ts) later h = no_causes_taken ts later h
   no_cause_taken (table es) later h = none_in_taken es later h
   no_cause_taken (binary bs) later h = (tt, h)

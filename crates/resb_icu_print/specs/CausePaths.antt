@@ -6,11 +6,12 @@ use Rattle.resb_print.specs.Paths.{Step, CauseTests, path_if, entry_path_else}
 use Rattle.resb_icu_print.specs.Causes.{is_icu_key, has_collation}
 use Rattle.resb_icu_print.specs.Printed.{is_bare}
 
--- a key that may not be one, or a key of collations with a table under it; no string
+-- a key that may not be one, or a key of collations with a table under it; no string and no alias
 abbrev pub icu_tests : CauseTests
 icu_tests = record {
   of_entry = λ k t. not (is_icu_key k) || has_collation k t;
   of_string = λ s. false;
+  of_alias = false;
 }
 
 -- the path to the first cause of a bundle of this name and root, if it has one: no step where the

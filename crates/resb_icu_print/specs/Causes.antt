@@ -1,9 +1,9 @@
 -- What keeps a bundle from having a text of ICU's form: its root, its name, a key, or a table under
--- a key of collations. No string does.
+-- a key of collations. No string does, and no alias.
 use Rattle.std.specs.Prelude.{◌≡◌, ◌⊎◌, ◌&&◌, not, ℕ, Bool, true, false, List, Option, Some}
 use Rattle.std.specs.Prelude.{None, if◌then◌else◌}
-use Rattle.resb_tree.specs.Tree.{Tree, string, array, table, binary, integer, int_vector, Trees}
-use Rattle.resb_tree.specs.Tree.{no_trees, more_trees, Entries, no_entries, entry}
+use Rattle.resb_tree.specs.Tree.{Tree, string, alias, array, table, binary, integer, int_vector}
+use Rattle.resb_tree.specs.Tree.{Trees, no_trees, more_trees, Entries, no_entries, entry}
 use Rattle.resb_icu_grammar.specs.Bytes.{are_key_bytes}
 use Rattle.resb_icu_grammar.specs.Groups.{is_collation, holds_entries}
 use Rattle.resb_print.specs.Quotes.{has_quote}
@@ -27,6 +27,7 @@ abbrev mutual
   -- so in a tree
   pub IsTaken : Tree → Type 0
   IsTaken (string s) = Unit {0}
+  IsTaken (alias s) = Unit {0}
   IsTaken (array ts) = AreTaken ts
   IsTaken (table es) = TakenIn es
   IsTaken (binary bs) = Unit {0}
@@ -59,6 +60,7 @@ abbrev mutual
   -- the first cause in a tree, and else what comes later
   pub cause_else : Tree → Option IcuCause → Option IcuCause
   cause_else (string s) later = later
+  cause_else (alias s) later = later
   cause_else (array ts) later = causes_else ts later
   cause_else (table es) later = causes_in_else es later
   cause_else (binary bs) later = later

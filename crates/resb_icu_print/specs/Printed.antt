@@ -7,8 +7,8 @@
 use Rattle.std.specs.Prelude.{◌≡◌, ◌<◌, ℕ, Bool, true, false, ◌&&◌, ◌||◌, ◌==◌, nat_lt, List, []}
 use Rattle.std.specs.Prelude.{◌∷◌, length, ◌++◌, codes, decimal, if◌then◌else◌}
 use Rattle.hex.specs.Hex.{encode_lower}
-use Rattle.resb_tree.specs.Tree.{Tree, string, array, table, binary, integer, int_vector, Trees}
-use Rattle.resb_tree.specs.Tree.{no_trees, more_trees, Entries, no_entries, entry}
+use Rattle.resb_tree.specs.Tree.{Tree, string, alias, array, table, binary, integer, int_vector}
+use Rattle.resb_tree.specs.Tree.{Trees, no_trees, more_trees, Entries, no_entries, entry}
 use Rattle.resb_grammar.specs.Ascii as ascii
 use Rattle.resb_icu_grammar.specs.Bytes.{is_word, backslash}
 use Rattle.resb_print.specs.Printed.{deeper, line_on, quoted_on, numbers_on, end_on, table_on}
@@ -64,6 +64,7 @@ abbrev mutual
   -- a resource at this level
   pub tree_on : Place → ℕ → Tree → List ℕ → List ℕ
   tree_on p n (string s) rest = string_on p s rest
+  tree_on p n (alias s) rest = codes ":alias{" ++ piece_on s (ascii.right_brace ∷ end_on p rest)
   tree_on p n (array ts) rest =
       codes ":array{" ++ trees_on (deeper n) ts (trees_end ts n (end_on p rest))
   tree_on p n (table es) rest =

@@ -1,7 +1,7 @@
 //! Why a bundle has no text of ICU's form, whoever prints it.
 //! Where the cause stands in the bundle is found in `path`.
 
-/// What keeps a bundle from having a text of ICU's form. No string does.
+/// What keeps a bundle from having a text of ICU's form. No string does, and no alias.
 #[derive(Clone, Copy, Debug, PartialEq, Eq)]
 pub enum IcuCause {
     /// The root is no table.

@@ -14,8 +14,8 @@ pub fn an_icu_text_gives_no_cause()
 {}
 
 /// The text of a bundle has at most 270 bytes for each resource, the bytes of the name and keys,
-/// six for each byte of a string, two for each byte of a binary, and eleven for each number of a
-/// vector.
+/// six for each byte of a string or of an alias's path, two for each byte of a binary, and eleven
+/// for each number of a vector.
 pub fn printed_icu_is_linear()
     ensures { PrintedIcuIsLinear }
 {}

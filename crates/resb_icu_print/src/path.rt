@@ -10,7 +10,8 @@ use resb_print::{CauseTests, PathStep, path_in};
 use resb_tree::{Resource, ResourceBundle};
 use std::alloc::{AllocError, Global};
 
-/// A key is a cause that may not be one, or that stands above a table of collations; no string is.
+/// A key is a cause that may not be one, or that stands above a table of collations; no string is,
+/// and no alias.
 enum IcuKeys {}
 
 impl CauseTests for IcuKeys {
@@ -23,6 +24,10 @@ impl CauseTests for IcuKeys {
     }
 
     fn is_string_cause(_text: &str) -> bool {
+        false
+    }
+
+    fn is_alias_cause() -> bool {
         false
     }
 }

@@ -41,20 +41,20 @@ fn push_lines(
         if !has_room(out.len(), &task, limit) {
             return Ok(false);
         }
-        step(alloc, out, &mut pending, task)?;
+        step(out, &mut pending, task)?;
     }
     Ok(true)
 }
 
 /// The text of a bundle in ICU's form, which `genrb` reads too: one entry or item a line, indented
-/// by four blanks a level up to 32 levels. Keys stand without quotes where they may, strings always
-/// in quotes, `"` and `\` in them behind a backslash, and control characters as `\u00` and two hex
-/// digits. No text is given where none of this form has the name, flag and tree: where the root is
-/// no table, the name is no word, a key has a character that may not stand in one, or a table
-/// stands under `collations` or `CollationElements`; the first of these in the order of the text is
-/// answered. Want of memory may come before any of them.
+/// by four blanks a level up to 32 levels. Keys stand without quotes where they may, strings and
+/// the paths of aliases always in quotes, `"` and `\` in them behind a backslash, and control
+/// characters as `\u00` and two hex digits. No text is given where none of this form has the name,
+/// flag and tree: where the root is no table, the name is no word, a key has a character that may
+/// not stand in one, or a table stands under `collations` or `CollationElements`; the first of
+/// these in the order of the text is answered. Want of memory may come before any of them.
 /// The text has at most 270 bytes for each resource, the bytes of the name and keys, six for each
-/// byte of a string, two for each byte of a binary, and eleven for each number of a vector.
+/// byte of a string or path, two for each byte of a binary, and eleven for each number of a vector.
 pub fn print_icu_text(alloc: Global, bundle: &ResourceBundle<'_>) -> Result<String, IcuPrintError>
     ensures text { IfOk result (λ text. (keys : List (List ℕ)) × IcuText (string_bytes text)
         (name_of bundle.now) bundle.now.is_locale_fallback_enabled (root_of bundle.now) keys) }
@@ -78,9 +78,9 @@ pub fn print_icu_text(alloc: Global, bundle: &ResourceBundle<'_>) -> Result<Stri
 
 /// The text of a bundle as `print_icu_text` gives it, where it has no more bytes than the limit,
 /// and `None` where it would have more. Before an entry or item is written, the bytes of its key
-/// and string, and two for each byte of its binary, have to be within the limit. Where the text
-/// would have more bytes than the limit before the first cause that keeps it from being one, `None`
-/// or the cause may be answered.
+/// and of its string or path, and two for each byte of its binary, have to be within the limit.
+/// Where the text would have more bytes than the limit before the first cause that keeps it from
+/// being one, `None` or the cause may be answered.
 pub fn print_icu_text_within(
     alloc: Global,
     bundle: &ResourceBundle<'_>,

@@ -1,11 +1,11 @@
 //! One line of a text printed in ICU's form, and the lines that it leaves to be printed. The tasks
 //! are those of `resb_print`. No function calls itself.
 ghost use Rattle.std.specs.Prelude.{◌≡◌, ◌++◌, ◌*◌, map, reverse, OnOk, IfErr, ℕ, List};
-ghost use Rattle.resb_tree.specs.Tree.{array, table as table_with};
+ghost use Rattle.resb_tree.specs.Tree.{alias, array, table as table_with};
 ghost use Rattle.resb_tree.specs.View.{tree_of, items_view, entries_view};
 ghost use Rattle.resb_print.specs.Inner.Jobs.{jobs_in, job_of, Appends};
 ghost use Rattle.resb_icu_print.specs.Causes.{cause_else};
-ghost use Rattle.resb_icu_print.specs.Printed.{string_on};
+ghost use Rattle.resb_icu_print.specs.Printed.{string_on, tree_on};
 ghost use Rattle.resb_icu_print.specs.Inner.Jobs.{job_cause, DoesJob, DoesTree, HasFirstCause};
 
 use crate::cause::IcuCause;
@@ -31,6 +31,16 @@ fn push_string(alloc: Global, out: &mut String, place: Place, text: &str) -> Res
         push_piece(alloc, out, text)?;
         out.push_str(",")
     }
+}
+
+/// Writes an alias, its path as a string is written.
+fn push_alias(alloc: Global, out: &mut String, place: Place, path: &str) -> Result<(), AllocError>
+    ensures { OnOk result (Appends out.old out.new (tree_on place 0 (alias path.now))) }
+{
+    out.push_str(":alias{")?;
+    push_piece(alloc, out, path)?;
+    out.push_str("}")?;
+    push_end(out, place)
 }
 
 /// Begins an array, and puts the rest of it.
@@ -77,7 +87,6 @@ fn push_table<'t, 'a>(
 
 /// Writes a resource, or begins it and puts the rest of it.
 fn push_resource<'t, 'a>(
-    alloc: Global,
     out: &mut String,
     pending: &mut Vec<Task<'t, 'a>>,
     place: Place,
@@ -87,8 +96,10 @@ fn push_resource<'t, 'a>(
     ensures { OnOk result (DoesTree out.old out.new (jobs_in pending.old.items)
         (jobs_in pending.new.items) place level (tree_of resource.now)) }
 {
+    let alloc = *pending.allocator();
     match resource {
         Resource::String(text) => push_string(alloc, out, place, text.as_str()),
+        Resource::Alias(path) => push_alias(alloc, out, place, path.as_str()),
         Resource::Array(items) => push_array(out, pending, place, level, items),
         Resource::Table(table) => push_table(out, pending, place, level, table),
         Resource::Binary(bytes) => push_bytes(alloc, out, place, bytes.as_slice()),
@@ -99,7 +110,6 @@ fn push_resource<'t, 'a>(
 
 /// Does a task, and puts what it leaves.
 pub(crate) fn step<'t, 'a>(
-    alloc: Global,
     out: &mut String,
     pending: &mut Vec<Task<'t, 'a>>,
     task: Task<'t, 'a>,
@@ -118,12 +128,12 @@ pub(crate) fn step<'t, 'a>(
             }
             push_line(out, level)?;
             push_key(out, key.as_str())?;
-            push_resource(alloc, out, pending, Place::InTable, level, resource)?;
+            push_resource(out, pending, Place::InTable, level, resource)?;
             Ok(())
         }
         Task::Member(level, resource) => {
             push_line(out, level)?;
-            push_resource(alloc, out, pending, Place::InArray, level, resource)?;
+            push_resource(out, pending, Place::InArray, level, resource)?;
             Ok(())
         }
         Task::Close(level, place) => {

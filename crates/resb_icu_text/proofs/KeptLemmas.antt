@@ -8,8 +8,8 @@ use Rattle.std.specs.Prelude.{map}
 use Rattle.std.specs.declared.borrow.CowStr.{CowStr}
 use Rattle.resb_tree.specs.Borrowing as borrowing
 use Rattle.resb_tree.specs.Borrowing.{all_true, are_slice}
-use Rattle.resb_tree.specs.declared.resource.Resource.{Resource, String}
-use Rattle.resb_tree.proofs.BorrowingLemmas.{all_snoc, string_passes}
+use Rattle.resb_tree.specs.declared.resource.Resource.{Resource, String, Alias}
+use Rattle.resb_tree.proofs.BorrowingLemmas.{all_snoc, string_passes, alias_passes}
 use Rattle.resb_icu_grammar.specs.Words.{Text}
 use Rattle.resb_icu_text.specs.Lexemes.{IsLexeme, Verbatim, bytes_said, stands_whole}
 use Rattle.resb_icu_text.specs.Borrowed.{IsPutTogether, PassesWhatIsSaid, passes, KeepsSlices}
@@ -38,6 +38,15 @@ pub said_kept : (text : List ℕ) (from : ℕ) (l : Lexeme) (s : CowStr Global) 
     → KeepsSlices text (String s)
 said_kept text from l s is e k test p =
     string_passes test (λ b. not (are_slice b)) s
+    ∙ by_slice text test s (stands_whole l.said) k
+    (put_together text from l (cow_str_bytes s) is e) p
+
+-- so is an alias's path
+pub path_kept : (text : List ℕ) (from : ℕ) (l : Lexeme) (s : CowStr Global) → IsLexeme text from l
+    → cow_str_bytes s ≡ bytes_said l.said → borrowing.is_slice s ≡ stands_whole l.said
+    → KeepsSlices text (Alias s)
+path_kept text from l s is e k test p =
+    alias_passes test (λ b. not (are_slice b)) s
     ∙ by_slice text test s (stands_whole l.said) k
     (put_together text from l (cow_str_bytes s) is e) p
 

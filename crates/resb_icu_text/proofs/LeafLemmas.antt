@@ -4,13 +4,14 @@ use Rattle.std.proofs.Common.{⊎_elim, inl, inr, refl, sym, ◌∙◌, ap, subs
 use Rattle.std.specs.Prelude.{slice_index}
 use Rattle.resb_grammar.specs.Ascii as ascii
 use Rattle.resb_grammar.specs.Group.{hex_bytes}
-use Rattle.resb_grammar.specs.GroupTypes.{Kind, string_kind, binary_kind, integer_kind}
-use Rattle.resb_grammar.specs.GroupTypes.{vector_kind}
-use Rattle.resb_tree.specs.Tree.{string, binary, integer, int_vector}
+use Rattle.resb_icu_grammar.specs.Kinds.{Kind, string_kind, alias_kind, binary_kind, integer_kind}
+use Rattle.resb_icu_grammar.specs.Kinds.{vector_kind}
+use Rattle.resb_tree.specs.Tree.{string, alias, binary, integer, int_vector}
 use Rattle.resb_icu_grammar.specs.Blanks.{Skip}
 use Rattle.resb_icu_grammar.specs.Words.{Text, Number}
 use Rattle.resb_icu_grammar.specs.Groups.{last_number, last_comma, one_more}
-use Rattle.resb_icu_grammar.specs.Groups.{string_content, binary_content, integer_content}
+use Rattle.resb_icu_grammar.specs.Groups.{string_content, alias_content, binary_content}
+use Rattle.resb_icu_grammar.specs.Groups.{integer_content}
 use Rattle.resb_icu_grammar.specs.Groups.{no_numbers, numbers}
 use Rattle.resb_icu_grammar.specs.Faults.{Told}
 use Rattle.resb_icu_grammar.specs.Stuck.{NumbersSoFar, one_number, LeafStuck, NoStringAt}
@@ -38,6 +39,12 @@ pub string_stands : (text : List ℕ) (at i to : ℕ) (s : List ℕ) → Text te
     → Closing text i to → Leaf text at string_kind to (string s)
 string_stands text at i to s p c =
     record { content = string_content i s p c.blanks; closes = c.closes }
+
+-- the content of an alias
+pub alias_stands : (text : List ℕ) (at i to : ℕ) (s : List ℕ) → Text text at i s
+    → Closing text i to → Leaf text at alias_kind to (alias s)
+alias_stands text at i to s p c =
+    record { content = alias_content i s p c.blanks; closes = c.closes }
 
 -- the content of a binary
 pub binary_stands : (text : List ℕ) (at i to : ℕ) (s bytes : List ℕ) → Text text at i s

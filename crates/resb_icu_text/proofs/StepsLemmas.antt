@@ -8,7 +8,7 @@ use Rattle.std.specs.Cow.{cow_str_bytes}
 use Rattle.std.specs.Prelude.{slice_index, map}
 use Rattle.std.specs.declared.borrow.CowStr.{CowStr}
 use Rattle.resb_grammar.specs.Ascii as ascii
-use Rattle.resb_grammar.specs.GroupTypes.{Kind, array_kind, table_kind}
+use Rattle.resb_icu_grammar.specs.Kinds.{Kind, array_kind, table_kind}
 use Rattle.resb_tree.specs.Tree.{Tree, string, array, table, map_of}
 use Rattle.resb_tree.specs.View.{tree_of, pairs_view, entries_view, items_view}
 use Rattle.resb_tree.specs.declared.resource.Resource.{Resource, String, Array, Table}

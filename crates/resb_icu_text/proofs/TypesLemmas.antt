@@ -4,7 +4,10 @@ use Rattle.std.proofs.Common.{length, get_or, drop, refl, sym, ap, subst, Some}
 use Rattle.std.proofs.Common.{drop-cons}
 use Rattle.std.specs.Prelude.{slice_get, slice_index, codes}
 use Rattle.resb_grammar.specs.Ascii as ascii
-use Rattle.resb_grammar.specs.GroupTypes.{Kind, Names, table_kind, Stands, NoFallback}
+use Rattle.resb_grammar.specs.GroupTypes.{Stands, NoFallback}
+use Rattle.resb_icu_grammar.specs.Kinds.{Kind, Names, table_kind, kind_of}
+use Rattle.resb_icu_grammar.specs.declared.group_kind.IcuKind as code
+use Rattle.resb_icu_grammar.specs.declared.group_kind.IcuKind.TheVariants as names
 use Rattle.resb_icu_grammar.specs.Words.{Word, TypeName, GroupType, RootType, table_type}
 use Rattle.resb_icu_grammar.specs.Words.{no_fallback_type}
 use Rattle.resb_icu_grammar.specs.Expected.{instead_of}
@@ -14,6 +17,16 @@ use Rattle.resb_icu_grammar.specs.declared.expected.IcuExpected.TheVariants as e
 use Rattle.resb_icu_text.specs.declared.error.IcuTextError.{IcuTextError}
 use Rattle.resb_icu_grammar.proofs.Types.{no_type_there}
 use Rattle.resb_icu_grammar.proofs.Lexical.{GroupType-one}
+
+-- the code's names differ where the types do
+pub not_table : (k : code.IcuKind) → (k ≡ names.Table → ⊥) → kind_of k ≢ table_kind
+not_table names.Table h e = h refl
+not_table names.String h e = absurd cc
+not_table names.Alias h e = absurd cc
+not_table names.Array h e = absurd cc
+not_table names.Binary h e = absurd cc
+not_table names.Integer h e = absurd cc
+not_table names.IntVector h e = absurd cc
 
 -- where the first byte is another, the bytes do not stand
 pub not_there : (text xs : List ℕ) (here i : ℕ) → i < length xs

@@ -1,13 +1,12 @@
-//! Groups that hold no items: one string, hex digits, one number, or numbers.
+//! Groups that hold no items: one string, a path, hex digits, one number, or numbers.
 //! Each is read from behind its `{` on, up to its `}`. Which type a group names is read in `types`.
 ghost use Rattle.std.specs.Prelude.{◌≡◌, ◌≢◌, ◌+◌, ◌*◌, ◌<◌, ◌≤◌, length};
 ghost use Rattle.std.specs.Prelude.{slice_index, IfOk, IfErr};
 ghost use Rattle.std.specs.Cow.{cow_str_bytes};
 ghost use Rattle.resb_grammar.specs.Ascii as ascii;
-ghost use Rattle.resb_grammar.specs.GroupTypes.{string_kind, binary_kind, integer_kind};
-ghost use Rattle.resb_grammar.specs.GroupTypes.{vector_kind, array_kind, table_kind};
 ghost use Rattle.resb_tree.specs.View.{tree_of};
-ghost use Rattle.resb_grammar.specs.Kinds.{group_kind_of};
+ghost use Rattle.resb_icu_grammar.specs.Kinds.{kind_of, string_kind, alias_kind, binary_kind};
+ghost use Rattle.resb_icu_grammar.specs.Kinds.{integer_kind, vector_kind, array_kind, table_kind};
 ghost use Rattle.resb_tree.specs.Borrowing as borrowing;
 ghost use Rattle.resb_icu_text.specs.Borrowed.{KeepsSlices};
 ghost use Rattle.resb_icu_text.specs.Lexemes.{bytes_said, stands_whole};
@@ -20,8 +19,8 @@ use crate::error::IcuTextError;
 use crate::strings::{Said, string_or};
 use crate::turns::IcuTurns;
 use crate::words::number;
-use resb_grammar::{Kind, bytes_of_hex};
-use resb_icu_grammar::IcuExpected;
+use resb_grammar::bytes_of_hex;
+use resb_icu_grammar::{IcuExpected, IcuKind};
 use resb_tree::{Int28, Resource};
 use std::alloc::Global;
 use std::borrow::{CowSlice, CowStr};
@@ -72,6 +71,28 @@ fn string_leaf<'a>(
     let lexeme = string_or(alloc, text, at, IcuExpected::String, turns)?;
     let to = closing(text, lexeme.next)?;
     Ok((to, Resource::String(text_of(lexeme.said))))
+}
+
+/// The place of the `}` of an `:alias` group, and the alias with the string there as its path.
+fn alias_leaf<'a>(
+    alloc: Global,
+    text: &'a str,
+    at: usize,
+    turns: &mut IcuTurns,
+) -> Result<(usize, Resource<'a>), IcuTextError>
+    requires within { at ≤ length text.now }
+    ensures ok { IfOk result (λ r. Leaf text.now at alias_kind r.0 (tree_of r.1)) }
+    ensures err { IfErr result (LeafFails text.now at alias_kind) }
+    ensures slices { IfOk result (λ r. KeepsSlices text.now r.1) }
+    ensures within { IfOk result (λ r. (at ≤ r.0) × (r.0 < length text.now)) }
+    ensures cost { IfOk result (λ r. turns.new.count + 8 * reach text.now at
+        ≤ turns.old.count + 8 * r.0) }
+    ensures most { turns.new.count + 8 * reach text.now at
+        ≤ turns.old.count + 8 * length text.now + 4 }
+{
+    let lexeme = string_or(alloc, text, at, IcuExpected::String, turns)?;
+    let to = closing(text, lexeme.next)?;
+    Ok((to, Resource::Alias(text_of(lexeme.said))))
 }
 
 /// The place of the `}` of a `:bin` group, and its bytes.
@@ -204,14 +225,14 @@ fn vector_leaf<'a>(
 pub(crate) fn leaf<'a>(
     alloc: Global,
     text: &'a str,
-    kind: Kind,
+    kind: IcuKind,
     at: usize,
     turns: &mut IcuTurns,
 ) -> Result<(usize, Resource<'a>), IcuTextError>
     requires within { at ≤ length text.now }
-    requires leaf { (group_kind_of kind ≢ array_kind) × (group_kind_of kind ≢ table_kind) }
-    ensures ok { IfOk result (λ r. Leaf text.now at (group_kind_of kind) r.0 (tree_of r.1)) }
-    ensures err { IfErr result (LeafFails text.now at (group_kind_of kind)) }
+    requires leaf { (kind_of kind ≢ array_kind) × (kind_of kind ≢ table_kind) }
+    ensures ok { IfOk result (λ r. Leaf text.now at (kind_of kind) r.0 (tree_of r.1)) }
+    ensures err { IfErr result (LeafFails text.now at (kind_of kind)) }
     ensures slices { IfOk result (λ r. KeepsSlices text.now r.1) }
     ensures within { IfOk result (λ r. (at ≤ r.0) × (r.0 < length text.now)) }
     ensures cost { IfOk result (λ r. turns.new.count + 8 * reach text.now at
@@ -220,10 +241,11 @@ pub(crate) fn leaf<'a>(
         ≤ turns.old.count + 8 * length text.now + 4 }
 {
     match kind {
-        Kind::String => string_leaf(alloc, text, at, turns),
-        Kind::Binary => binary_leaf(alloc, text, at, turns),
-        Kind::Integer => integer_leaf(text, at, turns),
-        Kind::IntVector => vector_leaf(alloc, text, at, turns),
-        Kind::Array | Kind::Table => unreachable!(),
+        IcuKind::String => string_leaf(alloc, text, at, turns),
+        IcuKind::Alias => alias_leaf(alloc, text, at, turns),
+        IcuKind::Binary => binary_leaf(alloc, text, at, turns),
+        IcuKind::Integer => integer_leaf(text, at, turns),
+        IcuKind::IntVector => vector_leaf(alloc, text, at, turns),
+        IcuKind::Array | IcuKind::Table => unreachable!(),
     }
 }

@@ -93,7 +93,7 @@ impl<'a> OpenGroups<'a> {
         turns.add(1);
         match step {
             Step::Members(members, last, at) => {
-                Ok(Next::Step(member(alloc, text, members, last, at, turns)?))
+                Ok(Next::Step(member(text, members, last, at, turns)?))
             }
             Step::Entries(entries, at) => Ok(Next::Step(entry(alloc, text, entries, at, turns)?)),
             Step::Group(waiting, at) => {

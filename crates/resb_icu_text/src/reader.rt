@@ -35,8 +35,8 @@ pub enum IcuReader {}
 
 impl IcuReader {
     /// The bundle that the text is, and the keys of its tables in order of place, each once.
-    /// The name is a slice of the text, and so is each string of one piece without escapes; other
-    /// strings and the bytes of binaries are owned.
+    /// The name is a slice of the text, and so is each string and each alias's path of one piece
+    /// without escapes; other strings and paths, and the bytes of binaries, are owned.
     pub fn read<'a>(
         alloc: Global,
         input: &'a str,

@@ -9,7 +9,7 @@ ghost use Rattle.resb_tree.specs.View.{tree_of, pairs_view, entries_view};
 ghost use Rattle.resb_icu_grammar.specs.Groups as spec;
 ghost use Rattle.resb_icu_grammar.specs.Machine.{AreDistinct};
 ghost use Rattle.resb_icu_grammar.specs.Stuck.{member_behind};
-ghost use Rattle.resb_grammar.specs.Kinds.{group_kind_of};
+ghost use Rattle.resb_icu_grammar.specs.Kinds.{kind_of};
 ghost use Rattle.resb_icu_text.specs.Inner.Steps.{last_of, Steps, StepFails, Goes};
 ghost use Rattle.resb_icu_text.specs.Inner.Steps.{MembersThere, EntriesThere, GroupThere};
 ghost use Rattle.resb_icu_text.specs.Inner.Steps.{UntypedThere, TypedThere, EndedThere};
@@ -26,8 +26,7 @@ use crate::leaf::{leaf, text_of};
 use crate::strings::string_or;
 use crate::turns::IcuTurns;
 use crate::types::group_type;
-use resb_grammar::Kind;
-use resb_icu_grammar::{IcuExpected, is_collation, is_table};
+use resb_icu_grammar::{IcuExpected, IcuKind, is_collation, is_table};
 use resb_tree::{Key, NoMemory, Resource, Table, table_at_once};
 use std::alloc::Global;
 
@@ -95,7 +94,6 @@ pub(crate) enum Step<'a> {
 
 /// From among members to behind the next one, before the next group, or behind the array.
 pub(crate) fn member<'a>(
-    alloc: Global,
     text: &'a str,
     members: Vec<Resource<'a>>,
     last: Last,
@@ -123,7 +121,7 @@ pub(crate) fn member<'a>(
     if b == b'{' || b == b':' {
         return Ok(Step::Group(Waiting::Array(members), at));
     }
-    string_member(alloc, text, members, last, at, turns)
+    string_member(text, members, last, at, turns)
 }
 
 /// From a comma to behind it and the blanks there.
@@ -155,7 +153,6 @@ fn comma<'a>(
 
 /// From the string that must stand here to behind it and the blanks there.
 fn string_member<'a>(
-    alloc: Global,
     text: &'a str,
     mut members: Vec<Resource<'a>>,
     last: Last,
@@ -177,6 +174,7 @@ fn string_member<'a>(
     ensures most { turns.new.count + 8 * reach text.now at
         ≤ turns.old.count + 8 * length text.now + 4 }
 {
+    let alloc = *members.allocator();
     let lexeme = string_or(alloc, text, at, last.member_behind(), turns)?;
     if last.is_string() {
         return Err(IcuTextError::new(at, IcuExpected::Comma));
@@ -317,13 +315,13 @@ fn typed<'a>(
 fn content<'a>(
     alloc: Global,
     text: &'a str,
-    kind: Kind,
+    kind: IcuKind,
     at: usize,
     turns: &mut IcuTurns,
 ) -> Result<Step<'a>, IcuTextError>
     requires within { at ≤ length text.now }
-    ensures ok { IfOk result (Steps text.now (TypedThere (group_kind_of kind) at)) }
-    ensures err { IfErr result (StepFails text.now (TypedThere (group_kind_of kind) at)) }
+    ensures ok { IfOk result (Steps text.now (TypedThere (kind_of kind) at)) }
+    ensures err { IfErr result (StepFails text.now (TypedThere (kind_of kind) at)) }
     ensures slices { IfOk result
         (λ s. Keeps text.now nothing_before (step_passes s)) }
     ensures goes { IfOk result (Goes text.now (3 * at)) }
@@ -333,8 +331,8 @@ fn content<'a>(
         ≤ turns.old.count + 8 * length text.now + 4 }
 {
     match kind {
-        Kind::Array => Ok(Step::Members(Vec::new(alloc), Last::Nothing, at)),
-        Kind::Table => Ok(Step::Entries(Vec::new(alloc), at)),
+        IcuKind::Array => Ok(Step::Members(Vec::new(alloc), Last::Nothing, at)),
+        IcuKind::Table => Ok(Step::Entries(Vec::new(alloc), at)),
         _ => {
             let (to, resource) = leaf(alloc, text, kind, at, turns)?;
             Ok(Step::Ended(resource, to + 1))

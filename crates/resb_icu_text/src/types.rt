@@ -6,13 +6,12 @@ ghost use Rattle.resb_grammar.specs.Ascii as ascii;
 ghost use Rattle.resb_grammar.specs.GroupTypes.{Stands};
 ghost use Rattle.resb_icu_grammar.specs.Words.{GroupType, RootType};
 ghost use Rattle.resb_icu_grammar.specs.Stuck.{TypeStuck};
-ghost use Rattle.resb_grammar.specs.Kinds.{group_kind_of};
+ghost use Rattle.resb_icu_grammar.specs.Kinds.{kind_of};
 
 use crate::error::IcuTextError;
 use crate::turns::IcuTurns;
 use crate::words::word;
-use resb_grammar::{Kind, kind_named};
-use resb_icu_grammar::{IcuExpected, instead_of};
+use resb_icu_grammar::{IcuExpected, IcuKind, icu_kind_named, instead_of};
 
 /// The type whose `:` stands here and the place behind it, if a type stands here; or what was
 /// expected in its place. Counts a turn for each byte up to there, and one for that place.
@@ -20,10 +19,10 @@ pub fn group_type(
     text: &str,
     at: usize,
     turns: &mut IcuTurns,
-) -> Result<(usize, Kind), IcuTextError>
+) -> Result<(usize, IcuKind), IcuTextError>
     requires within { at < length text.now }
     requires colon { slice_index text.now at ≡ ascii.colon }
-    ensures found { IfOk result (λ r. GroupType text.now at r.0 (group_kind_of r.1)) }
+    ensures found { IfOk result (λ r. GroupType text.now at r.0 (kind_of r.1)) }
     ensures err { IfErr result (λ e. (e.position ≡ at) × TypeStuck text.now at e.expected) }
     ensures within { IfOk result (λ r. (at < r.0) × (r.0 ≤ length text.now)) }
     ensures cost { IfOk result (λ r. turns.new.count + at ≤ turns.old.count + r.0) }
@@ -33,7 +32,7 @@ pub fn group_type(
     let Some((to, name)) = word(text, at + 1, turns) else {
         return Err(IcuTextError::new(at, IcuExpected::GroupType));
     };
-    match kind_named(name) {
+    match icu_kind_named(name) {
         Some(kind) => Ok((to, kind)),
         None => Err(IcuTextError::new(at, instead_of(name))),
     }
@@ -72,7 +71,7 @@ pub fn root_type(text: &str, at: usize, turns: &mut IcuTurns) -> Option<(usize, 
         Err(_) => return None,
     };
     match kind {
-        Kind::Table => {
+        IcuKind::Table => {
             turns.add(12);
             if stands(text, to, b"(nofallback)") {
                 Some((to + 12, false))

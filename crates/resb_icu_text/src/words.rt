@@ -6,8 +6,6 @@ ghost use Rattle.std.specs.Prelude.{List, length, slice_index, slice_range, IfSo
 ghost use Rattle.resb_grammar.specs.Ascii as ascii;
 ghost use Rattle.resb_grammar.specs.ByteRuns.{Run, is_digit};
 ghost use Rattle.resb_grammar.specs.Lexical as plain;
-ghost use Rattle.resb_grammar.specs.GroupTypes as types;
-ghost use Rattle.resb_grammar.specs.GroupTypes.{Names, Stands};
 ghost use Rattle.resb_icu_grammar.specs.Bytes as spec;
 ghost use Rattle.resb_icu_grammar.specs.Words.{Word, Digits, Number, GroupType, RootType};
 ghost use Rattle.resb_icu_text.specs.Inner.Numbers.{DigitsInRange};

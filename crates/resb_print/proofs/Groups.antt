@@ -9,8 +9,9 @@ use Rattle.std.specs.List.Sorted.{IsStrictlySortedBy}
 use Rattle.hex.specs.Hex.{encode_lower, encode_with, lower_digits}
 use Rattle.std.proofs.lemmas.Bool.{false≢true, and_parts, and_from, or_from}
 use Rattle.std.proofs.lemmas.Bool.Decides.{nat_tests}
-use Rattle.resb_tree.specs.Tree.{Tree, string, array, table, binary, integer, int_vector, Trees}
-use Rattle.resb_tree.specs.Tree.{no_trees, more_trees, Entries, no_entries, entry, trees_of, map_of}
+use Rattle.resb_tree.specs.Tree.{Tree, string, alias, array, table, binary, integer, int_vector}
+use Rattle.resb_tree.specs.Tree.{Trees, no_trees, more_trees, Entries, no_entries, entry, trees_of}
+use Rattle.resb_tree.specs.Tree.{map_of}
 use Rattle.resb_tree.specs.Maps.{text_cmp, keyed_trees}
 use Rattle.resb_tree.specs.LayingOrder.{array_members, entry_keys}
 use Rattle.resb_grammar.specs.Ascii as ascii
@@ -51,6 +52,14 @@ pub record Starts (bytes : List ℕ) : Type 0 where
 
 starts : (n : ℕ) (t : Tree) (rest : List ℕ) → Starts (tree_on InTable n t rest)
 starts n (string s) rest = record {
+  b = _;
+  more = _;
+  is = refl;
+  no_word = refl;
+  no_white = refl;
+  no_slash = refl;
+}
+starts n (alias s) rest = record {
   b = _;
   more = _;
   is = refl;
@@ -359,6 +368,7 @@ module _ (text : List ℕ) where
       }) in
       item_done (string_term s) first skip
       (string_item first p q q xs s items named (no_skip text (solid_at text f2 refl refl))) f2
+  item_more n (alias s) free group g h = absurd free
   item_more n (array ts) free group g h =
       let (p, blanks, f) = line_blanks text n h in
       group_done (array ts) g blanks (solid_at text f refl refl) (group p f)
@@ -441,6 +451,7 @@ module _ (text : List ℕ) where
     pub group_at : (n : ℕ) (t : Tree) (at : ℕ) (rest : List ℕ) → IsHeld t → IsFree t
         → From text at (tree_on InTable n t rest) → GroupAt at t rest
     group_at n (string s) at rest held free h = string_group s free h
+    group_at n (alias s) at rest held free h = absurd free
     group_at n (array ts) at rest held free h =
         let (brace, f, head) = opening_at text array_kind (codes "array") refl refl h in
         let r = trees_at (deeper n) ts (brace + 1) (brace + 1) [] (trees_end ts n rest) held free

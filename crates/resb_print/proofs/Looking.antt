@@ -4,7 +4,7 @@ use Rattle.std.proofs.Common.{[], ◌∷◌, ◌++◌, take, reverse, length, re
 use Rattle.std.proofs.Common.{arith, append_assoc, Option, Some, None}
 use Rattle.std.proofs.lemmas.Bool.{false≢true}
 use Rattle.std.proofs.lemmas.List.{reverse-append, append-nil}
-use Rattle.resb_tree.specs.Tree.{Tree, string, array, table, Trees, more_trees, no_trees}
+use Rattle.resb_tree.specs.Tree.{Tree, string, alias, array, table, Trees, more_trees, no_trees}
 use Rattle.resb_tree.specs.Tree.{entries_of, entries_count, tree_count}
 use Rattle.resb_tree.specs.View.{tree_of, pairs_view}
 use Rattle.resb_tree.specs.declared.resource.Resource.{Resource}
@@ -99,6 +99,14 @@ module _ (c : CauseTests) where
   looks_into_string ls s b e = record {
     met = λ h path later. found_here (c.of_string s) path later (sym e ∙ h);
     passed = λ h path. sym (passed_here (c.of_string s) path (looks_path c ls path) (sym e ∙ h));
+    fewer = omega arith;
+  }
+
+  pub looks_into_alias : (ls : List ToLookAt) (s : List ℕ) (b : Bool) → b ≡ c.of_alias
+      → EntersTree c ls ls (alias s) b
+  looks_into_alias ls s b e = record {
+    met = λ h path later. found_here c.of_alias path later (sym e ∙ h);
+    passed = λ h path. sym (passed_here c.of_alias path (looks_path c ls path) (sym e ∙ h));
     fewer = omega arith;
   }
 

@@ -9,7 +9,8 @@ use Rattle.std.proofs.lemmas.Bool.Decides.{nat_tests}
 use Rattle.std.proofs.lemmas.List.{length-append}
 use Rattle.hex.specs.Hex.{encode_lower, lower_digits}
 use Rattle.hex.proofs.HexLemmas.{length-encode_with}
-use Rattle.resb_tree.specs.Tree.{Tree, string, array, table, binary, integer, int_vector, Entries}
+use Rattle.resb_tree.specs.Tree.{Tree, string, alias, array, table, binary, integer, int_vector}
+use Rattle.resb_tree.specs.Tree.{Entries}
 use Rattle.resb_print.specs.declared.place.Place.{Place}
 use Rattle.resb_print.specs.declared.place.Place.TheVariants.{InTable, InArray}
 use Rattle.resb_print.specs.Printed.{line_on, quoted_on, is_bare, name_on, end_on, string_on}
@@ -38,6 +39,7 @@ string_least InArray s rest = omega (arith, quoted_length s (44 ∷ rest))
 tree_on_least : (p : Place) (n : ℕ) (t : Tree) (rest : List ℕ)
     → tree_least t ≤ length (tree_on p n t rest)
 tree_on_least p n (string s) rest = string_least p s rest
+tree_on_least p n (alias s) rest = omega (arith, quoted_length s (125 ∷ end_on p rest))
 tree_on_least p n (array ts) rest = omega arith
 tree_on_least p n (table es) rest = omega arith
 tree_on_least p n (binary bs) rest =

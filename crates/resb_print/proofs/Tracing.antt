@@ -2,8 +2,8 @@
 use Rattle.std.proofs.Common.{◌≡◌, ℕ, suc, Bool, true, false, List, [], ◌∷◌, ◌++◌, refl}
 use Rattle.std.proofs.Common.{Option, Some, None}
 use Rattle.std.specs.Prelude.{cond, is_some}
-use Rattle.resb_tree.specs.Tree.{Tree, string, array, table, binary, integer, int_vector, Trees}
-use Rattle.resb_tree.specs.Tree.{no_trees, more_trees, Entries, no_entries, entry}
+use Rattle.resb_tree.specs.Tree.{Tree, string, alias, array, table, binary, integer, int_vector}
+use Rattle.resb_tree.specs.Tree.{Trees, no_trees, more_trees, Entries, no_entries, entry}
 use Rattle.resb_print.specs.declared.cause.Cause.{Cause}
 use Rattle.resb_print.specs.Quotes.{has_quote, quote_else, cause_else, causes_else, causes_in_else}
 use Rattle.resb_print.specs.Quotes.{first_cause}
@@ -26,6 +26,7 @@ mutual
       → is_some later ≡ is_some cause
       → is_some (path_else quote_tests path t later) ≡ is_some (cause_else t cause)
   both path (string s) later cause h = both_here path _ s later cause h
+  both path (alias s) later cause h = refl
   both path (array ts) later cause h = both_among path 0 ts later cause h
   both path (table es) later cause h = both_in path es later cause h
   both path (binary bs) later cause h = h
@@ -53,6 +54,7 @@ mutual
 pub path_where_cause : (name : List ℕ) (t : Tree)
     → is_some (cause_path name t) ≡ is_some (first_cause name t)
 path_where_cause name (string s) = refl
+path_where_cause name (alias s) = refl
 path_where_cause name (array ts) = refl
 path_where_cause name (table es) =
     both_here [] _ name (entry_path_else quote_tests [] es None) (causes_in_else es None)

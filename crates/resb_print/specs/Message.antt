@@ -2,7 +2,7 @@
 use Rattle.std.specs.Prelude.{ℕ, List, codes}
 use Rattle.resb_print.specs.declared.cause.Cause.{Cause}
 use Rattle.resb_print.specs.declared.cause.Cause.TheVariants.{RootIsNoTable, QuoteInName}
-use Rattle.resb_print.specs.declared.cause.Cause.TheVariants.{QuoteInKey, QuoteInString}
+use Rattle.resb_print.specs.declared.cause.Cause.TheVariants.{QuoteInKey, QuoteInString, Alias}
 use Rattle.resb_print.specs.declared.error.PrintError.{PrintError}
 use Rattle.resb_print.specs.declared.error.PrintError.TheVariants.{NotPrintable, OutOfMemory}
 
@@ -12,6 +12,7 @@ cause_message RootIsNoTable = codes "the root is no table"
 cause_message QuoteInName = codes "the name holds a '\"'"
 cause_message QuoteInKey = codes "a key holds a '\"'"
 cause_message QuoteInString = codes "a string holds a '\"'"
+cause_message Alias = codes "the plain form has no aliases"
 
 -- what the error prints as
 abbrev pub message_of : PrintError → List ℕ

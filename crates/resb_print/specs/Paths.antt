@@ -1,11 +1,12 @@
 -- Where the first cause stands that keeps a bundle from having a text: the keys and numbers that
--- lead there from the root. Which keys and strings are a cause differs by the form of the text.
-use Rattle.std.specs.Prelude.{ℕ, suc, Bool, List, [], ◌∷◌, ◌++◌, Option, Some, None}
+-- lead there from the root. Which keys and strings are a cause, and whether aliases are, differs by
+-- the form of the text.
+use Rattle.std.specs.Prelude.{ℕ, suc, Bool, true, List, [], ◌∷◌, ◌++◌, Option, Some, None}
 use Rattle.std.specs.Prelude.{if◌then◌else◌, map, option_map}
 use Rattle.std.specs.declared.alloc.Global.{Global}
 use Rattle.std.specs.declared.vec.Vec.{Vec}
-use Rattle.resb_tree.specs.Tree.{Tree, string, array, table, binary, integer, int_vector, Trees}
-use Rattle.resb_tree.specs.Tree.{no_trees, more_trees, Entries, no_entries, entry}
+use Rattle.resb_tree.specs.Tree.{Tree, string, alias, array, table, binary, integer, int_vector}
+use Rattle.resb_tree.specs.Tree.{Trees, no_trees, more_trees, Entries, no_entries, entry}
 use Rattle.resb_print.specs.Quotes.{has_quote}
 use Rattle.resb_print.specs.declared.path.PathStep.{PathStep}
 use Rattle.resb_print.specs.declared.path.PathStep.TheVariants as step
@@ -28,14 +29,16 @@ steps_in ps = map step_of ps
 abbrev pub path_found : Option (Vec PathStep Global) → Option (List Step)
 path_found found = option_map (λ v. steps_in v.items) found
 
--- which keys, by themselves or for the tree that stands there, and which strings are a cause
+-- which keys, by themselves or for the tree that stands there, and which strings are a cause, and
+-- whether each alias is
 pub record CauseTests : Type 0 where
   pub of_entry : List ℕ → Tree → Bool
   pub of_string : List ℕ → Bool
+  pub of_alias : Bool
 
--- a key that holds a quote, and a string that does
+-- a key that holds a quote, a string that does, and each alias
 abbrev pub quote_tests : CauseTests
-quote_tests = record { of_entry = λ k t. has_quote k; of_string = has_quote }
+quote_tests = record { of_entry = λ k t. has_quote k; of_string = has_quote; of_alias = true }
 
 -- this path where the test says so, and else what comes later
 abbrev pub path_if : Bool → List Step → Option (List Step) → Option (List Step)
@@ -43,10 +46,11 @@ path_if b path later = if b then Some path else later
 
 -- the path to the first cause in the order of the text, and else what comes later
 abbrev mutual
-  -- the path to the first cause in a tree that stands at a path, a string that is a cause or what
-  -- is found inside, and else what comes later
+  -- the path to the first cause in a tree that stands at a path, a string or an alias that is a
+  -- cause or what is found inside, and else what comes later
   pub path_else : CauseTests → List Step → Tree → Option (List Step) → Option (List Step)
   path_else c path (string s) later = path_if (c.of_string s) path later
+  path_else c path (alias s) later = path_if c.of_alias path later
   path_else c path (array ts) later = member_path_else c path 0 ts later
   path_else c path (table es) later = entry_path_else c path es later
   path_else c path (binary bs) later = later

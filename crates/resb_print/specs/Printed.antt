@@ -9,8 +9,8 @@ use Rattle.std.specs.Prelude.{◌≡◌, ◌<◌, ℕ, zero, suc, ◌+◌, nat_l
 use Rattle.std.specs.Prelude.{List, [], ◌∷◌, length}
 use Rattle.std.specs.Prelude.{◌++◌, codes, decimal, if◌then◌else◌}
 use Rattle.hex.specs.Hex.{encode_lower}
-use Rattle.resb_tree.specs.Tree.{Tree, string, array, table, binary, integer, int_vector, Trees}
-use Rattle.resb_tree.specs.Tree.{no_trees, more_trees, Entries, no_entries, entry}
+use Rattle.resb_tree.specs.Tree.{Tree, string, alias, array, table, binary, integer, int_vector}
+use Rattle.resb_tree.specs.Tree.{Trees, no_trees, more_trees, Entries, no_entries, entry}
 use Rattle.resb_grammar.specs.Ascii as ascii
 use Rattle.resb_grammar.specs.ByteRuns.{is_word}
 use Rattle.resb_print.specs.declared.place.Place.{Place}
@@ -90,6 +90,8 @@ abbrev mutual
   -- a resource at this level
   pub tree_on : Place → ℕ → Tree → List ℕ → List ℕ
   tree_on p n (string s) rest = string_on p s rest
+  -- no text that is given has an alias: this form has none, and it is written as in ICU's form
+  tree_on p n (alias s) rest = codes ":alias{" ++ quoted_on s (ascii.right_brace ∷ end_on p rest)
   tree_on p n (array ts) rest =
       codes ":array{" ++ trees_on (deeper n) ts (trees_end ts n (end_on p rest))
   tree_on p n (table es) rest =

@@ -1,8 +1,8 @@
 -- Where a bundle holds a `"`, which no text can give to a string.
 use Rattle.std.specs.Prelude.{◌≡◌, ℕ, Bool, false, ◌||◌, ◌==◌, List, [], ◌∷◌, Option, Some, None}
 use Rattle.std.specs.Prelude.{if◌then◌else◌}
-use Rattle.resb_tree.specs.Tree.{Tree, string, array, table, binary, integer, int_vector, Trees}
-use Rattle.resb_tree.specs.Tree.{no_trees, more_trees, Entries, no_entries, entry}
+use Rattle.resb_tree.specs.Tree.{Tree, string, alias, array, table, binary, integer, int_vector}
+use Rattle.resb_tree.specs.Tree.{Trees, no_trees, more_trees, Entries, no_entries, entry}
 use Rattle.resb_grammar.specs.Ascii as ascii
 use Rattle.resb_print.specs.declared.cause.Cause.{Cause}
 use Rattle.resb_print.specs.declared.cause.Cause.TheVariants as cause
@@ -16,11 +16,12 @@ has_quote (b ∷ bs) = b == ascii.quote || has_quote bs
 abbrev pub NoQuote : List ℕ → Type 0
 NoQuote s = has_quote s ≡ false
 
--- no string and no key holds one
+-- no string and no key holds one, and there is no alias
 abbrev mutual
-  -- no string and no key of a tree holds a quote
+  -- no string and no key of a tree holds a quote, and no resource of it is an alias
   pub IsFree : Tree → Type 0
   IsFree (string s) = NoQuote s
+  IsFree (alias s) = ⊥
   IsFree (array ts) = AreFree ts
   IsFree (table es) = FreeIn es
   IsFree (binary bs) = Unit {0}
@@ -46,6 +47,7 @@ abbrev mutual
   -- the first cause in a tree, and else what comes later
   pub cause_else : Tree → Option Cause → Option Cause
   cause_else (string s) later = quote_else cause.QuoteInString s later
+  cause_else (alias s) later = Some cause.Alias
   cause_else (array ts) later = causes_else ts later
   cause_else (table es) later = causes_in_else es later
   cause_else (binary bs) later = later

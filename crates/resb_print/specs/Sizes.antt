@@ -1,15 +1,18 @@
 -- How long the text of a bundle may be: so much for each resource, and so much for each byte and
 -- each number that these hold.
 use Rattle.std.specs.Prelude.{ℕ, ◌+◌, ◌*◌, List, length}
-use Rattle.resb_tree.specs.Tree.{Tree, string, array, table, binary, integer, int_vector, Trees}
-use Rattle.resb_tree.specs.Tree.{no_trees, more_trees, Entries, no_entries, entry, tree_count}
+use Rattle.resb_tree.specs.Tree.{Tree, string, alias, array, table, binary, integer, int_vector}
+use Rattle.resb_tree.specs.Tree.{Trees, no_trees, more_trees, Entries, no_entries, entry}
+use Rattle.resb_tree.specs.Tree.{tree_count}
 
 -- what is held in trees, as it counts towards a text
 abbrev mutual
-  -- what the strings, keys, binaries and vectors of a tree add to the length of its text: one for
-  -- each byte of a string or key, two for each byte of a binary, eleven for each number of a vector
+  -- what the strings, paths, keys, binaries and vectors of a tree add to the length of its text:
+  -- one for each byte of a string, of an alias's path or of a key, two for each byte of a binary,
+  -- eleven for each number of a vector
   pub data_length : Tree → ℕ
   data_length (string s) = length s
+  data_length (alias s) = length s
   data_length (array ts) = data_lengths ts
   data_length (table es) = data_length_in es
   data_length (binary bs) = 2 * length bs
@@ -27,6 +30,6 @@ abbrev mutual
   data_length_in (entry k t es) = length k + data_length t + data_length_in es
 
 -- the most bytes that the text of a bundle of this name and root may have: 270 for each resource,
--- those of the name, and what the strings, keys, binaries and vectors add
+-- those of the name, and what the strings, paths, keys, binaries and vectors add
 abbrev pub text_limit : List ℕ → Tree → ℕ
 text_limit name t = 270 * tree_count t + length name + data_length t

@@ -12,4 +12,6 @@ pub enum Cause {
     QuoteInKey,
     /// A string holds a `"`.
     QuoteInString,
+    /// A resource is an alias, which the plain form has no way to write.
+    Alias,
 }

@@ -27,6 +27,7 @@ impl fmt::Display for PrintError {
             PrintError::NotPrintable(Cause::QuoteInName) => "the name holds a '\"'",
             PrintError::NotPrintable(Cause::QuoteInKey) => "a key holds a '\"'",
             PrintError::NotPrintable(Cause::QuoteInString) => "a string holds a '\"'",
+            PrintError::NotPrintable(Cause::Alias) => "the plain form has no aliases",
             PrintError::OutOfMemory => "out of memory",
         };
         write!(f, "{message}")

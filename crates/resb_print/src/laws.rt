@@ -18,8 +18,9 @@ pub fn causes_have_paths()
     ensures { CausesHavePaths }
 {}
 
-/// The text of a bundle has at most 270 bytes for each resource, the bytes of the name, keys and
-/// strings, two for each byte of a binary, and eleven for each number of a vector.
+/// The text of a bundle has at most 270 bytes for each resource, the bytes of the name, keys,
+/// strings and aliases' paths, two for each byte of a binary, and eleven for each number of a
+/// vector.
 pub fn printed_is_linear()
     ensures { PrintedIsLinear }
 {}

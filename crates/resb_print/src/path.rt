@@ -1,6 +1,6 @@
 //! Where the first cause stands that keeps a bundle from having a text: keys and numbers.
-//! Which keys and strings are a cause differs by the form of the text; which cause it is,
-//! `print_text` answers. No function calls itself.
+//! Which keys and strings are a cause, and whether aliases are, differs by the form of the text;
+//! which cause it is, `print_text` answers. No function calls itself.
 ghost use Rattle.std.specs.Prelude.{◌≡◌, ◌++◌, [], reverse, IfOk, OnOk, None};
 ghost use Rattle.resb_tree.specs.Bundle.{name_of, root_of};
 ghost use Rattle.resb_tree.specs.View.{tree_of, entries_view, pairs_view};
@@ -22,13 +22,13 @@ pub enum PathStep<'t> {
     Member(usize),
 }
 
-/// Which keys and strings keep a bundle from having a text of one form.
+/// Which keys and strings, and whether aliases, keep a bundle from having a text of one form.
 pub trait CauseTests {
     ghost use Rattle.std.specs.Prelude.{◌≡◌};
     ghost use Rattle.resb_tree.specs.View.{tree_of};
     ghost use Rattle.resb_print.specs.Paths as paths;
 
-    /// The same as tests of a key with its tree, and of a string.
+    /// The same as tests of a key with its tree, of a string, and of an alias.
     ghost tests: { paths.CauseTests };
 
     /// Whether a key is a cause, by itself or for what stands under it.
@@ -38,9 +38,13 @@ pub trait CauseTests {
     /// Whether a string is a cause.
     fn is_string_cause(text: &str) -> bool
         ensures { result ≡ tests.of_string text.now };
+
+    /// Whether an alias is a cause.
+    fn is_alias_cause() -> bool
+        ensures { result ≡ tests.of_alias };
 }
 
-/// A `"` is a cause in keys and in strings.
+/// A `"` is a cause in keys and in strings, and so is each alias.
 enum Quotes {}
 
 impl CauseTests for Quotes {
@@ -54,6 +58,10 @@ impl CauseTests for Quotes {
 
     fn is_string_cause(text: &str) -> bool {
         has_quote(text)
+    }
+
+    fn is_alias_cause() -> bool {
+        true
     }
 }
 
@@ -82,7 +90,7 @@ fn push_entries<'t, 'a>(
     Ok(())
 }
 
-/// Puts what is inside a resource. Answers whether it is a string that is a cause.
+/// Puts what is inside a resource. Answers whether it is a string or an alias that is a cause.
 fn enter<'t, 'a, C: CauseTests>(
     pending: &mut Vec<Visit<'t, 'a>>,
     resource: &'t Resource<'a>,
@@ -92,6 +100,7 @@ fn enter<'t, 'a, C: CauseTests>(
 {
     match resource {
         Resource::String(text) => Ok(C::is_string_cause(text.as_str())),
+        Resource::Alias(_) => Ok(C::is_alias_cause()),
         Resource::Array(members) => {
             pending.push(Visit::Members(members.as_slice(), 0))?;
             Ok(false)
@@ -161,8 +170,8 @@ pub fn path_in<'t, C: CauseTests>(
 }
 
 /// The path to the first cause that keeps a bundle from having a text, in the order of the text, if
-/// there is one: a key that holds a `"`, or a string that does. Where the root is no table or the
-/// name is the cause, it has no steps. `print_text` answers which cause it is.
+/// there is one: a key that holds a `"`, a string that does, or an alias. Where the root is no
+/// table or the name is the cause, it has no steps. `print_text` answers which cause it is.
 pub fn cause_path<'t>(
     alloc: Global,
     bundle: &'t ResourceBundle<'_>,

@@ -41,15 +41,16 @@ fn push_lines(
         if !has_room(out.len(), &task, limit) {
             return Ok(false);
         }
-        step(alloc, out, &mut pending, task)?;
+        step(out, &mut pending, task)?;
     }
     Ok(true)
 }
 
 /// The text of a bundle, one entry or item a line, indented by four blanks a level up to 32 levels.
 /// Names and keys stand without quotes where they may. No text is given where none has this name,
-/// flag and tree: where the root is no table, or the name, a key or a string holds a `"`; the first
-/// of these in the order of the text is answered. Want of memory may come before any of them.
+/// flag and tree: where the root is no table, the name, a key or a string holds a `"`, or there is
+/// an alias; the first of these in the order of the text is answered. Want of memory may come
+/// before any of them.
 /// The text has at most 270 bytes for each resource, the bytes of the name, keys and strings, two
 /// for each byte of a binary, and eleven for each number of a vector.
 pub fn print_text(alloc: Global, bundle: &ResourceBundle<'_>) -> Result<String, PrintError>
@@ -74,10 +75,11 @@ pub fn print_text(alloc: Global, bundle: &ResourceBundle<'_>) -> Result<String, 
 }
 
 /// The text of a bundle as `print_text` gives it, where it has no more bytes than the limit, and
-/// `None` where it would have more. Before an entry or item is written, the bytes of its key and
-/// string, and two for each byte of its binary, have to be within the limit, so that what is
-/// written beyond it is at most a line without them. Where the text would have more bytes than the
-/// limit before the first cause that keeps it from being one, `None` or the cause may be answered.
+/// `None` where it would have more. Before an entry or item is written, the bytes of its key and of
+/// its string or path, and two for each byte of its binary, have to be within the limit, so that
+/// what is written beyond it is at most a line without them. Where the text would have more bytes
+/// than the limit before the first cause that keeps it from being one, `None` or the cause may be
+/// answered.
 pub fn print_text_within(
     alloc: Global,
     bundle: &ResourceBundle<'_>,

@@ -8,13 +8,13 @@ ghost use Rattle.resb_print.specs.Inner.Room as room;
 use crate::task::Task;
 use resb_tree::Resource;
 
-/// The bytes of a string, or two for each byte of a binary.
+/// The bytes of a string or of an alias's path, or two for each byte of a binary.
 fn least_of_resource(resource: &Resource<'_>) -> u128
     ensures least { result ≡ room.tree_least (tree_of resource.now) }
     ensures small { result ≤ 2 ^ 65 }
 {
     match resource {
-        Resource::String(text) => text.as_str().len() as u128,
+        Resource::String(text) | Resource::Alias(text) => text.as_str().len() as u128,
         Resource::Binary(bytes) => 2 * bytes.as_slice().len() as u128,
         Resource::Array(_) | Resource::Table(_) | Resource::Integer(_) | Resource::IntVector(_) =>
             0,

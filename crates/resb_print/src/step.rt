@@ -160,7 +160,6 @@ fn push_table<'t, 'a>(
 
 /// Writes a resource, or begins it and puts the rest of it.
 fn push_resource<'t, 'a>(
-    alloc: Global,
     out: &mut String,
     pending: &mut Vec<Task<'t, 'a>>,
     place: Place,
@@ -179,6 +178,7 @@ fn push_resource<'t, 'a>(
             push_string(out, place, text.as_str())?;
             Ok(())
         }
+        Resource::Alias(_) => Err(PrintError::NotPrintable(Cause::Alias)),
         Resource::Array(items) => {
             push_array(out, pending, place, level, items)?;
             Ok(())
@@ -188,6 +188,7 @@ fn push_resource<'t, 'a>(
             Ok(())
         }
         Resource::Binary(bytes) => {
+            let alloc = *pending.allocator();
             push_bytes(alloc, out, place, bytes.as_slice())?;
             Ok(())
         }
@@ -204,7 +205,6 @@ fn push_resource<'t, 'a>(
 
 /// Does a task, and puts what it leaves.
 pub(crate) fn step<'t, 'a>(
-    alloc: Global,
     out: &mut String,
     pending: &mut Vec<Task<'t, 'a>>,
     task: Task<'t, 'a>,
@@ -220,11 +220,11 @@ pub(crate) fn step<'t, 'a>(
             }
             push_line(out, level)?;
             push_name(out, key.as_str())?;
-            push_resource(alloc, out, pending, Place::InTable, level, resource)
+            push_resource(out, pending, Place::InTable, level, resource)
         }
         Task::Member(level, resource) => {
             push_line(out, level)?;
-            push_resource(alloc, out, pending, Place::InArray, level, resource)
+            push_resource(out, pending, Place::InArray, level, resource)
         }
         Task::Close(level, place) => {
             push_line(out, level)?;

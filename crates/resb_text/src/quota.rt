@@ -62,6 +62,8 @@ pub(crate) fn leaf_bytes(resource: &Resource<'_>) -> u128
         Resource::IntVector(numbers) => {
             weights::RESOURCE + weights::NUMBER * numbers.len() as u128
         }
-        Resource::Array(_) | Resource::Table(_) | Resource::Integer(_) => weights::RESOURCE,
+        Resource::Alias(_) | Resource::Array(_) | Resource::Table(_) | Resource::Integer(_) => {
+            weights::RESOURCE
+        }
     }
 }

@@ -120,6 +120,7 @@ b{" => at 2: a string
 b{a} => at 3: '{'
 b{"x"} => at 5: '{'
 b{a:import{"x"}} => at 3: a type
+b{a:alias{"x"}} => at 3: a type
 b{a: int{1}} => at 3: a type
 b{a:intx{1}} => at 3: a type
 b{a:table(nofallback){}} => at 9: '{'

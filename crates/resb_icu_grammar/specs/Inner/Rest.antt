@@ -7,9 +7,9 @@
 use Rattle.std.specs.Prelude.{◌≡◌, ◌+◌, ◌&&◌, ℕ, false, List, [], ◌∷◌, ◌++◌, length}
 use Rattle.std.specs.Prelude.{slice_index}
 use Rattle.resb_grammar.specs.Ascii as ascii
-use Rattle.resb_grammar.specs.GroupTypes.{Kind}
 use Rattle.resb_tree.specs.Tree.{Tree, array, table, trees_of, map_of}
 use Rattle.resb_icu_grammar.specs.Blanks.{Skip}
+use Rattle.resb_icu_grammar.specs.Kinds.{Kind}
 use Rattle.resb_icu_grammar.specs.Machine.{Waiting, in_array, in_table, AreDistinct}
 use Rattle.resb_icu_grammar.specs.Groups.{Last, a_group, Members, Entries, Untyped, Typed, Group}
 use Rattle.resb_icu_grammar.specs.Groups.{is_collation, holds_entries}

@@ -1,7 +1,7 @@
 -- What the content of a group without items is, up to its `}`, and the errors where none stands.
 use Rattle.std.specs.Prelude.{◌≡◌, ◌⊎◌, ◌+◌, ℕ, List, slice_index}
 use Rattle.resb_grammar.specs.Ascii as ascii
-use Rattle.resb_grammar.specs.GroupTypes.{Kind}
+use Rattle.resb_icu_grammar.specs.Kinds.{Kind}
 use Rattle.resb_tree.specs.Tree.{Tree}
 use Rattle.resb_icu_grammar.specs.Blanks.{Skip}
 use Rattle.resb_icu_grammar.specs.Groups.{LeafContent, Numbers}

@@ -1,6 +1,6 @@
 -- Where a reading of a text stands, and how it goes on from there.
 use Rattle.std.specs.Prelude.{◌≡◌, ◌⊎◌, ◌≤◌, ◌<◌, ◌+◌, ◌*◌, ℕ, List, [], ◌∷◌, ◌++◌, length, map}
-use Rattle.resb_grammar.specs.GroupTypes.{Kind}
+use Rattle.resb_icu_grammar.specs.Kinds.{Kind}
 use Rattle.resb_tree.specs.View.{tree_of, pairs_view}
 use Rattle.resb_icu_grammar.specs.Blanks.{Skip}
 use Rattle.resb_icu_grammar.specs.Groups as spec

@@ -2,7 +2,7 @@ use Rattle.std.proofs.Common.{ap, subst, sym, ◌∙◌, arith, length}
 use Rattle.std.proofs.lemmas.Result.{err_from_is_err_and}
 use Rattle.resb_tree.specs.Tree.{Tree}
 use Rattle.resb_grammar.specs.Group.{hex_bytes}
-use Rattle.resb_grammar.specs.GroupTypes.{binary_kind}
+use Rattle.resb_icu_grammar.specs.Kinds.{binary_kind}
 use Rattle.resb_tree.proofs.ViewLemmas.{tree_of_binary}
 use Rattle.resb_icu_text.specs.Inner.Leaf.{Leaf}
 use Rattle.resb_icu_text.proofs.LeafLemmas.{leaf_fails, told_leaf, binary_stands}

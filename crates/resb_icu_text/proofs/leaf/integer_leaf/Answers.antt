@@ -1,7 +1,7 @@
 use Rattle.std.proofs.Common.{ap, subst, sym, ◌∙◌, arith}
 use Rattle.std.proofs.lemmas.Result.{err_from_is_err_and}
 use Rattle.resb_tree.specs.Tree.{Tree, integer}
-use Rattle.resb_grammar.specs.GroupTypes.{integer_kind}
+use Rattle.resb_icu_grammar.specs.Kinds.{integer_kind}
 use Rattle.resb_tree.proofs.ViewLemmas.{tree_of_integer}
 use Rattle.resb_icu_text.specs.Inner.Leaf.{Leaf}
 use Rattle.resb_icu_text.proofs.LeafLemmas.{leaf_fails, integer_stands}

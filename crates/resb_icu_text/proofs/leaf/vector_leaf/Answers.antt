@@ -1,6 +1,6 @@
 use Rattle.std.proofs.Common.{ap, subst, sym, ◌∙◌, arith}
 use Rattle.resb_tree.specs.Tree.{Tree, int_vector}
-use Rattle.resb_grammar.specs.GroupTypes.{vector_kind}
+use Rattle.resb_icu_grammar.specs.Kinds.{vector_kind}
 use Rattle.resb_tree.proofs.ViewLemmas.{tree_of_vector}
 use Rattle.resb_icu_text.specs.Inner.Leaf.{Leaf}
 use Rattle.resb_icu_text.proofs.LeafLemmas.{empty_vector, vector_stands}

@@ -1,7 +1,6 @@
 use Rattle.std.proofs.Common.{sym, ◌∙◌, arith}
 use Rattle.std.proofs.lemmas.Bool.{false≢true}
-use Rattle.resb_icu_text.proofs.TypesLemmas.{root_off, root_on, no_root, other_root}
-use Rattle.resb_grammar.proofs.BothReaders.{not_table}
+use Rattle.resb_icu_text.proofs.TypesLemmas.{root_off, root_on, no_root, other_root, not_table}
 use Rattle.resb_icu_text.proofs.types.root_type.Goals as goal
 
 pub returns-then-stands-clause-found : goal.returns-then-stands-clause-found

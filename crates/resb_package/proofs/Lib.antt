@@ -4,3 +4,4 @@ mod Heads
 mod Entries
 pub mod Passing
 pub mod Names
+mod Inside

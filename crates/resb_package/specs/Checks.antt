@@ -1,9 +1,11 @@
 -- The checks of a package in their order, and what is answered for the first that fails.
 --     head_checks bytes       the checks of the header
+--     IsFirstHead bytes at    the first header that stands inside a file
 --     item_checks table i     those of the name and the item with a number
 --     order_check table i     that a name is below the next one
 --     package_refusal bytes   what is answered for the first of all that fails
-use Rattle.std.specs.Prelude.{ℕ, zero, suc, ◌+◌, ◌-◌, ◌*◌, List, [], ◌∷◌, length, Bool, nat_le}
+use Rattle.std.specs.Prelude.{◌≡◌, ◌<◌, ℕ, zero, suc, ◌+◌, ◌-◌, ◌*◌, List, [], ◌∷◌, length, drop}
+use Rattle.std.specs.Prelude.{Bool, nat_le}
 use Rattle.std.specs.Prelude.{nat_lt, nat_eq, Option, Some, None, slice_index, slice_range, codes}
 use Rattle.std.specs.Prelude.{is_some, if◌then◌else◌}
 use Rattle.std.specs.List.{list_all}
@@ -40,6 +42,21 @@ head_checks bytes =
     ∷ (nat_eq (slice_index bytes 16) 1, OtherVersion)
     ∷ (nat_le 24 (header_size bytes), HeaderTooSmall)
     ∷ []
+
+-- the header of a package stands at this place
+abbrev pub HasHead : List ℕ → ℕ → Type 0
+HasHead bytes at = first_refusal (head_checks (drop at bytes)) ≡ None
+
+-- of the places that are multiples of 16 this is the first where such a header stands
+pub record IsFirstHead (bytes : List ℕ) (at : ℕ) : Type 0 where
+  pub number : ℕ
+  pub multiple : at ≡ 16 * number
+  pub stands : HasHead bytes at
+  pub first : (k : ℕ) → k < number → HasHead bytes (16 * k) → ⊥
+
+-- no header of a package stands at a multiple of 16
+abbrev pub HasNoHead : List ℕ → Type 0
+HasNoHead bytes = (k : ℕ) → HasHead bytes (16 * k) → ⊥
 
 -- the checks of the name and the item with this number, in their order, each with its refusal
 unfoldable pub item_checks : List ℕ → ℕ → List (Bool × PackageError)

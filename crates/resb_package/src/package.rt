@@ -61,6 +61,7 @@ impl<'a> Package<'a> {
     ghost use Rattle.std.specs.Prelude.{◌≡◌, ◌==◌, ℕ, List, Some, None, MatchResult, MatchOption};
     ghost use Rattle.std.specs.Prelude.{option_map, slice_get, length};
     ghost use Rattle.resb_package.specs.Checks.{table_refusal, package_refusal};
+    ghost use Rattle.resb_package.specs.Checks.{HasNoHead, IsFirstHead};
     ghost use Rattle.resb_package.specs.Package.{IsPackage};
     ghost use Rattle.resb_package.specs.Items.{package_items, item_pair, HasItem};
 
@@ -74,6 +75,22 @@ impl<'a> Package<'a> {
         let size = usize::from(unit_at(bytes, 0));
         let (_, table) = bytes.split_at(size.min(bytes.len()));
         Package::of_table(table)
+    }
+
+    /// Where the package inside a larger file begins, as inside ICU's library of data: the first
+    /// multiple of 16 bytes where a package's header stands. What stands behind the header isn't
+    /// looked at. The time grows with the bytes.
+    #[tactic(auto, using(crate::proofs::Inside::no_head_behind))]
+    pub fn place_inside(bytes: &[u8]) -> Option<usize>
+        ensures { MatchOption result (HasNoHead bytes.now) (IsFirstHead bytes.now) }
+    {
+        'places: for number in 0..bytes.len() / 16 {
+            let (_, rest) = bytes.split_at(16 * number);
+            if check_head(rest).is_ok() {
+                return Some(16 * number);
+            }
+        }
+        None
     }
 
     /// The package whose bytes behind the header these are.

@@ -288,7 +288,7 @@ icu_row 'b:int{}' 2 "'table' or 'table(nofallback)'"
 icu_row 'b}' 2 "'{'"
 icu_row 'b{a}' 4 "'{' or a type"
 icu_row 'b{a:foo{}}' 4 'a type'
-icu_row 'b{a:alias{}}' 4 "a type of a tree, and 'alias' is none"
+icu_row 'b{a:alias{}}' 11 'a string'
 icu_row 'b{a:import{}}' 4 "a type of a tree, and 'import' is none"
 icu_row 'b{a:include{}}' 4 "a type of a tree, and 'include' is none"
 icu_row 'b{a:process(x){}}' 4 "a type of a tree, and 'process' is none"
@@ -413,8 +413,56 @@ same p.dat kept.dat
 told 1 '' 'names.res: not a package, but another kind of ICU data' list names.res
 told 2 '' 'none.dat: no such file' extract none.dat a.res
 
+# what differs between two files: the words of each line follow from the texts
+mkdir -p old
+printf 'b{a{"x"}c:intvector{1,-2}l{"p","q"}t{k{"1"}z:int{5}}}' > old/d.txt
+printf 'b{a{"y"}c:intvector{1,-2}l{"p","q","r"}n:bin{"00ff"}t{z:alias{"/q"}}}' > d.txt
+told 0 '' '' compile --icu old/d.txt d.txt
+told 1 $'~ a "x" -> "y"\n+ l/2 "r"\n+ n {"binary":"00ff"}\n- t/k "1"\n~ t/z 5 -> {"alias":"/q"}' \
+  '' diff old/d.res d.res
+told 1 $'{"path":"a","old":"x","new":"y"}\n{"path":"l/2","new":"r"}
+{"path":"n","new":{"binary":"00ff"}}\n{"path":"t/k","old":"1"}
+{"path":"t/z","old":5,"new":{"alias":"/q"}}' '' diff --json old/d.res d.res
+told 0 '' '' diff d.res d.res
+input=d.res
+told 0 '' '' diff - d.res
+input=
+told 2 '' 'resb: one of the files alone can be standard input' diff - -
+told 2 '' 'none.res: no such file' diff d.res none.res
+told 2 '' 'resb: standard input is read once alone' check - -
+# two strings as roots; keys without characters; more than a limit; levels, and keys of paths
+python3 -c "
+import struct
+def file(name, *words):
+    head = bytes.fromhex('2000da27140000000000020052657342') + b'\2\0\0\0\1\4' + bytes(10)
+    open(name, 'wb').write(head + struct.pack(f'<{len(words)}I', *words))
+file('five.res', 0x70000005, 7, 8, 8, 8, 0, 0, 8)
+file('six.res', 0x70000006, 7, 8, 8, 8, 0, 0, 8)
+deep = [word for place in range(10, 8 + 2 * 200, 2) for word in (1, 0x80000000 + place)]
+end = 10 + len(deep)
+file('deep.res', 0x80000008, 7, 8, end, end, 0, 0, 8, *deep, 1, 0x70000005)
+"
+told 1 '~ 5 -> 6' '' diff five.res six.res
+told 1 '{"path":null,"old":5,"new":6}' '' diff --json five.res six.res
+told 2 '' 'deep.res: this nests more than 120 levels deep, too deep for JSON' diff deep.res six.res
+printf 'b{"":table{"":int{1} k:int{2}}}' > old/e.txt
+printf 'b{"":table{"":int{3} k:int{4}}}' > e.txt
+told 0 '' '' compile old/e.txt e.txt
+told 1 $'~ / 1 -> 3\n~ /k 2 -> 4' '' diff old/e.res e.res
+told 0 4 '' get e.res /k
+key=$(printf 'k%.0s' {1..1000})
+printf "b{$key:table{$(printf 'm%d:int{1} ' {0..9})}}" > old/k.txt
+printf "b{$key:table{$(printf 'm%d:int{2} ' {0..9})}}" > k.txt
+told 0 '' '' compile old/k.txt k.txt
+told 2 '' 'k.res: its list of differences takes more than the limit of 9000 bytes' \
+  diff --limit 9000 old/k.res k.res
+printf 'b{a{"x"}}' > s.txt
+printf 'b:table(nofallback){a{"x"}}' > t.txt
+told 0 '' '' compile s.txt t.txt
+told 0 '' '' diff s.res t.res
+
 told 0 'resb 0.2.0' '' --version
-for command in compile check dump get list extract; do
+for command in compile check dump get diff list extract; do
   (exec -a resb "$program" help "$command") > help.txt \
     && grep -q "^Example: resb $command" help.txt \
     && passed=$((passed + 1)) || { failed=$((failed + 1)); echo "help $command"; }

@@ -1,9 +1,10 @@
 //! Files by their names, which may be those of items inside a package, and the pool bundles beside
 //! them. How bytes are read is in `streams`; what is said of files is in `show`.
 use crate::packages::{found, item_of, package_of};
-use crate::say::{fail_input, refuse_memory};
+use crate::say::{fail, fail_input, refuse_memory};
 use crate::shown::Shown;
 use crate::streams::read_input;
+use resb_package::Package;
 use resb_pool_bundle::{FileHead, PoolBundle};
 use std::alloc::{AllocError, Global};
 use std::path::Path;
@@ -16,6 +17,13 @@ const POOL: &str = "pool.res";
 pub(crate) struct Input {
     bytes: Vec<u8>,
     item: Option<String>,
+}
+
+/// A file's bytes; and the package that it stands in, with its name there, if it is an item of one.
+#[derive(Clone, Copy)]
+pub(crate) struct Opened<'f> {
+    pub bytes: &'f [u8],
+    folder: Option<(Package<'f>, &'f str)>,
 }
 
 /// Where a file's pool bundle is.
@@ -67,50 +75,58 @@ impl Input {
         }
     }
 
-    /// The file's bytes, or the status, once it is said why there are none.
-    pub(crate) fn file(&self, rt: &HostRuntime, name: &str) -> Result<&[u8], u8> {
-        match &self.item {
-            None => Ok(self.bytes.as_slice()),
-            Some(item) => {
-                let front = package_name(name, item.as_str());
-                let package = package_of(rt, front, self.bytes.as_slice())?;
-                item_of(rt, &package, front, item.as_str())
-            }
-        }
+    /// The file, or the status, once it is said why there is none.
+    pub(crate) fn open(&self, rt: &HostRuntime, name: &str) -> Result<Opened<'_>, u8> {
+        let bytes = self.bytes.as_slice();
+        let Some(item) = &self.item else {
+            let folder = None;
+            return Ok(Opened { bytes, folder });
+        };
+        let item = item.as_str();
+        let front = package_name(name, item);
+        let package = package_of(rt, front, bytes)?;
+        let bytes = item_of(rt, &package, front, item)?;
+        let folder = Some((package, item));
+        Ok(Opened { bytes, folder })
     }
+}
 
+impl<'f> Opened<'f> {
     /// Where the pool bundle is that the file uses: the one that was said, or the `pool.res` in the
     /// same folder of files or of the package.
-    pub(crate) fn pool<'f>(
-        &'f self,
+    pub(crate) fn pool(
+        &self,
         rt: &HostRuntime,
         name: &str,
         given: Option<&str>,
         limit: Option<u64>,
     ) -> Result<Beside<'f>, u8> {
-        if !uses_pool(self.file(rt, name)?) {
+        if !uses_pool(self.bytes) {
             return Ok(Beside::Nowhere);
         }
-        if let Some(given) = given {
-            return pool_file(rt, given, limit);
-        }
-        match &self.item {
-            Some(item) => self.pool_item(rt, name, item.as_str()),
-            None => pool_beside(rt, name, limit),
+        match (given, &self.folder) {
+            (Some("-"), _) => Err(fail(rt, "resb", "a pool bundle is read from a file alone")),
+            (Some(given), _) => pool_file(rt, given, limit),
+            (None, Some((package, item))) => pool_item(rt, name, package, item),
+            (None, None) => pool_beside(rt, name, limit),
         }
     }
+}
 
-    /// The pool bundle in the item's folder of the package.
-    fn pool_item<'f>(&'f self, rt: &HostRuntime, name: &str, item: &str) -> Result<Beside<'f>, u8> {
-        let package = package_of(rt, package_name(name, item), self.bytes.as_slice())?;
-        let (Ok(pool), Ok(path)) = (pool_name(rt.alloc(), item), pool_name(rt.alloc(), name)) else {
-            return Err(refuse_memory(rt, name));
-        };
-        match found(rt.alloc(), &package, pool.as_str()) {
-            Ok(Some(bytes)) => Ok(Beside::Item(path, bytes)),
-            Ok(None) => Ok(Beside::Nowhere),
-            Err(_) => Err(refuse_memory(rt, name)),
-        }
+/// The pool bundle in the item's folder of the package.
+fn pool_item<'f>(
+    rt: &HostRuntime,
+    name: &str,
+    package: &Package<'f>,
+    item: &str,
+) -> Result<Beside<'f>, u8> {
+    let (Ok(pool), Ok(path)) = (pool_name(rt.alloc(), item), pool_name(rt.alloc(), name)) else {
+        return Err(refuse_memory(rt, name));
+    };
+    match found(rt.alloc(), package, pool.as_str()) {
+        Ok(Some(bytes)) => Ok(Beside::Item(path, bytes)),
+        Ok(None) => Ok(Beside::Nowhere),
+        Err(_) => Err(refuse_memory(rt, name)),
     }
 }
 
@@ -177,7 +193,10 @@ impl Beside<'_> {
         let (name, bytes) = match self {
             Beside::Nowhere => return Ok(None),
             Beside::Item(name, bytes) => (name.as_str(), *bytes),
-            Beside::File(name, input) => (name.as_str(), input.file(rt, name.as_str())?),
+            Beside::File(name, input) => {
+                let name = name.as_str();
+                (name, input.open(rt, name)?.bytes)
+            }
         };
         match PoolBundle::read(bytes) {
             Ok(pool) => Ok(Some(pool)),

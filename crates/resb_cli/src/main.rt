@@ -1,8 +1,9 @@
-//! The program `resb` that people call: compile, check, dump, get, list, extract.
+//! The program `resb` that people call: compile, check, dump, get, diff, list, extract.
 //! What its words ask for is in `resb_words`, and what it does with bytes in `resb_program`.
 #![tactic(auto)]
 
 mod compile;
+mod diff;
 mod input;
 mod packages;
 mod place;
@@ -58,6 +59,7 @@ fn perform_request(rt: &HostRuntime, request: &Request<'_>) -> u8 {
             say::fail(rt, words.path, "this path is no UTF-8")
         }
         Request::Get(words) => show::get(rt, words),
+        Request::Diff(words) => diff::diff(rt, words),
         Request::List(name) => packages::list(rt, name),
         Request::Extract(words) if words::is_marked(words.item) => {
             say::fail(rt, words.item, words::NO_UTF8)

@@ -27,16 +27,27 @@ fn list_items(rt: &HostRuntime, name: &str) -> Result<u8, u8> {
     }
 }
 
-/// The package that a file is, or the status, once it is said why it is none.
+/// The package that a file is or has inside, as ICU's library of data has one; or the status, once
+/// it is said why it is none.
 pub(crate) fn package_of<'f>(
     rt: &HostRuntime,
     name: &str,
     file: &'f [u8],
 ) -> Result<Package<'f>, u8> {
-    Package::read(file).map_err(|e| {
+    let e = match Package::read(file) {
+        Ok(package) => return Ok(package),
+        Err(e) => e,
+    };
+    package_inside(file).ok_or_else(|| {
         complain(rt, name, e);
         1
     })
+}
+
+/// The package inside a file.
+fn package_inside(file: &[u8]) -> Option<Package<'_>> {
+    let (_, inside) = file.split_at_checked(Package::place_inside(file)?)?;
+    Package::read(inside).ok()
 }
 
 /// The names of all items, a line each; what is hidden in one stands as `\u{1b}`.

@@ -109,8 +109,8 @@ fn say_no_form<R: Eprint, C: Display + Drop>(rt: &R, name: &str, form: NoText, c
 /// The keys and numbers of a path, with a slash between two of them.
 fn path_text(alloc: Global, path: &[PathStep<'_>]) -> Result<String, AllocError> {
     let mut text = String::new(alloc);
-    for step in path {
-        if !text.is_empty() {
+    for (number, step) in path.iter().enumerate() {
+        if number > 0 {
             text.push_str("/")?;
         }
         match step {

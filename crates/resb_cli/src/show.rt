@@ -16,8 +16,8 @@ use resb_program::{
 use resb_tree::{Resource, ResourceBundle};
 use resb_words::{CheckWords, DumpWords, GetWords};
 use std::alloc::Global;
-use std::fmt;
 use std::path::Path;
+use std::{fmt, mem};
 
 /// What is said of a file whose pool bundle isn't there.
 const NO_POOL: &str =
@@ -26,12 +26,18 @@ const NO_POOL: &str =
 /// What is said of a package where a file of a bundle is asked for.
 const A_PACKAGE: &str = "this is a package of ICU's data: name an item inside it (resb list)";
 
+/// What is said of what has no JSON.
+pub(crate) const TOO_DEEP: &str = "this nests more than 120 levels deep, too deep for JSON";
+
 /// What the reader says of a pool bundle that isn't the file's.
 const OTHER_POOL: &str = "pool bundle has another checksum";
 
 /// Says of each file what it is, a line each.
 pub(crate) fn check(rt: &HostRuntime, wanted: &CheckWords<'_>) -> u8 {
     let mut status = 0;
+    if wanted.files.iter().filter(|name| **name == "-").count() > 1 {
+        return fail(rt, "resb", "standard input is read once alone");
+    }
     let mut progress = Progress::new(rt, wanted.files.len());
     for name in wanted.files.iter().copied() {
         status = status.max(settled(check_one(rt, name, wanted.pool)));
@@ -44,8 +50,9 @@ pub(crate) fn check(rt: &HostRuntime, wanted: &CheckWords<'_>) -> u8 {
 /// Says of one file what it is.
 fn check_one(rt: &HostRuntime, name: &str, pool: Option<&str>) -> Result<u8, u8> {
     let input = Input::read(rt, name, None)?;
-    let file = input.file(rt, name)?;
-    let beside = input.pool(rt, name, pool, None)?;
+    let opened = input.open(rt, name)?;
+    let file = opened.bytes;
+    let beside = opened.pool(rt, name, pool, None)?;
     match count_file(rt.alloc(), file, beside.bundle(rt, name)?) {
         Ok((count, head)) => Ok(say_summary(rt, name, count, &head, beside.name())),
         Err(e) => Err(refuse(rt, name, file, &e, beside.name())),
@@ -128,7 +135,7 @@ fn status_of(rt: &HostRuntime, is_written: bool) -> u8 {
 }
 
 /// A file's bundle, beside its pool bundle, or the status, once it is said why there is none.
-fn bundle_of<'f>(
+pub(crate) fn bundle_of<'f>(
     rt: &HostRuntime,
     name: &'f str,
     file: &'f [u8],
@@ -163,16 +170,20 @@ pub(crate) fn dump(rt: &HostRuntime, wanted: &DumpWords<'_>) -> u8 {
 fn dump_file(rt: &HostRuntime, wanted: &DumpWords<'_>) -> Result<u8, u8> {
     let name = wanted.file;
     let input = Input::read(rt, name, wanted.limit)?;
-    let file = input.file(rt, name)?;
-    let beside = input.pool(rt, name, wanted.pool, wanted.limit)?;
+    let opened = input.open(rt, name)?;
+    let file = opened.bytes;
+    let beside = opened.pool(rt, name, wanted.pool, wanted.limit)?;
     let bundle = bundle_of(rt, name, file, &beside, wanted.limit)?;
-    if wanted.is_json {
-        return Ok(show_json(rt, name, bundle.root(), wanted.limit));
-    }
-    if wanted.is_icu {
-        return Ok(show_icu(rt, name, &bundle, wanted.limit));
-    }
-    Ok(show_text(rt, name, &bundle, wanted.limit))
+    let status = if wanted.is_json {
+        show_json(rt, name, bundle.root(), wanted.limit)
+    } else if wanted.is_icu {
+        show_icu(rt, name, &bundle, wanted.limit)
+    } else {
+        show_text(rt, name, &bundle, wanted.limit)
+    };
+    // the program ends, and the system takes all memory back at once
+    mem::forget(bundle);
+    Ok(status)
 }
 
 /// A bundle's text, or none where it has more bytes than the limit, if there is one.
@@ -263,11 +274,7 @@ fn show_made(
         Ok(None) => refuse_long(rt, name, "JSON", limit),
         Err(JsonError::OutOfMemory) => refuse_memory(rt, name),
         Err(JsonError::TooDeep) => {
-            complain(
-                rt,
-                name,
-                "this nests more than 120 levels deep, too deep for JSON",
-            );
+            complain(rt, name, TOO_DEEP);
             1
         }
     }
@@ -282,20 +289,24 @@ pub(crate) fn get(rt: &HostRuntime, wanted: &GetWords<'_>) -> u8 {
 fn get_found(rt: &HostRuntime, wanted: &GetWords<'_>) -> Result<u8, u8> {
     let (name, path) = (wanted.file, wanted.path);
     let input = Input::read(rt, name, wanted.limit)?;
-    let file = input.file(rt, name)?;
-    let beside = input.pool(rt, name, wanted.pool, wanted.limit)?;
+    let opened = input.open(rt, name)?;
+    let file = opened.bytes;
+    let beside = opened.pool(rt, name, wanted.pool, wanted.limit)?;
     let bundle = bundle_of(rt, name, file, &beside, wanted.limit)?;
     let Ok(names) = path.split('/').collect::<Vec<&str>>(rt.alloc()) else {
         return Ok(refuse_memory(rt, name));
     };
-    Ok(match find(bundle.root(), names.as_slice()) {
+    let status = match find(bundle.root(), names.as_slice()) {
         None => {
             let (name, path) = (Shown(name), Shown(path));
             let _ = eprintln!(rt; "{name}: nothing stands at {path}");
             1
         }
         Some(found) => show_found(rt, name, found, wanted.limit),
-    })
+    };
+    // the program ends, and the system takes all memory back at once
+    mem::forget(bundle);
+    Ok(status)
 }
 
 /// Prints what was found.
@@ -319,7 +330,7 @@ fn show_found(rt: &HostRuntime, name: &str, found: Found<'_, '_>, limit: Option<
 }
 
 /// Says that what was to be printed takes more bytes than the limit. Without one nothing does.
-fn refuse_long(rt: &HostRuntime, name: &str, what: &str, limit: Option<u64>) -> u8 {
+pub(crate) fn refuse_long(rt: &HostRuntime, name: &str, what: &str, limit: Option<u64>) -> u8 {
     let limit = limit.unwrap_or(u64::MAX);
     let _ = eprintln!(rt; "{name}: its {what} takes more than the limit of {limit} bytes");
     1

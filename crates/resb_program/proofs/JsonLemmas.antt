@@ -52,6 +52,7 @@ mutual
   -- the JSON of a tree has no float
   pub plain : (t : Tree) → has_float (json_of t) ≡ false
   plain (tree.string s) = refl
+  plain (tree.alias s) = refl
   plain (tree.array ts) = members_plain ts
   plain (tree.table es) = entries_plain no_members es refl
   plain (tree.binary bytes) = refl

@@ -10,8 +10,8 @@ use Rattle.std.specs.Option.{option_and_then}
 use Rattle.std.specs.Char.{is_digit}
 use Rattle.std.specs.Str.{bytes_eq}
 use Rattle.std.specs.Str.Parse.{digits_value}
-use Rattle.resb_tree.specs.Tree.{Tree, string, array, table, binary, integer, int_vector, Trees}
-use Rattle.resb_tree.specs.Tree.{no_trees, more_trees, Entries, no_entries, entry}
+use Rattle.resb_tree.specs.Tree.{Tree, string, alias, array, table, binary, integer, int_vector}
+use Rattle.resb_tree.specs.Tree.{Trees, no_trees, more_trees, Entries, no_entries, entry}
 use Rattle.resb_tree.specs.View.{tree_of}
 use Rattle.resb_program.specs.declared.path.Found.{Found}
 use Rattle.resb_program.specs.declared.path.Found.TheVariants as found
@@ -69,12 +69,13 @@ abbrev pub element_said : List ℕ → List ℕ → Option ℕ
 element_said ns name = option_and_then (slice_get ns) (number_said name)
 
 -- what stands inside a tree under one name: in a table the tree of the entry of this name, in an
--- array or a vector what has this number; and nothing inside all else
+-- array or a vector what has this number; and nothing inside all else. An alias isn't followed
 abbrev pub found_inside : Spot → List ℕ → Option Spot
 found_inside (tree_spot (table es)) name = option_map tree_spot (value_named name es)
 found_inside (tree_spot (array ts)) name = option_map tree_spot (member_said ts name)
 found_inside (tree_spot (int_vector ns)) name = option_map number_spot (element_said ns name)
 found_inside (tree_spot (string s)) name = None
+found_inside (tree_spot (alias s)) name = None
 found_inside (tree_spot (binary bs)) name = None
 found_inside (tree_spot (integer n)) name = None
 found_inside (number_spot n) name = None

@@ -1,5 +1,5 @@
 -- The JSON of a tree: objects by key, arrays, strings and signed numbers; bytes are an object with
--- the one member `binary`, their hex digits.
+-- the one member `binary`, their hex digits, and an alias is one with the member `alias`, its path.
 --     json_of t               the JSON of the tree t
 --     json_bytes t            how many bytes making it takes, as they are counted
 --     nests_within n t        arrays and tables nest no more than n deep in the tree
@@ -29,10 +29,11 @@ abbrev pub vector_number : ℕ → Data
 vector_number n = number (of_integer (cast_signed w32 n))
 
 abbrev mutual
-  -- the JSON of a tree: objects by key, arrays, strings, signed numbers, and bytes as an object of
-  -- one member
+  -- the JSON of a tree: objects by key, arrays, strings, signed numbers, and bytes and aliases as
+  -- objects of one member
   pub json_of : Tree → Data
   json_of (tree.string s) = string s
+  json_of (tree.alias s) = object (member (codes "alias") (string s) no_members)
   json_of (tree.array ts) = array (members_json ts)
   json_of (tree.table es) = object (entries_json no_members es)
   json_of (tree.binary bytes) =
@@ -58,6 +59,7 @@ abbrev mutual
   -- arrays and tables nest no more than so many deep in a tree
   pub nests_within : ℕ → Tree → Bool
   nests_within n (tree.string s) = true
+  nests_within n (tree.alias s) = true
   nests_within n (tree.array ts) = nat_lt 0 n && all_nest_within (n - 1) ts
   nests_within n (tree.table es) = nat_lt 0 n && entries_nest_within (n - 1) es
   nests_within n (tree.binary bytes) = true
@@ -91,9 +93,11 @@ text_width s = sum_by byte_width s
 abbrev mutual
   -- how many bytes making the JSON of a tree takes: 72 for each value, 1024 more for an object, 192
   -- for each of its members, the bytes of strings and keys as JSON has them, and two for each byte
-  -- of a binary, which is an object with one member
+  -- of a binary, which is an object with one member, as an alias is
   pub json_bytes : Tree → ℕ
   json_bytes (tree.string s) = resource_weight + text_width s
+  json_bytes (tree.alias s) =
+      2 * resource_weight + table_weight + entry_weight + text_width s
   json_bytes (tree.array ts) = resource_weight + members_bytes ts
   json_bytes (tree.table es) = resource_weight + table_weight + entries_bytes es
   json_bytes (tree.binary bytes) =

@@ -1,6 +1,8 @@
-//! A resource as JSON: objects by key, arrays, strings, signed numbers, and bytes as hex digits.
+//! A resource as JSON: objects by key, arrays, strings, signed numbers, bytes as hex digits, and
+//! aliases by their paths.
 //! What a text of the text form looks like is in `resb_print`.
 ghost use Rattle.std.specs.Prelude.{◌≡◌, map, true, IfOk, IfErr, OnOk, MatchOption, string_bytes};
+ghost use Rattle.serde_json.specs.Data.{object, string, member, no_members};
 ghost use Rattle.serde_json.specs.Written.{compact_text};
 ghost use Rattle.serde_json.specs.View.{view, items_of};
 ghost use Rattle.resb_tree.specs.Tree as tree;
@@ -52,8 +54,9 @@ pub fn json_text(alloc: Global, resource: &Resource<'_>) -> Result<String, JsonE
 
 /// The JSON of a resource as `json_text` gives it, where making it takes no more bytes than the
 /// limit and it has no more bytes itself, and else `None`. Counted are 72 bytes for each value,
-/// 1024 for each object and 192 for each of its members, the bytes of strings and keys as JSON has
-/// them, and two for each byte of a binary; nothing is made where these are more than the limit.
+/// 1024 for each object and 192 for each of its members, the bytes of strings, paths and keys as
+/// JSON has them, and two for each byte of a binary; nothing is made where these are more than the
+/// limit.
 pub fn json_text_within(
     alloc: Global,
     resource: &Resource<'_>,
@@ -84,9 +87,12 @@ fn value_of(alloc: Global, resource: &Resource<'_>) -> Result<Value, AllocError>
 {
     match resource {
         Resource::String(text) => Ok(Value::String(String::from_str(alloc, text.as_str())?)),
+        Resource::Alias(path) => member_of(alloc, "alias", String::from_str(alloc, path.as_str())?),
         Resource::Integer(number) => Ok(Value::from(i32::from(*number))),
         Resource::IntVector(numbers) => numbers_of(alloc, numbers.as_slice()),
-        Resource::Binary(bytes) => binary_of(alloc, bytes.as_slice()),
+        Resource::Binary(bytes) => {
+            member_of(alloc, "binary", hex::encode(alloc, bytes.as_slice())?)
+        }
         Resource::Array(members) => array_of(alloc, members.as_slice()),
         Resource::Table(entries) => object_of(alloc, entries),
     }
@@ -103,13 +109,13 @@ fn numbers_of(alloc: Global, numbers: &[u32]) -> Result<Value, AllocError>
     Ok(Value::Array(values))
 }
 
-/// Bytes, as an object of one member with their hex digits.
-fn binary_of(alloc: Global, bytes: &[u8]) -> Result<Value, AllocError>
-    ensures { IfOk result (λ v. view v ≡ json_of (tree.binary bytes.now)) }
+/// An object of one member, a string.
+fn member_of(alloc: Global, name: &str, text: String) -> Result<Value, AllocError>
+    ensures { IfOk result (λ v. view v
+        ≡ object (member name.now (string (string_bytes text)) no_members)) }
 {
-    let digits = hex::encode(alloc, bytes)?;
     let mut members = Map::new(alloc);
-    serde_json::put(&mut members, alloc, "binary", Value::String(digits))?;
+    serde_json::put(&mut members, alloc, name, Value::String(text))?;
     Ok(Value::Object(members))
 }
 

@@ -6,6 +6,9 @@ ghost use Rattle.resb_program.specs.Json as json;
 
 use resb_tree::{Resource, Table, weights};
 
+/// An object with one member, and its value.
+const OBJECT_OF_ONE: u128 = 2 * weights::RESOURCE + weights::TABLE + weights::ENTRY;
+
 /// What is left of some bytes without these, if they are among them.
 fn without(left: u128, bytes: u128) -> Option<u128>
     ensures { MatchOption result (left < bytes) (λ n. n + bytes ≡ left) }
@@ -50,15 +53,16 @@ pub(crate) fn without_json(left: u128, resource: &Resource<'_>) -> Option<u128>
             let left = without(left, weights::RESOURCE)?;
             without_text(left, text.as_str())
         }
+        Resource::Alias(path) => {
+            let left = without(left, OBJECT_OF_ONE)?;
+            without_text(left, path.as_str())
+        }
         Resource::Integer(_) => without(left, weights::RESOURCE),
         Resource::IntVector(numbers) => {
             let values = 1 + numbers.len() as u128;
             without(left, weights::RESOURCE * values)
         }
-        Resource::Binary(bytes) => {
-            let object = 2 * weights::RESOURCE + weights::TABLE + weights::ENTRY;
-            without(left, object + 2 * bytes.len() as u128)
-        }
+        Resource::Binary(bytes) => without(left, OBJECT_OF_ONE + 2 * bytes.len() as u128),
         Resource::Array(members) => {
             let left = without(left, weights::RESOURCE)?;
             without_members(left, members.as_slice())

@@ -15,8 +15,11 @@ pub(crate) fn nests_within(resource: &Resource<'_>, depth: usize) -> bool
     match resource {
         Resource::Array(members) => depth > 0 && all_nest_within(members.as_slice(), depth - 1),
         Resource::Table(entries) => depth > 0 && entries_nest_within(entries, depth - 1),
-        Resource::String(_) | Resource::Binary(_) | Resource::Integer(_) | Resource::IntVector(_) =>
-            true,
+        Resource::String(_)
+        | Resource::Alias(_)
+        | Resource::Binary(_)
+        | Resource::Integer(_)
+        | Resource::IntVector(_) => true,
     }
 }
 

@@ -17,6 +17,7 @@ pub(crate) fn program<'a>(alloc: Global) -> Result<Command<'a>, AllocError> {
     let program = with(program, check(alloc))?;
     let program = with(program, dump(alloc))?;
     let program = with(program, get(alloc))?;
+    let program = with(program, diff(alloc))?;
     let program = with(program, list(alloc))?;
     with(program, extract(alloc))
 }
@@ -82,6 +83,18 @@ fn get<'a>(alloc: Global) -> Result<Command<'a>, AllocError> {
         .arg(path(alloc))?
         .arg(tree_limit(alloc))?
         .arg(pool(alloc))
+}
+
+/// What differs between two files.
+fn diff<'a>(alloc: Global) -> Result<Command<'a>, AllocError> {
+    let command = Command::new(alloc, "diff")
+        .about("Prints what differs between the trees of two .res files")
+        .after_help("Example: resb diff old/de.res out/de.res")
+        .arg(one_of_two(alloc, "OLD"))?
+        .arg(one_of_two(alloc, "NEW"))?
+        .arg(objects(alloc))?;
+    let command = command.arg(tree_limit(alloc))?;
+    command.arg(pool(alloc))
 }
 
 /// The items of a package.
@@ -172,6 +185,19 @@ fn json<'a>(alloc: Global) -> Arg<'a> {
     Arg::new(alloc, "json")
         .long("json")
         .help("Prints JSON in place of a text")
+        .action(ArgAction::SetTrue)
+}
+
+/// One of the files that are compared.
+fn one_of_two<'a>(alloc: Global, name: &'a str) -> Arg<'a> {
+    Arg::new(alloc, name).help(RES_FILE).required(true)
+}
+
+/// Whether each difference is printed as JSON.
+fn objects<'a>(alloc: Global) -> Arg<'a> {
+    Arg::new(alloc, "json")
+        .long("json")
+        .help("Prints an object of JSON for each difference")
         .action(ArgAction::SetTrue)
 }
 

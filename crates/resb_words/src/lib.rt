@@ -8,5 +8,5 @@ mod request;
 
 pub use error::WordsError;
 pub use request::{
-    CheckWords, CompileWords, DumpWords, ExtractWords, GetWords, Request, request_of,
+    CheckWords, CompileWords, DiffWords, DumpWords, ExtractWords, GetWords, Request, request_of,
 };

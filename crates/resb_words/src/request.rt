@@ -18,6 +18,8 @@ pub enum Request<'w> {
     Dump(DumpWords<'w>),
     /// `get`: one thing of a file.
     Get(GetWords<'w>),
+    /// `diff`: what differs between two files.
+    Diff(DiffWords<'w>),
     /// `list`: the names of the items of this package.
     List(&'w str),
     /// `extract`: one item of a package.
@@ -76,6 +78,21 @@ pub struct GetWords<'w> {
     pub pool: Option<&'w str>,
 }
 
+/// What is asked of two files that are compared.
+#[derive(Clone, Copy, Debug)]
+pub struct DiffWords<'w> {
+    /// The name of the first file; `-` is standard input.
+    pub old: &'w str,
+    /// The name of the second file; `-` is standard input.
+    pub new: &'w str,
+    /// Whether JSON is printed.
+    pub is_json: bool,
+    /// The most bytes that each file's tree, its keys and the output may take.
+    pub limit: Option<u64>,
+    /// The name of the pool bundle of the files that use one.
+    pub pool: Option<&'w str>,
+}
+
 /// What is asked of a package of which one item is written.
 #[derive(Clone, Copy, Debug)]
 pub struct ExtractWords<'w> {
@@ -99,6 +116,7 @@ fn asked<'w>(alloc: Global, matches: &ArgMatches<'w>) -> Result<Request<'w>, Wor
         Some(("compile", matches)) => compile(alloc, matches),
         Some(("check", matches)) => check(alloc, matches),
         Some(("dump", matches)) => dump(matches),
+        Some(("diff", matches)) => diff(matches),
         Some(("list", matches)) => Ok(Request::List(word(matches, "FILE"))),
         Some(("extract", matches)) => Ok(extract(matches)),
         Some((_, matches)) => get(matches),
@@ -151,6 +169,17 @@ fn get<'w>(matches: &ArgMatches<'w>) -> Result<Request<'w>, WordsError> {
     Ok(Request::Get(GetWords {
         file: word(matches, "FILE"),
         path: word(matches, "PATH"),
+        limit: limit(matches)?,
+        pool: matches.get_str("POOL"),
+    }))
+}
+
+/// What is asked of two files that are compared.
+fn diff<'w>(matches: &ArgMatches<'w>) -> Result<Request<'w>, WordsError> {
+    Ok(Request::Diff(DiffWords {
+        old: word(matches, "OLD"),
+        new: word(matches, "NEW"),
+        is_json: matches.get_flag("json"),
         limit: limit(matches)?,
         pool: matches.get_str("POOL"),
     }))

@@ -43,6 +43,24 @@ pub(crate) const STRINGS: [u8; 92] = [
     0, 2, 0, 0x20, 0, 0x22, 0, 1, 0, 3, 0, 0xaa, 0xaa,
 ];
 
+/// A pool bundle of three keys and the string `one two three`, as ICU's `genrb` writes it.
+pub(crate) const POOL: [u8; 120] = [
+    0x20, 0, 0xda, 0x27, 0x14, 0, 0, 0, 0, 0, 2, 0, 0x52, 0x65, 0x73, 0x42, 3, 0, 0, 0, 1, 4, 0, 0,
+    0, 0, 0, 0, 0, 0, 0, 0, 0, 0, 0, 0x20, 8, 0, 0, 0, 0x0e, 0, 0, 0, 0x16, 0, 0, 0, 0x16, 0, 0, 0,
+    0, 0, 0, 0, 3, 0, 0, 0, 0x16, 0, 0, 0, 0xfa, 0x10, 0x16, 0xe3, 0x61, 0x6c, 0x70, 0x68, 0x61, 0,
+    0x62, 0x65, 0x74, 0x61, 0, 0x67, 0x61, 0x6d, 0x6d, 0x61, 0, 0xaa, 0xaa, 0xaa, 0, 0, 0x6f, 0,
+    0x6e, 0, 0x65, 0, 0x20, 0, 0x74, 0, 0x77, 0, 0x6f, 0, 0x20, 0, 0x74, 0, 0x68, 0, 0x72, 0, 0x65,
+    0, 0x65, 0, 0, 0, 0xaa, 0xaa,
+];
+
+/// A file of `a{alpha{"one two three"}beta{"x"}}` over it.
+pub(crate) const OVER_POOL: [u8; 84] = [
+    0x20, 0, 0xda, 0x27, 0x14, 0, 0, 0, 0, 0, 2, 0, 0x52, 0x65, 0x73, 0x42, 3, 0, 0, 0, 1, 4, 0, 0,
+    0, 0, 0, 0, 0, 0, 0, 0, 3, 0, 0, 0x50, 8, 2, 0, 0, 9, 0, 0, 0, 0x0d, 0, 0, 0, 0x0d, 0, 0, 0, 2,
+    0, 0, 0, 4, 0, 2, 0, 0x0d, 0, 0, 0, 0xfa, 0x10, 0x16, 0xe3, 0, 0, 0x78, 0, 0, 0, 2, 0, 0, 0, 6,
+    0, 1, 0, 3, 0,
+];
+
 /// Texts: strings in an array, shared suffixes, bytes without fallback, tables in one another. And
 /// what stands in the file of each behind the 32 bytes that every file begins with.
 pub(crate) const OTHERS: [(&str, &[u8]); 4] = [

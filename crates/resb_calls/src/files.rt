@@ -1,12 +1,14 @@
 //! The calls that begin with a file, in bytes or in words: trees, counts, typed values, heads.
 //! Those that begin with a text are in `texts`.
 
-use crate::example::{BINARIES, FILE, STRINGS, TEXT, WORDS};
+use crate::example::{BINARIES, FILE, OVER_POOL, POOL, STRINGS, TEXT, WORDS};
 use crate::outcome::{Outcome, Refused, outcome_of};
 use resb::binary::helpers::vec_utf_16;
 use resb::binary::{
-    BinHeader, BinIndex, BinReprInfo, Cursor, count_resources, from_bytes, from_bytes_counted,
-    from_words, lay_words, measure, tree_from_bytes, tree_from_bytes_within,
+    BinHeader, BinIndex, BinReprInfo, Cursor, PoolBundle, count_resources,
+    count_resources_with_pool, from_bytes, from_bytes_counted, from_bytes_with_pool, from_words,
+    lay_words, measure, measure_with_pool, tree_from_bytes, tree_from_bytes_with_pool,
+    tree_from_bytes_within, tree_from_bytes_within_with_pool,
 };
 use resb::bundle::{Key, Resource};
 use resb::text::Reader;
@@ -61,6 +63,25 @@ pub(crate) fn reads_views(alloc: Global) -> Result<bool, Refused> {
     let views = vec_utf_16(alloc, at, &mut walk)?;
     let binaries: Vec<&[u8]> = from_bytes(alloc, &BINARIES)?;
     Ok(views.len() == 2 && binaries.len() == 2)
+}
+
+/// The names of a file over a pool bundle, by their keys.
+pub(crate) fn reads_beside_a_pool(alloc: Global) -> Result<bool, Refused> {
+    let pool = PoolBundle::read(&POOL)?;
+    let names: BTreeMap<&str, String> = from_bytes_with_pool(alloc, &OVER_POOL, Some(pool))?;
+    let text = names.get("alpha");
+    Ok(text.is_some_and(|text| text.as_str() == "one two three") && names.len() == 2)
+}
+
+/// The same file's tree, counted, measured, and made within its bytes.
+pub(crate) fn measures_beside_a_pool(alloc: Global) -> Result<bool, Refused> {
+    let pool = Some(PoolBundle::read(&POOL)?);
+    let Some(limit) = measure_with_pool(alloc, &OVER_POOL, pool)?.tree_bytes() else {
+        return Ok(false);
+    };
+    let tree = tree_from_bytes_within_with_pool(alloc, &OVER_POOL, pool, limit)?;
+    let again = tree_from_bytes_with_pool(alloc, &OVER_POOL, pool)?;
+    Ok(count_resources_with_pool(alloc, &OVER_POOL, pool)? == 3 && tree.equals(&again))
 }
 
 /// Where memory is wanted for the bytes of the words, the buffer is empty.

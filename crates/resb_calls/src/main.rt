@@ -33,6 +33,8 @@ fn all_calls(alloc: Global) -> Outcome {
         outcome_of(files::reads_by_a_cursor(alloc)),
         outcome_of(files::reads_a_map(alloc)),
         outcome_of(files::reads_views(alloc)),
+        outcome_of(files::reads_beside_a_pool(alloc)),
+        outcome_of(files::measures_beside_a_pool(alloc)),
         files::reads_words(alloc),
         outcome_of(files::lays_a_head(alloc)),
     ];

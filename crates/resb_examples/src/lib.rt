@@ -3,6 +3,7 @@
 //! of its own, has. What the code answers is tested in `resb_user_rows`.
 #![tactic(auto)]
 
+pub mod names;
 pub mod reading;
 pub mod records;
 pub mod writing;

@@ -1,8 +1,10 @@
 //! What the code of the pages answers: zones read without a type of one's own, a record's number,
-//! names over a pool bundle, a tree made in code, and two texts in one file.
+//! names over a pool bundle, names of languages and zones, a tree made in code, and two texts in
+//! one file.
 //! The zone table has its rows in `text_rows` and `zone_rows`.
 use crate::zone_rows::file_of;
 use resb::compile;
+use resb_examples::names::{language_name, zone_names};
 use resb_examples::reading::{base_by_cursor, base_by_key, base_of, names_over_a_pool};
 use resb_examples::records::digits_of;
 use resb_examples::writing::{greeting_file, merge};
@@ -55,6 +57,27 @@ fn are_names(alloc: Global) -> Result<bool, Fail> {
     )
 }
 
+/// Names of a language and of a zone, as ICU's files of languages and zones have them.
+const NAMES: &str = r#"de {
+    Languages { de { "Deutsch" } en { "Englisch" } }
+    zoneStrings { "meta:Alps" { ld { "Sommerzeit" } ls { "Winterzeit" } ss { "WZ" } } }
+}"#;
+
+/// Whether the names of a language and of a zone are found, and no others.
+fn are_found(alloc: Global) -> Result<bool, Fail> {
+    let file = compile(alloc, NAMES)?;
+    let found = language_name(alloc, &file, None, "en")?;
+    let lacks = language_name(alloc, &file, None, "fr")?;
+    let Some(zone) = zone_names(alloc, &file, None, "meta:Alps")? else {
+        return Ok(false);
+    };
+    let is_named = found.is_some_and(|it| it.as_str() == "Englisch")
+        && zone.daylight.is_some_and(|it| it.as_str() == "Sommerzeit")
+        && zone.standard.is_some_and(|it| it.as_str() == "Winterzeit");
+    let other = zone_names(alloc, &file, None, "meta:Andes")?;
+    Ok(is_named && lacks.is_none() && zone.generic.is_none() && other.is_none())
+}
+
 /// Whether each zone's base is read, by each way.
 fn are_read(alloc: Global) -> Result<bool, Fail> {
     let file = compile(alloc, ZONES)?;
@@ -90,7 +113,7 @@ fn are_written(alloc: Global) -> Result<bool, Fail> {
 #[test]
 fn pages_answer(rt: HostRuntime) -> Result<(), Fail> {
     let read = are_read(rt.alloc())? && are_records(rt.alloc())? && are_names(rt.alloc())?;
-    let written = are_written(rt.alloc())?;
+    let written = are_written(rt.alloc())? && are_found(rt.alloc())?;
     assert!(rt; read && written);
     Ok(())
 }

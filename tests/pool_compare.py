@@ -8,7 +8,7 @@ given the number of a pool's bytes in four bytes, these, and those of a file, an
 `ok COUNT` or `err MESSAGE`, that of the pool if the file uses it and it is none. FOLDER has
 folders of `.res` files with a `pool.res` each, such as those that `icupkg` extracts; of each the
 small files are taken. One file in seven and three pools in five stay whole. Differences are printed
-and end the run with status 1; files that are refused here for their type alone are counted apart.
+and end the run with status 1.
 """
 import collections
 import glob
@@ -23,7 +23,6 @@ from answers import answers
 AT_ONCE = 60
 SMALL = range(60, 2500)
 WORDS = [0, 1, 2, 5, 2**31, 2**31 + 3, 2**28 - 1]
-TYPE = 'resource type is not supported'
 
 
 def folders(top):
@@ -90,8 +89,6 @@ def main():
         for data, ours, theirs in zip(files, asked(os.path.abspath(program), pool, files), wanted):
             if ours == theirs:
                 seen['read' if ours.startswith('ok') else 'refused'] += 1
-            elif ours.endswith(TYPE):
-                seen['of a type that is not read'] += 1
             else:
                 seen['different'] += 1
                 print(f'{data.hex()} over {pool.hex()[:200]}..: {ours}, {theirs}')

@@ -37,6 +37,7 @@ TREES = {
     'a': {'alpha': 'one two three', 'beta': 'x'},
     'b': {'alpha': 'one two three', 'gamma': 'three'},
     'c': {'alpha': 'two three', 'delta': ['x', '', 'three']},
+    'd': {'alpha': {'alias': '/LOCALE/beta'}, 'beta': 5},
 }
 NO_POOL = 'this file uses a pool bundle, and there is no pool.res beside it; name one by --pool'
 INVALID = 'Invalid resource bundle data: '
@@ -135,7 +136,12 @@ def read_beside():
     write('three/far.res', file(with_word(A3, 1, '4008')))
     shows(TREES['a'], 'three/far.res')
     says('far{\n    alpha{"one two three"}\n    beta{"x"}\n}\n', 'dump', 'three/far.res')
-    refuses(f'three/d.res: {UNSUPPORTED}resource type is not supported', 'dump', 'three/d.res')
+    says('{"alias":"/LOCALE/beta"}\n', 'get', 'three/d.res', 'alpha')
+    says('d{\n    alpha:alias{"/LOCALE/beta"}\n    beta:int{5}\n}\n',
+         'dump', '--icu', 'three/d.res')
+    seen((0, '{"alpha":{"alias":"/LOCALE/beta"},"beta":5}\n',
+          'three/d.res: this has no text, since the plain form has no aliases at alpha; '
+          'here is its JSON\n'), run('dump', 'three/d.res'), 'dump three/d.res')
 
 
 def check_lines():
@@ -204,8 +210,14 @@ def read_older():
         write(name, file(f'2{end:07x} {index} {keys} {table}', (1, minor)))
         says(f'{name}: 2 resources, format 1.{minor}, fallback, largest table 1\n', 'check', name)
         shows({'a': -2}, name)
-        write(name, file(f'2{end:07x} {index} {keys} {4 * first << 16 | 1:x} 1', (1, minor)))
-        refuses(f'{name}: {UNSUPPORTED}resource type is not supported', 'check', name)
+        # a word of type 0: the empty string, or words from the body's start
+        table = f'{4 * first << 16 | 1:x}'
+        for word, text, tree in (
+                ('0', '', ''), (f'{end + 2:x}', '3 e4002f 72', '/är'),
+                (f'3{end + 2:07x}', '3 e4002f 72', {'alias': '/är'}),
+                ('30000000', '', {'alias': ''})):
+            write(name, file(f'2{end:07x} {index} {keys} {table} {word} {text}', (1, minor)))
+            shows({'a': tree}, name)
 
 
 def read_items():
@@ -225,6 +237,12 @@ def read_items():
     shows(TREES['c'], 'x.dat/curr/c.res', '--pool', 'three/pool.res')
     shows(TREES['a'], 'two/a.res', '--pool', 'x.dat/curr/pool.res')
     refuses('x.dat: no item is named curr/b.res', 'check', 'x.dat/curr/b.res')
+    # a library has its package behind other bytes, at a multiple of 16
+    write('lib.so', b'\x7fELF' + bytes(4092) + package(items))
+    says(''.join(f'{name}\n' for name in sorted(items)), 'list', 'lib.so')
+    shows(TREES['a'], 'lib.so/curr/a.res')
+    write('odd.so', bytes(8) + package(items))
+    refuses("odd.so: not an ICU data file", 'list', 'odd.so')
     shows(TREES['a'], '--limit', '1700', 'x.dat/curr/a.res')
     write('large.dat', package({**items, 'x/z.bin': bytes(2_000_000)}))
     shows(TREES['a'], '--limit', '1700', 'large.dat/curr/a.res')

@@ -180,6 +180,7 @@ def refuse_files():
         (file(with_word(A3, 1, '206')),
          f'{INVALID}offset to the end of 16-bit data not specified'),
         (file(with_word(A3, 1, '207')), f'{INVALID}pool checksum not specified'),
+        (file(with_word(POOL2, 1, '7'), (2, 0)), f'{INVALID}pool checksum not specified'),
         (file(with_word(A3, 6, '20000')), f'{INVALID}pool strings without a pool bundle'),
         (file(with_word(A3, 6, '0')), f'{INVALID}pool strings without a pool bundle'),
         (file(with_word(A3, 8, 'e31610fb')),

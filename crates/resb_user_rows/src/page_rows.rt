@@ -3,8 +3,9 @@
 //! one file.
 //! The zone table has its rows in `text_rows` and `zone_rows`.
 use crate::zone_rows::file_of;
+use resb::binary::PoolBundle;
 use resb::compile;
-use resb_examples::names::{language_name, zone_names};
+use resb_examples::names::{ZoneNames, language_name, zone_names};
 use resb_examples::reading::{base_by_cursor, base_by_key, base_of, names_over_a_pool};
 use resb_examples::records::digits_of;
 use resb_examples::writing::{greeting_file, merge};
@@ -63,19 +64,30 @@ const NAMES: &str = r#"de {
     zoneStrings { "meta:Alps" { ld { "Sommerzeit" } ls { "Winterzeit" } ss { "WZ" } } }
 }"#;
 
+/// The pool bundle of a file that uses none.
+fn no_pool<'a>(_file: &'a [u8]) -> Option<PoolBundle<'a>> {
+    None
+}
+
 /// Whether the names of a language and of a zone are found, and no others.
 fn are_found(alloc: Global) -> Result<bool, Fail> {
     let file = compile(alloc, NAMES)?;
-    let found = language_name(alloc, &file, None, "en")?;
-    let lacks = language_name(alloc, &file, None, "fr")?;
-    let Some(zone) = zone_names(alloc, &file, None, "meta:Alps")? else {
+    let file = file.as_slice();
+    let found = language_name(alloc, file, no_pool(file), "en")?;
+    let lacks = language_name(alloc, file, no_pool(file), "fr")?;
+    let Some(zone) = zone_names(alloc, file, no_pool(file), "meta:Alps")? else {
         return Ok(false);
     };
+    let ZoneNames {
+        daylight,
+        generic,
+        standard,
+    } = zone;
     let is_named = found.is_some_and(|it| it.as_str() == "Englisch")
-        && zone.daylight.is_some_and(|it| it.as_str() == "Sommerzeit")
-        && zone.standard.is_some_and(|it| it.as_str() == "Winterzeit");
-    let other = zone_names(alloc, &file, None, "meta:Andes")?;
-    Ok(is_named && lacks.is_none() && zone.generic.is_none() && other.is_none())
+        && daylight.is_some_and(|it| it.as_str() == "Sommerzeit")
+        && standard.is_some_and(|it| it.as_str() == "Winterzeit");
+    let other = zone_names(alloc, file, no_pool(file), "meta:Andes")?;
+    Ok(is_named && lacks.is_none() && generic.is_none() && other.is_none())
 }
 
 /// Whether each zone's base is read, by each way.

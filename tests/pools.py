@@ -242,6 +242,13 @@ def read_items():
     write('lib.so', b'\x7fELF' + bytes(4092) + package(items))
     says(''.join(f'{name}\n' for name in sorted(items)), 'list', 'lib.so')
     shows(TREES['a'], 'lib.so/curr/a.res')
+    # items of one package in a row, and others behind them
+    said = '3 resources, format 2.0, fallback, largest table 2, over'
+    says(f'x.dat/curr/a.res: {said} x.dat/curr/pool.res\n'
+         f'x.dat/x/curr/a.res: {said} x.dat/x/curr/pool.res\n'
+         f'lib.so/curr/a.res: {said} lib.so/curr/pool.res\n'
+         f'two/a.res: {said} two/pool.res\n', 'check', 'x.dat/curr/a.res', 'x.dat/x/curr/a.res',
+         'lib.so/curr/a.res', 'two/a.res')
     write('odd.so', bytes(8) + package(items))
     refuses("odd.so: not an ICU data file", 'list', 'odd.so')
     shows(TREES['a'], '--limit', '1700', 'x.dat/curr/a.res')

@@ -12,10 +12,11 @@ use std::path::Path;
 /// What a pool bundle's file is called.
 const POOL: &str = "pool.res";
 
-/// The bytes of a file; or those of a package, and the name of an item of it.
+/// The bytes of a file; or those of a package, its name, and that of an item of it.
 #[derive(Drop)]
 pub(crate) struct Input {
     bytes: Vec<u8>,
+    package: String,
     item: Option<String>,
 }
 
@@ -63,15 +64,47 @@ impl Input {
     pub(crate) fn read(rt: &HostRuntime, name: &str, limit: Option<u64>) -> Result<Input, u8> {
         let Some((package, item)) = split_package(rt, name) else {
             let bytes = bytes_of(rt, name, limit)?;
-            return Ok(Input { bytes, item: None });
+            let package = String::new(rt.alloc());
+            return Ok(Input {
+                bytes,
+                package,
+                item: None,
+            });
         };
         let bytes = bytes_of(rt, package, None)?;
-        match String::from_str(rt.alloc(), item) {
-            Ok(item) => Ok(Input {
+        Input::of_item(rt, name, bytes, package, item)
+    }
+
+    /// The input of the next name: of the same bytes where both are items of one package, which isn't
+    /// read again then.
+    pub(crate) fn next(self, rt: &HostRuntime, name: &str) -> Result<Input, u8> {
+        match split_package(rt, name) {
+            Some((package, item)) if self.package.as_str() == package => {
+                Input::of_item(rt, name, self.bytes, package, item)
+            }
+            _ => Input::read(rt, name, None),
+        }
+    }
+
+    /// An item of a package of these bytes, or the status of want of memory, once that is said.
+    fn of_item(
+        rt: &HostRuntime,
+        name: &str,
+        bytes: Vec<u8>,
+        package: &str,
+        item: &str,
+    ) -> Result<Input, u8> {
+        let alloc = rt.alloc();
+        match (
+            String::from_str(alloc, package),
+            String::from_str(alloc, item),
+        ) {
+            (Ok(package), Ok(item)) => Ok(Input {
                 bytes,
+                package,
                 item: Some(item),
             }),
-            Err(_) => Err(refuse_memory(rt, name)),
+            _ => Err(refuse_memory(rt, name)),
         }
     }
 

@@ -39,8 +39,22 @@ pub(crate) fn check(rt: &HostRuntime, wanted: &CheckWords<'_>) -> u8 {
         return fail(rt, "resb", "standard input is read once alone");
     }
     let mut progress = Progress::new(rt, wanted.files.len());
+    let mut before = None;
     for name in wanted.files.iter().copied() {
-        status = status.max(settled(check_one(rt, name, wanted.pool)));
+        let input = match before {
+            Some(input) => Input::next(input, rt, name),
+            None => Input::read(rt, name, None),
+        };
+        before = match input {
+            Ok(input) => {
+                status = status.max(settled(check_one(rt, name, &input, wanted.pool)));
+                Some(input)
+            }
+            Err(failed) => {
+                status = status.max(failed);
+                None
+            }
+        };
         progress.one_more(rt);
     }
     progress.end(rt);
@@ -48,8 +62,7 @@ pub(crate) fn check(rt: &HostRuntime, wanted: &CheckWords<'_>) -> u8 {
 }
 
 /// Says of one file what it is.
-fn check_one(rt: &HostRuntime, name: &str, pool: Option<&str>) -> Result<u8, u8> {
-    let input = Input::read(rt, name, None)?;
+fn check_one(rt: &HostRuntime, name: &str, input: &Input, pool: Option<&str>) -> Result<u8, u8> {
     let opened = input.open(rt, name)?;
     let file = opened.bytes;
     let beside = opened.pool(rt, name, pool, None)?;

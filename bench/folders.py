@@ -4,9 +4,9 @@
     folders.py ITEMS VISIT
 
 ITEMS has the folders, as `icupkg -x '*.res' -d ITEMS icudt72l.dat` makes them, and VISIT is the
-program of visit_folder.c. Small files, of fewer than 400 bytes, are left out: most of them are names
-of other files, which libicu follows without an end. A row has the folder, its files and resources,
-and the least of nine rounds of both.
+program of visit_folder.c. Small files, of fewer than 400 bytes, are left out: most of them are
+names of other files, which libicu follows without an end. A row has the folder, its files and
+resources, and the least of nine rounds of both.
 """
 import glob
 import os

@@ -1,5 +1,5 @@
-/* Goes through each resource of files of a folder by libicu, and prints how many there are. Strings,
- * bytes and vectors are asked for, and nothing is tested.
+/* Goes through each resource of files of a folder by libicu, and prints how many there are.
+ * Strings, bytes and vectors are asked for, and nothing is tested.
  *
  *     cc -O2 -o visit_folder visit_folder.c -licuuc
  *     visit_folder FOLDER NAME..      the names without .res

@@ -75,7 +75,7 @@ impl Input {
         Input::of_item(rt, name, bytes, package, item)
     }
 
-    /// The input of the next name: of the same bytes where both are items of one package, which isn't
+    /// The input of the next name: of the same bytes where both are items of one package, that isn't
     /// read again then.
     pub(crate) fn next(self, rt: &HostRuntime, name: &str) -> Result<Input, u8> {
         match split_package(rt, name) {

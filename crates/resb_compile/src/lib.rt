@@ -1,4 +1,4 @@
-//! From a text to the bytes of its file, in either form: `compile`, `compile_within`, `compile_icu`.
+//! From a text to its file, in either form: `compile`, `compile_within`, `compile_icu`.
 //! Texts are read, and files written, in the crates below; nothing here reads a file.
 #![tactic(auto)]
 

@@ -24,7 +24,8 @@ module _ (p : Parts) where
     -- a member, which is a resource too
     pub data DenMember : Member → Tree → ℕ → Type 0 where
       den_word : {w n : ℕ} {t : Tree} → Den w t n → DenMember (word w) t n
-      den_unit : {u : ℕ} {s : List ℕ} → text_in p (index_in p u) ≡ Some s → DenMember (unit u) (string s) 1
+      den_unit : {u : ℕ} {s : List ℕ} → text_in p (index_in p u) ≡ Some s
+          → DenMember (unit u) (string s) 1
 
     -- each member has its tree; the count is the sum of theirs
     pub data DenEach : List Member → List Tree → ℕ → Type 0 where

@@ -12,7 +12,8 @@ use Rattle.resb_format.specs.Strings.{key_at, string_at, text_at}
 abbrev pub lent_position : List ℕ → ℕ → ℕ
 lent_position keys k = if nat_le (2 ^ 31) k then k - 2 ^ 31 else k - length keys
 
--- without a pool a position tells a byte of the own keys; with one only a lower position does
+-- where nothing is said of a pool, a position tells a byte of the own keys; where a pool or none is
+-- named, only a position below their end does, and any other tells a byte of the pool's
 unfoldable pub key_place_by : Option Lent → List ℕ → ℕ → List ℕ × ℕ
 key_place_by None keys k = (keys, k)
 key_place_by (Some l) keys k =
@@ -26,7 +27,8 @@ key_place p k = key_place_by p.lent p.keys k
 abbrev pub key_in : Parts → ℕ → Option (List ℕ)
 key_in p k = key_at (key_place p k).0 (key_place p k).1
 
--- without a pool a unit tells itself
+-- where nothing is said of a pool, a unit tells itself; where a pool or none is named, units from
+-- the short limit on tell strings from the limit on
 unfoldable pub index_by : Option Lent → ℕ → ℕ
 index_by None u = u
 index_by (Some l) u = if nat_lt u l.short_limit then u else u - l.short_limit + l.limit
@@ -35,7 +37,8 @@ index_by (Some l) u = if nat_lt u l.short_limit then u else u - l.short_limit + 
 abbrev pub index_in : Parts → ℕ → ℕ
 index_in p u = index_by p.lent u
 
--- without a pool an index tells a unit of the own block; with one an index from the limit on does
+-- where nothing is said of a pool, an index tells a unit of the own block; where a pool or none is
+-- named, only an index from the limit on does, and any lower one tells a unit of the pool's
 unfoldable pub text_place_by : Option Lent → List ℕ → ℕ → List ℕ × ℕ
 text_place_by None block i = (block, i)
 text_place_by (Some l) block i = if nat_lt i l.limit then (l.block, i) else (block, i - l.limit)

@@ -60,6 +60,6 @@ is_array n = n == array || n == array16
 abbrev pub is_read_type : ℕ → Bool
 is_read_type n = ((nat_le binary n && nat_le n array16) && not (n == alias)) || n == int_vector
 
--- a type that is read beside a pool alone, the file's own or none
+-- a type that is read only where a pool, or none, is named: the old string and the alias
 abbrev pub is_older_type : ℕ → Bool
 is_older_type n = n == old_string || n == alias

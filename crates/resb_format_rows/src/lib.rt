@@ -1,7 +1,7 @@
 //! The worked rows of the bytes, the codecs, the views, the head and the parts of a file, and of
-//! packages: inputs with the answers that the format's rules ask for. Only tests stand here, so that
-//! no other crate is proved twice. Each kind of row has one helper, which is proved once; a row more
-//! is a line of its table.
+//! packages: inputs with the answers that the format's rules ask for. Only tests stand here, so
+//! that no other crate is proved twice. Each kind of row has one helper, which is proved once; a
+//! row more is a line of its table.
 #![tactic(auto)]
 
 #[cfg(test)]

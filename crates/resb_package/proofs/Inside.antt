@@ -1,5 +1,6 @@
 -- Where the header of a package stands inside a file.
-use Rattle.std.proofs.Common.{◌≡◌, ℕ, ◌*◌, ◌/◌, ◌+◌, ◌-◌, ◌<◌, ◌≤◌, List, length, drop, None, arith, refl}
+use Rattle.std.proofs.Common.{◌≡◌, ℕ, ◌*◌, ◌/◌, ◌+◌, ◌-◌, ◌<◌, ◌≤◌, List, length, drop, None}
+use Rattle.std.proofs.Common.{arith, refl}
 use Rattle.std.proofs.Common.{length-drop}
 use Rattle.std.specs.Prelude.{nat_le, get_or}
 use Rattle.std.proofs.lemmas.Bool.{lt-leb}

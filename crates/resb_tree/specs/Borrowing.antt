@@ -1,7 +1,7 @@
 -- Whether what a resource holds is borrowed or owned, by tests of its strings and its binaries.
 --     is_slice s              the text is borrowed
 --     are_slice b             the bytes are borrowed
---     each_leaf f g r         each String and Alias in the resource passes the test f, each Binary g
+--     each_leaf f g r         each String and Alias in the resource passes f, each Binary g
 --     each_entry f g es       so does what stands in these entries
 use Rattle.std.specs.Prelude.{ℕ, Bool, true, false, List, map}
 use Rattle.std.specs.List.{list_all}

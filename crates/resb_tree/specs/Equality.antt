@@ -2,7 +2,8 @@
 use Rattle.std.specs.Prelude.{Bool, true, false, ◌&&◌, nat_eq}
 use Rattle.std.specs.Cmp.Lexicographic.{pointwise}
 use Rattle.resb_tree.specs.Tree.{Tree, string, alias, array, table, binary, integer}
-use Rattle.resb_tree.specs.Tree.{int_vector, Trees, no_trees, more_trees, Entries, no_entries, entry}
+use Rattle.resb_tree.specs.Tree.{int_vector, Trees, no_trees, more_trees}
+use Rattle.resb_tree.specs.Tree.{Entries, no_entries, entry}
 
 abbrev mutual
   -- two trees are the same

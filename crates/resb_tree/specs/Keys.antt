@@ -3,7 +3,8 @@
 use Rattle.std.specs.Prelude.{ℕ, List, Bool, false, ◌||◌, nat_eq}
 use Rattle.std.specs.Cmp.Lexicographic.{pointwise}
 use Rattle.resb_tree.specs.Tree.{Tree, string, alias, array, table, binary, integer}
-use Rattle.resb_tree.specs.Tree.{int_vector, Trees, no_trees, more_trees, Entries, no_entries, entry}
+use Rattle.resb_tree.specs.Tree.{int_vector, Trees, no_trees, more_trees}
+use Rattle.resb_tree.specs.Tree.{Entries, no_entries, entry}
 
 -- two texts have the same bytes
 abbrev pub same_text : List ℕ → List ℕ → Bool

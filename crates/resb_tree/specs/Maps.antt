@@ -6,7 +6,8 @@ use Rattle.std.specs.Cmp.Lexicographic.{slice_cmp}
 use Rattle.std.specs.FinMap.Entries as fin
 use Rattle.std.specs.declared.cmp.Ordering.{Ordering}
 use Rattle.resb_tree.specs.Tree.{Tree, string, alias, array, table, binary, integer}
-use Rattle.resb_tree.specs.Tree.{int_vector, Trees, no_trees, more_trees, Entries, no_entries, entry}
+use Rattle.resb_tree.specs.Tree.{int_vector, Trees, no_trees, more_trees}
+use Rattle.resb_tree.specs.Tree.{Entries, no_entries, entry}
 
 -- texts are ordered by their bytes
 abbrev pub text_cmp : List ℕ → List ℕ → Ordering

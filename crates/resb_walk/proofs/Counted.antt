@@ -1,5 +1,6 @@
 -- Texts of the body, by the units behind their counts.
-use Rattle.std.proofs.Common.{ℕ, List, [], ◌≡◌, Bool, true, false, length, Option, Some, None, refl, sym}
+use Rattle.std.proofs.Common.{ℕ, List, [], ◌≡◌, Bool, true, false, length, Option, Some, None}
+use Rattle.std.proofs.Common.{refl, sym}
 use Rattle.std.proofs.Common.{ap, ◌∙◌, encode_utf8_all, subst, take, drop}
 use Rattle.std.specs.Prelude.{not, option_and_then, slice_get, ◌+◌, ◌*◌, ◌/◌}
 use Rattle.std.proofs.lemmas.Bool.{not-true, not-false}

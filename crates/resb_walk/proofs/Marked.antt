@@ -1,5 +1,6 @@
 -- Strings with a marker, by where their units begin and how many there are.
-use Rattle.std.proofs.Common.{refl, ℕ, List, ◌≡◌, ◌+◌, ◌≤◌, length, take, drop, get_or, Some, Ok, Err}
+use Rattle.std.proofs.Common.{refl, ℕ, List, ◌≡◌, ◌+◌, ◌≤◌, length, take, drop, get_or}
+use Rattle.std.proofs.Common.{Some, Ok, Err}
 use Rattle.std.proofs.Common.{Option, false, encode_utf8_all, sym, ◌∙◌, subst}
 use Rattle.std.specs.Prelude.{Result, IfSome, MatchResult}
 use Rattle.std.specs.Result.{result_ok}

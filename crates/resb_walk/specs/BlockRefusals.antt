@@ -49,8 +49,8 @@ abbrev pub counted_units : Parts → ℕ → Option (List ℕ)
 counted_units p v =
     behind_count (words_of p.body) v (λ n. part (units_of p.body) (2 * v + 2) n)
 
--- why no text stands behind a count: count or units lie outside the body, or surrogates of the units
--- have no partners
+-- why no text stands behind a count: count or units lie outside the body, or surrogates of the
+-- units have no partners
 abbrev pub counted_refusal : Parts → ℕ → Refusal
 counted_refusal p v =
     if is_some (counted_units p v) then invalid (codes "string resource is not valid UTF-16")

@@ -35,7 +35,8 @@ resource::Resource::drop-drop_all-requires c = grind (arith, drop_steps)
 pub resource::Resource::drop-entries-init : goal.resource::Resource::drop-entries-init
 resource::Resource::drop-entries-init c = grind (arith, drop_steps)
 
-pub resource::Resource::drop-list_beside-requires : goal.resource::Resource::drop-list_beside-requires
+pub resource::Resource::drop-list_beside-requires
+    : goal.resource::Resource::drop-list_beside-requires
 resource::Resource::drop-list_beside-requires c = grind (arith, drop_steps)
 
 pub resource::Resource::drop-values-init : goal.resource::Resource::drop-values-init
@@ -50,16 +51,20 @@ resource::Resource::drop-values-smaller c = grind (arith, drop_steps)
 pub resource::Resource::drop-values-preserved : goal.resource::Resource::drop-values-preserved
 resource::Resource::drop-values-preserved c = grind (arith, drop_steps)
 
-pub resource::Resource::drop-drop_all-requires-in-Ok : goal.resource::Resource::drop-drop_all-requires-in-Ok
+pub resource::Resource::drop-drop_all-requires-in-Ok
+    : goal.resource::Resource::drop-drop_all-requires-in-Ok
 resource::Resource::drop-drop_all-requires-in-Ok c = grind (arith, drop_steps)
 
-pub resource::Resource::drop-entries-smaller-in-Ok : goal.resource::Resource::drop-entries-smaller-in-Ok
+pub resource::Resource::drop-entries-smaller-in-Ok
+    : goal.resource::Resource::drop-entries-smaller-in-Ok
 resource::Resource::drop-entries-smaller-in-Ok c = grind (arith, drop_steps)
 
-pub resource::Resource::drop-entries-preserved-in-Ok : goal.resource::Resource::drop-entries-preserved-in-Ok
+pub resource::Resource::drop-entries-preserved-in-Ok
+    : goal.resource::Resource::drop-entries-preserved-in-Ok
 resource::Resource::drop-entries-preserved-in-Ok c = grind (arith, drop_steps)
 
-pub resource::Resource::drop-drop-requires-in-Err : goal.resource::Resource::drop-drop-requires-in-Err
+pub resource::Resource::drop-drop-requires-in-Err
+    : goal.resource::Resource::drop-drop-requires-in-Err
 resource::Resource::drop-drop-requires-in-Err c = grind (arith, drop_steps)
 
 pub resource::Resource::drop-entries-smaller : goal.resource::Resource::drop-entries-smaller

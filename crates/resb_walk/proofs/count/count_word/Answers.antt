@@ -1,4 +1,5 @@
-use Rattle.std.proofs.Common.{◌≡◌, ◌≤◌, ℕ, [], Ok, Err, Some, None, length, subst, ap, arith, ◌∙◌, refl}
+use Rattle.std.proofs.Common.{◌≡◌, ◌≤◌, ℕ, [], Ok, Err, Some, None, length, subst, ap, arith}
+use Rattle.std.proofs.Common.{◌∙◌, refl}
 use Rattle.std.proofs.lemmas.List.{length_push}
 use Rattle.std.proofs.lemmas.Result.{err_from_is_err_and}
 use Rattle.resb_format.specs.Content.{word}

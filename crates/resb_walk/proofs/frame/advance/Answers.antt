@@ -15,7 +15,8 @@ returns-in-None-clause-steps g c = λ w n h.
       c.end_list.ensures o.trees o.is_made,
     )
 
-pub returns-in_err-key-in-Some-split-clause-steps : goal.returns-in_err-key-in-Some-split-clause-steps
+pub returns-in_err-key-in-Some-split-clause-steps
+    : goal.returns-in_err-key-in-Some-split-clause-steps
 returns-in_err-key-in-Some-split-clause-steps g c = λ w n h.
     let o = rw c.in-Table.is at h in
     let p = err_from_is_err_and c.from_residual.result c.from_residual.ensures.1 in
@@ -36,7 +37,8 @@ returns-in_ok-end_table-in-None-split-clause-steps g c = λ w n h.
       c.in_ok-end_table-in-None-split.ensures o.entries o.is_made,
     )
 
-pub returns-in_err-key-in-Some-split-clause-meets : goal.returns-in_err-key-in-Some-split-clause-meets
+pub returns-in_err-key-in-Some-split-clause-meets
+    : goal.returns-in_err-key-in-Some-split-clause-meets
 returns-in_err-key-in-Some-split-clause-meets g c = λ w n h.
     let o = rw c.in-Table.is at h in
     let p = err_from_is_err_and c.from_residual.result c.from_residual.ensures.1 in

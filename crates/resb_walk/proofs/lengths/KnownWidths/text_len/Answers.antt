@@ -1,4 +1,5 @@
-use Rattle.std.proofs.Common.{ℕ, List, ◌≡◌, ◌∙◌, sym, length, Option, Some, None, ◌+◌, ◌≤◌, take, drop}
+use Rattle.std.proofs.Common.{ℕ, List, ◌≡◌, ◌∙◌, sym, length, Option, Some, None, ◌+◌, ◌≤◌}
+use Rattle.std.proofs.Common.{take, drop}
 use Rattle.std.specs.Prelude.{IfSome}
 use Rattle.resb_blocks.specs.Wide.{text_width}
 use Rattle.resb_format.specs.Bytes.{units_of}

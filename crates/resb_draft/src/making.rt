@@ -1,7 +1,7 @@
 //! How a draft is made: a piece at a time, members before their collection.
 //! In which order a table's entries are put stands in `entries`.
 ghost use Rattle.std.specs.Prelude.{◌≡◌, ◌≤◌, true, [], ◌∷◌, ◌++◌, map, length};
-ghost use Rattle.std.specs.Prelude.{drop, IfOk, OnOk, get_or, List, ℕ};
+ghost use Rattle.std.specs.Prelude.{take, drop, IfOk, OnOk, OnErr, MatchResult, get_or, List, ℕ};
 ghost use Rattle.std.specs.Borrow.{Bor};
 ghost use Rattle.std.specs.List.{zip};
 ghost use Rattle.resb_tree.specs.Borrowing.{all_true};
@@ -36,6 +36,7 @@ impl<'a> Draft<'a> {
     /// step. What stands in the draft stays.
     pub fn reserve(&mut self, more: usize) -> Result<(), NoMemory>
         ensures members { self.new.members.items ≡ self.old.members.items }
+        ensures keys { self.new.keys.items ≡ self.old.keys.items }
         ensures pieces { pieces_stand self.new ≡ pieces_stand self.old }
         ensures keeps { Keeps self.old self.new }
     {
@@ -48,6 +49,7 @@ impl<'a> Draft<'a> {
     pub fn push_string(&mut self, text: &'a str) -> Result<u32, NoMemory>
         ensures made { IfOk result (λ n. IsMade self.new n (string text.now)) }
         ensures members { self.new.members ≡ self.old.members }
+        ensures keys { self.new.keys ≡ self.old.keys }
         ensures keeps { Keeps self.old self.new }
     {
         self.push(Piece::String(text))
@@ -57,6 +59,8 @@ impl<'a> Draft<'a> {
     pub fn push_leaf(&mut self, resource: Resource<'a>) -> Result<u32, NoMemory>
         requires { is_leaf (tree_of resource) ≡ true }
         ensures made { IfOk result (λ n. IsMade self.new n (tree_of resource.entry)) }
+        ensures members { self.new.members ≡ self.old.members }
+        ensures keys { self.new.keys ≡ self.old.keys }
         ensures keeps { Keeps self.old self.new }
     {
         if let Resource::Integer(integer) = &resource {
@@ -66,10 +70,13 @@ impl<'a> Draft<'a> {
         self.push(Piece::Leaf(Box::new(alloc, resource)?))
     }
 
-    /// One member more, which `end_array` puts into an array.
+    /// One member more, which `end_array` puts into an array. Without memory none comes.
     pub fn push_member(&mut self, member: u32) -> Result<(), NoMemory>
         ensures members { OnOk result
             (self.new.members.items ≡ self.old.members.items ++ member ∷ []) }
+        ensures refused { OnErr result (self.new.members.items ≡ self.old.members.items) }
+        ensures pieces { self.new.pieces ≡ self.old.pieces }
+        ensures keys { self.new.keys ≡ self.old.keys }
         ensures keeps { Keeps self.old self.new }
     {
         self.members.push(member)?;
@@ -82,6 +89,8 @@ impl<'a> Draft<'a> {
         ensures made { let ns = drop first_member self.old.members.items in
             all_true (map (is_whole self.old) ns) ≡ true → IfOk result
             (λ n. IsMade self.new n (array (trees_of (map (tree_at self.old) ns)))) }
+        ensures members { self.new.members ≡ self.old.members }
+        ensures keys { self.new.keys ≡ self.old.keys }
         ensures keeps { Keeps self.old self.new }
     {
         let part = Members {
@@ -97,6 +106,9 @@ impl<'a> Draft<'a> {
         ensures members { OnOk result
             (self.new.members.items ≡ self.old.members.items ++ member ∷ []) }
         ensures keys { OnOk result (self.new.keys.items ≡ self.old.keys.items ++ key.entry ∷ []) }
+        ensures refused { OnErr result (self.new.members.items ≡ self.old.members.items) }
+        ensures names { take (length self.old.keys.items) self.new.keys.items
+            ≡ self.old.keys.items }
         ensures keeps { Keeps self.old self.new }
     {
         self.keys.push(key)?;
@@ -121,6 +133,9 @@ impl<'a> Draft<'a> {
             → all_true (map (λ p. is_whole before p.1) ps) ≡ true
             → IfOk result (λ n. IsMade self.new n
             (table (map_of (map (λ p. (p.0.now, tree_at before p.1)) ps)))) }
+        ensures members { take first_member self.new.members.items
+            ≡ take first_member self.old.members.items }
+        ensures names { take first_key self.new.keys.items ≡ take first_key self.old.keys.items }
         ensures keeps { (before : Draft) (ps : List (Bor (List ℕ) × ℕ))
             → EndsInEntries before first_member first_key ps self.old → Keeps before self.new }
     {
@@ -143,6 +158,8 @@ impl<'a> Draft<'a> {
             → all_true (map (λ p. is_whole self.old p.1) ps) ≡ true
             → IfOk result (λ n. IsMade self.new n
             (table (entries_of (map (λ p. (p.0.now, tree_at self.old p.1)) ps)))) }
+        ensures members { self.new.members ≡ self.old.members }
+        ensures keys { self.new.keys ≡ self.old.keys }
         ensures keeps { Keeps self.old self.new }
     {
         let part = Members {
@@ -165,6 +182,12 @@ impl<'a> Draft<'a> {
         ensures taken { (before : Draft) (ps : List (Bor (List ℕ) × ℕ))
             → EndsInEntries before first_member first_key ps self.old → IfOk result
             (λ v. (v.items ≡ ps) × (pieces_stand self.new ≡ pieces_stand before)) }
+        ensures members { MatchResult result
+            (λ _. self.new.members.items ≡ take first_member self.old.members.items)
+            (λ _. self.new.members ≡ self.old.members) }
+        ensures keys { MatchResult result
+            (λ _. self.new.keys.items ≡ take first_key self.old.keys.items)
+            (λ _. self.new.keys ≡ self.old.keys) }
         ensures keeps { (before : Draft) (ps : List (Bor (List ℕ) × ℕ))
             → EndsInEntries before first_member first_key ps self.old → Keeps before self.new }
     {
@@ -185,6 +208,10 @@ impl<'a> Draft<'a> {
             all_true (map (λ p. is_whole self.old p.1) ps) ≡ true → IfOk result
             (λ n. IsMade self.new n
             (table (entries_of (map (λ p. (p.0.now, tree_at self.old p.1)) ps)))) }
+        ensures members { take (length self.old.members.items) self.new.members.items
+            ≡ self.old.members.items }
+        ensures names { take (length self.old.keys.items) self.new.keys.items
+            ≡ self.old.keys.items }
         ensures keeps { Keeps self.old self.new }
     {
         let first_member = self.members.len();
@@ -202,6 +229,7 @@ impl<'a> Draft<'a> {
             ≡ piece_meaning self.old.members.items (texts self.old.keys.items)
             (pieces_stand self.old) piece.entry) }
         ensures members { self.new.members ≡ self.old.members }
+        ensures keys { self.new.keys ≡ self.old.keys }
         ensures keeps { Keeps self.old self.new }
     {
         let own_number = number(self.pieces.len())?;

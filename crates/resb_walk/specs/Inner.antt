@@ -2,6 +2,7 @@
 -- `Filling`; the others have not to be trusted.
 pub mod Members
 pub mod MemberContent
+pub mod Leads
 pub mod Filling
 pub mod Frames
 pub mod Rounds

@@ -10,10 +10,10 @@ ghost use Rattle.resb_walk.specs.Inner.Places.{pool_keys, pool_block};
 
 use crate::faults::not_utf16;
 use crate::known::{Known, KnownTexts, SHORT_STRING};
+use crate::leads::{Lead, lead_at};
 use crate::members::{Member, Rest, Standing};
 use crate::places::{Place, key_spot, text_spot};
-use crate::standing::{counted_units, key_at, member_at, text_at};
-use crate::strings::{counted_word, string_index};
+use crate::standing::{counted_units, key_at, text_at};
 use crate::units::is_well_formed;
 use resb_blocks::SHORT_TAIL;
 use resb_format::{BinaryDeserializerError, FileBlocks};
@@ -30,6 +30,8 @@ pub struct Checker<'a> {
     own: Known<'a>,
     lent: Option<Known<'a>>,
     counted: KnownTexts<'a>,
+    /// Whether a long key or string was looked at. Before, nothing is known of any block.
+    has_noted: bool,
     ghost own_keys: { own.keys.keys ≡ file.keys },
     ghost own_block: { own.texts.block ≡ file.block },
     ghost lent_keys: { ForSome lent (λ k. pool_keys file.pool ≡ Some k.keys.keys.now) },
@@ -50,6 +52,7 @@ impl<'a> Checker<'a> {
                 None => None,
             },
             counted: KnownTexts::new(file.body),
+            has_noted: false,
         }
     }
 
@@ -72,6 +75,7 @@ impl<'a> Checker<'a> {
     fn note_key(&mut self, alloc: Global, at: usize, len: usize) -> Result<(), NoMemory>
         ensures { self.new.file ≡ self.old.file }
     {
+        self.has_noted = true;
         match key_spot(self.file, at) {
             Place::Own(_) => self.own.keys.note(alloc, len),
             Place::Lent(..) => match &mut self.lent {
@@ -87,7 +91,7 @@ impl<'a> Checker<'a> {
         ensures looks { LooksKey (parts_in self.old.file) at result }
         ensures file { self.new.file ≡ self.old.file }
     {
-        if self.has_key(at) {
+        if self.has_noted && self.has_key(at) {
             return Ok(());
         }
         let key = key_at(self.file, at)?;
@@ -117,6 +121,7 @@ impl<'a> Checker<'a> {
     fn note_text(&mut self, alloc: Global, index: usize, len: usize) -> Result<(), NoMemory>
         ensures { self.new.file ≡ self.old.file }
     {
+        self.has_noted = true;
         match text_spot(self.file, index) {
             Place::Own(_) => self.own.texts.note(alloc, len),
             Place::Lent(..) => match &mut self.lent {
@@ -132,7 +137,7 @@ impl<'a> Checker<'a> {
         ensures looks { LooksText (parts_in self.old.file) unit result }
         ensures file { self.new.file ≡ self.old.file }
     {
-        if self.has_text(unit) {
+        if self.has_noted && self.has_text(unit) {
             return Ok(());
         }
         let units = text_at(self.file, unit)?;
@@ -171,18 +176,13 @@ impl<'a> Checker<'a> {
         ensures looks { LooksAt (parts_in self.old.file) (member_of member) result }
         ensures file { self.new.file ≡ self.old.file }
     {
-        if let Some(unit) = string_index(self.file, member) {
-            self.text(alloc, unit)?;
-            return Ok(None);
+        match lead_at(self.file, member)? {
+            Lead::Text(index) => self.text(alloc, index)?,
+            Lead::Counted(word) => self.counted(alloc, word)?,
+            Lead::Plain(Standing::Leaf(_)) => {}
+            Lead::Plain(Standing::List(members)) => return Ok(Some(Rest::List(members))),
+            Lead::Plain(Standing::Table(entries)) => return Ok(Some(Rest::Table(entries))),
         }
-        if let Some(word) = counted_word(self.file, member) {
-            self.counted(alloc, word)?;
-            return Ok(None);
-        }
-        Ok(match member_at(self.file, member)? {
-            Standing::Leaf(_) => None,
-            Standing::List(members) => Some(Rest::List(members)),
-            Standing::Table(entries) => Some(Rest::Table(entries)),
-        })
+        Ok(None)
     }
 }

@@ -8,6 +8,7 @@ pub mod faults;
 mod filling;
 mod frame;
 mod known;
+mod leads;
 mod lengths;
 mod make;
 mod members;

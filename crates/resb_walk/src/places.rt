@@ -22,12 +22,12 @@ pub(crate) enum Place<'a> {
 pub(crate) fn key_spot(file: FileBlocks<'_>, position: usize) -> Place<'_>
     ensures { TellsKey file.entry position result }
 {
-    let Some(pool) = file.pool else {
-        return Place::Own(position);
-    };
     if position < file.keys.len() {
         return Place::Own(position);
     }
+    let Some(pool) = file.pool else {
+        return Place::Own(position);
+    };
     if position >= 0x8000_0000 {
         return Place::Lent(pool, position - 0x8000_0000);
     }

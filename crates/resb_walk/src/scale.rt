@@ -6,11 +6,11 @@ ghost use Rattle.std.specs.Option.{ForSome};
 ghost use Rattle.resb_walk.specs.Inner.Places.{pool_keys, pool_block};
 
 use crate::count::Inner;
+use crate::leads::{Lead, lead_at};
 use crate::lengths::{KnownWidths, Lengths};
 use crate::members::{Member, Rest, Standing};
 use crate::places::{Place, index_of, key_spot, text_spot};
-use crate::standing::{counted_units, key_at, standing_at, text_at};
-use crate::strings::{counted_word, string_index};
+use crate::standing::{counted_units, key_at, text_at};
 use crate::sums::Sums;
 use crate::units::text_len;
 use resb_blocks::SHORT_TAIL;
@@ -42,10 +42,10 @@ pub struct Scale<'a> {
 
 impl<'a> Scale<'a> {
     ghost use Rattle.std.specs.Prelude.{◌≡◌, ◌<◌, ◌^◌, ℕ, List, length, Some, IfOk, IfSome};
-    ghost use Rattle.resb_format.specs.Content.{counted_text};
+    ghost use Rattle.resb_format.specs.Content.{counted_text, content_at};
     ghost use Rattle.resb_format.specs.Lookups.{key_in, text_in};
-    ghost use Rattle.resb_format.specs.Parts.{parts_in};
-    ghost use Rattle.resb_walk.specs.Inner.Members.{member_of};
+    ghost use Rattle.resb_format.specs.Parts.{Parts, parts_in};
+    ghost use Rattle.resb_walk.specs.Inner.Members.{member_of, content_of};
     ghost use Rattle.resb_walk.specs.Inner.Weighing.{Looked, TakenPieces, ToCome};
     ghost use Rattle.resb_walk.specs.Pieces.{Piece, Holds, HoldsMember};
     ghost use Rattle.resb_walk.specs.Sums.{AddsUp};
@@ -175,27 +175,27 @@ impl<'a> Scale<'a> {
         Ok(text_len(units))
     }
 
-    /// Sums what stands at a word, by a look at all of it. Where it has members, they are still to
+    /// Sums the resource at a word, which stands there. Where it has members, they are still to
     /// come.
-    fn look_plainly(&self, word: u32, sums: &mut Sums) -> Option<Inner<'a>>
-        ensures { let p = parts_in self.now.file in (xs zs : List Piece)
-            → Holds p word xs → AddsUp sums.old zs → Looked p xs zs result sums.new }
+    fn look_plainly(word: u32, standing: Standing<'a>, sums: &mut Sums) -> Option<Inner<'a>>
+        ensures { (p : Parts) (xs zs : List Piece)
+            → content_at p word ≡ Some (content_of standing.entry) → Holds p word xs
+            → AddsUp sums.old zs → Looked p xs zs result sums.new }
     {
-        match standing_at(self.file, word) {
-            Ok(Standing::Leaf(leaf)) => {
+        match standing {
+            Standing::Leaf(leaf) => {
                 *sums = sums.with_leaf(leaf);
                 None
             }
-            Ok(Standing::List(members)) => {
+            Standing::List(members) => {
                 let rest = Rest::List(members);
                 Some(Inner { word, rest })
             }
-            Ok(Standing::Table(entries)) => {
+            Standing::Table(entries) => {
                 *sums = sums.with_table(entries.len());
                 let rest = Rest::Table(entries);
                 Some(Inner { word, rest })
             }
-            Err(_) => None,
         }
     }
 
@@ -206,17 +206,20 @@ impl<'a> Scale<'a> {
             → IfOk result (λ r. Looked p xs zs r sums.new) }
         ensures file { self.new.file ≡ self.old.file }
     {
-        if let Some(index) = string_index(self.file, Member::Word(word)) {
-            let len = self.text_len(index)?;
-            *sums = sums.with_text(len);
-            return Ok(None);
+        match lead_at(self.file, Member::Word(word)) {
+            Ok(Lead::Text(index)) => {
+                let len = self.text_len(index)?;
+                *sums = sums.with_text(len);
+                Ok(None)
+            }
+            Ok(Lead::Counted(place)) => {
+                let len = self.counted_len(place)?;
+                *sums = sums.with_text(len);
+                Ok(None)
+            }
+            Ok(Lead::Plain(standing)) => Ok(Scale::look_plainly(word, standing, sums)),
+            Err(_) => Ok(None),
         }
-        if let Some(place) = counted_word(self.file, Member::Word(word)) {
-            let len = self.counted_len(place)?;
-            *sums = sums.with_text(len);
-            return Ok(None);
-        }
-        Ok(self.look_plainly(word, sums))
     }
 
     /// Sums a member. Where it has members of its own, they are still to come.

@@ -1,6 +1,6 @@
 //! What stands at a word, at a unit of the 16-bit block, and at a key's position.
 //! Bytes are looked at in `resb_format::bytes` alone.
-ghost use Rattle.std.specs.Prelude.{◌≡◌, ◌≢◌, ◌<◌, ◌^◌, Some, None, true};
+ghost use Rattle.std.specs.Prelude.{◌≡◌, ◌≢◌, ◌<◌, ◌^◌, ◌/◌, ◌%◌, Some, None, true};
 ghost use Rattle.std.specs.Prelude.{MatchResult, IfErr, IfOk, IfSome};
 ghost use Rattle.resb_format.specs.Bytes.{units_of};
 ghost use Rattle.resb_format.specs.Strings as strings;
@@ -149,7 +149,28 @@ pub fn standing_at(file: FileBlocks<'_>, word: u32) -> Result<Standing<'_>, Bina
         (λ e. (content_at p word ≡ None) × IsFault e) }
     ensures says { IfErr result (Says (word_refusal (parts_in file.entry) word)) }
 {
-    match readable(file, word)? {
+    let (kind, value) = readable(file, word)?;
+    standing_of(file, word, kind, value)
+}
+
+/// What stands at a word with this type and value.
+#[inline(always)]
+#[tactic(auto, unfolding(resb_format::specs::Content::content_at))]
+pub(crate) fn standing_of(
+    file: FileBlocks<'_>,
+    word: u32,
+    kind: ResourceReprType,
+    value: u32,
+) -> Result<Standing<'_>, BinaryDeserializerError>
+    requires read { reads_type (parts_in file) (type_number kind) ≡ true }
+    requires type_is { word / 2 ^ 28 ≡ type_number kind }
+    requires value_is { word % 2 ^ 28 ≡ value }
+    ensures stands { let p = parts_in file.entry in
+        MatchResult result (λ s. content_at p word ≡ Some (content_of s))
+        (λ e. (content_at p word ≡ None) × IsFault e) }
+    ensures says { IfErr result (Says (word_refusal (parts_in file.entry) word)) }
+{
+    match (kind, value) {
         (ResourceReprType::Int, _) => Ok(Standing::Leaf(Leaf::Integer(word))),
         (kind, 0) => Ok(empty(file, kind)),
         (kind, value) => placed(file, kind, value as usize),

@@ -6,3 +6,4 @@ mod SizeSteps
 mod HeadSteps
 mod PoolSteps
 pub mod OwnFiles
+mod Older

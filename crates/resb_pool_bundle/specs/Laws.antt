@@ -2,14 +2,18 @@
 --     IsOwnFile bytes         the file has nothing to do with pools
 --     OwnFilesAreTheSame      such files are refused, and have their parts, as without this crate
 --     OwnFilesDenoteTheSame   they denote what they do where aliases are read
+--     OwnFilesDenoteWithoutOlder      they denote a tree without this crate too where their root
+--                             leads to no string of the older form and to no alias, and only there
 use Rattle.std.specs.Prelude.{◌≡◌, ◌↔◌, ℕ, ◌<◌, ◌^◌, List, [], ◌∷◌, Option, false, slice_range}
+use Rattle.std.specs.Prelude.{◌⊎◌}
 use Rattle.resb_tree.specs.Tree.{Tree}
 use Rattle.resb_format.specs.Parts.{beside_no_pool}
-use Rattle.resb_head.specs.File.{parts_of, field_count, DenotesWithAliases}
+use Rattle.resb_head.specs.File.{parts_of, field_count, Denotes, DenotesWithAliases}
 use Rattle.resb_head.specs.HeadChecks.{file_refusal}
 use Rattle.resb_pool_bundle.specs.Checks.{refusal_with}
 use Rattle.resb_pool_bundle.specs.Fields.{is_pool, uses_pool}
 use Rattle.resb_pool_bundle.specs.FileWith.{DenotesWith}
+use Rattle.resb_pool_bundle.specs.Older.{FileReachesOlder}
 use Rattle.resb_pool_bundle.specs.Pool.{Pool, parts_with}
 
 -- a file of version 2.0 that neither is nor uses a pool bundle, and whose index has fewer than 256
@@ -34,3 +38,12 @@ abbrev pub OwnFilesDenoteTheSame : Type 0
 OwnFilesDenoteTheSame =
     (pool : Option Pool) (bytes : List ℕ) → IsOwnFile bytes → (t : Tree) (n : ℕ)
     → DenotesWithAliases bytes t n ↔ DenotesWith pool bytes t n
+
+-- where such a file denotes a tree beside a pool, or beside none, its root leads to a string of the
+-- older form or to an alias, or it denotes the tree as a file of which neither is read; and it does
+-- the latter exactly where it denotes the tree and its root leads to neither
+abbrev pub OwnFilesDenoteWithoutOlder : Type 0
+OwnFilesDenoteWithoutOlder =
+    (pool : Option Pool) (bytes : List ℕ) → IsOwnFile bytes → (t : Tree) (n : ℕ)
+    → (DenotesWith pool bytes t n → FileReachesOlder pool bytes ⊎ Denotes bytes t n)
+    × (Denotes bytes t n ↔ (DenotesWith pool bytes t n × (FileReachesOlder pool bytes → ⊥)))

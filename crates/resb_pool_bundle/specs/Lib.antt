@@ -10,6 +10,7 @@ pub mod Pool
 pub mod Checks
 pub mod Checksum
 pub mod FileWith
+pub mod Older
 pub mod Laws
 pub mod Heads
 pub mod Inner

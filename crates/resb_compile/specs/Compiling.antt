@@ -6,7 +6,7 @@
 use Rattle.std.specs.Prelude.{◌≡◌, ◌≢◌, ◌⊎◌, ℕ, List, Bool, codes}
 use Rattle.resb_tree.specs.Tree.{Tree}
 use Rattle.resb_grammar.specs.BundleText.{BundleText}
-use Rattle.resb_text.specs.Answer.{Fails, IsNoBundle}
+use Rattle.resb_text.specs.Answer.{Fails, IsNoBundle, NeverMore}
 use Rattle.resb_text.specs.Refusal as refusal
 use Rattle.resb_text.specs.declared.error.TextParserError.{TextParserError}
 use Rattle.resb_grammar.specs.Limit.{MadeWithin, MakesMore}
@@ -54,10 +54,16 @@ abbrev pub message_of : CompileError → List ℕ
 message_of (Reading e) = refusal.message_of e
 message_of (Writing e) = fault.message_of (fault_of e)
 
--- why a text isn't compiled within a limit: for what it is refused without one; or a reading comes
--- to a token by which more bytes than the limit are made, and the whole reading is not within it
+-- memory was wanted to read the text, or no reading of it makes more bytes than the limit
+abbrev pub IsWithinLimit : List ℕ → ℕ → CompileError → Type 0
+IsWithinLimit text limit (Reading e) = NeverMore text limit e
+IsWithinLimit text limit (Writing e) = MakesMore text limit → ⊥
+
+-- why a text isn't compiled within a limit: for what it is refused without one, and no reading
+-- makes more bytes than the limit, unless memory was wanted to read the text; or a reading comes to
+-- a token by which more are made, and the whole reading is not within the limit
 abbrev pub IsRefusedWithin : List ℕ → ℕ → CompileWithinError → Type 0
-IsRefusedWithin text limit (within.Text e) = IsRefused text e
+IsRefusedWithin text limit (within.Text e) = IsRefused text e × IsWithinLimit text limit e
 IsRefusedWithin text limit within.Larger = MakesMore text limit × (MadeWithin text limit → ⊥)
 
 -- what that error prints

@@ -405,7 +405,8 @@ comma_examples : (t : Title) (around : List Frame) →
 comma_examples t around = (refl, refl, refl, refl)
 
 -- what tokens add: a root, a string of two bytes, a table with an entry and one without, a group
--- that turns out to be a string, one with a comma, a string and a vector of a type, and a type
+-- that turns out to be a string, one with a comma, a string of a type, a number of a vector and the
+-- vector's `}`, and a type
 making_examples : (t : Title) (o : Open) (ns : List ℕ) (around : List Frame) →
     (made_by (titled t) opening ≡ 72)
     × (made_by (inside o) (a_text (codes "ab")) ≡ 198)
@@ -431,10 +432,11 @@ making_examples : (t : Title) (o : Open) (ns : List ℕ) (around : List Frame) �
       around = around;
     })) closing ≡ 0)
     × (made_by (filled (string (codes "ab")) o) closing ≡ 78)
-    × (made_by (in_vector after_number (1 ∷ 2 ∷ []) o) closing ≡ 80)
+    × (made_by (in_vector after_comma (1 ∷ []) o) (a_number 2) ≡ 4)
+    × (made_by (in_vector after_number (1 ∷ 2 ∷ []) o) closing ≡ 72)
     × (made_by (typed vector_kind o) opening ≡ 0)
     × (made_by (inside o) a_comma ≡ 0)
-making_examples t o ns around = (refl, refl, refl, refl, refl, refl, refl, refl, refl, refl)
+making_examples t o ns around = (refl, refl, refl, refl, refl, refl, refl, refl, refl, refl, refl)
 
 -- what is expected, by state and byte: `:` 58, `"` 34, `1` 49, `}` 125, `)` 41
 expected_examples : (name : List ℕ) (t : Title) (o : Open) (ns : List ℕ) (around : List Frame) →

@@ -65,7 +65,7 @@ module _ (text : List ℕ) where
       no_end (subst (λ (u : State). IsEnd text at u) (sym same.1) same.0)
 
   -- a string that isn't pairs of hex digits leads nowhere
-  no_pairs_token : (at to : ℕ) (o : Open) (s : List ℕ) → Text text at to s → hex_bytes s ≡ None
+  pub no_pairs_token : (at to : ℕ) (o : Open) (s : List ℕ) → Text text at to s → hex_bytes s ≡ None
       → NoToken text at (in_binary o)
   no_pairs_token at to o s w e r u x = go x.token (move_means text at r (in_binary o) u x) x.moves
     where

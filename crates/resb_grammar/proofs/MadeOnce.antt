@@ -120,11 +120,18 @@ bundle_made text name fallback tree keys b =
       },
     )
 
+-- where a reading that can't go on has made no more than the limit, no reading makes more
+pub blocked_never_more : (text : List ℕ) (limit n at : ℕ) (s : State) → Makes text n at s
+    → NoToken text at s → n ≤ limit → MakesMore text limit → ⊥
+blocked_never_more text limit n at s made stop within x =
+    let less = shorter text x.made.tokens made.tokens x.at at x.ends x.state s x.after x.made.path
+    x.move made.path stop in
+    let more = bytes_behind text x.made.tokens made.tokens x.at at x.ends x.state s x.after
+    x.made.path x.move made.path less in
+    omega (arith, more, within, x.more, x.made.sum, made.sum)
+
 -- a text that makes no more than the limit does not make more
 pub never_more : (text : List ℕ) (limit : ℕ) → MadeWithin text limit → MakesMore text limit → ⊥
-never_more text limit w x =
-    let less = shorter text x.made.tokens w.made.tokens x.at (length text) x.ends x.state _ x.after
-    x.made.path x.move w.made.path (no_token_finished text (length text) w.title w.items) in
-    let more = bytes_behind text x.made.tokens w.made.tokens x.at (length text) x.ends x.state _
-    x.after x.made.path x.move w.made.path less in
-    omega (arith, more, w.within, x.more, x.made.sum, w.made.sum)
+never_more text limit w =
+    blocked_never_more text limit w.bytes (length text) (finished w.title w.items) w.made
+    (no_token_finished text (length text) w.title w.items) w.within

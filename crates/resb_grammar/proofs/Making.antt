@@ -1,8 +1,8 @@
 -- What a reading makes, token by token.
-use Rattle.std.proofs.Common.{◌≡◌, ℕ, suc, ◌+◌, ◌<◌, Bool, true, List, [], refl, ◌∙◌, ap}
-use Rattle.std.proofs.Common.{subst, arith, Some}
+use Rattle.std.proofs.Common.{◌≡◌, ℕ, suc, ◌+◌, ◌%◌, ◌^◌, ◌<◌, Bool, true, List, [], ◌∷◌, refl}
+use Rattle.std.proofs.Common.{◌∙◌, ap, subst, arith, Some, length-append}
 use Rattle.std.specs.Option.{option_map}
-use Rattle.resb_tree.specs.Tree.{Tree, int_vector, binary}
+use Rattle.resb_tree.specs.Tree.{Tree, string, int_vector, binary, integer}
 use Rattle.resb_grammar.specs.Lexical.{Skip}
 use Rattle.resb_grammar.specs.GroupTypes.{Kind, TypedOpening}
 use Rattle.resb_grammar.specs.Group.{Numbers, first_number, next_number, Vector, empty, lone_comma}
@@ -16,6 +16,7 @@ use Rattle.resb_grammar.specs.Machine.{typed, in_binary, filled, in_vector, at_s
 use Rattle.resb_grammar.specs.Machine.{after_lone_comma, after_comma, next, begun_as, with_leaf}
 use Rattle.resb_grammar.specs.Machine.{at_root, begun, went, At}
 use Rattle.resb_grammar.specs.Limit.{made_by, leaf_bytes, begun_bytes, Makes, MakesMore}
+use Rattle.resb_grammar.specs.Inner.Content.{content_bytes}
 use Rattle.resb_grammar.proofs.Numbers.{plus_no_bytes}
 
 -- a reading that makes something is a reading
@@ -23,7 +24,8 @@ pub reading_of : (text : List ℕ) (n at : ℕ) (s : State) → Makes text n at 
 reading_of text n at s m = record { tokens = m.tokens; path = m.path }
 
 module _ (text : List ℕ) where
-  makes_none : (at : ℕ) → Skip text 0 at → Makes text 0 at start
+  -- before the first token nothing is made
+  pub makes_none : (at : ℕ) → Skip text 0 at → Makes text 0 at start
   makes_none at skip = record { tokens = 0; path = begun at skip; sum = refl }
 
   -- one more token
@@ -54,37 +56,39 @@ module _ (text : List ℕ) where
     more = more;
   }
 
-  -- the numbers of a vector
-  makes_numbers : (n from to : ℕ) (ns : List ℕ) (o : Open) → Numbers text from to ns
-      → Makes text n from (in_vector at_start [] o) → Makes text n to (in_vector after_number ns o)
+  -- the numbers of a vector, for each of which 4 bytes are made
+  pub makes_numbers : (n from to : ℕ) (ns : List ℕ) (o : Open) → Numbers text from to ns
+      → Makes text n from (in_vector at_start [] o)
+      → Makes text (n + content_bytes (int_vector ns)) to (in_vector after_number ns o)
   makes_numbers n from to ns o (first_number i _ v number skip) made =
-      makes_on n n from i to _ _ (a_number v) made (plus_no_bytes n) number refl skip
+      makes_on n (n + 4) from i to _ _ (a_number v) made refl number refl skip
   makes_numbers n from to ns o (next_number i j k _ v ms rest h skip number skip') made =
-      let here : Makes text n i (in_vector after_number ms o) =
+      let before = n + content_bytes (int_vector ms) in
+      let here : Makes text before i (in_vector after_number ms o) =
       makes_numbers n from i ms o rest made in
-      let comma : Makes text n j (in_vector after_comma ms o) = makes_on n n i (i + 1) j _ _ a_comma
-      here (plus_no_bytes n) (h, refl) refl skip in
-      makes_on n n j k to _ _ (a_number v) comma (plus_no_bytes n) number refl skip'
+      let comma : Makes text before j (in_vector after_comma ms o) = makes_on before before i
+      (i + 1) j _ _ a_comma here (plus_no_bytes before) (h, refl) refl skip in
+      makes_on before (n + content_bytes (int_vector ns)) j k to _ _ (a_number v) comma
+      (omega (arith, length-append ms (v ∷ []))) number refl skip'
 
-  -- before the `}` of a group that holds no items
+  -- before the `}` of a group that holds no items, whose content is made
   pub record BeforeBrace (n to : ℕ) (t : Tree) (o : Open) : Type 0 where
     pub state : State
-    pub made : Makes text n to state
+    pub made : Makes text (n + content_bytes t) to state
     pub moves : next state closing ≡ Some (with_leaf t o)
     pub adds : made_by state closing ≡ leaf_bytes t
 
-  filled_made : (n to : ℕ) (t : Tree) (o : Open) → Makes text n to (filled t o)
-      → BeforeBrace n to t o
-  filled_made n to t o made =
-      record { state = filled t o; made = made; moves = refl; adds = refl }
-
   vector_made : (n from to : ℕ) (ns : List ℕ) (o : Open) → Vector text from to ns
       → Makes text n from (in_vector at_start [] o) → BeforeBrace n to (int_vector ns) o
-  vector_made n from to ns o empty made =
-      record { state = in_vector at_start [] o; made = made; moves = refl; adds = refl }
+  vector_made n from to ns o empty made = record {
+    state = in_vector at_start [] o;
+    made = subst (λ k. Makes text k from (in_vector at_start [] o)) (plus_no_bytes n) made;
+    moves = refl;
+    adds = refl;
+  }
   vector_made n from to ns o (lone_comma _ c skip) made = record {
     state = in_vector after_lone_comma [] o;
-    made = makes_on n n from (from + 1) to _ _ a_comma made (plus_no_bytes n) (c, refl) refl skip;
+    made = makes_on n (n + 0) from (from + 1) to _ _ a_comma made refl (c, refl) refl skip;
     moves = refl;
     adds = refl;
   }
@@ -96,9 +100,9 @@ module _ (text : List ℕ) where
   }
   vector_made n from to ns o (numbers_comma i _ _ rest c skip) made = record {
     state = in_vector after_comma ns o;
-    made = makes_on n n i (i + 1) to _ _ a_comma (makes_numbers n from i ns o rest made)
-        (plus_no_bytes n)
-        (c, refl) refl skip;
+    made =
+        makes_on _ _ i (i + 1) to _ _ a_comma (makes_numbers n from i ns o rest made)
+        (plus_no_bytes (n + content_bytes (int_vector ns))) (c, refl) refl skip;
     moves = refl;
     adds = refl;
   }
@@ -107,15 +111,26 @@ module _ (text : List ℕ) where
   pub content_made : (n from to : ℕ) (kind : Kind) (t : Tree) (o : Open)
       → LeafContent text from to kind t → Makes text n from (begun_as kind o)
       → BeforeBrace n to t o
-  content_made n from to kind t o (string_content i s w skip) made =
-      filled_made n to t o (makes_on n n from i to _ _ (a_text s) made
-      (plus_no_bytes n) w refl skip)
-  content_made n from to kind t o (binary_content i s bytes w e skip) made =
-      filled_made n to t o (makes_on n n from i to (in_binary o) (filled (binary bytes) o)
-      (a_text s) made (plus_no_bytes n) w (ap (option_map (λ bs. filled (binary bs) o)) e) skip)
-  content_made n from to kind t o (integer_content i v w skip) made =
-      filled_made n to t o (makes_on n n from i to _ _ (a_number v) made
-      (plus_no_bytes n) w refl skip)
+  content_made n from to kind t o (string_content i s w skip) made = record {
+    state = filled (string s) o;
+    made = makes_on n (n + 0) from i to _ _ (a_text s) made refl w refl skip;
+    moves = refl;
+    adds = refl;
+  }
+  content_made n from to kind t o (binary_content i s bytes w e skip) made = record {
+    state = filled (binary bytes) o;
+    made =
+        makes_on n (n + 0) from i to (in_binary o) _ (a_text s) made refl w
+        (ap (option_map (λ bs. filled (binary bs) o)) e) skip;
+    moves = refl;
+    adds = refl;
+  }
+  content_made n from to kind t o (integer_content i v w skip) made = record {
+    state = filled (integer (v % 2 ^ 28)) o;
+    made = makes_on n (n + 0) from i to _ _ (a_number v) made refl w refl skip;
+    moves = refl;
+    adds = refl;
+  }
   content_made n from to kind t o (vector_content ns v) made = vector_made n from to ns o v made
 
   -- a type and its `{`: up to the `{`, and what it leads to

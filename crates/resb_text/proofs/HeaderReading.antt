@@ -7,17 +7,21 @@ use Rattle.resb_grammar.specs.Ascii as ascii
 use Rattle.resb_grammar.specs.Lexical.{Skip, Text}
 use Rattle.resb_grammar.specs.GroupTypes.{RootType}
 use Rattle.resb_grammar.specs.BundleText.{Typing, without, with}
-use Rattle.resb_grammar.specs.Machine.{State, start, named, titled, At}
-use Rattle.resb_grammar.specs.Stuck.{choose, expectation, NoToken, Stuck, blocked}
+use Rattle.resb_grammar.specs.Machine.{a_text, a_root_type, State, start, named, titled}
+use Rattle.resb_grammar.specs.Stuck.{choose, expectation, NoToken, IsEnd, HasDigits, Stuck}
+use Rattle.resb_grammar.specs.Stuck.{blocked}
+use Rattle.resb_grammar.specs.Limit.{Makes}
 use Rattle.resb_text.specs.Refusal.{want_of_memory}
 use Rattle.resb_text.specs.Answer.{Fails, IsNoBundle}
 use Rattle.resb_grammar.proofs.GrammarLaws.{stuck_none}
-use Rattle.resb_text.specs.Inner.Steps.{TypingFails}
+use Rattle.resb_text.specs.Inner.Failing.{StuckAfter}
+use Rattle.resb_text.specs.Inner.Steps.{HasBundleName, TypingFails}
 use Rattle.resb_grammar.specs.declared.expected.Expected.{Expected}
 use Rattle.resb_grammar.specs.declared.expected.Expected.TheVariants as expect
 use Rattle.resb_text.specs.declared.error.TextParserError.{TextParserError}
-use Rattle.resb_grammar.proofs.HeaderPath.{typed_name}
-use Rattle.resb_grammar.proofs.Moves.{begin, none_some, root_colon}
+use Rattle.resb_grammar.proofs.Making.{reading_of, makes_none, makes_on}
+use Rattle.resb_grammar.proofs.Moves.{none_some, root_colon}
+use Rattle.resb_grammar.proofs.Numbers.{plus_no_bytes}
 use Rattle.resb_text.proofs.NoTokens.{no_token}
 
 -- the refusal of a place, where this was expected
@@ -35,28 +39,43 @@ no_mark u h = none_some u
 
 module _ (text : List ℕ) where
   -- no token stands there, and this was expected
-  pub stuck_in : (at : ℕ) (s : State) (x : Expected) → At text at s → NoToken text at s
-      → ((h : Rattle.resb_grammar.specs.Stuck.IsEnd text at s) → ⊥)
-      → ((h : Rattle.resb_grammar.specs.Stuck.HasDigits text at s) → ⊥)
-      → x ≡ expectation s (slice_index text at) → Stuck text at x
-  stuck_in at s x reached none no_end no_digits is =
-      subst (λ (y : Expected). Stuck text at y) (sym is) (blocked s
-      (record { reached = reached; none = none; no_end = no_end; no_digits = no_digits }))
+  pub stuck_in : {n : ℕ} (at : ℕ) (s : State) (x : Expected) → Makes text n at s
+      → NoToken text at s → (IsEnd text at s → ⊥) → (HasDigits text at s → ⊥)
+      → x ≡ expectation s (slice_index text at) → StuckAfter text n (error_at at x)
+  stuck_in {n} at s x made none no_end no_digits is = record {
+    state = s;
+    made = made;
+    none = none;
+    stuck =
+        subst (λ (y : Expected). Stuck text at y) (sym is) (blocked s (record {
+          reached = reading_of text n at s made;
+          none = none;
+          no_end = no_end;
+          no_digits = no_digits;
+        }));
+  }
 
   -- the text begins with no name
   pub no_name : (at : ℕ) → Skip text 0 at → ((to : ℕ) (s : List ℕ) → Text text at to s → ⊥)
-      → Fails text (error_at at expect.Text)
+      → StuckAfter text 0 (error_at at expect.Text)
   no_name at skip never =
-      inr (stuck_in at start expect.Text (begin text at skip)
+      stuck_in at start expect.Text (makes_none text at skip)
       (no_token text at start (λ to w u is e. never to w is) (nowhere _) no_mark no_mark no_mark
-      (nowhere _) (nowhere _)) (λ h. h) (λ h. h) refl)
+      (nowhere _) (nowhere _)) (λ h. h) (λ h. h) refl
+
+  -- nothing is made up to what follows the name
+  pub name_made : (name : List ℕ) (to : ℕ) → HasBundleName text name to
+      → Makes text 0 to (named name)
+  name_made name to h =
+      makes_on text 0 0 h.start h.ends to start (named name) (a_text name)
+      (makes_none text h.start h.before) refl h.named refl h.after
 
   -- no type of a root after a `:`
   pub no_root_type : (at : ℕ) → slice_index text at ≡ ascii.colon
       → ((to : ℕ) (fallback : Bool) → RootType text at to fallback → ⊥)
       → TypingFails text at (error_at at expect.TypeName)
-  no_root_type at colon never name reached =
-      stuck_in at (named name) expect.TypeName reached
+  no_root_type at colon never name n made =
+      stuck_in at (named name) expect.TypeName made
       (no_token text at (named name) (nowhere _) (nowhere _)
       (λ u is e. absurd (omega (arith, is, colon))) no_mark no_mark (nowhere _)
       (λ to f u is e. never to f is)) (λ h. h) (λ h. h) (sym (ap (expectation (named name)) colon))
@@ -68,23 +87,27 @@ module _ (text : List ℕ) where
       sym (ap (λ k. choose k expect.TypeName expect.LeftBrace) no)
 
   -- no `{` where one must stand
-  pub no_open : (name : List ℕ) (place brace : ℕ) (f : Bool) → At text place (named name)
-      → Typing text place brace f → (brace ≡ place → slice_index text place ≢ ascii.colon)
-      → slice_index text brace ≢ ascii.left_brace → Fails text (error_at brace expect.LeftBrace)
-  no_open name place brace true reached (without e) plain never =
-      inr (stuck_in brace (named name) expect.LeftBrace
-      (subst (λ n. At text n (named name)) e reached)
+  pub no_open : (n : ℕ) (name : List ℕ) (place brace : ℕ) (f : Bool)
+      → Makes text n place (named name) → Typing text place brace f
+      → (brace ≡ place → slice_index text place ≢ ascii.colon)
+      → slice_index text brace ≢ ascii.left_brace
+      → StuckAfter text n (error_at brace expect.LeftBrace)
+  no_open n name place brace true made (without e) plain never =
+      stuck_in brace (named name) expect.LeftBrace
+      (subst (λ k. Makes text n k (named name)) e made)
       (no_token text brace (named name) (nowhere _) (nowhere _) (λ u is e. never is) no_mark no_mark
       (nowhere _) (λ to f u is e. colon_free (root_colon text brace to f is)))
-      (λ h. h) (λ h. h) (brace_expected (slice_index text brace) colon_free))
+      (λ h. h) (λ h. h) (brace_expected (slice_index text brace) colon_free)
     where
       colon_free : slice_index text brace ≢ ascii.colon
       colon_free = subst (λ n. slice_index text n ≢ ascii.colon) e (plain (sym e))
-  no_open name place brace f reached (with i _ t skip) plain never =
-      inr (stuck_in brace (titled (record { name = name; fallback = f })) expect.LeftBrace
-      (typed_name text name place i brace f t skip reached)
-      (no_token text brace (titled (record { name = name; fallback = f })) (nowhere _) (nowhere _)
-      (λ u is e. never is) no_mark no_mark (nowhere _) (nowhere _)) (λ h. h) (λ h. h) refl)
+  no_open n name place brace f made (with i _ t skip) plain never =
+      let titles : State = titled (record { name = name; fallback = f }) in
+      stuck_in brace titles expect.LeftBrace
+      (makes_on text n n place i brace (named name) titles (a_root_type f) made (plus_no_bytes n) t
+      refl skip)
+      (no_token text brace titles (nowhere _) (nowhere _)
+      (λ u is e. never is) no_mark no_mark (nowhere _) (nowhere _)) (λ h. h) (λ h. h) refl
 
   -- what fails for another reason than memory is no bundle
   pub fails_no_bundle : (e : TextParserError) → Fails text e

@@ -1,8 +1,12 @@
 -- A quota is kept whether more may be made or not.
-use Rattle.std.proofs.Common.{◌≡◌, ℕ, ◌+◌, ◌<◌, true, List, arith, refl, sym, ◌∙◌, inl, subst}
+use Rattle.std.proofs.Common.{◌≡◌, ℕ, ◌+◌, ◌*◌, ◌<◌, ◌≤◌, true, List, [], ◌∷◌, ◌++◌, length, arith}
+use Rattle.std.proofs.Common.{refl, sym, ◌∙◌, inl, inr, ⊎_elim, subst, length-append}
 use Rattle.std.proofs.lemmas.Bool.{false≢true}
+use Rattle.resb_tree.specs.Weights.{number_weight}
 use Rattle.resb_grammar.specs.Limit.{MadeWithin, MakesMore}
-use Rattle.resb_grammar.proofs.MadeOnce.{never_more}
+use Rattle.resb_grammar.proofs.MadeOnce.{never_more, blocked_never_more}
+use Rattle.resb_text.specs.Answer.{NeverMore}
+use Rattle.resb_text.specs.Inner.Failing.{StuckAfter, FailsAfter}
 use Rattle.resb_text.specs.Inner.Quota.{KeepsQuota, IsUnused, TakesBytes, RunsOver}
 use Rattle.std.specs.Prelude.{Result, MatchResult}
 use Rattle.std.specs.Result.{IsErrAnd}
@@ -10,6 +14,7 @@ use Rattle.resb_text.specs.Inner.Steps.{Stops}
 use Rattle.resb_text.specs.Refusal.{want_of_memory}
 use Rattle.resb_text.specs.declared.quota.Quota.{Quota}
 use Rattle.resb_text.specs.declared.error.TextParserError.{TextParserError}
+use Rattle.resb_grammar.proofs.Numbers.{plus_no_bytes}
 use Rattle.resb_text.proofs.Outcomes.{match_err}
 
 -- what was asked for is made
@@ -29,6 +34,22 @@ quota_over k r more = record {
   same = r.same ∙ k.same;
   within = omega (arith, r.made, k.within);
   over = λ e. more (omega (arith, r.more, k.same));
+}
+
+-- nothing is taken of a quota
+pub none_taken : {p : Quota} → p.made ≤ p.limit → TakesBytes p p 0
+none_taken {p} within =
+    record { same = refl; made = plus_no_bytes p.made; within = within; over = refl }
+
+-- one number more is taken
+pub number_taken : (v : ℕ) (ns : List ℕ) {p q r : Quota}
+    → TakesBytes p q (number_weight * length ns) → TakesBytes q r number_weight
+    → TakesBytes p r (number_weight * length (ns ++ v ∷ []))
+number_taken v ns before takes = record {
+  same = takes.same ∙ before.same;
+  made = omega (arith, before.made, takes.made, length-append ns (v ∷ []));
+  within = omega (arith, takes.within, before.same);
+  over = takes.over ∙ before.over;
 }
 
 -- a quota of which nothing was taken is kept
@@ -53,6 +74,14 @@ pub larger : {text : List ℕ} {limit n : ℕ} {q : Quota} → KeepsQuota text l
     → q.is_over ≡ true → limit ≡ n → MadeWithin text n → ⊥
 larger {text} k over same within =
     never_more _ _ within (subst (λ l. MakesMore text l) same (k.over over))
+
+-- what fails after no more bytes than the limit comes before more are made
+pub fails_first : {text : List ℕ} {limit n : ℕ} {e : TextParserError} → FailsAfter text n e
+    → n ≤ limit → NeverMore text limit e
+fails_first {text} {limit} {n} {e} h within =
+    ⊎_elim (λ (m : e ≡ want_of_memory). inl m)
+    (λ (s : StuckAfter text n e). inr (blocked_never_more text limit n e.position s.state s.made
+    s.none within)) h
 
 -- want of memory, once what was asked for is counted
 pub memory_stops : {text : List ℕ} {limit n : ℕ} {p q : Quota} {T : Type 0} (P : T → Type 0)

@@ -12,29 +12,32 @@ use Rattle.resb_grammar.specs.GroupTypes.{integer_kind, vector_kind, GroupType, 
 use Rattle.resb_grammar.specs.Group.{LeafContent, string_content, binary_content, integer_content}
 use Rattle.resb_grammar.specs.Group.{vector_content}
 use Rattle.resb_grammar.specs.Limit.{begun_bytes, leaf_bytes, Makes}
-use Rattle.resb_grammar.proofs.Making.{reading_of, makes_on, makes_more, opening_made, begun_made}
+use Rattle.resb_grammar.specs.Inner.Content.{content_bytes}
+use Rattle.resb_grammar.specs.Kinds.{group_kind_of}
+use Rattle.resb_grammar.specs.declared.group_kind.Kind.{Kind as CodeKind}
+use Rattle.resb_grammar.specs.declared.group_kind.Kind.TheVariants as kinds
+use Rattle.resb_grammar.proofs.Making.{makes_on, makes_more, opening_made, begun_made}
 use Rattle.resb_grammar.proofs.Making.{content_made, BeforeBrace}
 use Rattle.resb_grammar.specs.Items.{Item, group_term}
 use Rattle.resb_grammar.specs.Machine as machine
 use Rattle.resb_grammar.specs.Machine.{Body, table_body, array_body, untyped_body, Token, a_text}
 use Rattle.resb_grammar.specs.Machine.{a_number, opening, closing, a_comma, a_type, a_root_type}
 use Rattle.resb_grammar.specs.Machine.{State, inside, typed, with_term, within, is_key_place}
-use Rattle.resb_grammar.specs.Machine.{in_body, next, At}
-use Rattle.resb_grammar.proofs.Lex.{neither, type_class}
-use Rattle.resb_grammar.specs.Stuck.{expectation, expected_in, NoToken, Stuck, blocked}
-use Rattle.resb_text.specs.Inner.Leaf.{LeafGroup, LeafFails, LeafRefuses}
+use Rattle.resb_grammar.specs.Machine.{in_body, next}
+use Rattle.resb_grammar.specs.Stuck.{expectation, expected_in, NoToken}
+use Rattle.resb_text.specs.Inner.Failing.{StuckAfter}
+use Rattle.resb_text.specs.Inner.Leaf.{LeafGroup, LeafStops, LeafKeeps}
 use Rattle.resb_text.specs.Inner.Frames.{StandsFor}
-use Rattle.resb_text.specs.Inner.Quota.{TakesBytes, RunsOver}
+use Rattle.resb_text.specs.Inner.Quota.{KeepsQuota, TakesBytes, RunsOver}
 use Rattle.resb_text.specs.Refusal.{want_of_memory}
 use Rattle.resb_text.specs.Inner.Steps.{takes_group, Among, Stops, TypedOpeningFails}
 use Rattle.resb_text.specs.declared.frames.Open.{Open}
 use Rattle.resb_text.specs.declared.quota.Quota.{Quota}
-use Rattle.resb_grammar.specs.declared.expected.Expected.{Expected}
 use Rattle.resb_grammar.specs.declared.expected.Expected.TheVariants as expect
 use Rattle.resb_text.specs.declared.error.TextParserError.{TextParserError}
-use Rattle.resb_grammar.proofs.Moves.{further, byte_class, none_some, no_text_colon}
-use Rattle.resb_grammar.proofs.Complete.{MayOpen, type_next, run_opening}
-use Rattle.resb_text.proofs.HeaderReading.{error_at}
+use Rattle.resb_grammar.proofs.Moves.{none_some, no_text_colon}
+use Rattle.resb_grammar.proofs.Complete.{MayOpen, type_next}
+use Rattle.resb_text.proofs.HeaderReading.{error_at, stuck_in}
 use Rattle.resb_text.proofs.StepsLemmas.{Leads, none_there, stuck_here, group_like, not_group_like}
 use Rattle.resb_text.proofs.NoTokens.{no_token}
 use Rattle.resb_text.proofs.QuotaLemmas.{quota_kept, quota_over}
@@ -68,12 +71,22 @@ begins integer_kind body opens o = let e = opens o in cc
 begins vector_kind body opens o = let e = opens o in cc
 
 -- a type that holds no items begins none
-leaf_kind : {text : List ℕ} {from to n : ℕ} {kind : Kind} {t : Tree}
-    → LeafContent text from to kind t → n ≡ n + begun_bytes kind
-leaf_kind {n = n} (string_content i s w skip) = plus_no_bytes n
-leaf_kind {n = n} (binary_content i s bytes w e skip) = plus_no_bytes n
-leaf_kind {n = n} (integer_content i v w skip) = plus_no_bytes n
-leaf_kind {n = n} (vector_content ns v) = plus_no_bytes n
+leaf_kind : {text : List ℕ} {from to : ℕ} {kind : Kind} {t : Tree}
+    → LeafContent text from to kind t → begun_bytes kind ≡ 0
+leaf_kind (string_content i s w skip) = refl
+leaf_kind (binary_content i s bytes w e skip) = refl
+leaf_kind (integer_content i v w skip) = refl
+leaf_kind (vector_content ns v) = refl
+
+-- nor does one that is neither an array nor a table
+pub no_items_begun : (kind : CodeKind) → (kind ≢ kinds.Array) × (kind ≢ kinds.Table)
+    → begun_bytes (group_kind_of kind) ≡ 0
+no_items_begun kinds.String other = refl
+no_items_begun kinds.Array other = absurd (other.0 refl)
+no_items_begun kinds.Table other = absurd (other.1 refl)
+no_items_begun kinds.Binary other = refl
+no_items_begun kinds.Integer other = refl
+no_items_begun kinds.IntVector other = refl
 
 no_collection : {text : List ℕ} {at ends : ℕ} {kind : Kind} {t : Tree}
     → LeafContent text at ends kind t → is_leaf t ≡ true
@@ -103,14 +116,9 @@ module _ (text : List ℕ) where
   pub no_type : (at : ℕ) → slice_index text at ≡ ascii.colon
       → ((to : ℕ) (kind : Kind) → GroupType text at to kind → ⊥)
       → TypedOpeningFails text at (error_at at expect.TypeName)
-  no_type at colon never o may reached =
-      subst (λ (y : Expected). Stuck text at y) (sym same)
-      (blocked (inside o) (record {
-        reached = reached;
-        none = only_types at o colon (λ to kind u g h. never to kind g);
-        no_end = λ h. h;
-        no_digits = λ h. h;
-      }))
+  no_type at colon never o may n made =
+      stuck_in text at (inside o) expect.TypeName made
+      (only_types at o colon (λ to kind u g h. never to kind g)) (λ h. h) (λ h. h) same
     where
       same : expect.TypeName ≡ expectation (inside o) (slice_index text at)
       same =
@@ -121,23 +129,16 @@ module _ (text : List ℕ) where
   pub no_type_brace : (at ends brace : ℕ) (kind : Kind) → GroupType text at ends kind
       → Skip text ends brace → slice_index text brace ≢ ascii.left_brace
       → TypedOpeningFails text at (error_at brace expect.LeftBrace)
-  no_type_brace at ends brace kind g skip never o may reached =
-      blocked (typed kind o) (record {
-        reached = there;
-        none =
-            no_token text brace (typed kind o) (λ to m u is. none_some u)
-            (λ to m u is. none_some u) (λ u is e. never is) (λ u is. none_some u)
-            (λ u is. none_some u) (λ to m u is. none_some u) (λ to m u is. none_some u);
-        no_end = λ h. h;
-        no_digits = λ h. h;
-      })
-    where
-      there : At text brace (typed kind o)
-      there =
-          further text at ends brace (inside o) (typed kind o) (a_type kind) type_class reached
-          (byte_class text neither at ascii.colon type_class g.stands.colon refl) (kind, g, refl)
-          (type_next o.title o.frame.body o.frame.items o.around kind
-          (may_open o.frame.body o.frame.items may)) skip
+  no_type_brace at ends brace kind g skip never o may n made =
+      stuck_in text brace (typed kind o) expect.LeftBrace
+      (makes_on text n n at ends brace (inside o) (typed kind o) (a_type kind) made
+      (plus_no_bytes n) g
+      (type_next o.title o.frame.body o.frame.items o.around kind
+      (may_open o.frame.body o.frame.items may)) skip)
+      (no_token text brace (typed kind o) (λ to m u is. none_some u)
+      (λ to m u is. none_some u) (λ u is e. never is) (λ u is. none_some u)
+      (λ u is. none_some u) (λ to m u is. none_some u) (λ to m u is. none_some u))
+      (λ h. h) (λ h. h) refl
 
 module _ {B X : Type 0} {tree : B → X → Tree} {held : B → X → Bool} {text : List ℕ} {limit : ℕ}
     {here : ℕ × ℕ} {c : Open B X} {q : Quota} (x : Among tree held text limit here c q) where
@@ -160,7 +161,7 @@ module _ {B X : Type 0} {tree : B → X → Tree} {held : B → X → Bool} {tex
   pub opening_refused : {e : TextParserError} → MayStand → TypedOpeningFails text here.0 e
       → Stops text limit q e
   opening_refused may fails = record {
-    fails = inr (fails x.open_groups may (reading_of text q.made here.0 _ x.made));
+    fails = inr (fails x.open_groups may q.made x.made);
     keeps = x.keeps;
   }
 
@@ -208,18 +209,25 @@ module _ {B X : Type 0} {tree : B → X → Tree} {held : B → X → Bool} {tex
         (begin.opens, refl) refl (omega (arith, more, adds)));
   }
 
+  -- a group that holds no items has begun, for which nothing is made yet
+  leaf_begun : {first : ℕ} {kind : Kind} → MayStand → TypedOpening text here.0 kind first
+      → begun_bytes kind ≡ 0 → Makes text q.made first (machine.begun_as kind x.open_groups)
+  leaf_begun {first} {kind} may begin none =
+      begun_made text q.made q.made here.0 first kind x.open_groups begin (type_moves kind may)
+      x.made (plus_no_bytes q.made ∙ ap (λ k. q.made + k) (sym none))
+
   -- a group that holds no items is refused
-  pub leaf_refused : {e : TextParserError} {first : ℕ} {kind : Kind} → MayStand
-      → TypedOpening text here.0 kind first → LeafRefuses text first kind e → Stops text limit q e
-  leaf_refused {e} {first} {kind} may begin fails = record {
+  pub leaf_refused : {e : TextParserError} {first : ℕ} {kind : Kind} {r : Quota} → MayStand
+      → TypedOpening text here.0 kind first → begun_bytes kind ≡ 0 → LeafStops text first kind q r e
+      → LeafKeeps text first kind q r → Stops text limit r e
+  leaf_refused {e} {first} {kind} {r} may begin none fails kept = record {
     fails =
         ⊎_elim (λ (h : e ≡ want_of_memory). inl h)
-        (λ (h : LeafFails text first kind e). inr (h x.open_groups
-        (run_opening text here.0 first kind x.open_groups.title x.open_groups.frame.body
-        x.open_groups.frame.items x.open_groups.around begin
-        (may_open x.open_groups.frame.body x.open_groups.frame.items may)
-        (reading_of text q.made here.0 _ x.made)))) fails;
-    keeps = x.keeps;
+        (λ (h : (o : machine.Open) → Makes text q.made first (machine.begun_as kind o)
+        → StuckAfter text r.made e). inr (h x.open_groups (leaf_begun may begin none))) fails;
+    keeps =
+        subst (λ l. KeepsQuota text l q → KeepsQuota text l r) x.keeps.same
+        (kept x.open_groups (leaf_begun may begin none)) x.keeps;
   }
 
   -- a group that holds no items, up to its `}`
@@ -228,40 +236,45 @@ module _ {B X : Type 0} {tree : B → X → Tree} {held : B → X → Bool} {tex
       → BeforeBrace text q.made leaf.ends t x.open_groups
   before_brace {first} {next} {kind} {t} may begin leaf =
       content_made text q.made first leaf.ends kind t x.open_groups leaf.content
-      (begun_made text q.made q.made here.0 first kind x.open_groups begin
-      (type_moves kind may) x.made (leaf_kind leaf.content))
+      (leaf_begun may begin (leaf_kind leaf.content))
 
   -- it is one item more
-  pub leaf_added : {d : Open B X} {r : Quota} {first asked : ℕ} {to : ℕ × ℕ} {kind : Kind}
+  pub leaf_added : {d : Open B X} {m r : Quota} {first asked : ℕ} {to : ℕ × ℕ} {kind : Kind}
       {t : Tree} → MayStand → TypedOpening text here.0 kind first
       → LeafGroup text first to.0 kind t → to.0 ≤ length text → to.1 ≡ slice_index text to.0
       → ((o : machine.Open) → StandsFor tree held c o → StandsFor tree held d (with_term
       (group_term t []) o))
-      → asked ≡ leaf_bytes t → TakesBytes q r asked → Among tree held text limit to d r
-  leaf_added {d} {r} {first} {asked} {to} {kind} {t} may begin leaf fits byte then same takes =
+      → TakesBytes q m (content_bytes t) → asked ≡ leaf_bytes t → TakesBytes m r asked
+      → Among tree held text limit to d r
+  leaf_added {d} {m} {r} {first} {asked} {to} {kind} {t} may begin leaf fits byte then content same
+      takes =
       let b = before_brace may begin leaf in
+      let adds = b.adds in
       record {
         open_groups = with_term (group_term t []) x.open_groups;
         shows = then x.open_groups x.shows;
         made =
-            makes_on text q.made r.made leaf.ends (leaf.ends + 1) to.0 b.state _ closing b.made
-            (takes.made ∙ ap (λ k. q.made + k) (same ∙ sym b.adds)) (leaf.closes.brace, refl)
-            b.moves leaf.closes.after;
+            makes_on text (q.made + content_bytes t) r.made leaf.ends (leaf.ends + 1) to.0 b.state _
+            closing b.made (omega (arith, takes.made, content.made, same, adds))
+            (leaf.closes.brace, refl) b.moves leaf.closes.after;
         within = fits;
         byte = byte;
-        keeps = quota_kept x.keeps takes;
+        keeps = quota_kept (quota_kept x.keeps content) takes;
       }
 
   -- it makes more than the limit
-  pub leaf_over : {r : Quota} {e : TextParserError} {first to asked : ℕ} {kind : Kind} {t : Tree}
+  pub leaf_over : {m r : Quota} {e : TextParserError} {first to asked : ℕ} {kind : Kind} {t : Tree}
       → MayStand → TypedOpening text here.0 kind first → LeafGroup text first to kind t
-      → asked ≡ leaf_bytes t → RunsOver q r asked → e ≡ want_of_memory → Stops text limit r e
-  leaf_over {r} {e} {first} {to} {asked} {kind} {t} may begin leaf same over none = record {
-    fails = inl none;
-    keeps =
-        quota_over x.keeps over (λ more.
-        let b = before_brace may begin leaf in
-        let adds = b.adds in
-        makes_more text q.made limit leaf.ends (leaf.ends + 1) b.state _ closing b.made
-        (leaf.closes.brace, refl) b.moves (omega (arith, more, same, adds)));
-  }
+      → TakesBytes q m (content_bytes t) → asked ≡ leaf_bytes t → RunsOver m r asked
+      → e ≡ want_of_memory → Stops text limit r e
+  leaf_over {m} {r} {e} {first} {to} {asked} {kind} {t} may begin leaf content same over none =
+      record {
+        fails = inl none;
+        keeps =
+            quota_over (quota_kept x.keeps content) over (λ more.
+            let b = before_brace may begin leaf in
+            let adds = b.adds in
+            makes_more text (q.made + content_bytes t) limit leaf.ends (leaf.ends + 1) b.state _
+            closing b.made (leaf.closes.brace, refl) b.moves
+            (omega (arith, more, content.made, same, adds)));
+      }

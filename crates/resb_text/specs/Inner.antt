@@ -10,4 +10,5 @@ pub mod Drafts
 pub mod Discovered
 pub mod Frames
 pub mod Quota
+pub mod Failing
 pub mod Steps

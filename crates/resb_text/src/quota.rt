@@ -50,7 +50,7 @@ pub(crate) fn string_bytes(text: &str) -> u128
     weights::ENTRY + weights::TEXT_BYTE * text.len() as u128
 }
 
-/// What a group that holds no items makes.
+/// What the `}` of a group that holds no items makes: the numbers of a vector are made before it.
 pub(crate) fn leaf_bytes(resource: &Resource<'_>) -> u128
     ensures { result ≡ limit.leaf_bytes (tree_of resource.now) }
 {
@@ -59,11 +59,10 @@ pub(crate) fn leaf_bytes(resource: &Resource<'_>) -> u128
             weights::RESOURCE + weights::TEXT_BYTE * text.as_str().len() as u128
         }
         Resource::Binary(bytes) => weights::RESOURCE + bytes.len() as u128,
-        Resource::IntVector(numbers) => {
-            weights::RESOURCE + weights::NUMBER * numbers.len() as u128
-        }
-        Resource::Alias(_) | Resource::Array(_) | Resource::Table(_) | Resource::Integer(_) => {
-            weights::RESOURCE
-        }
+        Resource::Alias(_)
+        | Resource::Array(_)
+        | Resource::Table(_)
+        | Resource::Integer(_)
+        | Resource::IntVector(_) => weights::RESOURCE,
     }
 }

@@ -7,12 +7,15 @@ use Rattle.resb_tree.specs.declared.resource.Resource.{Resource}
 use Rattle.resb_grammar.specs.Lexical.{Skip}
 use Rattle.resb_grammar.specs.GroupTypes.{Kind}
 use Rattle.resb_grammar.specs.Group.{LeafContent, Vector, hex_bytes}
-use Rattle.resb_grammar.specs.Machine.{Open, begun_as, At}
-use Rattle.resb_grammar.specs.Stuck.{Stuck}
+use Rattle.resb_grammar.specs.Machine.{Open, begun_as}
+use Rattle.resb_grammar.specs.Limit.{Makes}
 use Rattle.resb_grammar.specs.declared.expected.Expected.TheVariants as expect
 use Rattle.resb_text.specs.Borrowed.{borrows_strings}
 use Rattle.resb_text.specs.Inner.Braces.{Closes}
+use Rattle.resb_text.specs.Inner.Quota.{KeepsQuota}
+use Rattle.resb_text.specs.Inner.Failing.{StuckAfter}
 use Rattle.resb_text.specs.Refusal.{want_of_memory}
+use Rattle.resb_text.specs.declared.quota.Quota.{Quota}
 use Rattle.resb_text.specs.declared.error.TextParserError.{TextParserError}
 
 -- behind a number: the `}` stands right here, or a comma does, with the discardable text after it
@@ -43,16 +46,30 @@ pub record IsReadLeaf (text : List ℕ) (at to : ℕ) (kind : Kind) (r : Resourc
   pub group : LeafGroup text at to kind (tree_of r)
   pub borrowed : borrows_strings r ≡ true
 
--- wherever a group of this type has begun there, a reading gets stuck so
+-- wherever a group of this type has begun there, a reading gets stuck so, and makes nothing before
 abbrev pub LeafFails : List ℕ → ℕ → Kind → TextParserError → Type 0
 LeafFails text at kind e =
-    (o : Open) → At text at (begun_as kind o) → Stuck text e.position e.expected
+    (n : ℕ) (o : Open) → Makes text n at (begun_as kind o) → StuckAfter text n e
 
 -- memory was wanted, or a reading gets stuck so
 abbrev pub LeafRefuses : List ℕ → ℕ → Kind → TextParserError → Type 0
 LeafRefuses text at kind e = (e ≡ want_of_memory) ⊎ LeafFails text at kind e
 
+-- memory was wanted; or wherever a group of this type has begun there, which has made what the one
+-- quota says, a reading gets stuck so, having made what the other says
+abbrev pub LeafStops : List ℕ → ℕ → Kind → Quota → Quota → TextParserError → Type 0
+LeafStops text at kind p q e =
+    (e ≡ want_of_memory)
+    ⊎ ((o : Open) → Makes text p.made at (begun_as kind o) → StuckAfter text q.made e)
+
 -- numbers up to their `}`, which stands there
 pub record IsVector (text : List ℕ) (at to : ℕ) (ns : List ℕ) : Type 0 where
   pub numbers : Vector text at to ns
   pub brace : slice_index text to ≡ ascii.right_brace
+
+-- wherever a group of this type has begun there, which has made what the one quota says, the quota
+-- that is left keeps the limit that the one keeps
+abbrev pub LeafKeeps : List ℕ → ℕ → Kind → Quota → Quota → Type 0
+LeafKeeps text at kind p q =
+    (o : Open) → Makes text p.made at (begun_as kind o) → KeepsQuota text p.limit p
+    → KeepsQuota text p.limit q

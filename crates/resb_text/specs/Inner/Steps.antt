@@ -5,14 +5,12 @@ use Rattle.resb_grammar.specs.Ascii as ascii
 use Rattle.resb_tree.specs.Tree.{Tree}
 use Rattle.resb_grammar.specs.Machine as machine
 use Rattle.resb_grammar.specs.Machine.{Body, table_body, array_body, untyped_body, named, inside}
-use Rattle.resb_grammar.specs.Machine.{At}
-use Rattle.resb_grammar.specs.Stuck.{Stuck}
 use Rattle.resb_grammar.specs.Limit.{Makes, closing_bytes}
 use Rattle.resb_grammar.specs.Lexical.{Skip, Text}
 use Rattle.resb_grammar.specs.Inner.Reach.{reach}
-use Rattle.resb_text.specs.Answer.{Fails}
 use Rattle.resb_text.specs.Inner.Frames.{StandsFor, owed}
 use Rattle.resb_text.specs.Inner.Quota.{KeepsQuota}
+use Rattle.resb_text.specs.Inner.Failing.{StuckAfter, FailsAfter}
 use Rattle.resb_text.specs.declared.frames.Open.{Open}
 use Rattle.resb_text.specs.declared.quota.Quota.{Quota}
 use Rattle.resb_text.specs.declared.ticks.Ticks.{Ticks}
@@ -61,10 +59,16 @@ abbrev pub GoesOn : {B X : Type 0} → (B → X → Tree) → (B → X → Bool)
 GoesOn tree held text here c next d =
     (q : Quota) → Among tree held text q.limit here c q → Among tree held text q.limit next d q
 
--- the reading fails so, and has kept its quota
+-- the reading fails so, having made what the quota says, and has kept its quota
 pub record Stops (text : List ℕ) (limit : ℕ) (q : Quota) (e : TextParserError) : Type 0 where
-  pub fails : Fails text e
+  pub fails : FailsAfter text q.made e
   pub keeps : KeepsQuota text limit q
+
+-- each reading that stands at this place among these groups fails so, and makes nothing
+abbrev pub FailsAmong : {B X : Type 0} → (B → X → Tree) → (B → X → Bool) → List ℕ → ℕ × ℕ
+    → Open B X → TextParserError → Type 0
+FailsAmong tree held text here c e =
+    (q : Quota) → Among tree held text q.limit here c q → Stops text q.limit q e
 
 -- a reading goes on from one place to another: fewer turns are counted and owed than 8 for each
 -- byte that it has looked at since
@@ -80,11 +84,11 @@ pub record InRoot (text : List ℕ) (at : ℕ) (title : machine.Title) (q : Quot
   pub made : Makes text q.made at (inside (machine.at_root title))
   pub keeps : KeepsQuota text q.limit q
 
--- wherever a typed group may stand there, a reading gets stuck so
+-- wherever a typed group may stand there, a reading gets stuck so, and makes nothing before
 abbrev pub TypedOpeningFails : List ℕ → ℕ → TextParserError → Type 0
 TypedOpeningFails text at e =
     (o : machine.Open) → takes_group o.frame.body (machine.is_key_place o.frame.items) ≡ true
-    → At text at (inside o) → Stuck text e.position e.expected
+    → (n : ℕ) → Makes text n at (inside o) → StuckAfter text n e
 
 -- a bundle's text up to what follows its name
 pub record HasBundleName (text name : List ℕ) (to : ℕ) : Type 0 where
@@ -94,9 +98,10 @@ pub record HasBundleName (text name : List ℕ) (to : ℕ) : Type 0 where
   pub named : Text text start ends name
   pub after : Skip text ends to
 
--- wherever the root's type may stand there, a reading gets stuck so
+-- wherever the root's type may stand there, a reading gets stuck so, and makes nothing before
 abbrev pub TypingFails : List ℕ → ℕ → TextParserError → Type 0
-TypingFails text at e = (name : List ℕ) → At text at (named name) → Stuck text e.position e.expected
+TypingFails text at e =
+    (name : List ℕ) (n : ℕ) → Makes text n at (named name) → StuckAfter text n e
 
 -- the root may be closed here, by which as much is made as the quota says
 pub record ClosesRoot {B X : Type 0} (tree : B → X → Tree) (held : B → X → Bool) (text : List ℕ)

@@ -3,6 +3,7 @@ use Rattle.resb_draft.specs.Drafts.{draft_tree}
 use Rattle.resb_layout.specs.Written.{Written}
 use Rattle.resb_layout.specs.TreeFaults.{RefusesWriting}
 use Rattle.resb_write.specs.FaultOf.{fault_of}
+use Rattle.resb_grammar.proofs.MadeOnce.{never_more}
 use Rattle.resb_compile.proofs.Reasons.{unwritable}
 use Rattle.resb_compile.proofs.compiling.compile_within.Goals as goal
 
@@ -26,7 +27,10 @@ pub returns-clause-err : goal.returns-clause-err
 returns-clause-err c =
     let b = c.in-Ok.read.0 in
     let t = draft_tree b.root in
-    let e = c.in-Err.e in
-    unwritable c.args.text.now b.name.now b.is_locale_fallback_enabled t c.in-Ok.read.1.items e
-    c.in-Ok.ensures.ok
-    (subst (λ ks. RefusesWriting t ks (fault_of e)) c.as_slice.ensures.value c.in-Err.ensures.err)
+    let e = c.in-Err.e in (
+      unwritable c.args.text.now b.name.now b.is_locale_fallback_enabled t c.in-Ok.read.1.items e
+          c.in-Ok.ensures.ok
+          (subst (λ ks. RefusesWriting t ks (fault_of e)) c.as_slice.ensures.value
+          c.in-Err.ensures.err),
+      never_more c.args.text.now c.args.limit c.in-Ok.ensures.within,
+    )

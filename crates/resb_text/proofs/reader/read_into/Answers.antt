@@ -1,15 +1,32 @@
-use Rattle.std.proofs.Common.{◌≡◌, refl, arith}
+use Rattle.std.proofs.Common.{◌≡◌, refl, arith, inr}
 use Rattle.resb_grammar.proofs.Making.{root_opened, root_over}
 use Rattle.resb_text.proofs.QuotaLemmas.{unused_kept, quota_kept, quota_over, own_limit_kept}
+use Rattle.resb_text.proofs.QuotaLemmas.{fails_first}
+use Rattle.resb_text.proofs.Outcomes.{if_err_same}
 use Rattle.resb_text.proofs.reader.read_into.Goals as goal
 
 pub returns-in_err-head-clause-quota : goal.returns-in_err-head-clause-quota
 returns-in_err-head-clause-quota g c = unused_kept c.requires
 
+pub returns-in_err-head-clause-first : goal.returns-in_err-head-clause-first
+returns-in_err-head-clause-first g c =
+    if_err_same _ _ _ c.from_residual.ensures.1
+    (fails_first (inr c.in_err-head.ensures.reads) (omega arith))
+
+pub returns-in_err-root-clause-first : goal.returns-in_err-root-clause-first
+returns-in_err-root-clause-first g c =
+    if_err_same _ _ _ c.from_residual-in_err-root.ensures.1
+    (fails_first c.in_err-root.ensures.reads
+    (omega (arith, c.in_err-root.ensures.quota.within, c.in_ok-take.ensures.same)))
+
 pub returns-in_err-take-clause-quota : goal.returns-in_err-take-clause-quota
 returns-in_err-take-clause-quota g c =
     quota_over (unused_kept c.requires) c.in_err-take.ensures
     (λ more. root_over _ _ _ _ _ c.in_ok-head.ensures.reads (omega (arith, c.requires.made, more)))
+
+pub returns-in_err-groups-clause-quota : goal.returns-in_err-groups-clause-quota
+returns-in_err-groups-clause-quota g c =
+    quota_kept (unused_kept c.requires) c.in_ok-take.ensures
 
 pub rest-requires : goal.rest-requires
 rest-requires g c = λ k.
@@ -17,9 +34,12 @@ rest-requires g c = λ k.
     let made = c.in_ok-take.ensures.made in
     let sum : c.take.new.self.made ≡ 72 = omega (arith, fresh, made) in (
       (refl, tt),
-      record {
-        within = c.in_ok-head.ensures.cost.0;
-        made = rw sum (root_opened _ _ _ _ c.in_ok-head.ensures.reads);
-        keeps = own_limit_kept (quota_kept (unused_kept c.requires) c.in_ok-take.ensures);
-      },
+      (
+        record {
+          within = c.in_ok-head.ensures.cost.0;
+          made = rw sum (root_opened _ _ _ _ c.in_ok-head.ensures.reads);
+          keeps = own_limit_kept (quota_kept (unused_kept c.requires) c.in_ok-take.ensures);
+        },
+        c.in_ok-groups.ensures,
+      ),
     )

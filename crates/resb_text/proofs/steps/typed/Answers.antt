@@ -4,7 +4,7 @@ use Rattle.resb_text.proofs.Outcomes.{match_err, match_same}
 use Rattle.resb_text.proofs.StepsLemmas.{told}
 use Rattle.resb_text.proofs.TypedGroups.{type_refused, opening_refused, typed_group_opened}
 use Rattle.resb_text.proofs.TypedGroups.{opened_over, leaf_refused, leaf_added, leaf_over}
-use Rattle.resb_text.proofs.TypedGroups.{leaf_is_leaf}
+use Rattle.resb_text.proofs.TypedGroups.{leaf_is_leaf, no_items_begun}
 use Rattle.resb_text.proofs.steps.typed.Goals as goal
 
 pub returns-then-not-takes_group-clause-reads : goal.returns-then-not-takes_group-clause-reads
@@ -37,21 +37,22 @@ returns-in_err-next-clause-reads g c =
     let may = told c.requires.among takes_group c.takes_group.ensures c.if-not-takes_group.false in
     match_same _ _ _ _ c.from_residual-in_err-next.ensures.1
     (leaf_refused c.requires.among may c.in_ok-first.ensures.reads
-    c.in_err-next.ensures.reads)
+    (no_items_begun _ c.in_default.ensures) c.in_err-next.ensures.reads c.in_err-next.ensures.quota)
 
 pub returns-in_err-take-2-clause-reads : goal.returns-in_err-take-2-clause-reads
 returns-in_err-take-2-clause-reads g c =
     let may = told c.requires.among takes_group c.takes_group.ensures c.if-not-takes_group.false in
     match_err _ _ _ c.from_residual-in_err-take-2.ensures.1 (λ e same.
     leaf_over c.requires.among may c.in_ok-first.ensures.reads
-    c.in_ok-next.ensures.reads.group c.leaf_bytes.ensures c.in_err-take-2.ensures same)
+    c.in_ok-next.ensures.reads.group c.in_ok-next.ensures.quota c.leaf_bytes.ensures
+    c.in_err-take-2.ensures same)
 
 pub returns-clause-reads : goal.returns-clause-reads
 returns-clause-reads g c =
     let may = told c.requires.among takes_group c.takes_group.ensures c.if-not-takes_group.false in
     leaf_added c.requires.among may c.in_ok-first.ensures.reads c.in_ok-next.ensures.reads.group
     c.in_ok-next.ensures.cost.1 c.byte-2.ensures.byte c.in_ok-add_leaf.ensures.shows
-    c.leaf_bytes.ensures c.in_ok-take-2.ensures
+    c.in_ok-next.ensures.quota c.leaf_bytes.ensures c.in_ok-take-2.ensures
 
 pub add_leaf-requires : goal.add_leaf-requires
 add_leaf-requires g c = λ k.

@@ -3,7 +3,7 @@ use Rattle.std.proofs.Common.{◌≡◌, ◌≢◌, ℕ, zero, suc, ◌+◌, ◌
 use Rattle.std.proofs.Common.{◌∷◌, length, refl, sym, ap, arith, lit≤, subst, encode_utf8, ◌<◌}
 use Rattle.std.specs.Prelude.{slice_index, slice_range, codes}
 use Rattle.std.proofs.lemmas.Bool.{false≢true}
-use Rattle.resb_tree.specs.Tree.{string, alias, array, table, trees_of, map_of}
+use Rattle.resb_tree.specs.Tree.{Tree, string, alias, array, table, trees_of, map_of}
 use Rattle.resb_grammar.specs.ByteRuns.{is_white}
 use Rattle.resb_icu_grammar.specs.Kinds.{Kind, Names, string_kind, alias_kind, array_kind}
 use Rattle.resb_icu_grammar.specs.Kinds.{table_kind, binary_kind, integer_kind, vector_kind}
@@ -20,9 +20,14 @@ use Rattle.resb_icu_grammar.specs.Words.{Word, Text, a_word, quoted, KeyText, Na
 use Rattle.resb_icu_grammar.specs.Words.{TypeName}
 use Rattle.resb_icu_grammar.specs.Groups.{Group, untyped, an_empty_array, one_string, no_entry}
 use Rattle.resb_icu_grammar.specs.Groups.{one_entry, Entries, typed, leaf, alias_content}
-use Rattle.resb_icu_grammar.specs.Bundle.{without, IcuText}
+use Rattle.resb_icu_grammar.specs.Groups.{a_string, a_comma}
+use Rattle.resb_icu_grammar.specs.Bundle.{without, IcuText, Header}
 use Rattle.resb_icu_grammar.specs.Machine.{in_table, among_entries, before_group, reading_at}
-use Rattle.resb_icu_grammar.specs.Machine.{BeginsGroup, key_of_entry}
+use Rattle.resb_icu_grammar.specs.Machine.{BeginsGroup, key_of_entry, Standing, among_members}
+use Rattle.resb_icu_grammar.specs.Machine.{in_untyped, behind_group, Reading, Move, group_opens}
+use Rattle.resb_icu_grammar.specs.Machine.{begins_with_string, comma_behind, string_member}
+use Rattle.resb_icu_grammar.specs.Machine.{array_ends, table_ends, was_value, here, moves, leaves}
+use Rattle.resb_icu_grammar.specs.Limit.{IcuMakes, IcuMadeWithin, IcuMakesMore, by_a_step}
 use Rattle.resb_icu_grammar.specs.Stuck.{Stuck, in_root, inside, no_group, TypeStuck, no_tree}
 use Rattle.resb_icu_grammar.specs.declared.expected.IcuExpected.{IcuExpected}
 use Rattle.resb_icu_grammar.specs.declared.expected.IcuExpected.TheVariants as expect
@@ -321,3 +326,98 @@ import_refused = no_tree 7 (codes "import") (record {
     never integer_kind (inl e) = let h = second (codes "integer") e in absurd (omega arith)
     never integer_kind (inr e) = let h = second (codes "int") e in absurd (omega arith)
     never vector_kind e = let h = second (codes "intvector") e in absurd (omega arith)
+
+-- nothing is skipped inside `b{a{x,y}}`
+blanks_end : (at : ℕ) → is_white (slice_index (codes "b{a{x,y}}") at) ≡ false
+    → slice_index (codes "b{a{x,y}}") at ≢ 47 → Skip (codes "b{a{x,y}}") at at
+blanks_end = stays (codes "b{a{x,y}}")
+
+-- its header ends at its first key
+header_before_a : Header (codes "b{a{x,y}}") (codes "b") true 2
+header_before_a = record {
+  begin = 0;
+  start = 0;
+  ends = 1;
+  place = 1;
+  brace = 1;
+  begins = without_a_mark (λ m. let h = m.first in absurd (omega arith)) refl;
+  before = blanks_end 0 refl (λ h. absurd (omega arith));
+  named = record {
+    key = words.a_word (word_of_one _ 0 refl refl (lit≤ tt)) refl;
+    some = lit≤ tt;
+    word = (word_of_one (codes "b") 0 refl refl (lit≤ tt)).run;
+  };
+  between = blanks_end 1 refl (λ h. absurd (omega arith));
+  typed = without refl;
+  opens = refl;
+  after = blanks_end 2 refl (λ h. absurd (omega arith));
+}
+
+-- where its strings are read, the array is open that is the value of the entry `a`
+abbrev InValue : Standing → ℕ → Reading
+InValue s at = reading_at (in_table [] (codes "a") 3 ∷ []) (codes "a" ∷ []) s at
+
+-- before its second string 1438 bytes are made: 72 for the root, 1024 and 195 for the key, 72 for
+-- the group, 75 for the first string
+abbrev before_y : IcuMakes (codes "b{a{x,y}}") 1438
+    (InValue (among_members a_comma (string (codes "x") ∷ [])) 6)
+before_y = record {
+  name = codes "b";
+  fallback = true;
+  first = 2;
+  header = header_before_a;
+  comes =
+      moves _ _ _ _ _ _
+      (moves _ (InValue (among_members a_string (string (codes "x") ∷ [])) 5) _ _ _ _
+      (moves _ (InValue in_untyped 4) _ _ _ _
+      (moves _ (InValue before_group 3) [] [] (among_entries []) 2 (here _)
+      (key_of_entry [] 2 3 3 (codes "a") (words.a_word (word_of_one _ 2 refl refl (lit≤ tt)) refl)
+      (blanks_end 3 refl (λ h. absurd (omega arith)))))
+      (group_opens 3 4 refl (blanks_end 4 refl (λ h. absurd (omega arith)))))
+      (begins_with_string 4 5 5 (codes "x") (a_word (word_of_one _ 4 refl refl (lit≤ tt)))
+      (blanks_end 5 refl (λ h. absurd (omega arith))) refl))
+      (comma_behind a_string _ 5 6 refl refl (blanks_end 6 refl (λ h. absurd (omega arith))));
+  sum = refl;
+}
+
+-- its second string is a member
+abbrev y_follows : Move (codes "b{a{x,y}}") (in_table [] (codes "a") 3 ∷ []) (codes "a" ∷ [])
+    (among_members a_comma (string (codes "x") ∷ [])) 6
+    (InValue (among_members a_string (string (codes "x") ∷ string (codes "y") ∷ [])) 7)
+y_follows =
+    string_member a_comma _ 6 7 7 (codes "y") refl (a_word (word_of_one _ 6 refl refl (lit≤ tt)))
+    (blanks_end 7 refl (λ h. absurd (omega arith)))
+
+-- the text is read within 1513 bytes, of which 75 are its second string's
+two_strings_within : IcuMadeWithin (codes "b{a{x,y}}") 1513
+two_strings_within = record {
+  tree = table (map_of ((codes "a", in_array) ∷ []));
+  places = codes "a" ∷ [];
+  end = 9;
+  bytes = 1513;
+  made = record {
+    name = codes "b";
+    fallback = true;
+    first = 2;
+    header = header_before_a;
+    comes =
+        moves _ _ _ _ _ _
+        (leaves _ (reading_at [] (codes "a" ∷ []) (among_entries ((codes "a", in_array) ∷ [])) 8)
+        _ _ _ _
+        (moves _ (InValue (behind_group in_array) 8) _ _ _ _
+        (moves _ _ _ _ _ _ before_y.comes y_follows)
+        (array_ends a_string _ 7 refl))
+        (was_value [] [] (codes "a") 3 8 refl (blanks_end 8 refl (λ h. absurd (omega arith)))))
+        (table_ends _ 8 refl (refl, tt));
+    sum = refl;
+  };
+  after = blanks_end 9 refl (λ h. absurd (omega arith));
+  within = lit≤ tt;
+}
+  where
+    in_array : Tree
+    in_array = array (trees_of (string (codes "x") ∷ string (codes "y") ∷ []))
+
+-- and makes more than 1512
+two_strings_more : IcuMakesMore (codes "b{a{x,y}}") 1512
+two_strings_more = by_a_step 1438 _ _ _ 6 _ before_y y_follows (lit≤ tt)

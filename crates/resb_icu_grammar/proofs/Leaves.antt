@@ -31,14 +31,14 @@ pub record SomeNumbers (text : List ℕ) (at : ℕ) : Type 0 where
   pub closes : Closes text to
 
 -- what stands behind a first number and its blanks
-data Behind (text : List ℕ) (place v : ℕ) : ℕ → List ℕ → Type 0 where
+pub data Behind (text : List ℕ) (place v : ℕ) : ℕ → List ℕ → Type 0 where
   the_end : Behind text place v place (v ∷ [])
   a_comma : (to : ℕ) → slice_index text place ≡ ascii.comma → Skip text (place + 1) to
       → Behind text place v to (v ∷ [])
   others : (k to : ℕ) (ns : List ℕ) → slice_index text place ≡ ascii.comma
       → Skip text (place + 1) k → Numbers text k to ns → Behind text place v to (v ∷ ns)
 
-behind_first : (text : List ℕ) (at i place v to : ℕ) (ns : List ℕ) → Number text at i v
+pub behind_first : (text : List ℕ) (at i place v to : ℕ) (ns : List ℕ) → Number text at i v
     → Skip text i place → Numbers text at to ns → Behind text place v to ns
 behind_first text at i place v to ns p k (last_number _ j _ w q l) =
     let n = Number-one text at i j v w p q in
@@ -92,7 +92,7 @@ counted_on text from to (one_number _ k i j _ v c p s e l) b w =
     (counted_on text from k c (number_first text k i v p) w)
 
 -- and no `}` stands where they begin
-counted_begin : (text : List ℕ) (from to : ℕ) → NumbersSoFar text from to
+pub counted_begin : (text : List ℕ) (from to : ℕ) → NumbersSoFar text from to
     → slice_index text to ≢ ascii.right_brace → slice_index text from ≢ ascii.right_brace
 counted_begin text from _ (none_yet _) b = b
 counted_begin text from to (one_number _ k i j _ v c p s e l) b =

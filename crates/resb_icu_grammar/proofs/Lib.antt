@@ -13,6 +13,7 @@ pub mod Types
 pub mod Moves
 pub mod OneStep
 pub mod Refused
+pub mod Limited
 mod OneRefusal
 mod WholeReading
 mod Examples

@@ -5,6 +5,7 @@ use Rattle.std.specs.Cmp.Lexicographic.{pointwise}
 use Rattle.resb_tree.specs.Tree.{Tree}
 use Rattle.resb_tree.specs.Keys.{is_key}
 use Rattle.resb_icu_grammar.specs.Bundle.{IcuText}
+use Rattle.resb_icu_grammar.specs.Limit.{IcuMadeWithin, IcuMakesMore}
 use Rattle.resb_icu_grammar.specs.Machine.{IsReadToTheEnd}
 use Rattle.resb_icu_grammar.specs.Stuck.{Stuck}
 use Rattle.resb_icu_grammar.specs.declared.expected.IcuExpected.{IcuExpected}
@@ -48,3 +49,8 @@ abbrev pub IcuMachineReadsTheForm : Type 0
 IcuMachineReadsTheForm =
     (text name : List ℕ) (fallback : Bool) (tree : Tree) (keys : List (List ℕ))
     → IcuText text name fallback tree keys ↔ IsReadToTheEnd text name fallback tree keys
+
+-- where the whole reading of a text makes no more than a limit, no part of it makes more
+abbrev pub IcuWithinIsNeverMore : Type 0
+IcuWithinIsNeverMore =
+    (text : List ℕ) (limit : ℕ) → IcuMadeWithin text limit → IcuMakesMore text limit → ⊥

@@ -11,5 +11,6 @@ pub mod Machine
 pub mod Expected
 pub mod Faults
 pub mod Stuck
+pub mod Limit
 pub mod Laws
 pub mod Inner

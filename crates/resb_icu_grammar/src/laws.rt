@@ -2,7 +2,7 @@
 //! They speak of the definitions alone.
 ghost use Rattle.resb_icu_grammar.specs.Laws.{OneIcuText, IcuKeysAreDistinct, IcuKeysAreListed};
 ghost use Rattle.resb_icu_grammar.specs.Laws.{IcuStuckIsNoText, IcuStuckInOneWay};
-ghost use Rattle.resb_icu_grammar.specs.Laws.{IcuMachineReadsTheForm};
+ghost use Rattle.resb_icu_grammar.specs.Laws.{IcuMachineReadsTheForm, IcuWithinIsNeverMore};
 
 /// A text of ICU's form has one name, fallback, tree and list of keys.
 pub fn one_icu_text()
@@ -33,4 +33,10 @@ pub fn one_icu_refusal()
 /// with that bundle's name, fallback, tree and keys.
 pub fn icu_machine_reads_the_form()
     ensures { IcuMachineReadsTheForm }
+{}
+
+/// Where the whole reading of a text in ICU's form makes no more bytes than a limit, no part of it
+/// makes more.
+pub fn icu_within_is_never_more()
+    ensures { IcuWithinIsNeverMore }
 {}

@@ -1,0 +1,298 @@
+-- No part of a reading of a text in ICU's form makes more than the whole.
+use Rattle.std.proofs.Common.{◌≡◌, ◌≢◌, ℕ, suc, ◌+◌, ◌*◌, ◌≤◌, List, [], ◌∷◌, ◌++◌}
+use Rattle.std.proofs.Common.{length, refl, sym, ap, ◌∙◌, subst, arith}
+use Rattle.std.specs.Prelude.{slice_index}
+use Rattle.resb_grammar.specs.Ascii as ascii
+use Rattle.resb_grammar.proofs.Numbers.{plus_no_bytes}
+use Rattle.resb_tree.specs.Tree.{Tree, string}
+use Rattle.resb_tree.specs.Weights.{resource_weight, text_byte_weight, number_weight}
+use Rattle.resb_icu_grammar.specs.Kinds.{vector_kind}
+use Rattle.resb_icu_grammar.specs.Words.{Number}
+use Rattle.resb_icu_grammar.specs.Groups.{a_string, Numbers, last_number, last_comma, one_more}
+use Rattle.resb_icu_grammar.specs.Groups.{LeafContent, no_numbers, numbers}
+use Rattle.resb_icu_grammar.specs.Stuck.{NumbersSoFar, none_yet, one_number}
+use Rattle.resb_icu_grammar.specs.Machine.{Waiting, in_table, Standing, among_members}
+use Rattle.resb_icu_grammar.specs.Machine.{among_entries, before_group, in_untyped, in_typed}
+use Rattle.resb_icu_grammar.specs.Machine.{behind_group, Reading, reading_at, at_root, Move, Comes}
+use Rattle.resb_icu_grammar.specs.Machine.{here, moves, leaves}
+use Rattle.resb_icu_grammar.specs.Machine as step
+use Rattle.resb_icu_grammar.specs.Limit.{leaf_bytes, next_key_bytes, opening_bytes, made_by}
+use Rattle.resb_icu_grammar.specs.Limit.{made_on_the_way, IcuMadeWithin, IcuMakesMore, count_so_far}
+use Rattle.resb_icu_grammar.specs.Limit.{by_the_root, by_a_step, by_a_number}
+use Rattle.resb_icu_grammar.proofs.Lexical.{Skip-one, number_first}
+use Rattle.resb_icu_grammar.proofs.Groups.{Closes, Header-one}
+use Rattle.resb_icu_grammar.proofs.Leaves.{Behind, the_end, a_comma, others, behind_first}
+use Rattle.resb_icu_grammar.proofs.Leaves.{counted_begin}
+use Rattle.resb_icu_grammar.proofs.OneStep.{Next, inside, outside, Next-one}
+
+-- what the last of these members makes, if it is a string
+abbrev last_bytes : List Tree → ℕ
+last_bytes [] = 0
+last_bytes (t ∷ []) = leaf_bytes t
+last_bytes (t ∷ u ∷ us) = last_bytes (u ∷ us)
+
+last_member : (ts : List Tree) (t : Tree) → last_bytes (ts ++ t ∷ []) ≡ leaf_bytes t
+last_member [] t = refl
+last_member (u ∷ []) t = refl
+last_member (u ∷ v ∷ us) t = last_member (v ∷ us) t
+
+-- what a step makes is told by where it leads from and to: by the key of the innermost table
+abbrev key_said : List (List ℕ × Tree) → List Waiting → ℕ
+key_said es (in_table before k begin ∷ ws) = next_key_bytes es k
+key_said es _ = 0
+
+abbrev members_said : Standing → ℕ
+members_said (among_members a_string ts) = last_bytes ts
+members_said _ = 0
+
+abbrev entries_said : List (List ℕ × Tree) → List Waiting → Standing → ℕ
+entries_said es ws before_group = key_said es ws
+entries_said es ws _ = 0
+
+abbrev opened_said : Standing → ℕ
+opened_said in_untyped = resource_weight
+opened_said (in_typed kind) = opening_bytes kind
+opened_said _ = 0
+
+abbrev untyped_said : List Waiting → Standing → ℕ
+untyped_said ws (behind_group (string s)) = text_byte_weight * length s
+untyped_said ws (among_members a_string ts) = last_bytes ts
+untyped_said ws before_group = key_said [] ws
+untyped_said ws _ = 0
+
+abbrev typed_said : Standing → ℕ
+typed_said (behind_group t) = leaf_bytes t
+typed_said _ = 0
+
+-- by where a reading stood, and what it has come to
+abbrev said : Standing → Reading → ℕ
+said (among_members last ts) r = members_said r.stands
+said (among_entries es) r = entries_said es r.around r.stands
+said before_group r = opened_said r.stands
+said in_untyped r = untyped_said r.around r.stands
+said (in_typed kind) r = typed_said r.stands
+said (behind_group t) r = 0
+
+made_said : (text : List ℕ) (ws : List Waiting) (ks : List (List ℕ)) (s : Standing) (at : ℕ)
+    (r : Reading) → (m : Move text ws ks s at r) → made_by m ≡ said s r
+made_said text ws ks _ at _ (step.array_ends last ts _ c) = refl
+made_said text ws ks _ at _ (step.comma_behind last ts _ j e c k) = refl
+made_said text ws ks _ at _ (step.string_member last ts _ i j s e p k) =
+    sym (last_member ts (string s))
+made_said text ws ks _ at _ (step.group_member last ts _ b) = refl
+made_said text ws ks _ at _ (step.table_ends es _ c d) = refl
+made_said text ws ks _ at _ (step.key_of_entry es _ i j k p l) = refl
+made_said text ws ks _ at _ (step.group_opens _ i b k) = refl
+made_said text ws ks _ at _ (step.type_opens _ i kind h) = refl
+made_said text ws ks _ at _ (step.untyped_nothing _ c) = refl
+made_said text ws ks _ at _ (step.begins_with_group _ b) = refl
+made_said text ws ks _ at _ (step.untyped_string _ i j s p k c) = refl
+made_said text ws ks _ at _ (step.begins_with_string _ i j s p k c) = refl
+made_said text ws ks _ at _ (step.begins_with_key _ i j k p l b) = refl
+made_said text ws ks _ at _ (step.members_follow _) = refl
+made_said text ws ks _ at _ (step.entries_follow _) = refl
+made_said text ws ks _ at _ (step.leaf_follows kind _ to t p c) = refl
+
+-- steps, and one more
+abbrev go_on : (text : List ℕ) (from mid r : Reading) → Comes text from mid → Next text mid r
+    → Comes text from r
+go_on text from _ r c (inside ws ks s at _ v) = moves from r ws ks s at c v
+go_on text from _ r c (outside ws ks t at _ v) = leaves from r ws ks t at c v
+
+-- it makes what is told of it
+made_by_one : (text : List ℕ) (from mid r : Reading) → (c : Comes text from mid)
+    → (n : Next text mid r)
+    → made_on_the_way (go_on text from mid r c n) ≡ made_on_the_way c + said mid.stands r
+made_by_one text from _ r c (inside ws ks s at _ v) =
+    ap (λ k. made_on_the_way c + k) (made_said text ws ks s at r v)
+made_by_one text from _ r c (outside ws ks t at _ v) = plus_no_bytes (made_on_the_way c)
+
+-- no step, or a first one and the others, and what they make
+data Split (text : List ℕ) (from r : Reading) (n : ℕ) : Type 0 where
+  no_step : from ≡ r → n ≡ 0 → Split text from r n
+  first_step : (mid : Reading) → Next text from mid → (d : Comes text mid r)
+      → n ≡ said from.stands mid + made_on_the_way d → Split text from r n
+
+split_on : (text : List ℕ) (from last r : Reading) (n m : ℕ) → Next text last r
+    → m ≡ n + said last.stands r → Split text from last n → Split text from r m
+split_on text from last r n m next sum (no_step e z) =
+    let same : said from.stands r ≡ said last.stands r = ap (λ (u : Reading). said u.stands r) e in
+    let all : m ≡ said from.stands r + 0 = omega (arith, sum, z, same) in
+    first_step r (subst (λ u. Next text u r) (sym e) next) (here r) all
+split_on text from last r n m next sum (first_step mid first d s) =
+    first_step mid first (go_on text mid last r d next)
+    (omega (arith, sum, s, made_by_one text mid last r d next))
+
+split : (text : List ℕ) (from r : Reading) → (c : Comes text from r)
+    → Split text from r (made_on_the_way c)
+split text from _ (here _) = no_step refl refl
+split text from r (moves _ _ ws ks s at c v) =
+    split_on text from (reading_at ws ks s at) r (made_on_the_way c) _ (inside ws ks s at r v)
+    (ap (λ k. made_on_the_way c + k) (made_said text ws ks s at r v))
+    (split text from (reading_at ws ks s at) c)
+split text from r (leaves _ _ ws ks t at c v) =
+    split_on text from (reading_at ws ks (behind_group t) at) r (made_on_the_way c) _
+    (outside ws ks t at r v) (plus_no_bytes (made_on_the_way c))
+    (split text from (reading_at ws ks (behind_group t) at) c)
+
+-- of two places of a reading, each with what is made up to it, one is on the way to the other
+data Meet (text : List ℕ) (r q : Reading) (n m : ℕ) : Type 0 where
+  ahead : (d : Comes text r q) → m ≡ n + made_on_the_way d → Meet text r q n m
+  behind : (d : Comes text q r) → n ≡ m + made_on_the_way d → Meet text r q n m
+
+meet_on : (text : List ℕ) (mid r q : Reading) (n m k : ℕ) → Next text mid r
+    → k ≡ n + said mid.stands r → Meet text mid q n m → Meet text r q k m
+meet_on text mid r q n m k next sum (behind d e) =
+    behind (go_on text q mid r d next)
+    (omega (arith, sum, e, made_by_one text q mid r d next))
+meet_on text mid r q n m k next sum (ahead d e) = by (split text mid q d)
+  where
+    by : Split text mid q (made_on_the_way d) → Meet text r q k m
+    by (no_step same z) =
+        let more = made_by_one text mid mid r (here mid) next in
+        let one : made_on_the_way (go_on text mid mid r (here mid) next)
+        ≡ 0 + said mid.stands r = more in
+        subst (λ u. Meet text r u k m) same
+        (behind (go_on text mid mid r (here mid) next) (omega (arith, sum, e, z, one)))
+    by (first_step first other c s) =
+        let one = Next-one text mid first r other next in
+        let same : said mid.stands first ≡ said mid.stands r = ap (said mid.stands) one in
+        subst (λ u. Meet text u q k m) one (ahead c (omega (arith, sum, e, s, same)))
+
+meet : (text : List ℕ) (from r q : Reading) → (c : Comes text from r) → (d : Comes text from q)
+    → Meet text r q (made_on_the_way c) (made_on_the_way d)
+meet text from _ q (here _) d = ahead d (omega arith)
+meet text from r q (moves _ _ ws ks s at c v) d =
+    meet_on text (reading_at ws ks s at) r q (made_on_the_way c) (made_on_the_way d) _
+    (inside ws ks s at r v) (ap (λ k. made_on_the_way c + k) (made_said text ws ks s at r v))
+    (meet text from (reading_at ws ks s at) q c d)
+meet text from r q (leaves _ _ ws ks t at c v) d =
+    meet_on text (reading_at ws ks (behind_group t) at) r q (made_on_the_way c)
+    (made_on_the_way d) _ (outside ws ks t at r v) (plus_no_bytes (made_on_the_way c))
+    (meet text from (reading_at ws ks (behind_group t) at) q c d)
+
+-- the same from the one first entry
+meet_roots : (text : List ℕ) (f g : ℕ) (r q : Reading) → f ≡ g
+    → (c : Comes text (at_root f) r) → (d : Comes text (at_root g) q)
+    → Meet text r q (made_on_the_way c) (made_on_the_way d)
+meet_roots text f g r q e c =
+    subst (λ u. (d : Comes text (at_root u) q)
+    → Meet text r q (made_on_the_way c) (made_on_the_way d)) e (meet text (at_root f) r q c)
+
+-- behind the root no step leads on
+at_the_end : (text : List ℕ) (ks : List (List ℕ)) (t : Tree) (at : ℕ) (r : Reading)
+    → Next text (reading_at [] ks (behind_group t) at) r → ⊥
+at_the_end text ks t at r (inside _ _ _ _ _ v) = elim v [ ]
+at_the_end text ks t at r (outside _ _ _ _ _ v) = elim v [ ]
+
+-- up to the end no less is made than up to anywhere
+most_at_the_end : (text : List ℕ) (f g : ℕ) (r : Reading) (ks : List (List ℕ)) (t : Tree) (at : ℕ)
+    → f ≡ g → (c : Comes text (at_root f) r)
+    → (d : Comes text (at_root g) (reading_at [] ks (behind_group t) at))
+    → made_on_the_way c ≤ made_on_the_way d
+most_at_the_end text f g r ks t at same c d =
+    by (meet_roots text f g r (reading_at [] ks (behind_group t) at) same c d)
+  where
+    stop : (e : Comes text (reading_at [] ks (behind_group t) at) r)
+        → made_on_the_way c ≡ made_on_the_way d + made_on_the_way e
+        → Split text (reading_at [] ks (behind_group t) at) r (made_on_the_way e)
+        → made_on_the_way c ≤ made_on_the_way d
+    stop e sum (no_step _ z) = omega (arith, sum, z)
+    stop e sum (first_step mid next _ _) = absurd (at_the_end text ks t at mid next)
+
+    by : Meet text r (reading_at [] ks (behind_group t) at) (made_on_the_way c) (made_on_the_way d)
+        → made_on_the_way c ≤ made_on_the_way d
+    by (ahead e sum) = omega (arith, sum)
+    by (behind e sum) = stop e sum (split text (reading_at [] ks (behind_group t) at) r e)
+
+-- the numbers of a vector that are left behind some of them
+left_over : (text : List ℕ) (from at to : ℕ) (ns : List ℕ) → (before : NumbersSoFar text from at)
+    → slice_index text at ≢ ascii.right_brace → Numbers text from to ns → Closes text to
+    → (ms : List ℕ) × Numbers text at to ms × (length ns ≡ count_so_far before + length ms)
+left_over text from _ to ns (none_yet _) b r c = (ns, r, omega arith)
+left_over text from at to ns (one_number _ k i j _ v before p s e l) b r c =
+    let left = left_over text from k to ns before (number_first text k i v p) r c in
+    by to left.0 (behind_first text k i j v to left.0 p s left.1) c left.2
+  where
+    by : (to : ℕ) (ms : List ℕ) → Behind text j v to ms → Closes text to
+        → length ns ≡ count_so_far before + length ms
+        → (us : List ℕ) × Numbers text at to us
+        × (length ns ≡ suc (count_so_far before) + length us)
+    by to ms the_end d sum = absurd (omega (arith, e, d))
+    by to ms (a_comma _ h x) d sum =
+        absurd (b (ap (λ u. slice_index text u) (Skip-one text (j + 1) at to l x) ∙ d))
+    by to _ (others m _ us h x more) d sum = (
+      us,
+      subst (λ u. Numbers text u to us) (sym (Skip-one text (j + 1) at m l x)) more,
+      omega (arith, sum),
+    )
+
+some_number : (text : List ℕ) (at to : ℕ) (ns : List ℕ) → Numbers text at to ns → 1 ≤ length ns
+some_number text at to _ (last_number _ i _ v p k) = omega arith
+some_number text at to _ (last_comma _ i j _ v p k c l) = omega arith
+some_number text at to _ (one_more _ i j m _ v us p k c l r) = omega arith
+
+-- a vector makes no less than some of its numbers
+no_less : (text : List ℕ) (from at i to v : ℕ) (t : Tree) → (before : NumbersSoFar text from at)
+    → Number text at i v → LeafContent text from to vector_kind t → Closes text to
+    → number_weight * suc (count_so_far before) ≤ leaf_bytes t
+no_less text from at i to v _ before p (no_numbers e) c =
+    absurd (counted_begin text from at before (number_first text at i v p)
+    (ap (λ u. slice_index text u) e ∙ c))
+no_less text from at i to v _ before p (numbers ns r) c =
+    let left = left_over text from at to ns before (number_first text at i v p) r c in
+    let some = some_number text at to left.0 left.1 in
+    let sum = left.2 in
+    omega (arith, some, sum)
+
+-- the step from the first number of a vector on leads behind it
+vector_step : (text : List ℕ) (ws : List Waiting) (ks : List (List ℕ)) (from : ℕ) (r : Reading)
+    → Move text ws ks (in_typed vector_kind) from r
+    → (to : ℕ) × (t : Tree) × LeafContent text from to vector_kind t × Closes text to
+    × (said (in_typed vector_kind) r ≡ leaf_bytes t)
+vector_step text ws ks from _ (step.leaf_follows _ _ to t p c) = (to, t, p, c, refl)
+
+-- a text that makes no more than the limit does not make more
+pub icu_never_more : (text : List ℕ) (limit : ℕ) → IcuMadeWithin text limit
+    → IcuMakesMore text limit → ⊥
+icu_never_more text limit w (by_the_root name fallback first h less) =
+    omega (arith, w.made.sum, w.within, less)
+icu_never_more text limit w (by_a_step bytes ws ks s at r made move more) =
+    let same = (Header-one text made.name w.made.name made.fallback w.made.fallback made.first
+    w.made.first made.header w.made.header).2 in
+    let least = most_at_the_end text made.first w.made.first r w.places w.tree w.end same
+    (moves (at_root made.first) r ws ks s at made.comes move) w.made.comes in
+    omega (arith, least, more, made.sum, w.made.sum, w.within)
+icu_never_more text limit w (by_a_number bytes ws ks from at to v made before number more) =
+    by (meet_roots text made.first w.made.first stand end same made.comes w.made.comes)
+  where
+    stand : Reading
+    stand = reading_at ws ks (in_typed vector_kind) from
+
+    end : Reading
+    end = reading_at [] w.places (behind_group w.tree) w.end
+
+    same : made.first ≡ w.made.first
+    same =
+        (Header-one text made.name w.made.name made.fallback w.made.fallback made.first
+        w.made.first made.header w.made.header).2
+
+    apart : stand ≡ end → ⊥
+    apart e = let here : stand.stands ≡ end.stands = ap (λ (u : Reading). u.stands) e in cc
+
+    on : (n : ℕ) → made_on_the_way w.made.comes ≡ made_on_the_way made.comes + n
+        → Split text stand end n → ⊥
+    on n sum (no_step e z) = apart e
+    on n sum (first_step mid (inside _ _ _ _ _ v') d s) =
+        let leaf = vector_step text ws ks from mid v' in
+        let least = no_less text from at to leaf.0 v leaf.1 before number leaf.2 leaf.3 in
+        let told = leaf.4 in
+        omega (arith, sum, s, least, told, more, made.sum, w.made.sum, w.within)
+
+    back : (d : Comes text end stand) → Split text end stand (made_on_the_way d) → ⊥
+    back d (no_step e z) = apart (sym e)
+    back d (first_step mid next _ _) = at_the_end text w.places w.tree w.end mid next
+
+    by : Meet text stand end (made_on_the_way made.comes) (made_on_the_way w.made.comes) → ⊥
+    by (ahead d sum) = on (made_on_the_way d) sum (split text stand end d)
+    by (behind d sum) = back d (split text end stand d)

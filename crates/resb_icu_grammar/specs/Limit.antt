@@ -1,0 +1,112 @@
+-- How many bytes of memory a reading of a text in ICU's form makes, as they are counted, and a
+-- limit for them. The weights are those of the plain form; but here a key is told from any other
+-- string, and a table by its first key, so that each is weighed as what it is.
+--     made_by step               what a step inside the open groups adds
+--     IcuMakes text n r          a reading that has made n bytes comes there
+--     IcuMadeWithin text limit   the text is read to its end, and no more than the limit is made
+--     IcuMakesMore text limit    a reading comes to a token by which more than the limit is made
+use Rattle.std.specs.Prelude.{◌≡◌, ℕ, suc, ◌+◌, ◌*◌, ◌<◌, ◌≤◌, Bool, List, [], ◌∷◌, length}
+use Rattle.resb_tree.specs.Tree.{Tree, string, alias, binary, int_vector}
+use Rattle.resb_tree.specs.Weights.{resource_weight, table_weight, entry_weight, text_byte_weight}
+use Rattle.resb_tree.specs.Weights.{number_weight}
+use Rattle.resb_icu_grammar.specs.Blanks.{Skip}
+use Rattle.resb_icu_grammar.specs.Kinds.{Kind, array_kind, table_kind, vector_kind}
+use Rattle.resb_icu_grammar.specs.Words.{Number}
+use Rattle.resb_icu_grammar.specs.Bundle.{Header}
+use Rattle.resb_icu_grammar.specs.Stuck.{NumbersSoFar, none_yet, one_number}
+use Rattle.resb_icu_grammar.specs.Machine.{Waiting, Standing, in_typed, behind_group, Reading}
+use Rattle.resb_icu_grammar.specs.Machine.{reading_at, at_root, Move, string_member, key_of_entry}
+use Rattle.resb_icu_grammar.specs.Machine.{group_opens, type_opens, untyped_string, leaf_follows}
+use Rattle.resb_icu_grammar.specs.Machine.{begins_with_string, begins_with_key, Comes, here, moves}
+use Rattle.resb_icu_grammar.specs.Machine.{leaves}
+
+-- a resource that is a string or an alias: the resource, and 3 for each byte
+abbrev pub string_bytes : List ℕ → ℕ
+string_bytes s = resource_weight + text_byte_weight * length s
+
+-- the key of an entry: the entry, and 3 for each byte
+abbrev pub key_bytes : List ℕ → ℕ
+key_bytes k = entry_weight + text_byte_weight * length k
+
+-- the key behind these entries: where there are none, the table that it begins as well
+abbrev pub next_key_bytes : List (List ℕ × Tree) → List ℕ → ℕ
+next_key_bytes [] k = table_weight + key_bytes k
+next_key_bytes (e ∷ es) k = key_bytes k
+
+-- a group that holds neither members nor entries, with its `}`: a resource, and 3 for each byte of
+-- a string or a path, 1 for each byte of a binary, 4 for each number of a vector
+abbrev pub leaf_bytes : Tree → ℕ
+leaf_bytes (string s) = string_bytes s
+leaf_bytes (alias s) = string_bytes s
+leaf_bytes (binary s) = resource_weight + length s
+leaf_bytes (int_vector ns) = resource_weight + number_weight * length ns
+leaf_bytes _ = resource_weight
+
+-- a type and its `{`: a resource, for an array or a table
+abbrev pub opening_bytes : Kind → ℕ
+opening_bytes array_kind = resource_weight
+opening_bytes table_kind = resource_weight
+opening_bytes _ = 0
+
+-- what a step adds: 72 bytes for the `{` of a group without a type, of an array and of a table; 72
+-- for a string among members, and 3 for each of its bytes; those 3 alone for the string that such a
+-- group without a type is; 192 for a key, and 3 for each of its bytes, and 1024 more for the first
+-- key of a table; and for a group of another type, up to its `}`, what it holds
+abbrev pub made_by : {text : List ℕ} {ws : List Waiting} {ks : List (List ℕ)} {s : Standing}
+    {at : ℕ} {r : Reading} → Move text ws ks s at r → ℕ
+made_by (string_member last ts at i j s alone stands after) = string_bytes s
+made_by (key_of_entry es at i j k stands after) = next_key_bytes es k
+made_by (group_opens at i opens after) = resource_weight
+made_by (type_opens at i kind opens) = opening_bytes kind
+made_by (untyped_string at i j s stands after closes) = text_byte_weight * length s
+made_by (begins_with_string at i j s stands after comma) = string_bytes s
+made_by (begins_with_key at i j k stands after begins) = next_key_bytes [] k
+made_by (leaf_follows kind at to t content closes) = leaf_bytes t
+made_by _ = 0
+
+-- what some steps add up to
+abbrev pub made_on_the_way : {text : List ℕ} {from r : Reading} → Comes text from r → ℕ
+made_on_the_way (here r) = 0
+made_on_the_way (moves from r ws ks s at comes step) = made_on_the_way comes + made_by step
+made_on_the_way (leaves from r ws ks t at comes step) = made_on_the_way comes
+
+-- a reading that has made so many bytes comes there: 72 are made by the `{` of the root, the others
+-- by the steps from its first entry on
+pub record IcuMakes (text : List ℕ) (bytes : ℕ) (r : Reading) : Type 0 where
+  pub name : List ℕ
+  pub fallback : Bool
+  pub first : ℕ
+  pub header : Header text name fallback first
+  pub comes : Comes text (at_root first) r
+  pub sum : bytes ≡ resource_weight + made_on_the_way comes
+
+-- the text is read to its end, and no more bytes than the limit are made
+pub record IcuMadeWithin (text : List ℕ) (limit : ℕ) : Type 0 where
+  pub tree : Tree
+  pub places : List (List ℕ)
+  pub end : ℕ
+  pub bytes : ℕ
+  pub made : IcuMakes text bytes (reading_at [] places (behind_group tree) end)
+  pub after : Skip text end (length text)
+  pub within : bytes ≤ limit
+
+-- how many numbers these are
+abbrev pub count_so_far : {text : List ℕ} {from to : ℕ} → NumbersSoFar text from to → ℕ
+count_so_far (none_yet at) = 0
+count_so_far (one_number from at i j to v before stands skip comma after) =
+    suc (count_so_far before)
+
+-- a reading comes to a token that may stand there, by which more bytes than the limit are made
+pub data IcuMakesMore (text : List ℕ) (limit : ℕ) : Type 0 where
+  -- the `{` of the root
+  by_the_root : (name : List ℕ) (fallback : Bool) (first : ℕ) → Header text name fallback first
+      → limit < resource_weight → IcuMakesMore text limit
+  -- a step inside the open groups
+  by_a_step : (bytes : ℕ) (ws : List Waiting) (ks : List (List ℕ)) (s : Standing) (at : ℕ)
+      (r : Reading) → IcuMakes text bytes (reading_at ws ks s at)
+      → (step : Move text ws ks s at r) → limit < bytes + made_by step → IcuMakesMore text limit
+  -- a number of a vector, whatever follows it: 4 bytes for each up to that
+  by_a_number : (bytes : ℕ) (ws : List Waiting) (ks : List (List ℕ)) (from at to v : ℕ)
+      → IcuMakes text bytes (reading_at ws ks (in_typed vector_kind) from)
+      → (before : NumbersSoFar text from at) → Number text at to v
+      → limit < bytes + number_weight * suc (count_so_far before) → IcuMakesMore text limit

@@ -13,7 +13,6 @@ use Rattle.resb_read.specs.Places.{Place}
 use Rattle.resb_read.specs.Tables.{is_text, last_from, key_of, IsBelow, AscendAbove, Ascend}
 use Rattle.resb_read.specs.Tables.{is_above, text_or_empty, keys_ascend_above, keys_ascend_from}
 use Rattle.resb_read.specs.Tables.{keys_ascend}
-use Rattle.std.specs.List.{take-map, drop-map}
 use Rattle.std.proofs.lemmas.Map.Lookups.{exact_bytes}
 use Rattle.std.proofs.Common.{if◌then◌else◌}
 use Rattle.resb_read.proofs.PlainLists.{tied_bytes}
@@ -154,9 +153,6 @@ sound_from None es h = absurd (false≢true h)
 pub keys_ascend_sound : (es : List (Place × Place)) → keys_ascend es ≡ true → Ascend es
 keys_ascend_sound [] h = tt
 keys_ascend_sound (e ∷ es) h = sound_from (key_of e) es h
-
--- parts of pairs
-pub ruleset maps = (take-map, drop-map)
 
 -- a step of the halving
 module _ (name : List ℕ) (all : Option Place) (window front later : List (Place × Place))

@@ -23,7 +23,7 @@ named_test : (name : List ℕ) (o : Option (List ℕ × ℕ)) (n : ℕ) → o �
     → is_text name o ≡ true
 named_test name o n h = ap (is_text name) h ∙ (bytes_eq-Decides name name).1 refl
 
-is_so : (name : List ℕ) (e : Place × Place) → has_name name e ≡ true → IsNamed name e
+pub is_so : (name : List ℕ) (e : Place × Place) → has_name name e ≡ true → IsNamed name e
 is_so name e h = let (n, k) = named_so name (key_of e) h in (n, (tt, k))
 
 so_is : (name : List ℕ) (e : Place × Place) → IsNamed name e → has_name name e ≡ true

@@ -1,8 +1,11 @@
 -- For crates above: those that are `pub`.
 mod Ascending
 mod Backwards
+mod Halving
 mod Lasts
+pub mod InsideTrees
 mod Naming
+mod Orders
 mod Trees
 pub mod Rooted
 mod Each

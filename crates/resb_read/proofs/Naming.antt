@@ -187,12 +187,12 @@ before_zero_first b bs t h = by (b == 0) refl (before_zero bs) refl
           k,
         )
 
--- one byte more than a name has is enough to order the name and a key
-order_front : (name xs t : List ℕ) → before_zero xs ≡ Some t
-    → order_ended name (take (suc (length name)) xs) ≡ slice_cmp nat_cmp name t
-order_front [] [] t h = absurd (none-some t h)
-order_front (w ∷ ws) [] t h = absurd (none-some t h)
-order_front [] (b ∷ bs) t h = by (before_zero_first b bs t h)
+-- a key's bytes and the zero byte behind them order a name and it
+order_told : (name xs t : List ℕ) → before_zero xs ≡ Some t
+    → order_ended name xs ≡ slice_cmp nat_cmp name t
+order_told [] [] t h = absurd (none-some t h)
+order_told (w ∷ ws) [] t h = absurd (none-some t h)
+order_told [] (b ∷ bs) t h = by (before_zero_first b bs t h)
   where
     by : (((b == 0) ≡ true) × (t ≡ []))
         ⊎ (((b == 0) ≡ false) × (s : List ℕ) × (t ≡ b ∷ s) × (before_zero bs ≡ Some s))
@@ -201,13 +201,12 @@ order_front [] (b ∷ bs) t h = by (before_zero_first b bs t h)
         ap (λ z. if z then Equal else Less) e ∙ sym (ap (slice_cmp nat_cmp []) is)
     by (inr (e, s, is, k)) =
         ap (λ z. if z then Equal else Less) e ∙ sym (ap (slice_cmp nat_cmp []) is)
-order_front (w ∷ ws) (b ∷ bs) t h = by (order_front ws bs) (before_zero_first b bs t h)
+order_told (w ∷ ws) (b ∷ bs) t h = by (order_told ws bs) (before_zero_first b bs t h)
   where
     later : Ordering
-    later = ordering_then (nat_cmp w b) (order_ended ws (take (suc (length ws)) bs))
+    later = ordering_then (nat_cmp w b) (order_ended ws bs)
 
-    by : ((s : List ℕ) → before_zero bs ≡ Some s
-        → order_ended ws (take (suc (length ws)) bs) ≡ slice_cmp nat_cmp ws s)
+    by : ((s : List ℕ) → before_zero bs ≡ Some s → order_ended ws bs ≡ slice_cmp nat_cmp ws s)
         → (((b == 0) ≡ true) × (t ≡ []))
         ⊎ (((b == 0) ≡ false) × (s : List ℕ) × (t ≡ b ∷ s) × (before_zero bs ≡ Some s))
         → (if b == 0 then Greater else later) ≡ slice_cmp nat_cmp (w ∷ ws) t
@@ -227,16 +226,24 @@ bytes_of_text (Some s) t h = by (is_utf8 s) refl
     by true e = sym (ap (λ z. if z then Some s else None) e) ∙ h
     by false e = absurd (none-some t (sym (ap (λ z. if z then Some s else None) e) ∙ h))
 
-pub key_ordered : (keys name tail front : List ℕ) (at : ℕ) → tail ≡ drop at keys
-    → front ≡ take (length name + 1) tail → (t : List ℕ) → key_at keys at ≡ Some t
-    → order_ended name front ≡ slice_cmp nat_cmp name t
+pub key_ordered : (keys name tail : List ℕ) (at : ℕ) → tail ≡ drop at keys → (t : List ℕ)
+    → key_at keys at ≡ Some t → order_ended name tail ≡ slice_cmp nat_cmp name t
 unfolding key_at
-key_ordered keys name tail front at e f t h =
-    let many : length name + 1 ≡ suc (length name) = omega arith in
-    let cut : front ≡ take (suc (length name)) (drop at keys) =
-    f ∙ ap (λ n. take n tail) many ∙ ap (take (suc (length name))) e in
-    ap (order_ended name) cut
-    ∙ order_front name (drop at keys) t (bytes_of_text (before_zero (drop at keys)) t h)
+key_ordered keys name tail at e t h =
+    ap (order_ended name) e
+    ∙ order_told name (drop at keys) t (bytes_of_text (before_zero (drop at keys)) t h)
+
+-- bytes that are equal to those before a zero byte stand there
+equal_ended : (ws bs : List ℕ) → order_ended ws bs ≡ Equal → is_ended bs ws ≡ true
+equal_ended [] [] h = cc
+equal_ended (w ∷ ws) [] h = cc
+equal_ended [] (b ∷ bs) h = grind (arith, h)
+equal_ended (w ∷ ws) (b ∷ bs) h = grind (arith, h, equal_ended ws bs)
+
+pub key_equal : (keys name tail : List ℕ) (at : ℕ) → IsUtf8 name → tail ≡ drop at keys
+    → order_ended name tail ≡ Equal
+    → is_text name (option_map (λ s. (s, 0)) (key_at keys at)) ≡ true
+key_equal keys name tail at u e h = sym (key_told keys name tail at u e) ∙ equal_ended name tail h
 
 pub no_key_past_end : (keys : List ℕ) (at : ℕ) → length keys < at → (t : List ℕ)
     → key_at keys at ≡ Some t → ⊥
@@ -248,3 +255,5 @@ no_key_past_end keys at l t h =
     none_in : (xs : List ℕ) → length xs ≡ 0 → before_zero xs ≡ Some t → ⊥
     none_in [] m k = none-some t k
     none_in (x ∷ xs) m k = omega (arith, m)
+
+pub ruleset ordered = (key_ordered, key_equal)

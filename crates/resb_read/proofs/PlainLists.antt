@@ -1,9 +1,8 @@
 -- Lists and their members one by one, their first zero byte, options, and bytes of a number: what
 -- names no word of this project. The name `Lists` belongs to the goals of `src/lists.rt`.
 use Rattle.std.proofs.Common.{List, [], ◌∷◌, ◌≡◌, ◌<◌, length, map, drop, ap}
-use Rattle.std.proofs.Common.{◌∙◌, sym, arith, ◌++◌, ℕ, true, refl, Option, Some, None, option_map}
+use Rattle.std.proofs.Common.{◌∙◌, sym, arith, ℕ, true, refl, Option, Some, None, option_map}
 use Rattle.std.proofs.Common.{zero, suc, ◌+◌, ◌*◌, get_or}
-use Rattle.std.proofs.lemmas.List.{map-append}
 use Rattle.std.specs.Str.{bytes_eq}
 use Rattle.std.specs.Ordering.{nat_cmp, is_eq}
 use Rattle.std.specs.Cmp.Lexicographic.{slice_cmp}
@@ -45,12 +44,6 @@ pub ruleset rests = (map_first, map_none, drop_first, empty_has_none)
 -- bytes that tie are the same
 pub tied_bytes : (s t : List ℕ) → slice_cmp nat_cmp s t ≡ Equal → bytes_eq s t ≡ true
 tied_bytes s t h = sym (is_eq-slice_cmp s t) ∙ ap is_eq h
-
--- a part of a list, mapped, from its front, one member and those behind it
-pub map_of_front : {A B : Type 0} (f : A → B) (w front back later : List A) (x : A)
-    → w ≡ front ++ back → back ≡ x ∷ later → map f w ≡ map f front ++ f x ∷ map f later
-map_of_front f w front back later x h k =
-    ap (map f) (h ∙ ap (λ r. front ++ r) k) ∙ map-append f front (x ∷ later)
 
 -- what is there has the count that it is given
 pub map_count : {X : Type 0} (f : X → List ℕ) (o : Option X) (r : List ℕ × ℕ) (m : ℕ)

@@ -38,6 +38,7 @@ pub mod Laws
 pub mod Sequences
 pub mod Access
 pub mod Tables
+pub mod Inside
 pub mod Spots
 pub mod RefusedReadings
 pub mod TypeLaws

@@ -2,6 +2,7 @@
 --     key_of e                the text of an entry's key, and what it takes: nothing
 --     last_named name es      where the value of the last entry of this name stands
 --     IsLastNamed name es p   the same as a relation; `LastOfAName` says that the two agree
+--     HasEntry name es p      one of the entries has this name, and its value stands there
 --     Ascend es               each key is a text, and above the one before
 --     keys_ascend es          the same as a test; `AscendIsTold` says that the two agree
 --     price_of es             what is paid before all keys are read
@@ -58,6 +59,14 @@ last_named name es = last_from name None es
 -- this text is read as the entry's key
 abbrev pub IsNamed : List ℕ → Place × Place → Type 0
 IsNamed name e = (n : ℕ) × ReadsKey e.0 name n
+
+-- one of the entries has this name, and its value stands at this place
+pub record HasEntry (name : List ℕ) (es : List (Place × Place)) (value : Place) : Type 0 where
+  pub before : List (Place × Place)
+  pub key : Place
+  pub after : List (Place × Place)
+  pub are : es ≡ before ++ (key, value) ∷ after
+  pub named : IsNamed name (key, value)
 
 -- no entry has this name
 abbrev pub NoneNamed : List ℕ → List (Place × Place) → Type 0

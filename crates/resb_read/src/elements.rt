@@ -1,12 +1,12 @@
 //! The members of a sequence that are still to come, by their bytes.
 //! An access that goes from one to the next is in `sequences`.
-ghost use Rattle.std.specs.Prelude.{◌≡◌, [], ◌∷◌, length, MatchOption};
+ghost use Rattle.std.specs.Prelude.{◌≡◌, [], ◌∷◌, length, slice_get, MatchOption};
 ghost use Rattle.resb_walk.specs.Inner.Members.{member_of};
 ghost use Rattle.resb_read.specs.Inner.Elements.{spots_to_come};
 ghost use Rattle.resb_read.specs.Places as places;
 
 use crate::cursor::Spot;
-use resb_format::bytes::first_word;
+use resb_format::bytes::{first_word, some_unit, some_word};
 use resb_walk::{Member, Members};
 
 /// Members that are still to come.
@@ -27,6 +27,22 @@ impl<'de> Elements<'de> {
         match self {
             Elements::Members(members) => members.len(),
             Elements::Numbers(bytes) => bytes.len() / 4,
+        }
+    }
+
+    /// The member of a number, from 0 on, if there are so many.
+    #[tactic(auto, using(crate::proofs::InsideTrees::mapped_at))]
+    pub(crate) fn get(self, number: usize) -> Option<Spot>
+        ensures { result ≡ slice_get (spots_to_come self.entry) number }
+    {
+        match self {
+            Elements::Members(Members::Words(words)) => {
+                Some(Spot::Descriptor(some_word(words, number)?))
+            }
+            Elements::Members(Members::Units(units)) => {
+                Some(Spot::Unit(some_unit(units, number)?))
+            }
+            Elements::Numbers(words) => Some(Spot::Word(some_word(words, number)?)),
         }
     }
 

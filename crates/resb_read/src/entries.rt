@@ -162,7 +162,7 @@ fn read_entry<'de, 'm, K: Deserialize<'de>, T: Deserialize<'de>>(
 
 /// The entries of the table at a word.
 #[inline(always)]
-fn entries_at<'de>(
+pub(crate) fn entries_at<'de>(
     file: FileBlocks<'de>,
     word: u32,
 ) -> Result<TableParts<'de>, BinaryDeserializerError>

@@ -1,10 +1,11 @@
 //! Names beside keys: whether a key is a name, and which of both is the greater. Of a key no more
 //! is looked at than the name is long, and one byte.
-//! Where in a table a name is looked for is said in `tables` and `sorted`.
+//! Where in a table a name is looked for is said in `tables`.
 ghost use Rattle.std.specs.Prelude.{◌≡◌, ◌≢◌, ◌≤◌, ◌<◌, ◌+◌, ◌/◌, ◌==◌, ℕ, List, Some, length};
 ghost use Rattle.std.specs.List.{position_or_len};
-ghost use Rattle.std.specs.Prelude.{slice_get, take, drop, option_map, MatchOption, IfSome};
+ghost use Rattle.std.specs.Prelude.{slice_get, take, drop, option_map, MatchOption, IfSome, true};
 ghost use Rattle.std.specs.Ordering.{nat_cmp};
+ghost use Rattle.std.specs.declared.cmp.Ordering.TheVariants.{Equal};
 ghost use Rattle.std.specs.Cmp.Lexicographic.{slice_cmp};
 ghost use Rattle.resb_format.specs.Strings.{key_at};
 ghost use Rattle.resb_format.specs.Parts.{parts_in};
@@ -77,23 +78,55 @@ fn is_same(bytes: &[u8], wanted: &[u8]) -> bool
     }
 }
 
-/// How a name stands to the key at a position, byte by byte, if one can be read there.
+/// How a name stands to the key at a position, byte by byte, if one can be read there. They are
+/// equal only where the name is that key.
 pub(crate) fn order_of(file: FileBlocks<'_>, name: &str, position: usize) -> Ordering
-    ensures { (t : List ℕ) → key_in (parts_in file.entry) position ≡ Some t
+    ensures ordered { (t : List ℕ) → key_in (parts_in file.entry) position ≡ Some t
         → result ≡ slice_cmp nat_cmp name.now t }
+    ensures equal { result ≡ Equal
+        → is_text name.now (key_from (parts_in file.entry) (spot.Key position)) ≡ true }
 {
     let (keys, at) = key_place(file, position);
     block_order(keys, name, at)
 }
 
 /// How a name stands to the key at a byte of a block of keys.
+#[tactic(auto, using(crate::proofs::Naming::ordered))]
 fn block_order(keys: &[u8], name: &str, position: usize) -> Ordering
-    ensures { (t : List ℕ) → key_at keys.now position ≡ Some t
+    ensures ordered { (t : List ℕ) → key_at keys.now position ≡ Some t
         → result ≡ slice_cmp nat_cmp name.now t }
+    ensures equal { result ≡ Equal
+        → is_text name.now (option_map (λ s. (s, 0)) (key_at keys.now position)) ≡ true }
 {
     match cut_at(keys, position) {
-        Some((_, tail)) => order(name.as_bytes(), front(tail, name.len() + 1)),
+        Some((_, tail)) => order(name.as_bytes(), tail),
         None => Ordering::Greater,
+    }
+}
+
+/// How bytes stand to those before the first zero byte of a key.
+#[tactic(auto, using(crate::proofs::Orders::steps))]
+fn order(wanted: &[u8], key: &[u8]) -> Ordering
+    ensures { result ≡ order_ended wanted.entry.now key.entry.now }
+{
+    let mut same = 0;
+    'bytes: while same < wanted.len() && same < key.len() {
+        let (first, byte) = (wanted[same], key[same]);
+        if first != byte {
+            return first.cmp(&byte);
+        }
+        if byte == 0 {
+            return Ordering::Greater;
+        }
+        same += 1;
+    }
+    if same == key.len() {
+        return Ordering::Greater;
+    }
+    if key[same] == 0 {
+        Ordering::Equal
+    } else {
+        Ordering::Less
     }
 }
 
@@ -106,33 +139,6 @@ fn front(bytes: &[u8], most: usize) -> &[u8]
         Some((front, _)) => front,
         None => bytes,
     }
-}
-
-/// How bytes stand to those before the first zero byte of a key.
-fn order(wanted: &[u8], key: &[u8]) -> Ordering
-    ensures { result ≡ order_ended wanted.entry.now key.entry.now }
-{
-    let mut left = wanted;
-    let mut rest = key;
-    'bytes: while let Some((byte, behind)) = rest.split_first() {
-        let Some((first, later)) = left.split_first() else {
-            return if *byte == 0 {
-                Ordering::Equal
-            } else {
-                Ordering::Less
-            };
-        };
-        if *byte == 0 {
-            return Ordering::Greater;
-        }
-        match first.cmp(byte) {
-            Ordering::Equal => {}
-            other => return other,
-        }
-        rest = behind;
-        left = later;
-    }
-    Ordering::Greater
 }
 
 /// How many bytes the key at a position has, whether it can be read or not, if they are at most 15

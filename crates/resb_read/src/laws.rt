@@ -1,5 +1,6 @@
 //! Laws of reading, each the contract of a call that does nothing.
 //! Their statements stand in `specs/Laws`.
+ghost use Rattle.resb_read.specs.Inside.{EntriesStand, MembersStand, NumbersStand, TypesTellTrees};
 ghost use Rattle.resb_read.specs.Laws.{OneRefusalOfAFile, OneValue};
 ghost use Rattle.resb_read.specs.Measuring.{OneWeight, TreesWeighNoMore};
 ghost use Rattle.resb_read.specs.Tables.{LastOfAName, AscendIsTold};
@@ -21,6 +22,15 @@ pub fn one_value()
 /// nothing is found where no entry has it.
 pub fn last_of_a_name()
     ensures { LastOfAName }
+{}
+
+/// What is found inside a table, an array or a vector is what stands in its tree, and nothing is
+/// found where nothing stands there; which of them it is, the type at the place tells.
+pub fn found_inside_is_in_the_tree()
+    ensures entries { EntriesStand }
+    ensures members { MembersStand }
+    ensures numbers { NumbersStand }
+    ensures types { TypesTellTrees }
 {}
 
 /// The test by which `TableView::sorted` goes is true exactly where each key is a text, and above

@@ -8,6 +8,7 @@ mod elements;
 mod entries;
 mod faults;
 pub mod helpers;
+mod inside;
 mod keys;
 pub mod laws;
 mod lists;

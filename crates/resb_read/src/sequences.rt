@@ -117,7 +117,7 @@ impl<'de, 'm> SeqAccess<'de, 'm> {
 
 /// The members of the array or vector at a word.
 #[inline(always)]
-fn members_at<'de>(
+pub(crate) fn members_at<'de>(
     file: FileBlocks<'de>,
     word: u32,
 ) -> Result<Elements<'de>, BinaryDeserializerError>

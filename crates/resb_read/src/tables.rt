@@ -1,22 +1,25 @@
 //! A table whose values are looked up by their keys.
 //! Its entries one after another are in `entries`; a table whose keys ascend is in `sorted`.
 ghost use Rattle.std.specs.Prelude.{◌≡◌, ◌≤◌, ◌<◌, ◌+◌, ◌⊎◌, ℕ, Some, None, length, option_map};
-ghost use Rattle.std.specs.Prelude.{MatchResult, IfOk, IfErr};
+ghost use Rattle.std.specs.Prelude.{MatchResult, IfOk, IfErr, IfSome, get_or, slice_index, true};
+ghost use Rattle.resb_walk.specs.Inner.Members.{member_of, members_of, positions_of};
 ghost use Rattle.resb_walk.specs.Refusals.{IsSpent};
 ghost use Rattle.resb_read.specs.Places.{place_of};
 ghost use Rattle.resb_read.specs.Sequences as sequences;
 ghost use Rattle.resb_read.specs.Inner.Elements.{entry_places, near_entries};
-ghost use Rattle.resb_read.specs.Tables.{view_entries, last_named, RefusesTable};
+ghost use Rattle.resb_read.specs.Tables.{view_entries, last_named, keys_ascend, HasEntry};
+ghost use Rattle.resb_read.specs.Tables.{RefusesTable};
 ghost use Rattle.resb_read.specs.Tables.{ReadsFound, RefusesFound};
 
 use crate::cursor::{Cursor, Spot};
 use crate::deserialize::Deserialize;
 use crate::elements::spot_of;
-use crate::keys::is_key;
+use crate::keys::{is_key, order_of};
 use resb_format::bytes::{unit_at, word_at};
 use resb_format::{BinaryDeserializerError, FileBlocks, ReadingError};
-use resb_walk::{Members, Positions, TableParts, Walk};
+use resb_walk::{Member, Members, Positions, TableParts, Walk};
 use std::alloc::Global;
+use std::cmp::Ordering;
 
 /// A table that stands in a file, with one paid of the budget for each of its entries.
 #[derive(Clone, Copy)]
@@ -47,6 +50,20 @@ impl<'de> TableView<'de> {
             }
             _ => last_of(self.file, self.entries, name),
         }
+    }
+
+    /// Where the value of an entry stands whose key is this name, by halving. Where the keys are
+    /// texts and ascend, as in files that ICU or `resb` wrote, this is what `get` answers. Nothing
+    /// is tested of their order: in a table of another one an entry may be missed. Of each key that
+    /// is met at most one byte more than the name has is looked at.
+    #[inline(always)]
+    pub fn find(&self, name: &str) -> Option<Cursor<'de>>
+        ensures found { IfSome result (λ c.
+            HasEntry name.now (view_entries self.now) (place_of c)) }
+        ensures exact { keys_ascend (view_entries self.now) ≡ true
+            → option_map place_of result ≡ last_named name.now (view_entries self.now) }
+    {
+        found_by_halves(self.file, self.entries, name)
     }
 
     /// Reads the value of the last entry whose key is this name, if there is one.
@@ -108,6 +125,59 @@ fn last_of<'de>(file: FileBlocks<'de>, entries: TableParts<'de>, name: &str) -> 
         rest = later;
     }
     found
+}
+
+/// The position with this number.
+#[tactic(auto, using(crate::proofs::Halving::lengths))]
+fn position_at(keys: Positions<'_>, number: usize) -> usize
+    requires { number < length (positions_of keys) }
+    ensures { result ≡ slice_index (positions_of keys.entry) number }
+{
+    match keys {
+        Positions::Halves(bytes) => usize::from(unit_at(bytes, number)),
+        Positions::Wholes(bytes) => word_at(bytes, number) as usize,
+    }
+}
+
+/// The member with this number.
+#[tactic(auto, using(crate::proofs::Halving::lengths))]
+fn member_at(members: Members<'_>, number: usize) -> Member
+    requires { number < length (members_of members) }
+    ensures { get_or (members_of members.entry) number (member_of result) ≡ member_of result }
+{
+    match members {
+        Members::Words(bytes) => Member::Word(word_at(bytes, number)),
+        Members::Units(bytes) => Member::Unit(unit_at(bytes, number)),
+    }
+}
+
+/// Where the value of one of these entries stands whose key is this name: the entry in the middle
+/// tells in which half of them it can be.
+fn found_by_halves<'de>(
+    file: FileBlocks<'de>,
+    entries: TableParts<'de>,
+    name: &str,
+) -> Option<Cursor<'de>>
+    ensures found { IfSome result (λ c.
+        HasEntry name.now (entry_places file.entry entries.entry) (place_of c)) }
+    ensures exact { keys_ascend (entry_places file.entry entries.entry) ≡ true
+        → option_map place_of result
+        ≡ last_named name.now (entry_places file.entry entries.entry) }
+{
+    let mut low = 0;
+    let mut high = entries.len();
+    'halves: while low < high {
+        let middle = low + (high - low) / 2;
+        match order_of(file, name, position_at(entries.keys, middle)) {
+            Ordering::Equal => {
+                let at = spot_of(member_at(entries.members, middle));
+                return Some(Cursor { file, at });
+            }
+            Ordering::Less => high = middle,
+            Ordering::Greater => low = middle + 1,
+        }
+    }
+    None
 }
 
 /// Pays one for each of so many entries, or nothing where not so many are left.

@@ -7,7 +7,7 @@ use Rattle.std.specs.Prelude.{◌≡◌, ◌≤◌, ◌<◌, ◌⊎◌, ℕ, Lis
 use Rattle.std.specs.Prelude.{Result, Ok, Err, IsUtf8, replicate}
 use Rattle.std.specs.Str.Lossy.{utf8_valid_len}
 use Rattle.resb_grammar.specs.Limit.{MadeWithin, MakesMore}
-use Rattle.resb_compile.specs.Compiling.{IsCompiled, IsRefused}
+use Rattle.resb_compile.specs.Compiling.{IsCompiled, IsRefused, IsWithinLimit}
 use Rattle.resb_read.specs.Roots.{AnswersCountOf}
 use Rattle.resb_read.specs.WithPool.{over}
 use Rattle.resb_program.specs.Files.{LacksPool, RefusesReading}
@@ -39,13 +39,17 @@ CompilesInto text old new (Err (NotUtf8 n)) = IsNotUtf8 text n × (new ≡ old)
 CompilesInto text old new (Err (Compiling e)) = IsUtf8 text × IsRefused text e × (new ≡ old)
 CompilesInto text old new (Err _) = ⊥
 
--- the same where reading the text makes no more bytes than a limit; or more are made at some token
--- of a reading, and the whole reading is not within it
+-- the same where reading the text makes no more bytes than a limit, unless memory was wanted to
+-- read it; or more are made at some token of a reading, and the whole reading is not within it
 abbrev pub CompilesWithin : List ℕ → ℕ → List ℕ → List ℕ → Result ℕ Fault → Type 0
 CompilesWithin text limit old new (Ok n) =
     MadeWithin text limit × CompilesInto text old new (Ok n)
 CompilesWithin text limit old new (Err LargerText) =
     IsUtf8 text × MakesMore text limit × (MadeWithin text limit → ⊥) × (new ≡ old)
+CompilesWithin text limit old new (Err (TooShort n)) =
+    MadeWithin text limit × CompilesInto text old new (Err (TooShort n))
+CompilesWithin text limit old new (Err (Compiling e)) =
+    CompilesInto text old new (Err (Compiling e)) × IsWithinLimit text limit e
 CompilesWithin text limit old new (Err fault) = CompilesInto text old new (Err fault)
 
 -- the number of resources of the file's tree, beside the pool bundle of these bytes; the reader's

@@ -1,6 +1,5 @@
 -- Nothing is passed on.
 mod Agreeing
-mod FindingLemmas
 mod Sizes
 mod Heads
 mod HexText

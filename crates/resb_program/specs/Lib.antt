@@ -1,5 +1,5 @@
 -- The words of the contracts: a text's file and why there is none, what is had of a file, JSON,
--- paths, and what a person is told of a place of a text; what the program is asked, what it writes,
+-- and what a person is told of a place of a text; what the program is asked, what it writes,
 -- and why it fails; and what the crates below say of files and texts.
 -- `Inner` has words of private functions.
 pub use Rattle.hex.specs.Hex
@@ -15,7 +15,6 @@ pub mod Commands
 pub mod Program
 pub mod Sources
 pub mod Json
-pub mod Finding
 pub mod Files
 pub mod Messages
 pub mod Location

@@ -12,7 +12,7 @@ use Rattle.resb_text.specs.declared.error.TextParserError.{TextParserError}
 use Rattle.resb_icu_grammar.specs.declared.expected.IcuExpected.{IcuExpected}
 use Rattle.resb_icu_grammar.specs.declared.expected.IcuExpected.TheVariants as icu_expect
 use Rattle.resb_icu_text.specs.declared.error.IcuTextError.{IcuTextError}
-use Rattle.resb_compile.specs.Compiling.{IsRefused}
+use Rattle.resb_compile.specs.Compiling.{IsRefused, IsWithinLimit}
 use Rattle.resb_compile.specs.CompilingIcu.{IsIcuRefused}
 use Rattle.resb_compile.specs.declared.compiling_icu.IcuCompileError.TheVariants as icu
 use Rattle.resb_compile.specs.declared.compiling.CompileError.TheVariants.{Reading, Writing}
@@ -41,11 +41,13 @@ IsNoIcuSource source (Refused e) = ⊥
 IsNoIcuSource source (IcuRefused e) = IsUtf8 source × IsIcuRefused source e
 IsNoIcuSource source (Larger limit) = ⊥
 
--- the same, where reading the text may make no more bytes than a limit: more are made at some token
--- of a reading, and the whole reading is not within it
+-- the same, where reading the text may make no more bytes than a limit: a refused text makes no
+-- more, unless memory was wanted; or more are made at some token of a reading, and the whole
+-- reading is not within it
 abbrev pub IsNoSourceWithin : List ℕ → ℕ → SourceError → Type 0
 IsNoSourceWithin source limit (NotUtf8 place) = IsNoSource source (NotUtf8 place)
-IsNoSourceWithin source limit (Refused e) = IsNoSource source (Refused e)
+IsNoSourceWithin source limit (Refused e) =
+    IsNoSource source (Refused e) × IsWithinLimit source limit e
 IsNoSourceWithin source limit (IcuRefused e) = ⊥
 IsNoSourceWithin source limit (Larger n) =
     (n ≡ limit) × IsUtf8 source × MakesMore source limit × (MadeWithin source limit → ⊥)

@@ -37,6 +37,13 @@ impl From<AllocError> for JsonError {
     }
 }
 
+/// Whether a resource has JSON, memory aside: arrays and tables nest no more than 120 deep.
+pub fn has_json(resource: &Resource<'_>) -> bool
+    ensures { result ≡ nests_within 120 (tree_of resource.now) }
+{
+    nests_within(resource, MAX_DEPTH)
+}
+
 /// The JSON of a resource, without blanks. It is too deep exactly where arrays and tables nest more
 /// than 120 deep.
 #[tactic(auto, using(crate::proofs::JsonLemmas::plain))]
@@ -45,7 +52,7 @@ pub fn json_text(alloc: Global, resource: &Resource<'_>) -> Result<String, JsonE
         × (nests_within 120 (tree_of resource.now) ≡ true)) }
     ensures err { IfErr result (NamesDepth (tree_of resource.now)) }
 {
-    if !nests_within(resource, MAX_DEPTH) {
+    if !has_json(resource) {
         return Err(JsonError::TooDeep);
     }
     let value = value_of(alloc, resource)?;
@@ -67,7 +74,7 @@ pub fn json_text_within(
     ensures nests { OnOk result (nests_within 120 (tree_of resource.now) ≡ true) }
     ensures err { IfErr result (NamesDepth (tree_of resource.now)) }
 {
-    if !nests_within(resource, MAX_DEPTH) {
+    if !has_json(resource) {
         return Err(JsonError::TooDeep);
     }
     if without_json(u128::from(limit), resource).is_none() {

@@ -1,6 +1,6 @@
 //! What programs do with bundles: a text's file and where to look in one that is refused, what is
-//! had of a file, JSON, paths, what a person is told of a place of a text; and the streams and
-//! words of the program `resb_tool`. How a program keeps the memory that it gives back is in
+//! had of a file, JSON, what a person is told of a place of a text; and the streams and words of
+//! the program `resb_tool`. How a program keeps the memory that it gives back is in
 //! `memory`. The process's own streams, words and files are named in the programs alone.
 #![tactic(auto)]
 
@@ -15,7 +15,6 @@ mod json_bytes;
 mod location;
 mod memory;
 mod nesting;
-mod path;
 mod sources;
 mod streams;
 mod text_pieces;
@@ -26,10 +25,9 @@ pub use command::{Command, command_of};
 pub use errors::{FileError, SourceError, ToolError};
 pub use excerpt::{is_hidden, pointed_line};
 pub use files::{check_file, count_file, measure_file, read_bundle};
-pub use json::{JsonError, json_text, json_text_within};
+pub use json::{JsonError, has_json, json_text, json_text_within};
 pub use location::{Location, location_of};
 pub use memory::keep_freed_memory;
-pub use path::{Found, find};
 pub use sources::{
     Blame, compile_icu_source, compile_source, compile_source_within, compile_text, text_of,
     where_to_look,

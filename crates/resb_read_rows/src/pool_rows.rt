@@ -3,6 +3,7 @@
 use crate::files::file_of_words;
 use resb_format::{BinaryDeserializerError, Resource};
 use resb_head::FormatVersion;
+use resb_path::{find_in, find_with_pool};
 use resb_pool_bundle::{FileHead, PoolBundle, read_with_pool};
 use resb_read::{
     Cursor, count_resources_with_pool, from_bytes_counted_with_pool, from_bytes_with_pool,
@@ -60,6 +61,30 @@ fn are_strings(
     Ok(long && short.is_some_and(|it| it.as_str() == "x"))
 }
 
+/// Whether the entries are found by halving, and none of another name.
+fn are_found(file: &[u8], pool: PoolBundle<'_>) -> Result<bool, BinaryDeserializerError> {
+    let (root, mut walk) = Cursor::root_with_pool(file, Some(pool))?;
+    let table = root.read_table(&mut walk)?;
+    let places = (table.find("alpha"), table.find("beta"));
+    let (Some(long), Some(short)) = places else {
+        return Ok(false);
+    };
+    let (long, short) = (long.read_bytes(&mut walk)?, short.read_bytes(&mut walk)?);
+    let misses = table.find("alp").is_none() && table.find("alphas").is_none();
+    Ok(long.len() == 26 && short == b"x\0".as_slice() && misses)
+}
+
+/// Whether paths from the root lead to a string, and to nothing.
+fn are_led(file: &[u8], pool: PoolBundle<'_>) -> Result<bool, BinaryDeserializerError> {
+    let (root, mut walk) = Cursor::root_with_pool(file, Some(pool))?;
+    let Some(short) = find_with_pool(file, Some(pool), &["beta"])? else {
+        return Ok(false);
+    };
+    let same = short.read_bytes(&mut walk)? == b"x\0".as_slice();
+    let misses = find_in(root, &["beta", "0"])?.is_none() && root.entry("bet")?.is_none();
+    Ok(same && misses && root.member(0).is_err())
+}
+
 /// Whether the tree is counted and measured.
 fn is_measured(
     alloc: Global,
@@ -94,7 +119,9 @@ fn a_file_over_a_pool_bundle_is_read(rt: HostRuntime) -> Result<(), Fail> {
     );
     let bundle = PoolBundle::read(&pool)?;
     let heads = are_heads(&pool, &file)?;
-    let strings = are_strings(alloc, &file, bundle)?;
+    let strings = are_strings(alloc, &file, bundle)?
+        && are_found(&file, bundle)?
+        && are_led(&file, bundle)?;
     let measured = is_measured(alloc, &file, bundle)?;
     assert!(rt; heads && strings && measured && is_one_tree(alloc, &file, bundle)?);
     Ok(())

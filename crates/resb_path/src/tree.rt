@@ -1,12 +1,12 @@
-//! What stands in a tree at a path such as `zones/Pole/base`.
-//! Names go into tables, and numbers from 0 into arrays and vectors.
+//! What stands in a tree at a path.
+//! Which number a name says is in `names`; paths in files are in `file`.
 ghost use Rattle.std.specs.Prelude.{◌≡◌, map, option_map};
 ghost use Rattle.resb_tree.specs.View.{tree_of, items_view, entries_view};
-ghost use Rattle.resb_program.specs.Finding as finding;
-ghost use Rattle.resb_program.specs.Finding.{spot_of, number_said, value_named, found_at};
-ghost use Rattle.resb_program.specs.Finding.{found_inside};
-ghost use Rattle.resb_program.specs.Finding.{member_said, element_said, tree_spot};
+ghost use Rattle.resb_path.specs.Finding.{spot_of, value_named, found_at};
+ghost use Rattle.resb_path.specs.Finding.{found_inside};
+ghost use Rattle.resb_path.specs.Finding.{member_said, element_said, tree_spot};
 
+use crate::names::number_of;
 use resb_tree::{Resource, Table};
 
 /// What stands at a path.
@@ -49,26 +49,6 @@ fn step<'t, 'a>(found: Found<'t, 'a>, name: &str) -> Option<Found<'t, 'a>>
             Some(Found::Number(number))
         }
         _ => None,
-    }
-}
-
-/// Whether a sign stands first, or a zero before more.
-fn is_adorned(name: &[u8]) -> bool
-    ensures { result ≡ finding.is_adorned name.now }
-{
-    !name.is_empty() && (name[0] == b'+' || (name[0] == b'0' && name.len() > 1))
-}
-
-/// The number that decimal digits say, without a sign and without a zero before other digits.
-fn number_of(name: &str) -> Option<usize>
-    ensures { result ≡ number_said name.now }
-{
-    if is_adorned(name.as_bytes()) {
-        return None;
-    }
-    match name.parse::<usize>() {
-        Ok(number) => Some(number),
-        Err(_) => None,
     }
 }
 

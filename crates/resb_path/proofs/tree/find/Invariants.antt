@@ -1,7 +1,7 @@
 use Rattle.std.proofs.Common.{◌≡◌, map, drop}
 use Rattle.resb_tree.specs.View.{tree_of}
-use Rattle.resb_program.specs.Finding.{spot_of, found_at, tree_spot}
-use Rattle.resb_program.proofs.path.find.Given as goal
+use Rattle.resb_path.specs.Finding.{spot_of, found_at, tree_spot}
+use Rattle.resb_path.proofs.tree.find.Given as goal
 
 abbrev pub invariant-loop-name : goal.invariant-loop-name
 invariant-loop-name l =

@@ -13,8 +13,8 @@ use Rattle.std.specs.Str.Parse.{digits_value}
 use Rattle.resb_tree.specs.Tree.{Tree, string, alias, array, table, binary, integer, int_vector}
 use Rattle.resb_tree.specs.Tree.{Trees, no_trees, more_trees, Entries, no_entries, entry}
 use Rattle.resb_tree.specs.View.{tree_of}
-use Rattle.resb_program.specs.declared.path.Found.{Found}
-use Rattle.resb_program.specs.declared.path.Found.TheVariants as found
+use Rattle.resb_path.specs.declared.tree.Found.{Found}
+use Rattle.resb_path.specs.declared.tree.Found.TheVariants as found
 
 -- what a path leads to: a tree, or a number of a vector
 pub data Spot : Type 0 where

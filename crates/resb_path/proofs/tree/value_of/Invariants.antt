@@ -1,7 +1,7 @@
 use Rattle.std.proofs.Common.{◌≡◌}
 use Rattle.resb_tree.specs.View.{entries_view}
-use Rattle.resb_program.specs.Finding.{value_named}
-use Rattle.resb_program.proofs.path.value_of.Given as goal
+use Rattle.resb_path.specs.Finding.{value_named}
+use Rattle.resb_path.proofs.tree.value_of.Given as goal
 
 abbrev pub invariant-loop-key : goal.invariant-loop-key
 invariant-loop-key l =

@@ -9,8 +9,8 @@ use Rattle.std.proofs.lemmas.Bool.{false≢true, lt-ltb}
 use Rattle.std.proofs.lemmas.Bool.Decides.{Decides-ltb}
 use Rattle.resb_tree.specs.View.{tree_of, items_view}
 use Rattle.resb_tree.specs.declared.resource.Resource.{Resource}
-use Rattle.resb_program.specs.Finding.{are_digits, number_written, number_said, is_adorned}
-use Rattle.resb_program.specs.Finding.{tree_at}
+use Rattle.resb_path.specs.Finding.{are_digits, number_written, number_said, is_adorned}
+use Rattle.resb_path.specs.Finding.{tree_at}
 
 digits_test : (bs : List ℕ) → AllDigits 10 bs → are_digits bs ≡ true
 digits_test [] h = refl

@@ -1,8 +1,8 @@
 use Rattle.std.proofs.Common.{◌≡◌, true, false}
-use Rattle.resb_program.specs.Finding.{is_adorned}
-use Rattle.resb_program.proofs.FindingLemmas.{read_number_is_said, no_number_is_said}
-use Rattle.resb_program.proofs.FindingLemmas.{none_is_said}
-use Rattle.resb_program.proofs.path.number_of.Goals as goal
+use Rattle.resb_path.specs.Finding.{is_adorned}
+use Rattle.resb_path.proofs.FindingLemmas.{read_number_is_said, no_number_is_said}
+use Rattle.resb_path.proofs.FindingLemmas.{none_is_said}
+use Rattle.resb_path.proofs.names.number_of.Goals as goal
 
 pub returns-then-is_adorned : goal.returns-then-is_adorned
 returns-then-is_adorned c =

@@ -1,9 +1,9 @@
 use Rattle.std.proofs.Common.{◌∙◌, sym, ap}
 use Rattle.std.specs.Option.{option_and_then}
 use Rattle.resb_tree.specs.View.{items_view}
-use Rattle.resb_program.specs.Finding.{tree_at}
-use Rattle.resb_program.proofs.FindingLemmas.{tree_found}
-use Rattle.resb_program.proofs.path.member_of.Goals as goal
+use Rattle.resb_path.specs.Finding.{tree_at}
+use Rattle.resb_path.proofs.FindingLemmas.{tree_found}
+use Rattle.resb_path.proofs.tree.member_of.Goals as goal
 
 pub returns : goal.returns
 returns c =

@@ -1,0 +1,4 @@
+-- Nothing is passed on.
+mod FindingLemmas
+mod StepLemmas
+mod WayLemmas

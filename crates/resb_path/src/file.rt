@@ -1,0 +1,97 @@
+//! What stands in a file at a path, without a tree of it: nothing else in the file is looked at.
+//! What stands in a tree is found in `tree`.
+ghost use Rattle.std.specs.Prelude.{◌≡◌, ◌==◌, ◌||◌, map, option_map, MatchResult};
+ghost use Rattle.resb_format.specs.Descriptor.{type_number};
+ghost use Rattle.resb_format.specs.Types as types;
+ghost use Rattle.resb_read.specs.Places.{place_of};
+ghost use Rattle.resb_path.specs.Finding.{Spot, found_inside};
+ghost use Rattle.resb_path.specs.InFiles.{IsAt, AreFound, AnswersPath, AnswersPathWith};
+ghost use Rattle.resb_path.specs.InFiles.{LeadsIn, LeadsOn, LeadsOnWith};
+ghost use Rattle.resb_read.specs.WithPool.{over};
+ghost use Rattle.resb_pool_bundle.specs.Pool.{pool_in};
+
+use crate::names::number_of;
+use resb_format::{BinaryDeserializerError, ResourceReprType};
+use resb_pool_bundle::PoolBundle;
+use resb_read::Cursor;
+
+/// Where that stands in a file to which a path of names and numbers leads from a place, if it
+/// leads to anything: in a table to the last entry of a name. Where the place denotes a tree, that
+/// is what stands in the tree, and nothing is refused. Elsewhere the way alone counts: it is
+/// refused where a type on it isn't read, or where what is inside lies outside the file. Of each
+/// key on the way at most one byte more than the name has is looked at.
+pub fn find_in<'de>(
+    root: Cursor<'de>,
+    path: &[&str],
+) -> Result<Option<Cursor<'de>>, BinaryDeserializerError>
+    ensures leads { LeadsOn (place_of root.entry) (map (λ name. name.now) path.now) result }
+    ensures tree { AnswersPath (place_of root.entry) (map (λ name. name.now) path.now) result }
+{
+    let mut found = root;
+    for name in path {
+        match step(found, name)? {
+            Some(inside) => found = inside,
+            None => return Ok(None),
+        }
+    }
+    Ok(Some(found))
+}
+
+/// The same from the root of a file beside the pool bundle that is given, if one is. It is refused
+/// by the first check of the head that fails too.
+pub fn find_with_pool<'de>(
+    bytes: &'de [u8],
+    pool: Option<PoolBundle<'de>>,
+    path: &[&str],
+) -> Result<Option<Cursor<'de>>, BinaryDeserializerError>
+    ensures leads { let file = over (option_map pool_in pool.entry) bytes.now in
+        LeadsOnWith file (map (λ name. name.now) path.now) result }
+    ensures tree { let given = option_map pool_in pool.entry in
+        AnswersPathWith given bytes.now (map (λ name. name.now) path.now) result }
+{
+    let (root, _) = Cursor::root_with_pool(bytes, pool)?;
+    find_in(root, path)
+}
+
+/// Where that stands which has a name inside what stands at a place.
+fn step<'de>(at: Cursor<'de>, name: &str) -> Result<Option<Cursor<'de>>, BinaryDeserializerError>
+    ensures leads { LeadsIn (place_of at.entry) name.now result }
+    ensures tree { (s : Spot) → IsAt (place_of at.entry) s → MatchResult result
+        (λ c. AreFound (option_map place_of c) (found_inside s name.now)) (λ e. ⊥) }
+{
+    // nothing stands inside a number of a vector
+    if at.as_int_vector().is_some() {
+        return Ok(None);
+    }
+    let kind = at.resource_type()?;
+    if has_entries(kind) {
+        return at.entry(name);
+    }
+    if !has_members(kind) {
+        return Ok(None);
+    }
+    match number_of(name) {
+        Some(number) => at.member(number),
+        None => Ok(None),
+    }
+}
+
+/// Whether a type is one of a table.
+fn has_entries(kind: ResourceReprType) -> bool
+    ensures { result ≡ types.is_table (type_number kind) }
+{
+    matches!(
+        kind,
+        ResourceReprType::Table | ResourceReprType::_Table32 | ResourceReprType::Table16
+    )
+}
+
+/// Whether a type is that of an array or of a vector.
+fn has_members(kind: ResourceReprType) -> bool
+    ensures { result ≡ types.is_array (type_number kind) || type_number kind == types.int_vector }
+{
+    matches!(
+        kind,
+        ResourceReprType::Array | ResourceReprType::Array16 | ResourceReprType::IntVector
+    )
+}

@@ -1,0 +1,11 @@
+//! Paths such as `zones/Pole/base`: what stands at one, in a tree or in a file. Names go into
+//! tables, and numbers from 0 into arrays and vectors.
+//! Trees are made and files are read in the crates below.
+#![tactic(auto)]
+
+mod file;
+mod names;
+mod tree;
+
+pub use file::{find_in, find_with_pool};
+pub use tree::{Found, find};

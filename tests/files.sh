@@ -392,6 +392,7 @@ if make_refusing "$work/refuse.so"; then
   refuses check whole
   refuses dump whole
   refuses get whole a
+  refuses get --check whole a
   refuses help
   refuses unknown
 else

@@ -33,6 +33,8 @@ C3 = ('2000000f a08 b 13 13 2 a0004 f e31610fa 746c6564 aaaa0061 780000 30000 b 
 # d{alpha:alias{"/LOCALE/beta"}beta:int{5}}
 D3 = ('20000012 8 9 16 16 2 4 a e31610fa aaaa0000 c 4c002f 43004f 4c0041 2f0045 650062 610074 '
       'aaaa0000 2 aaaa0006 3000000a 70000005')
+# k{5}, with its own keys; the index has eight words, the last of which is a checksum
+OWN = '2000000a 8 a c c 1 0 a 1234 aaaa006b 240001 70000005'
 TREES = {
     'a': {'alpha': 'one two three', 'beta': 'x'},
     'b': {'alpha': 'one two three', 'gamma': 'three'},
@@ -199,6 +201,53 @@ def refuse_files():
         refuses(f'{name}: {error}', 'check', name)
 
 
+def read_attributes():
+    """Heads that say each thing of pools without the others, and checksums of no pool."""
+    over = 'format 3.0, fallback, largest table'
+    write('said/pool.res', file(with_word(POOL3, 6, '2')))
+    write('said/a.res', file(A3))
+    says(f'said/pool.res: 1 resources, {over} 0, pool bundle\n', 'check', 'said/pool.res')
+    shows(TREES['a'], 'said/a.res')
+    # a pool bundle that uses one itself
+    for folder in ('said', 'alone'):
+        write(f'{folder}/both.res', file(with_word(A3, 6, '20006')))
+    shows(TREES['a'], 'said/both.res')
+    says(f'said/both.res: 3 resources, {over} 2, pool bundle, over said/pool.res\n',
+         'check', 'said/both.res')
+    refuses(f'alone/both.res: {NO_POOL}', 'dump', 'alone/both.res')
+    refuses(f'alone/a.res: its pool bundle said/a.res: {INVALID}file is not a pool bundle',
+            'check', 'alone/a.res', '--pool', 'said/a.res')
+    # files that use none have a tree, whatever their checksum is, and whichever pool is there
+    for attributes, said in (('0', 'fallback, largest table 1'),
+                             ('1', 'no fallback, largest table 1'),
+                             ('2', 'fallback, largest table 1, pool bundle'),
+                             ('3', 'no fallback, largest table 1, pool bundle'),
+                             ('8', 'fallback, largest table 1')):
+        for folder in ('said', 'alone'):
+            name = f'{folder}/own.res'
+            write(name, file(with_word(OWN, 6, attributes), (2, 0)))
+            shows({'k': 5}, name)
+            shows({'k': 5}, name, '--pool', 'three/pool.res')
+            says(f'{name}: 2 resources, format 2.0, {said}\n', 'check', name)
+    # the same bytes with the attribute that asks for a pool
+    for attributes in ('4', '5', '6'):
+        for folder in ('said', 'alone'):
+            write(f'{folder}/own.res', file(with_word(OWN, 6, attributes), (2, 0)))
+        refuses(f'alone/own.res: {NO_POOL}', 'check', 'alone/own.res')
+        refuses(f'said/own.res: {INVALID}pool bundle has another checksum: said/pool.res',
+                'check', 'said/own.res')
+    # an index of nine words, and one of seven, which has no checksum
+    write('own9.res', file('2000000b 9 b d d 1 0 b 1234 5678 aaaa006b 280001 70000005', (2, 0)))
+    shows({'k': 5}, 'own9.res')
+    seven = '20000009 7 9 b b 1 0 9 aaaa006b 200001 70000005'
+    for attributes in ('0', '2', '4'):
+        write(f'own7{attributes}.res', file(with_word(seven, 6, attributes), (2, 0)))
+    shows({'k': 5}, 'own70.res')
+    for name in ('own72.res', 'own74.res'):
+        refuses(f'{name}: {INVALID}pool checksum not specified', 'check', name, '--pool',
+                'three/pool.res')
+
+
 def read_older():
     """Versions before 2.0, which have neither a 16-bit block nor a pool."""
     keys = 'aaaa0061'
@@ -257,6 +306,10 @@ def read_items():
     refuses('own.res: not a package, but another kind of ICU data', 'check', 'own.res/a.res')
     refuses("x.dat: this is a package of ICU's data: name an item inside it (resb list)", 'check',
             'x.dat')
+    refuses("lib.so: this is a package of ICU's data: name an item inside it (resb list)", 'dump',
+            'lib.so')
+    refuses('x.dat/curr/a.res: this leads through a file that is no folder', 'list',
+            'x.dat/curr/a.res', status=2)
     refuses('gone.dat/a.res: no such file', 'check', 'gone.dat/a.res', status=2)
 
 
@@ -315,8 +368,8 @@ def main():
     """All of it, in a folder of its own."""
     with tempfile.TemporaryDirectory() as folder:
         os.chdir(folder)
-        for group in (read_beside, check_lines, refuse_pools, refuse_files, read_older,
-                      read_items, read_far, read_hostile):
+        for group in (read_beside, check_lines, refuse_pools, refuse_files, read_attributes,
+                      read_older, read_items, read_far, read_hostile):
             group()
     print(f'{counts[True]} passed, {counts[False]} failed')
     return counts[False] > 0

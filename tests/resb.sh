@@ -57,6 +57,21 @@ told 0 'c' '' get names.res list/1
 told 0 '["a","c"]' '' get names.res list
 told 1 '' 'names.res: nothing stands at list/2' get names.res list/2
 told 1 '' 'names.res: nothing stands at hi/x' get names.res hi/x
+told 0 'hello' '' get --check names.res hi
+# what is no array or table is read though the last member of the root leads outside the file
+{ head -c -4 names.res; printf '\xff\xff\xff\xef'; } > cut.res
+outside='cut.res: Invalid resource bundle data: unexpected end of input'
+told 0 'hello' '' get cut.res hi
+told 0 '-5' '' get cut.res n
+told 0 'c' '' get cut.res list/1
+told 0 '{"binary":"00ff"}' '' get cut.res b
+told 1 '' 'cut.res: nothing stands at nowhere' get cut.res nowhere
+told 1 '' "$outside" get cut.res v
+told 1 '' "$outside" get cut.res v/0
+told 1 '' "$outside" get cut.res list
+told 1 '' "$outside" get --check cut.res nowhere
+told 1 '' "$outside" get --check cut.res hi
+told 1 '' "$outside" get --limit 100000 cut.res hi
 
 # what is dumped compiles to the same file where its keys stand in their order, through a stream too
 (exec -a resb "$program" dump names.res) > again.txt
@@ -203,6 +218,12 @@ told 0 '' '' compile small.txt --limit 1558
 told 0 'v' '' get small.res k
 told 1 '' 'small.txt: reading this text takes more than the limit of 1557 bytes' \
   compile --limit 1557 small.txt
+# each number of a vector is weighed as it comes: 72 for the root's brace, 195 for v, 4 for 1
+printf 'b{v:intvector{1,x' > vector.txt
+told 1 '' 'vector.txt: reading this text takes more than the limit of 270 bytes' \
+  compile --limit 270 vector.txt
+told 1 '' $'vector.txt:1:17: expected \'}\'\nb{v:intvector{1,x\n                ^' \
+  compile --limit 271 vector.txt
 told 2 '' 'resb: --limit is a number of bytes' compile small.txt --limit ten
 
 # where no text holds a string, the path to it is said

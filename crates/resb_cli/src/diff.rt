@@ -5,7 +5,7 @@ use crate::say::{complain, fail, refuse_memory};
 use crate::show::{TOO_DEEP, bundle_of, refuse_long, show};
 use crate::shown::Shown;
 use resb_diff::{Change, ChangeAt, PathStep, differences_between};
-use resb_program::{JsonError, json_text_within};
+use resb_program::{has_json, json_text_within};
 use resb_tree::Resource;
 use resb_words::DiffWords;
 use std::alloc::{AllocError, Global};
@@ -20,22 +20,12 @@ const MOST_BYTES: u64 = 1 << 28;
 #[derive(Clone, Copy)]
 enum Unsaid {
     Memory,
-    TooDeep,
     Long,
 }
 
 impl From<AllocError> for Unsaid {
     fn from(_: AllocError) -> Unsaid {
         Unsaid::Memory
-    }
-}
-
-impl From<JsonError> for Unsaid {
-    fn from(e: JsonError) -> Unsaid {
-        match e {
-            JsonError::TooDeep => Unsaid::TooDeep,
-            JsonError::OutOfMemory => Unsaid::Memory,
-        }
     }
 }
 
@@ -84,7 +74,7 @@ fn print_differences(
             let most = wanted.limit.or(Some(MOST_BYTES));
             return Err(refuse_long(rt, wanted.new, "list of differences", most));
         }
-        Err(Unsaid::Memory | Unsaid::TooDeep) => return Err(refuse_memory(rt, wanted.new)),
+        Err(Unsaid::Memory) => return Err(refuse_memory(rt, wanted.new)),
     };
     match show(rt, text.as_str()) {
         0 => Ok(!text.is_empty()),
@@ -105,13 +95,11 @@ fn key_bytes(path: &[PathStep<'_>]) -> u64 {
 
 /// Refuses a tree that nests deeper than JSON may, as its values and its paths could then.
 fn refuse_deep(rt: &HostRuntime, name: &str, tree: &Resource<'_>) -> Result<(), u8> {
-    match json_text_within(rt.alloc(), tree, 0) {
-        Err(JsonError::TooDeep) => {
-            complain(rt, name, TOO_DEEP);
-            Err(1)
-        }
-        _ => Ok(()),
+    if has_json(tree) {
+        return Ok(());
     }
+    complain(rt, name, TOO_DEEP);
+    Err(1)
 }
 
 /// The lines of what differs. Neither they nor the keys of their paths take more bytes than the
@@ -208,9 +196,13 @@ fn push_object(
     Ok(())
 }
 
-/// A value as JSON, which takes no more bytes than the limit.
+/// A value as JSON, which takes no more bytes than the limit. The tree that it stands in has JSON.
 fn json_of(alloc: Global, value: &Resource<'_>, limit: u64) -> Result<String, Unsaid> {
-    json_text_within(alloc, value, limit)?.ok_or(Unsaid::Long)
+    match json_text_within(alloc, value, limit) {
+        Ok(Some(text)) => Ok(text),
+        Ok(None) => Err(Unsaid::Long),
+        Err(_) => Err(Unsaid::Memory),
+    }
 }
 
 /// A path as `get` takes it.

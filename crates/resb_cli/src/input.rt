@@ -75,8 +75,8 @@ impl Input {
         Input::of_item(rt, name, bytes, package, item)
     }
 
-    /// The input of the next name: of the same bytes where both are items of one package, that isn't
-    /// read again then.
+    /// The input of the next name: of the same bytes where both are items of one package, which is
+    /// read once then.
     pub(crate) fn next(self, rt: &HostRuntime, name: &str) -> Result<Input, u8> {
         match split_package(rt, name) {
             Some((package, item)) if self.package.as_str() == package => {
@@ -172,7 +172,7 @@ fn package_name<'n>(name: &'n str, item: &str) -> &'n str {
 }
 
 /// Whether a file's head says that it uses a pool bundle.
-fn uses_pool(file: &[u8]) -> bool {
+pub(crate) fn uses_pool(file: &[u8]) -> bool {
     match FileHead::read(file) {
         Ok(head) => head.uses_pool(),
         Err(_) => false,

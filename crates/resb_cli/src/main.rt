@@ -4,6 +4,7 @@
 
 mod compile;
 mod diff;
+mod get;
 mod input;
 mod packages;
 mod place;
@@ -58,7 +59,7 @@ fn perform_request(rt: &HostRuntime, request: &Request<'_>) -> u8 {
         Request::Get(words) if words::is_marked(words.path) => {
             say::fail(rt, words.path, "this path is no UTF-8")
         }
-        Request::Get(words) => show::get(rt, words),
+        Request::Get(words) => get::get(rt, words),
         Request::Diff(words) => diff::diff(rt, words),
         Request::List(name) => packages::list(rt, name),
         Request::Extract(words) if words::is_marked(words.item) => {

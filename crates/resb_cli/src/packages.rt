@@ -44,6 +44,11 @@ pub(crate) fn package_of<'f>(
     })
 }
 
+/// Whether a file is a package or has one inside.
+pub(crate) fn is_package(file: &[u8]) -> bool {
+    Package::read(file).is_ok() || package_inside(file).is_some()
+}
+
 /// The package inside a file.
 fn package_inside(file: &[u8]) -> Option<Package<'_>> {
     let (_, inside) = file.split_at_checked(Package::place_inside(file)?)?;

@@ -1,20 +1,18 @@
-//! The commands `check`, `dump` and `get`: what is said of a file, and what is shown of it.
+//! The commands `check` and `dump`: what is said of a file, and what is shown of it as a whole.
 //! What a file is, and why it isn't read, is in `resb_program`.
 use crate::input::{Beside, Input};
+use crate::packages::is_package;
 use crate::progress::Progress;
 use crate::say::{NoText, complain, fail, refuse_memory, say_no_text};
 use crate::shown::Shown;
 use crate::streams::write_stream;
 use resb_head::FormatVersion;
 use resb_icu_print::{IcuPrintError, icu_cause_path, print_icu_text, print_icu_text_within};
-use resb_package::Package;
 use resb_pool_bundle::FileHead;
 use resb_print::{PrintError, cause_path, print_text, print_text_within};
-use resb_program::{
-    FileError, Found, JsonError, count_file, find, json_text, json_text_within, read_bundle,
-};
+use resb_program::{FileError, JsonError, count_file, json_text, json_text_within, read_bundle};
 use resb_tree::{Resource, ResourceBundle};
-use resb_words::{CheckWords, DumpWords, GetWords};
+use resb_words::{CheckWords, DumpWords};
 use std::alloc::Global;
 use std::path::Path;
 use std::{fmt, mem};
@@ -73,7 +71,13 @@ fn check_one(rt: &HostRuntime, name: &str, input: &Input, pool: Option<&str>) ->
 }
 
 /// Says why a file isn't read, beside the pool bundle of this name, if there is one.
-fn refuse(rt: &HostRuntime, name: &str, file: &[u8], e: &FileError, pool: Option<&str>) -> u8 {
+pub(crate) fn refuse(
+    rt: &HostRuntime,
+    name: &str,
+    file: &[u8],
+    e: &FileError,
+    pool: Option<&str>,
+) -> u8 {
     match (e, pool) {
         (FileError::Reading(e), _) if e.is_out_of_memory() => return refuse_memory(rt, name),
         (FileError::UsesPool, _) => complain(rt, name, NO_POOL),
@@ -81,7 +85,7 @@ fn refuse(rt: &HostRuntime, name: &str, file: &[u8], e: &FileError, pool: Option
             let (name, pool) = (Shown(name), Shown(pool));
             let _ = eprintln!(rt; "{name}: {e}: {pool}");
         }
-        _ if Package::read(file).is_ok() => complain(rt, name, A_PACKAGE),
+        _ if is_package(file) => complain(rt, name, A_PACKAGE),
         _ => complain(rt, name, e),
     }
     1
@@ -140,7 +144,7 @@ impl fmt::Display for PoolSaid<'_> {
 }
 
 /// The status of what was written to standard output, or not, once that is said.
-fn status_of(rt: &HostRuntime, is_written: bool) -> u8 {
+pub(crate) fn status_of(rt: &HostRuntime, is_written: bool) -> u8 {
     if is_written {
         return 0;
     }
@@ -268,7 +272,12 @@ fn show_icu(rt: &HostRuntime, name: &str, bundle: &ResourceBundle<'_>, limit: Op
 }
 
 /// Prints a resource as JSON, with a line feed.
-fn show_json(rt: &HostRuntime, name: &str, resource: &Resource<'_>, limit: Option<u64>) -> u8 {
+pub(crate) fn show_json(
+    rt: &HostRuntime,
+    name: &str,
+    resource: &Resource<'_>,
+    limit: Option<u64>,
+) -> u8 {
     show_made(rt, name, json_of(rt.alloc(), resource, limit), limit)
 }
 
@@ -291,55 +300,6 @@ fn show_made(
             1
         }
     }
-}
-
-/// Prints what stands at a path: a string as it is, a number with its sign, all else as JSON.
-pub(crate) fn get(rt: &HostRuntime, wanted: &GetWords<'_>) -> u8 {
-    settled(get_found(rt, wanted))
-}
-
-/// The same: the status, or that of a file without a tree.
-fn get_found(rt: &HostRuntime, wanted: &GetWords<'_>) -> Result<u8, u8> {
-    let (name, path) = (wanted.file, wanted.path);
-    let input = Input::read(rt, name, wanted.limit)?;
-    let opened = input.open(rt, name)?;
-    let file = opened.bytes;
-    let beside = opened.pool(rt, name, wanted.pool, wanted.limit)?;
-    let bundle = bundle_of(rt, name, file, &beside, wanted.limit)?;
-    let Ok(names) = path.split('/').collect::<Vec<&str>>(rt.alloc()) else {
-        return Ok(refuse_memory(rt, name));
-    };
-    let status = match find(bundle.root(), names.as_slice()) {
-        None => {
-            let (name, path) = (Shown(name), Shown(path));
-            let _ = eprintln!(rt; "{name}: nothing stands at {path}");
-            1
-        }
-        Some(found) => show_found(rt, name, found, wanted.limit),
-    };
-    // the program ends, and the system takes all memory back at once
-    mem::forget(bundle);
-    Ok(status)
-}
-
-/// Prints what was found.
-fn show_found(rt: &HostRuntime, name: &str, found: Found<'_, '_>, limit: Option<u64>) -> u8 {
-    let shown = match found {
-        Found::Number(number) => {
-            let number = number.cast_signed();
-            println!(rt; "{number}")
-        }
-        Found::Resource(Resource::Integer(number)) => {
-            let number = i32::from(*number);
-            println!(rt; "{number}")
-        }
-        Found::Resource(Resource::String(text)) => {
-            let text = text.as_str();
-            println!(rt; "{text}")
-        }
-        Found::Resource(resource) => return show_json(rt, name, resource, limit),
-    };
-    status_of(rt, shown.is_ok())
 }
 
 /// Says that what was to be printed takes more bytes than the limit. Without one nothing does.

@@ -107,6 +107,7 @@ pub(crate) fn cause_of(e: &io::Error) -> &'static str {
         ErrorKind::NotFound => "no such file",
         ErrorKind::PermissionDenied => "permission denied",
         ErrorKind::IsADirectory => "this is a folder",
+        ErrorKind::NotADirectory => "this leads through a file that is no folder",
         ErrorKind::InvalidFilename => "file name too long",
         _ => "cannot be opened",
     }

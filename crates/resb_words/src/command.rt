@@ -81,6 +81,7 @@ fn get<'a>(alloc: Global) -> Result<Command<'a>, AllocError> {
         .after_help("Example: resb get out/zones.res zones/Pole/base")
         .arg(file(alloc, RES_FILE))?
         .arg(path(alloc))?
+        .arg(whole(alloc))?
         .arg(tree_limit(alloc))?
         .arg(pool(alloc))
 }
@@ -117,7 +118,10 @@ fn extract<'a>(alloc: Global) -> Result<Command<'a>, AllocError> {
 
 /// The argument of a package.
 fn package<'a>(alloc: Global) -> Arg<'a> {
-    file(alloc, "A .dat file; '-' is standard input")
+    file(
+        alloc,
+        "A .dat file, or a library with one inside; '-' is standard input",
+    )
 }
 
 /// The item that is written.
@@ -206,6 +210,14 @@ fn path<'a>(alloc: Global) -> Arg<'a> {
     Arg::new(alloc, "PATH")
         .help("Keys and numbers of members, from 0, such as zones/Pole/pairs/0")
         .required(true)
+}
+
+/// Whether the whole of the file is looked at first.
+fn whole<'a>(alloc: Global) -> Arg<'a> {
+    Arg::new(alloc, "check")
+        .long("check")
+        .help("Looks at the whole of the file first, not only along the path")
+        .action(ArgAction::SetTrue)
 }
 
 /// The pool bundle of the files.

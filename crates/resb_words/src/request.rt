@@ -72,6 +72,8 @@ pub struct GetWords<'w> {
     pub file: &'w str,
     /// Keys and numbers of members, with a slash between two of them.
     pub path: &'w str,
+    /// Whether the whole of the file is looked at first.
+    pub is_checked: bool,
     /// The most bytes that the file's tree, its keys and the output may take.
     pub limit: Option<u64>,
     /// The name of the file's pool bundle, if it uses one.
@@ -169,6 +171,7 @@ fn get<'w>(matches: &ArgMatches<'w>) -> Result<Request<'w>, WordsError> {
     Ok(Request::Get(GetWords {
         file: word(matches, "FILE"),
         path: word(matches, "PATH"),
+        is_checked: matches.get_flag("check"),
         limit: limit(matches)?,
         pool: matches.get_str("POOL"),
     }))

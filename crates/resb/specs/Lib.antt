@@ -11,6 +11,10 @@ pub use Rattle.resb_tree.specs.Aliases
 pub use Rattle.resb_tree.specs.Int28
 pub use Rattle.resb_tree.specs.LayingOrder
 pub use Rattle.resb_tree.specs.Laws as TreeLaws
+pub use Rattle.resb_diff.specs.Differences
+pub use Rattle.resb_diff.specs.Paths as DiffPaths
+pub use Rattle.resb_diff.specs.View as DiffView
+pub use Rattle.resb_diff.specs.Laws as DiffLaws
 pub use Rattle.resb_draft.specs.Drafts
 pub use Rattle.resb_draft.specs.Pieces as DraftPieces
 pub use Rattle.resb_grammar.specs.Ascii
@@ -32,6 +36,7 @@ pub use Rattle.resb_icu_grammar.specs.Pieces as IcuPieces
 pub use Rattle.resb_icu_grammar.specs.Words as IcuWords
 pub use Rattle.resb_icu_grammar.specs.Groups as IcuGroups
 pub use Rattle.resb_icu_grammar.specs.Bundle as IcuBundle
+pub use Rattle.resb_icu_grammar.specs.Limit as IcuLimit
 pub use Rattle.resb_icu_grammar.specs.Laws as IcuGrammarLaws
 pub use Rattle.resb_icu_text.specs.Answer as IcuAnswer
 pub use Rattle.resb_icu_grammar.specs.Expected as IcuExpected
@@ -107,6 +112,9 @@ pub use Rattle.resb_read.specs.Inner.Named
 pub use Rattle.resb_read.specs.TypeLaws
 pub use Rattle.resb_read.specs.Laws as ReadLaws
 pub use Rattle.resb_read.specs.Tables
+pub use Rattle.resb_read.specs.Inside
+pub use Rattle.resb_path.specs.Finding
+pub use Rattle.resb_path.specs.InFiles
 pub use Rattle.resb_fields.specs.Fields
 pub use Rattle.resb_fields.specs.FieldLaws
 pub use Rattle.resb_pool.specs.Records

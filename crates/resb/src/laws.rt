@@ -12,6 +12,8 @@ pub use resb_tree::laws::tables_are_finite_maps;
 pub use resb_tree::laws::table_ascends;
 // An integer of 28 bits is kept by its readings without and with a sign.
 pub use resb_tree::laws::integers_survive;
+// Two trees don't differ exactly where they are equal, and each difference is so.
+pub use resb_diff::laws::{differences_are_so, equal_trees_do_not_differ};
 
 // Texts.
 
@@ -48,6 +50,8 @@ pub use resb_icu_grammar::laws::icu_keys_are_listed;
 pub use resb_icu_grammar::laws::icu_stuck_is_no_text;
 // A text in which a reading gets stuck does so at one place, where one thing is expected.
 pub use resb_icu_grammar::laws::one_icu_refusal;
+// Where the whole reading of such a text makes no more than a limit, no part of it makes more.
+pub use resb_icu_grammar::laws::icu_within_is_never_more;
 // The steps of a reading lead to the end of a text exactly where it is a bundle in that form.
 pub use resb_icu_grammar::laws::icu_machine_reads_the_form;
 // A tree in whose way nothing stands is printed as a text of that form.
@@ -77,6 +81,9 @@ pub use resb_head::laws::bundle_file_passes;
 // A file of version 2.0 that neither is nor uses a pool bundle has beside any the refusal that it
 // has alone, and its parts, of which aliases are read; and it denotes what it does where they are.
 pub use resb_pool_bundle::laws::{own_files_are_the_same, own_files_denote_the_same};
+// It denotes a tree where they aren't read exactly where it denotes it where they are, and its root
+// leads to none of them.
+pub use resb_pool_bundle::laws::own_files_denote_without_older;
 // What is denoted where aliases aren't read is denoted where they are.
 pub use resb_format::laws::denoted_beside_no_pool;
 // A word denotes at most one tree, with one count.
@@ -116,6 +123,8 @@ pub use resb_blocks::laws::widths_of_texts;
 pub use resb_read::laws::one_value;
 // What is found for a name is the value of the last entry of that name.
 pub use resb_read::laws::last_of_a_name;
+// What is found inside a table, an array or a vector is what stands in its tree.
+pub use resb_read::laws::found_inside_is_in_the_tree;
 // Whether the keys of a table ascend is told by a test.
 pub use resb_read::laws::ascend_is_told;
 

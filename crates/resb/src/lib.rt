@@ -5,10 +5,12 @@
 
 pub mod binary;
 pub mod bundle;
+pub mod diff;
 pub mod fields;
 pub mod headline;
 pub mod laws;
 pub mod package;
+pub mod path;
 pub mod text;
 
 pub use resb_compile::{

@@ -9,7 +9,7 @@ use Rattle.resb.specs.Views.{number_words, pair_words}
 use Rattle.resb.specs.declared.binary.helpers.I32View.{I32View}
 use Rattle.resb_zoneinfo.specs.LongMoments.{words_or_none}
 use Rattle.resb_zoneinfo.specs.Transitions.{HasTransitions}
-use Rattle.resb_zoneinfo.specs.Rules.{SaysRule, IsRuleFault}
+use Rattle.resb_zoneinfo.specs.Rules.{SaysRule, rule_fault}
 use Rattle.resb_zoneinfo.specs.declared.data.ZoneData.{ZoneData}
 use Rattle.resb_zoneinfo.specs.declared.zone.Zone.{Zone}
 use Rattle.resb_zoneinfo.specs.declared.zone.FinalYears.{FinalYears}
@@ -33,11 +33,11 @@ pub record SaysNamed (file : ZoneInfo) (name : List ℕ) (r : FinalRule) : Type 
   pub found : rule_named name file ≡ Some numbers
   pub says : SaysRule (number_words numbers) r
 
--- the file's numbers of this name have a fault
+-- this is the first fault of the file's numbers of this name
 pub record HasRuleFault (file : ZoneInfo) (name : List ℕ) (e : RuleError) : Type 0 where
   pub numbers : I32View
   pub found : rule_named name file ≡ Some numbers
-  pub fault : IsRuleFault (number_words numbers) e
+  pub fault : rule_fault (number_words numbers) ≡ Some e
 
 -- there is no rule of this name, or its numbers have a fault
 abbrev pub IsNamedFault : ZoneInfo → List ℕ → ZoneError → Type 0

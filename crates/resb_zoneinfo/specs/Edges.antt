@@ -1,8 +1,11 @@
 -- When in a year clocks change, and what five numbers of a file say of it.
 use Rattle.std.specs.Prelude.{ℕ, ℤ, pos, ◌≡◌, ◌+◌, ◌*◌, ◌+ℤ◌, List, slice_index}
+use Rattle.std.specs.Prelude.{Option, Some, None, if◌then◌else◌}
+use Rattle.std.specs.Option.{option_or}
+use Rattle.std.specs.Int.RustNames.{unsigned_abs}
 use Rattle.std.specs.Int.{cast_signed, w32}
 use Rattle.resb_zoneinfo.specs.RuleDays.{IsRuleDay}
-use Rattle.resb_zoneinfo.specs.Numbers.{IsBeyond, SaysDay, IsDayFault}
+use Rattle.resb_zoneinfo.specs.Numbers.{is_within, SaysDay, day_fault}
 use Rattle.resb_zoneinfo.specs.declared.edge.Clock.{Clock}
 use Rattle.resb_zoneinfo.specs.declared.edge.Clock.TheVariants.{Wall, Standard, Universal}
 use Rattle.resb_zoneinfo.specs.declared.edge.Edge.{Edge}
@@ -39,20 +42,19 @@ pub record SaysEdge (month day weekday time clock : ℤ) (e : Edge) : Type 0 whe
   pub time_is : time ≡ pos e.seconds
   pub clock_is : clock ≡ clock_number e.clock
 
--- the month is a month, and its day or weekday is none
-abbrev pub DayIsNone : ℤ → ℤ → ℤ → RuleError → Type 0
-DayIsNone month day weekday e = (m : ℕ) × (month ≡ pos m) × IsDayFault m day weekday e
+-- the first fault of a time and a clock: the time is beyond a day, or else the clock beyond 2
+abbrev pub time_fault : ℤ → ℤ → Option RuleError
+time_fault time clock =
+    if is_within 86400 time then (if is_within 2 clock then None else Some error.Clock)
+    else Some error.Time
 
--- five numbers say no change: the month is beyond 11, the time beyond a day, the clock beyond 2, or
--- the day or weekday is none
-abbrev pub IsEdgeFault : ℤ → ℤ → ℤ → ℤ → ℤ → RuleError → Type 0
-IsEdgeFault month day weekday time clock error.Month = IsBeyond 11 month
-IsEdgeFault month day weekday time clock error.Time = IsBeyond 86400 time
-IsEdgeFault month day weekday time clock error.Clock = IsBeyond 2 clock
-IsEdgeFault month day weekday time clock error.Day = DayIsNone month day weekday error.Day
-IsEdgeFault month day weekday time clock error.Weekday = DayIsNone month day weekday error.Weekday
-IsEdgeFault month day weekday time clock error.Length = ⊥
-IsEdgeFault month day weekday time clock error.Saving = ⊥
+-- the first fault of five numbers that are to say a change: the month is beyond 11; or else one of
+-- weekday and day; or else one of time and clock
+abbrev pub edge_fault : ℤ → ℤ → ℤ → ℤ → ℤ → Option RuleError
+edge_fault month day weekday time clock =
+    if is_within 11 month
+    then option_or (day_fault (unsigned_abs month) day weekday) (time_fault time clock)
+    else Some error.Month
 
 -- the number at a place among words
 abbrev pub signed_word : List ℕ → ℕ → ℤ
@@ -65,8 +67,8 @@ SaysEdgeAt v k =
     (signed_word v (k + 3))
     (signed_word v (k + 4))
 
--- five numbers from a place on have a fault
-abbrev pub IsEdgeFaultAt : List ℕ → ℕ → RuleError → Type 0
-IsEdgeFaultAt v k =
-    IsEdgeFault (signed_word v k) (signed_word v (k + 1)) (signed_word v (k + 2))
+-- the first fault of the five numbers from a place on
+abbrev pub edge_fault_at : List ℕ → ℕ → Option RuleError
+edge_fault_at v k =
+    edge_fault (signed_word v k) (signed_word v (k + 1)) (signed_word v (k + 2))
     (signed_word v (k + 3)) (signed_word v (k + 4))

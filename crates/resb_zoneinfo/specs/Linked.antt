@@ -1,8 +1,12 @@
 -- Members of a list that are values of their own or links to others.
-use Rattle.std.specs.Prelude.{ℕ, ℤ, pos, negsuc, ◌≡◌, ◌≢◌, ◌-◌, ◌^◌, ◌⊎◌, Some}
+use Rattle.std.specs.Prelude.{ℕ, ℤ, pos, negsuc, ◌≡◌, ◌≢◌, ◌-◌, ◌^◌, ◌⊎◌, Some, None}
 use Rattle.resb.specs.Places.{Place}
 use Rattle.resb.specs.Leaves.{ReadsSigned, CountsSigned}
 use Rattle.resb.specs.Spots.{type_at}
+use Rattle.resb.specs.BlockRefusals.{Says}
+use Rattle.resb.specs.PlaceRefusals.{untold}
+use Rattle.resb.specs.RefusedReadings.{RefusesNumber}
+use Rattle.resb.specs.declared.binary.ReadingError.{ReadingError}
 use Rattle.resb_zoneinfo.specs.declared.linked.Linked.{Linked}
 use Rattle.resb_zoneinfo.specs.declared.linked.Linked.TheVariants.{Link, Value}
 
@@ -34,3 +38,12 @@ ReadsLinked reads p (Value x) n = IsOther p × reads p x n
 -- some link or value is read
 abbrev pub CountsLinked : (Place → ℕ → Type 0) → Place → ℕ → Type 0
 CountsLinked counts p n = (IsInteger p × CountsNumber p n) ⊎ (IsOther p × counts p n)
+
+-- no link and no value is read: nothing stands there whose type is read; or an integer does, and is
+-- refused as a number; or anything else, and is refused as a value
+abbrev pub RefusesLinked : (Place → ℕ → ℕ → ReadingError → Type 0) → Place → ℕ → ℕ → ReadingError
+    → Type 0
+RefusesLinked refuses p left left' e =
+    ((type_at p ≡ None) × Says (untold p) e × (left' ≡ left))
+    ⊎ (IsInteger p × RefusesNumber p left left' e)
+    ⊎ (IsOther p × refuses p left left' e)

@@ -1,6 +1,6 @@
 -- What the numbers of a file say of a day that a rule names, and why they say none.
-use Rattle.std.specs.Prelude.{ℕ, ℤ, pos, neg_ℤ, ◌≡◌, ◌+◌, ◌<◌, ◌<ℤ◌, ◌⊎◌}
-use Rattle.std.specs.Prelude.{if◌then◌else◌}
+use Rattle.std.specs.Prelude.{ℕ, ℤ, pos, neg_ℤ, ◌≡◌, ◌+◌, ◌<◌, Bool, ◌&&◌, not}
+use Rattle.std.specs.Prelude.{nat_lt, nat_le, nat_eq, Option, Some, None, if◌then◌else◌}
 use Rattle.std.specs.Int.RustNames.{unsigned_abs}
 use Rattle.std.specs.Int.Signed.{lt_z}
 use Rattle.resb_zoneinfo.specs.Civil.{month_length}
@@ -11,9 +11,9 @@ use Rattle.resb_zoneinfo.specs.declared.numbers.RuleError.TheVariants.{Weekday, 
 use Rattle.resb_zoneinfo.specs.declared.numbers.Signed.{Signed}
 use Rattle.resb_zoneinfo.specs.declared.numbers.Signed.TheVariants.{Up, Down}
 
--- a number is below 0 or above a limit
-abbrev pub IsBeyond : ℕ → ℤ → Type 0
-IsBeyond limit x = (x <ℤ pos 0) ⊎ (pos limit <ℤ x)
+-- a number is from 0 up to a limit
+abbrev pub is_within : ℕ → ℤ → Bool
+is_within limit x = not (lt_z x (pos 0)) && nat_le (unsigned_abs x) limit
 
 -- a number is n, or it is minus n, which is not 0
 abbrev pub IsSigned : ℤ → Signed → Type 0
@@ -35,10 +35,17 @@ SaysDay day weekday (UpTo n w) = (weekday ≡ neg_ℤ (pos (w + 1))) × (day ≡
 abbrev pub day_limit : ℕ → ℤ → ℕ
 day_limit month weekday = if lt_z (pos 0) weekday then 5 else month_length 0 month
 
--- a weekday is beyond 7; a day is 0 or beyond its limit, or it is below 0 without a weekday
-abbrev pub IsDayFault : ℕ → ℤ → ℤ → RuleError → Type 0
-IsDayFault month day weekday Weekday = 7 < unsigned_abs weekday
-IsDayFault month day weekday Day =
-    (unsigned_abs day ≡ 0) ⊎ (day_limit month weekday < unsigned_abs day)
-    ⊎ ((weekday ≡ pos 0) × (day <ℤ pos 0))
-IsDayFault month day weekday _ = ⊥
+-- a day is from 1 up to its limit, counted from the month's end where it is below 0; without a
+-- weekday it isn't below 0
+abbrev pub is_day : ℕ → ℤ → ℤ → Bool
+is_day month day weekday =
+    nat_le 1 (unsigned_abs day) && nat_le (unsigned_abs day) (day_limit month weekday)
+    && not (nat_eq (unsigned_abs weekday) 0 && lt_z day (pos 0))
+
+-- the first fault of a day and a weekday in a month: the weekday is beyond 7, or else the day is
+-- none
+abbrev pub day_fault : ℕ → ℤ → ℤ → Option RuleError
+day_fault month day weekday =
+    if nat_lt 7 (unsigned_abs weekday) then Some Weekday
+    else if is_day month day weekday then None
+    else Some Day

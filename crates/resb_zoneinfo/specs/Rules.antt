@@ -1,10 +1,12 @@
 -- The rule of a zone's final years: when in a year something is saved, and what eleven numbers of a
 -- file say of it. Clocks show seconds since the begin of the year 0.
-use Rattle.std.specs.Prelude.{ℕ, ℤ, pos, ◌≡◌, ◌≢◌, ◌+◌, ◌/◌, ◌+ℤ◌, ◌≤ℤ◌, ◌⊎◌, Bool, ◌&&◌, ◌||◌, not}
-use Rattle.std.specs.Prelude.{if◌then◌else◌, nat_le, length, List}
+use Rattle.std.specs.Prelude.{ℕ, ℤ, pos, ◌≡◌, ◌+◌, ◌/◌, ◌+ℤ◌, Bool, ◌&&◌, ◌||◌, not}
+use Rattle.std.specs.Prelude.{if◌then◌else◌, nat_le, nat_eq, length, List, Option, Some, None}
+use Rattle.std.specs.Option.{option_or}
+use Rattle.std.specs.Int.Signed.{lt_z}
 use Rattle.resb_zoneinfo.specs.Civil.{IsInYear}
 use Rattle.resb_zoneinfo.specs.Edges.{IsTimeIn, IsStandard, clock_reading}
-use Rattle.resb_zoneinfo.specs.Edges.{signed_word, SaysEdgeAt, IsEdgeFaultAt}
+use Rattle.resb_zoneinfo.specs.Edges.{signed_word, SaysEdgeAt, edge_fault_at}
 use Rattle.resb_zoneinfo.specs.declared.edge.Edge.{Edge}
 use Rattle.resb_zoneinfo.specs.declared.rule.FinalRule.{FinalRule}
 use Rattle.resb_zoneinfo.specs.declared.numbers.RuleError.{RuleError}
@@ -53,12 +55,15 @@ pub record SaysRule (v : List ℕ) (r : FinalRule) : Type 0 where
   pub ends : SaysEdgeAt v 5 r.end
   pub saved : signed_word v 10 ≡ pos r.saving
 
--- numbers are not eleven, or they save nothing
-abbrev pub IsWholeFault : List ℕ → RuleError → Type 0
-IsWholeFault v error.Length = length v ≢ 11
-IsWholeFault v error.Saving = signed_word v 10 ≤ℤ pos 0
-IsWholeFault v _ = ⊥
+-- what is saved is nothing, or less
+abbrev pub saving_fault : ℤ → Option RuleError
+saving_fault saved = if lt_z (pos 0) saved then None else Some error.Saving
 
--- numbers say no rule: they have a fault as a whole, or those of the start or of the end have one
-abbrev pub IsRuleFault : List ℕ → RuleError → Type 0
-IsRuleFault v e = IsWholeFault v e ⊎ IsEdgeFaultAt v 0 e ⊎ IsEdgeFaultAt v 5 e
+-- the first fault of numbers that are to say a rule: they aren't eleven; or else one of the start;
+-- or else one of the end; or else nothing is saved
+abbrev pub rule_fault : List ℕ → Option RuleError
+rule_fault v =
+    if nat_eq (length v) 11
+    then option_or (edge_fault_at v 0)
+    (option_or (edge_fault_at v 5) (saving_fault (signed_word v 10)))
+    else Some error.Length

@@ -1,6 +1,6 @@
 //! When in a year clocks change, and how five numbers of a file say it.
 //! What a rule of two such changes makes of a moment is said in `rule`.
-ghost use Rattle.std.specs.Prelude.{◌≡◌, ◌<◌, ◌≤◌, ◌^◌, IsTrue, IfOk, IfErr};
+ghost use Rattle.std.specs.Prelude.{◌≡◌, ◌<◌, ◌≤◌, ◌^◌, IsTrue, Some, None, MatchResult};
 ghost use Rattle.resb_zoneinfo.specs.RuleDays.{is_real};
 
 use crate::day::RuleDay;
@@ -34,7 +34,7 @@ pub struct Edge {
 }
 
 impl Edge {
-    ghost use Rattle.resb_zoneinfo.specs.Edges.{IsTimeIn, SaysEdge, IsEdgeFault};
+    ghost use Rattle.resb_zoneinfo.specs.Edges.{IsTimeIn, SaysEdge, edge_fault};
 
     /// What the clock shows then in a year: the seconds since the year 0 began.
     pub fn time_in(&self, year: u64) -> u64
@@ -48,7 +48,8 @@ impl Edge {
     /// The change that five numbers of a file say: the month from 0 on, the day, the weekday, the
     /// time in seconds and the clock. Without a weekday the day is that of its number; with one
     /// from 1 on, which is Sunday, the first, second .. or from the month's end; with a negative
-    /// one the first from a day on or, where that is negative too, the last up to it.
+    /// one the first from a day on or, where that is negative too, the last up to it. The first
+    /// fault in this order is told, the weekday's before the day's.
     pub fn from_numbers(
         month: i32,
         day: i32,
@@ -56,8 +57,9 @@ impl Edge {
         time: i32,
         clock: i32,
     ) -> Result<Edge, RuleError>
-        ensures said { IfOk result (SaysEdge month day weekday time clock) }
-        ensures refused { IfErr result (IsEdgeFault month day weekday time clock) }
+        ensures { let fault = edge_fault month day weekday time clock in MatchResult result
+            (λ e. (fault ≡ None) × SaysEdge month day weekday time clock e)
+            (λ e. fault ≡ Some e) }
     {
         let month = natural(month, 11).ok_or(RuleError::Month)?;
         let day = day_of(month, day, weekday)?;

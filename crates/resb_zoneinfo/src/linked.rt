@@ -1,6 +1,6 @@
 //! A value in a list, or a number in its place that leads to another member of the list.
 //! Where such links are followed is said in `info`.
-ghost use Rattle.resb_zoneinfo.specs.Linked.{ReadsLinked, CountsLinked};
+ghost use Rattle.resb_zoneinfo.specs.Linked.{ReadsLinked, CountsLinked, RefusesLinked};
 ghost use Rattle.resb_zoneinfo.specs.LinkedLaws.{linked_counted, linked_one};
 
 use resb::binary::{Cursor, Deserialize, ReadingError, ResourceReprType, Walk};
@@ -20,6 +20,8 @@ impl<'de, T: Deserialize<'de>> Deserialize<'de> for Linked<T> {
     ghost reads = { ReadsLinked T.reads };
 
     ghost counts = { CountsLinked T.counts };
+
+    ghost refuses = { RefusesLinked T.refuses };
 
     ghost counted = { linked_counted T.reads T.counts T.counted };
 

@@ -1,9 +1,10 @@
 //! The numbers of a file's rules: naturals up to a limit, numbers by their signs, and days.
 //! What a whole change of clocks is read from is said in `edge`.
-ghost use Rattle.std.specs.Prelude.{◌≡◌, ◌<◌, ◌≤◌, pos, IsTrue, IfOk, IfErr, MatchOption};
+ghost use Rattle.std.specs.Prelude.{◌≡◌, ◌<◌, ◌≤◌, pos, Some, None, false, true, IsTrue};
+ghost use Rattle.std.specs.Prelude.{MatchOption, MatchResult};
 ghost use Rattle.resb_zoneinfo.specs.RuleDays.{is_real};
 ghost use Rattle.resb_zoneinfo.specs.Numbers as numbers;
-ghost use Rattle.resb_zoneinfo.specs.Numbers.{IsBeyond, SaysDay, IsDayFault, IsSigned};
+ghost use Rattle.resb_zoneinfo.specs.Numbers.{is_within, SaysDay, IsSigned};
 
 use crate::civil::month_length;
 use crate::day::RuleDay;
@@ -29,7 +30,8 @@ pub enum RuleError {
 
 /// A number of a file that is to be one from 0 up to a limit.
 pub(crate) fn natural(number: i32, limit: u64) -> Option<u64>
-    ensures { MatchOption result (IsBeyond limit number) (λ n. (number ≡ pos n) × (n ≤ limit)) }
+    ensures { MatchOption result (is_within limit number ≡ false)
+        (λ n. (is_within limit number ≡ true) × (number ≡ pos n) × (n ≤ limit)) }
 {
     if number < 0 {
         return None;
@@ -73,8 +75,9 @@ fn day_limit(month: u64, weekday: i32) -> u64
 /// The day of a month that two numbers of a file say.
 pub(crate) fn day_of(month: u64, day: i32, weekday: i32) -> Result<RuleDay, RuleError>
     requires { month < 12 }
-    ensures said { IfOk result (λ d. IsTrue (is_real d) × SaysDay day weekday d) }
-    ensures refused { IfErr result (IsDayFault month day weekday) }
+    ensures { let fault = numbers.day_fault month day weekday in MatchResult result
+        (λ d. (fault ≡ None) × IsTrue (is_real d) × SaysDay day weekday d)
+        (λ e. fault ≡ Some e) }
 {
     let (name, number) = (sign_of(weekday), sign_of(day));
     if weekday.unsigned_abs() > 7 {

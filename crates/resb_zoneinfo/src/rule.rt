@@ -1,8 +1,8 @@
 //! The rule that a zone follows from its final year on: each year clocks go forward and back.
 //! When in a year they do is said in `edge`, and what stood before the final year in `zone`.
-ghost use Rattle.std.specs.Prelude.{◌≡◌, ◌+◌, ◌<◌, ◌≤◌, ◌^◌, IfOk, IfErr, length};
+ghost use Rattle.std.specs.Prelude.{◌≡◌, ◌+◌, ◌<◌, ◌≤◌, ◌^◌, Some, None, MatchResult, length, pos};
 ghost use Rattle.resb.specs.Views.{number_words};
-ghost use Rattle.resb_zoneinfo.specs.Edges.{IsStandard, clock_reading, SaysEdgeAt, IsEdgeFaultAt};
+ghost use Rattle.resb_zoneinfo.specs.Edges.{IsStandard, clock_reading, SaysEdgeAt, edge_fault_at};
 
 use crate::civil::year_of;
 use crate::edge::{Clock, Edge};
@@ -27,25 +27,35 @@ pub struct FinalRule {
 }
 
 impl FinalRule {
-    ghost use Rattle.resb_zoneinfo.specs.Rules.{SaysRule, IsRuleFault, IsFinalOffset, IsSaving};
+    ghost use Rattle.resb_zoneinfo.specs.Rules.{SaysRule, rule_fault, saving_fault, IsFinalOffset};
+    ghost use Rattle.resb_zoneinfo.specs.Rules.{IsSaving};
 
     /// The rule that eleven numbers of a file say: five for its start, five for its end, as
-    /// `Edge::from_numbers` reads them, and the seconds that are saved.
+    /// `Edge::from_numbers` reads them, and the seconds that are saved. Where there aren't eleven,
+    /// that is told, and else the first fault in this order.
     pub fn from_numbers(numbers: I32View<'_>) -> Result<FinalRule, RuleError>
-        ensures said { IfOk result (SaysRule (number_words numbers.entry)) }
-        ensures refused { IfErr result (IsRuleFault (number_words numbers.entry)) }
+        ensures { let fault = rule_fault (number_words numbers.entry) in MatchResult result
+            (λ r. (fault ≡ None) × SaysRule (number_words numbers.entry) r)
+            (λ e. fault ≡ Some e) }
     {
         if numbers.len() != 11 {
             return Err(RuleError::Length);
         }
         let start = edge_at(numbers, 0)?;
         let end = edge_at(numbers, 5)?;
-        let saved = numbers.item(10);
+        let saving = FinalRule::saving_of(numbers.item(10))?;
+        Ok(FinalRule { start, end, saving })
+    }
+
+    /// How many seconds are saved, which a number of a file says.
+    fn saving_of(saved: i32) -> Result<u64, RuleError>
+        ensures { let fault = saving_fault saved in MatchResult result
+            (λ n. (fault ≡ None) × (saved ≡ pos n) × (0 < n) × (n < 2 ^ 31)) (λ e. fault ≡ Some e) }
+    {
         if saved <= 0 {
             return Err(RuleError::Saving);
         }
-        let saving = u64::from(saved.unsigned_abs());
-        Ok(FinalRule { start, end, saving })
+        Ok(u64::from(saved.unsigned_abs()))
     }
 
     /// The offset from universal time in seconds, at a moment in seconds since 1970, of a zone
@@ -88,8 +98,9 @@ impl FinalRule {
 fn edge_at(numbers: I32View<'_>, from: usize) -> Result<Edge, RuleError>
     requires small { from ≤ 5 }
     requires there { from + 5 ≤ length (number_words numbers) }
-    ensures said { IfOk result (SaysEdgeAt (number_words numbers.entry) from) }
-    ensures refused { IfErr result (IsEdgeFaultAt (number_words numbers.entry) from) }
+    ensures { let fault = edge_fault_at (number_words numbers.entry) from in MatchResult result
+        (λ e. (fault ≡ None) × SaysEdgeAt (number_words numbers.entry) from e)
+        (λ e. fault ≡ Some e) }
 {
     Edge::from_numbers(
         numbers.item(from),

@@ -6,7 +6,7 @@ returns-in-Ok-clause-said c =
     record {
       numbers = c.in-Some.numbers;
       found = sym c.in-Some.ensures;
-      says = c.in-Ok.ensures.said;
+      says = c.in-Ok.ensures.1;
     }
 
 pub returns-in-Err-clause-refused : goal.returns-in-Err-clause-refused
@@ -14,5 +14,5 @@ returns-in-Err-clause-refused c =
     record {
       numbers = c.in-Some.numbers;
       found = sym c.in-Some.ensures;
-      fault = c.in-Err.ensures.refused;
+      fault = c.in-Err.ensures;
     }

@@ -1,10 +1,14 @@
 #!/usr/bin/env python3
 """Hostile texts, whose reading makes much, through `resb compile --limit`.
 
-Each shape at three sizes: it compiles within just as many bytes as docs/GRAMMAR.md ("Within a
-limit") counts for it, and is refused within one byte less, and within a tenth, with status 1 and
-the one line that says so. No run may take more memory than 1.5 times the limit and the text, or
-what `MORE` has for its shape. The last line is 'N passed, M failed'.
+    hostile_texts.py [BYTES..]      texts of about so many bytes each, 2,000,000 if none is named
+
+Members of each kind fill a group without a type, an array, and a table that has one key again and
+again; groups of each kind stand inside each other; and there is one long thing of each kind. Each
+text compiles within just as many bytes as docs/GRAMMAR.md ("Within a limit") counts for it, and is
+refused within one byte less, and within a tenth, with status 1 and the one line that says so. No
+run may take more memory than 1.5 times the limit and the text, and 8 MB. The last line is
+'N passed, M failed'.
 """
 import os
 import sys
@@ -12,49 +16,81 @@ import tempfile
 
 from hostile import RESB, counts, ran, seen
 
-SIZES = [1_000_000, 2_000_000, 4_000_000]
+SIZE = 2_000_000
 LEAST_READ = 1 << 20
-GROUP, STRING, BYTE, TABLE, NUMBER = 72, 192, 3, 1024, 4
+GROUP, STRING, BYTE, TABLE, NUMBER, REQUEST = 72, 192, 3, 1024, 8, 32
+A_STRING = STRING + BYTE
 # b{v..}: the root with its `{` and `}`, and its key
-ROOT = GROUP + TABLE + STRING + BYTE
-# what is open isn't weighed, nor room that isn't filled yet, nor the file
-MORE = {'a vector': 2.5, 'short vectors': 2, 'nested arrays': 3.5}
-# the program itself
-OWN = 4_000_000
+ROOT = GROUP + TABLE + A_STRING
+# the program itself, and what its allocator keeps
+OWN = 8_000_000
 
-
-def filled(front, one, behind, size, made_once, made_each):
-    """A text of about this size with so much of one in the group at `v`, and what it makes."""
-    many = max(2, (size - len(front) - len(behind)) // len(one))
-    return front + one * many + behind, ROOT + made_once + made_each * many
-
-
-def nested(front, inner, size, made_once, made_each):
-    """Groups inside each other, and what stands in the innermost."""
-    many = max(2, (size - 9) // (len(front) + 1))
-    return f"b{{v{front * many}{inner}{'}' * many}}}", ROOT + made_once + made_each * many
-
-
-SHAPES = {
-    'a vector': lambda size: filled('b{v:intvector{', '1,', '}}', size, GROUP, NUMBER),
-    'a vector of long numbers':
-        lambda size: filled('b{v:intvector{', '4000000000,', '}}', size, GROUP, NUMBER),
-    'a binary': lambda size: filled('b{v:bin{"', '00', '"}}', size, GROUP, 1),
-    'a string': lambda size: filled('b{v{"', 'a', '"}}', size, GROUP + STRING, BYTE),
-    'strings': lambda size: filled('b{v{', 'a,', '}}', size, GROUP, STRING + BYTE),
-    'integers': lambda size: filled('b{v:array{', ':int{1},', '}}', size, GROUP, GROUP),
-    'empty vectors': lambda size: filled('b{v:array{', ':intvector{},', '}}', size, GROUP, GROUP),
-    'short vectors':
-        lambda size: filled('b{v:array{', ':intvector{1},', '}}', size, GROUP, GROUP + NUMBER),
-    'empty arrays': lambda size: filled('b{v:array{', ':array{},', '}}', size, GROUP, GROUP),
-    'arrays of a string':
-        lambda size: filled('b{v:array{', ':array{a},', '}}', size, GROUP, GROUP + STRING + BYTE),
-    'tables of an entry': lambda size: filled('b{v:array{', ':table{k{x}},', '}}', size, GROUP,
-                                              2 * GROUP + 2 * (STRING + BYTE) + TABLE),
-    'nested arrays': lambda size: nested(':array{', '', size, 0, GROUP),
-    'nested tables': lambda size: nested(':table{k', '{x}', size, GROUP + STRING + BYTE,
-                                         GROUP + STRING + BYTE + TABLE),
+# members that need a comma between them, and those that may be the value of a key: what they make
+STRINGS = {'a': A_STRING, '""': STRING, '"ab"': A_STRING + BYTE}
+GROUPS = {
+    '{a}': GROUP + A_STRING,
+    '{a,}': GROUP + A_STRING,
+    '{}': GROUP,
+    '{{}}': 2 * GROUP,
+    '{k{x}}': 2 * GROUP + 2 * A_STRING + TABLE,
+    ':string{"a"}': GROUP + BYTE,
+    ':string{""}': GROUP,
+    ':int{1}': GROUP,
+    ':bin{""}': GROUP + REQUEST,
+    ':bin{00}': GROUP + REQUEST + 1,
+    ':intvector{}': GROUP + REQUEST,
+    ':intvector{1}': GROUP + REQUEST + NUMBER,
+    ':intvector{1,2}': GROUP + REQUEST + 2 * NUMBER,
+    ':array{}': GROUP,
+    ':array{a}': GROUP + A_STRING,
+    ':array{:int{1}}': 2 * GROUP,
+    ':table{}': GROUP,
+    ':table{k{x}}': 2 * GROUP + 2 * A_STRING + TABLE,
 }
+# what opens a group, what it makes, what stands in the innermost, and what that makes
+NESTS = {
+    '{': (GROUP, '', 0),
+    ':array{': (GROUP, '', 0),
+    '{x,': (GROUP + A_STRING, '', 0),
+    ':array{x,': (GROUP + A_STRING, '', 0),
+    '{k': (GROUP + A_STRING + TABLE, '{x}', GROUP + A_STRING),
+    ':table{k': (GROUP + A_STRING + TABLE, '{x}', GROUP + A_STRING),
+}
+# what stands before, what is repeated, and behind, and what one of it makes and all else
+LONG = {
+    'a string': ('b{v{', 'a', '}}', BYTE, ROOT + GROUP + STRING),
+    'a quoted string': ('b{v{"', 'a', '"}}', BYTE, ROOT + GROUP + STRING),
+    'a typed string': ('b{v:string{"', 'a', '"}}', BYTE, ROOT + GROUP),
+    'a vector': ('b{v:intvector{', '1,', '}}', NUMBER, ROOT + GROUP + REQUEST),
+    'a vector of long numbers':
+        ('b{v:intvector{', '4000000000,', '}}', NUMBER, ROOT + GROUP + REQUEST),
+    'a binary': ('b{v:bin{"', '00', '"}}', 1, ROOT + GROUP + REQUEST),
+    'a name': ('b', 'b', '{}', 0, GROUP),
+    'a key': ('b{k', 'k', '{x}}', BYTE, ROOT + GROUP + A_STRING),
+    'blanks': ('b{', ' ', '}', 0, GROUP),
+    'a comment': ('b{/*', '*', '*/}', 0, GROUP),
+    'comments': ('b{', '/**/', '}', 0, GROUP),
+}
+
+
+def shapes(size):
+    """Each shape's name, its text of about this size, and what its reading makes."""
+    for opening in ('{', ':array{'):
+        for one, made in (STRINGS | GROUPS).items():
+            many = max(2, size // (len(one) + 1))
+            yield f'{opening} {one}', f'b{{v{opening}{(one + ",") * many}}}}}', \
+                ROOT + GROUP + made * many
+    for one, made in GROUPS.items():
+        many = max(2, size // (len(one) + 1))
+        yield f':table{{ k{one}', f'b{{v:table{{{("k" + one) * many}}}}}', \
+            ROOT + GROUP + TABLE + (A_STRING + made) * many
+    for front, (made, inner, innermost) in NESTS.items():
+        many = max(2, size // (len(front) + 1))
+        yield f'nested {front}', f"b{{v{front * many}{inner}{'}' * many}}}", \
+            ROOT + innermost + made * many
+    for name, (front, one, behind, each, once) in LONG.items():
+        many = max(2, size // len(one))
+        yield name, front + one * many + behind, once + each * many
 
 
 def refusal(path, text, limit):
@@ -69,12 +105,15 @@ def runs(path, name, text, made):
     # what a program is started from counts as its memory
     *_, start = ran(['--version'])
     for limit in (made, made - 1, made // 10):
-        status, out, said, _, most = ran(['compile', '--limit', str(limit), path, '-o', '/dev/null'])
+        words = ['compile', '--limit', str(limit), path, '-o', '/dev/null']
+        status, out, said, _, most = ran(words)
         wanted = (0, b'', '')
         if limit < made or len(text) > max(limit, LEAST_READ):
             wanted = (1, b'', refusal(path, text, limit))
-        seen((status, out, said) == wanted, f'{name}, {len(text)}, {limit}: {status}, {said[:200]}')
-        bound = MORE.get(name, 1.5) * (limit + len(text)) + OWN
+        # warnings of a text that compiles are lines too
+        same = (status, out) == wanted[:2] and (said == wanted[2] or status == 0)
+        seen(same, f'{name}, {len(text)}, {limit}: {status}, {said[:200]}')
+        bound = 1.5 * (limit + len(text)) + OWN
         seen(most <= max(start, bound), f'{name}, {len(text)}, {limit}: {most} bytes of memory')
 
 
@@ -86,9 +125,8 @@ def main():
         return 1
     with tempfile.TemporaryDirectory() as folder:
         path = f'{folder}/hostile.txt'
-        for name, make in SHAPES.items():
-            for size in SIZES:
-                text, made = make(size)
+        for size in [int(it) for it in sys.argv[1:]] or [SIZE]:
+            for name, text, made in shapes(size):
                 with open(path, 'w', encoding='utf-8') as out:
                     out.write(text)
                 runs(path, name, text, made)

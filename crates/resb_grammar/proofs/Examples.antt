@@ -432,8 +432,8 @@ making_examples : (t : Title) (o : Open) (ns : List ℕ) (around : List Frame) �
       around = around;
     })) closing ≡ 0)
     × (made_by (filled (string (codes "ab")) o) closing ≡ 78)
-    × (made_by (in_vector after_comma (1 ∷ []) o) (a_number 2) ≡ 4)
-    × (made_by (in_vector after_number (1 ∷ 2 ∷ []) o) closing ≡ 72)
+    × (made_by (in_vector after_comma (1 ∷ []) o) (a_number 2) ≡ 8)
+    × (made_by (in_vector after_number (1 ∷ 2 ∷ []) o) closing ≡ 104)
     × (made_by (typed vector_kind o) opening ≡ 0)
     × (made_by (inside o) a_comma ≡ 0)
 making_examples t o ns around = (refl, refl, refl, refl, refl, refl, refl, refl, refl, refl, refl)

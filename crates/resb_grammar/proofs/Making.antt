@@ -61,7 +61,7 @@ module _ (text : List ℕ) where
       → Makes text n from (in_vector at_start [] o)
       → Makes text (n + content_bytes (int_vector ns)) to (in_vector after_number ns o)
   makes_numbers n from to ns o (first_number i _ v number skip) made =
-      makes_on n (n + 4) from i to _ _ (a_number v) made refl number refl skip
+      makes_on n (n + 8) from i to _ _ (a_number v) made refl number refl skip
   makes_numbers n from to ns o (next_number i j k _ v ms rest h skip number skip') made =
       let before = n + content_bytes (int_vector ms) in
       let here : Makes text before i (in_vector after_number ms o) =

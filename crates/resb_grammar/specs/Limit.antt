@@ -4,7 +4,7 @@
 --     MadeWithin text limit   the text is read to its end, and no more than the limit is made
 --     MakesMore text limit    a reading comes to a token by which more than the limit is made
 use Rattle.std.specs.Prelude.{◌≡◌, ℕ, ◌+◌, ◌*◌, ◌<◌, ◌≤◌, List, ◌∷◌, length}
-use Rattle.resb_tree.specs.Tree.{Tree, string, binary}
+use Rattle.resb_tree.specs.Tree.{Tree, string, binary, int_vector}
 use Rattle.resb_tree.specs.Weights.{resource_weight, table_weight, entry_weight, text_byte_weight}
 use Rattle.resb_tree.specs.Weights.{number_weight}
 use Rattle.resb_grammar.specs.Items.{Item, Shape, a_table}
@@ -17,11 +17,20 @@ use Rattle.resb_grammar.specs.Machine.{finished, shape_in, Path, begun, went, Mo
 abbrev pub string_bytes : List ℕ → ℕ
 string_bytes s = entry_weight + text_byte_weight * length s
 
--- the `}` of a group that holds no items: a resource, and the bytes of a string, and 1 for each
--- byte of a binary
+-- a number of a vector: 4 bytes where it is read, and 4 in the file
+abbrev pub number_bytes : ℕ
+number_bytes = 2 * number_weight
+
+-- the memory that is asked for a vector or a binary alone: 32 bytes beside what it holds
+abbrev pub request_bytes : ℕ
+request_bytes = 32
+
+-- the `}` of a group that holds no items: a resource, and the bytes of a string; for a vector and a
+-- binary the memory that is asked for it, and 1 for each byte of a binary
 abbrev pub leaf_bytes : Tree → ℕ
 leaf_bytes (string s) = resource_weight + text_byte_weight * length s
-leaf_bytes (binary s) = resource_weight + length s
+leaf_bytes (binary s) = resource_weight + request_bytes + length s
+leaf_bytes (int_vector ns) = resource_weight + request_bytes
 leaf_bytes _ = resource_weight
 
 -- the `{` behind a type: a resource, for a group that holds items
@@ -40,9 +49,9 @@ abbrev pub closing_bytes : Frame → ℕ
 closing_bytes f = shape_bytes (shape_in f.body f.items) f.items
 
 -- what a token adds: 72 bytes for the `{` of a group that holds items; 192 for a string among
--- items, and 3 for each of its bytes; 1024 for the `}` of a table that has entries; 4 for a number
+-- items, and 3 for each of its bytes; 1024 for the `}` of a table that has entries; 8 for a number
 -- of a vector; and for the `}` of a group that holds no items 72, and 3 for each byte of a string,
--- 1 for each byte of a binary
+-- 32 for a vector or a binary, and 1 for each byte of a binary
 abbrev pub made_by : State → Token → ℕ
 made_by (named name) opening = resource_weight
 made_by (titled title) opening = resource_weight
@@ -51,8 +60,8 @@ made_by (inside o) opening = resource_weight
 made_by (inside o) closing = closing_bytes o.frame
 made_by (typed kind o) opening = begun_bytes kind
 made_by (filled t o) closing = leaf_bytes t
-made_by (in_vector place ns o) (a_number v) = number_weight
-made_by (in_vector place ns o) closing = resource_weight
+made_by (in_vector place ns o) (a_number v) = number_bytes
+made_by (in_vector place ns o) closing = resource_weight + request_bytes
 made_by _ _ = 0
 
 -- what the tokens of a path add up to

@@ -2,7 +2,7 @@
 use Rattle.std.proofs.Common.{◌≡◌, ℕ, ◌+◌, ◌*◌, ◌<◌, ◌≤◌, true, List, [], ◌∷◌, ◌++◌, length, arith}
 use Rattle.std.proofs.Common.{refl, sym, ◌∙◌, inl, inr, ⊎_elim, subst, length-append}
 use Rattle.std.proofs.lemmas.Bool.{false≢true}
-use Rattle.resb_tree.specs.Weights.{number_weight}
+use Rattle.resb_grammar.specs.Limit.{number_bytes}
 use Rattle.resb_grammar.specs.Limit.{MadeWithin, MakesMore}
 use Rattle.resb_grammar.proofs.MadeOnce.{never_more, blocked_never_more}
 use Rattle.resb_text.specs.Answer.{NeverMore}
@@ -43,8 +43,8 @@ none_taken {p} within =
 
 -- one number more is taken
 pub number_taken : (v : ℕ) (ns : List ℕ) {p q r : Quota}
-    → TakesBytes p q (number_weight * length ns) → TakesBytes q r number_weight
-    → TakesBytes p r (number_weight * length (ns ++ v ∷ []))
+    → TakesBytes p q (number_bytes * length ns) → TakesBytes q r number_bytes
+    → TakesBytes p r (number_bytes * length (ns ++ v ∷ []))
 number_taken v ns before takes = record {
   same = takes.same ∙ before.same;
   made = omega (arith, before.made, takes.made, length-append ns (v ∷ []));

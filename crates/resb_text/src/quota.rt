@@ -43,6 +43,12 @@ impl Quota {
     }
 }
 
+/// A number of a vector, where it is read and in the file.
+pub(crate) const NUMBER: u128 = 2 * weights::NUMBER;
+
+/// What is asked for a vector or a binary alone, beside what it holds.
+const REQUEST: u128 = 32;
+
 /// What a string among items makes.
 pub(crate) fn string_bytes(text: &str) -> u128
     ensures { result ≡ limit.string_bytes text.now }
@@ -58,11 +64,9 @@ pub(crate) fn leaf_bytes(resource: &Resource<'_>) -> u128
         Resource::String(text) => {
             weights::RESOURCE + weights::TEXT_BYTE * text.as_str().len() as u128
         }
-        Resource::Binary(bytes) => weights::RESOURCE + bytes.len() as u128,
-        Resource::Alias(_)
-        | Resource::Array(_)
-        | Resource::Table(_)
-        | Resource::Integer(_)
-        | Resource::IntVector(_) => weights::RESOURCE,
+        Resource::Binary(bytes) => weights::RESOURCE + REQUEST + bytes.len() as u128,
+        Resource::IntVector(_) => weights::RESOURCE + REQUEST,
+        Resource::Alias(_) | Resource::Array(_) | Resource::Table(_) | Resource::Integer(_) =>
+            weights::RESOURCE,
     }
 }

@@ -96,12 +96,12 @@ pub const LIMITED: [(u64, &str, &str); 31] = [
     (1363, "b{t:table{}}", "b: { t: { } }, keys t"),
     (1368, "b{s:string{\"xy\"}}", "text larger than the limit"),
     (1369, "b{s:string{\"xy\"}}", "b: { s: 'xy' }, keys s"),
-    (1364, "b{d:bin{00ff}}", "text larger than the limit"),
-    (1365, "b{d:bin{00ff}}", "b: { d: < 0 255 > }, keys d"),
+    (1396, "b{d:bin{00ff}}", "text larger than the limit"),
+    (1397, "b{d:bin{00ff}}", "b: { d: < 0 255 > }, keys d"),
     (1362, "b{i:int{7}}", "text larger than the limit"),
     (1363, "b{i:int{7}}", "b: { i: 7 }, keys i"),
-    (1374, "b{v:intvector{1,2,3}}", "text larger than the limit"),
-    (1375, "b{v:intvector{1,2,3}}", "b: { v: ( 1 2 3 ) }, keys v"),
+    (1418, "b{v:intvector{1,2,3}}", "text larger than the limit"),
+    (1419, "b{v:intvector{1,2,3}}", "b: { v: ( 1 2 3 ) }, keys v"),
 ];
 
 /// Texts with the place where each is refused, and what was expected there.

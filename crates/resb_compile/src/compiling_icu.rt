@@ -1,5 +1,6 @@
 //! From a text of ICU's form to the bytes of its file: that form's reader, and then the writer with
-//! the discovered keys. The way from a text of the other form is in `compiling`.
+//! the discovered keys. No tree is made in between, but a draft of one.
+//! The way from a text of the other form is in `compiling`.
 ghost use Rattle.std.specs.Prelude.{Some, IfOk, IfErr};
 ghost use Rattle.resb_compile.specs.CompilingIcu.{IsIcuCompiled, IsIcuRefused, message_of};
 
@@ -64,7 +65,8 @@ pub fn compile_icu(alloc: Global, text: &str) -> Result<Vec<u8>, IcuCompileError
     // wanted.
     ensures err { IfErr result (IsIcuRefused text.now) }
 {
-    let (bundle, keys) = IcuReader::read(alloc, text)?;
-    let file = Serializer::to_bytes(alloc, &bundle, keys.as_slice())?;
+    let (bundle, keys) = IcuReader::read_draft(alloc, text)?;
+    let fallback = bundle.is_locale_fallback_enabled;
+    let file = Serializer::draft_to_bytes(alloc, bundle.root, fallback, keys.as_slice())?;
     Ok(file)
 }

@@ -38,3 +38,14 @@ pub struct Draft<'a> {
     /// The number of the root.
     pub root: u32,
 }
+
+/// A bundle whose root is a draft.
+#[derive(Drop)]
+pub struct DraftBundle<'a> {
+    /// The bundle's name.
+    pub name: &'a str,
+    /// What stands for the tree of the bundle's root.
+    pub root: Draft<'a>,
+    /// Whether a look-up may go on in the parent locale's bundle.
+    pub is_locale_fallback_enabled: bool,
+}

@@ -8,4 +8,4 @@ mod entries;
 mod laying_order;
 mod making;
 
-pub use draft::{Draft, Members, Piece};
+pub use draft::{Draft, DraftBundle, Members, Piece};

@@ -1,18 +1,18 @@
 -- What passes the tests of strings, part by part.
-use Rattle.std.proofs.Common.{◌≡◌, ℕ, Bool, true, false, not, List, [], ◌∷◌, ◌++◌, Global}
+use Rattle.std.proofs.Common.{◌≡◌, ℕ, Bool, true, false, not, List, [], ◌∷◌, ◌++◌, Global, Bor}
 use Rattle.std.proofs.Common.{refl, sym, ◌∙◌, ap, subst}
-use Rattle.std.proofs.lemmas.Bool.{and_from, and_parts, false≢true}
+use Rattle.std.proofs.lemmas.Bool.{false≢true}
 use Rattle.std.proofs.lemmas.List.{map-append}
 use Rattle.std.specs.Cow.{cow_str_bytes}
 use Rattle.std.specs.Prelude.{map}
 use Rattle.std.specs.declared.borrow.CowStr.{CowStr}
 use Rattle.resb_tree.specs.Borrowing as borrowing
 use Rattle.resb_tree.specs.Borrowing.{all_true, are_slice}
-use Rattle.resb_tree.specs.declared.resource.Resource.{Resource, String, Alias}
+use Rattle.resb_tree.specs.declared.resource.Resource.{String, Alias}
 use Rattle.resb_tree.proofs.BorrowingLemmas.{all_snoc, string_passes, alias_passes}
 use Rattle.resb_icu_grammar.specs.Words.{Text}
 use Rattle.resb_icu_text.specs.Lexemes.{IsLexeme, Verbatim, bytes_said, stands_whole}
-use Rattle.resb_icu_text.specs.Borrowed.{IsPutTogether, PassesWhatIsSaid, passes, KeepsSlices}
+use Rattle.resb_icu_text.specs.Borrowed.{IsPutTogether, PassesWhatIsSaid, KeepsSlices}
 use Rattle.resb_icu_text.specs.Inner.Kept.{Test, members_pass, entries_pass}
 use Rattle.resb_icu_text.specs.declared.strings.Lexeme.{Lexeme}
 
@@ -50,24 +50,20 @@ path_kept text from l s is e k test p =
     ∙ by_slice text test s (stands_whole l.said) k
     (put_together text from l (cow_str_bytes s) is e) p
 
--- a member more
-pub members_with : (test : Test) (v old : List Resource) (r : Resource) → v ≡ old ++ r ∷ []
-    → members_pass old test ≡ true → passes test r ≡ true → members_pass v test ≡ true
-members_with test v old r e h k =
-    ap (λ l. all_true (map (passes test) l)) e
-    ∙ ap all_true (map-append (passes test) old (r ∷ []))
-    ∙ all_snoc (map (passes test) old) (passes test r) h k
+module _ {X : Type 0} (pass : X → Test → Bool) (test : Test) where
+  -- a member more
+  pub members_with : (v old : List X) (x : X) → v ≡ old ++ x ∷ []
+      → members_pass old pass test ≡ true → pass x test ≡ true → members_pass v pass test ≡ true
+  members_with v old x e h k =
+      ap (λ l. members_pass l pass test) e
+      ∙ ap all_true (map-append (λ y. pass y test) old (x ∷ []))
+      ∙ all_snoc (map (λ y. pass y test) old) (pass x test) h k
 
-entry_behind : (test : Test) (es : List (List ℕ × Resource)) (k : List ℕ) (r : Resource)
-    → entries_pass es test ≡ true → passes test r ≡ true
-    → entries_pass (es ++ (k, r) ∷ []) test ≡ true
-entry_behind test [] k r h j = and_from (passes test r) true j refl
-entry_behind test (e ∷ es) k r h j =
-    let all = and_parts _ _ h in and_from _ _ all.0 (entry_behind test es k r all.1 j)
-
--- an entry more
-pub entries_with : (test : Test) (v old : List (List ℕ × Resource)) (k : List ℕ) (r : Resource)
-    → v ≡ old ++ (k, r) ∷ [] → entries_pass old test ≡ true → passes test r ≡ true
-    → entries_pass v test ≡ true
-entries_with test v old k r e h j =
-    ap (λ l. entries_pass l test) e ∙ entry_behind test old k r h j
+  -- an entry more
+  pub entries_with : (v old : List (Bor (List ℕ) × X)) (k : Bor (List ℕ)) (x : X)
+      → v ≡ old ++ (k, x) ∷ [] → entries_pass old pass test ≡ true → pass x test ≡ true
+      → entries_pass v pass test ≡ true
+  entries_with v old k x e h j =
+      ap (λ l. entries_pass l pass test) e
+      ∙ ap all_true (map-append (λ (p : Bor (List ℕ) × X). pass p.1 test) old ((k, x) ∷ []))
+      ∙ all_snoc (map (λ (p : Bor (List ℕ) × X). pass p.1 test) old) (pass x test) h j

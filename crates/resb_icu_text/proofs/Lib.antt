@@ -11,6 +11,8 @@ mod LengthLemmas
 mod TypesLemmas
 mod DistinctLemmas
 mod KeptLemmas
+mod MakingLemmas
+mod DraftLemmas
 mod LeafLemmas
 mod ReadingLemmas
 mod StepsLemmas

@@ -41,6 +41,12 @@ pub ok_by : {A E : Type 0} (r : Result A E) (P Q : A → Type 0) → ((a : A) �
 ok_by (Ok a) P Q f h = f a h
 ok_by (Err e) P Q f h = tt
 
+-- and what two words say of it
+pub ok_by_two : {A E : Type 0} (r : Result A E) (P Q R : A → Type 0)
+    → ((a : A) → P a → Q a → R a) → IfOk r P → IfOk r Q → IfOk r R
+ok_by_two (Ok a) P Q R f h k = f a h k
+ok_by_two (Err e) P Q R f h k = tt
+
 -- and of a refusal
 pub err_by : {A E : Type 0} (r : Result A E) (P Q : E → Type 0) → ((e : E) → P e → Q e)
     → IfErr r P → IfErr r Q

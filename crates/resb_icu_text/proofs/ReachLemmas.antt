@@ -66,9 +66,9 @@ reach_number text from to v low n = by n
     by (minus m r h d l) = run r
 
 -- a reading that stands in the text has looked no further than the text goes
-pub spent_most : (text : List ℕ) (s : Step) → stands_at s ≤ length text
+pub spent_most : {X : Type 0} (text : List ℕ) (s : Step X) → stands_at s ≤ length text
     → spent text s ≤ 8 * length text + 3
 spent_most text (step.Members members last at) l = omega (arith, reach_high text at l)
 spent_most text (step.Entries entries at) l = omega (arith, reach_high text at l)
 spent_most text (step.Group w at) l = omega (arith, reach_high text at l)
-spent_most text (step.Ended resource at) l = omega (arith, l)
+spent_most text (step.Ended x at) l = omega (arith, l)

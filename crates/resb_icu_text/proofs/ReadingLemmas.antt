@@ -7,20 +7,19 @@ use Rattle.std.specs.Cmp.Lexicographic.{pointwise}
 use Rattle.std.proofs.lemmas.Bool.Decides.{nat_tests}
 use Rattle.indexmap.specs.IndexSet.{insert_key}
 use Rattle.resb_grammar.proofs.KeyPlaces.{first_places-snoc}
-use Rattle.std.proofs.lemmas.List.{map-append, take_more}
+use Rattle.std.proofs.lemmas.List.{map-append, take_more, length-append}
 use Rattle.resb_grammar.specs.Ascii as ascii
 use Rattle.resb_grammar.specs.BundleText.{first_places}
 use Rattle.resb_grammar.specs.ByteRuns.{Run}
 use Rattle.resb_grammar.proofs.ByteRunsLemmas.{Run-one}
 use Rattle.resb_tree.specs.Tree.{Tree}
-use Rattle.resb_tree.specs.View.{tree_of}
-use Rattle.resb_tree.specs.declared.resource.Resource.{Resource}
 use Rattle.resb_icu_grammar.specs.Bytes.{is_word}
 use Rattle.resb_icu_grammar.specs.Blanks.{Begins, Skip}
 use Rattle.resb_icu_grammar.specs.Bundle.{Header, Typing, without, with}
 use Rattle.resb_icu_grammar.specs.Words.{KeyText, Name}
 use Rattle.resb_icu_grammar.specs.Machine.{at_root, Waiting, Reading, reading_at, behind_group}
 use Rattle.resb_icu_grammar.specs.Machine.{Comes, here}
+use Rattle.resb_icu_grammar.specs.Machine as move
 use Rattle.resb_icu_grammar.specs.Stuck.{HeaderStuck, StuckFrom, Stuck, in_header, in_root}
 use Rattle.resb_icu_grammar.specs.Stuck.{no_root_type, no_root_brace, no_typed_brace, behind}
 use Rattle.resb_icu_grammar.specs.Stuck.{more_text, NoKeyAt}
@@ -36,9 +35,12 @@ use Rattle.resb_icu_text.specs.Answer.{IcuFails, IsNoIcuText}
 use Rattle.resb_icu_text.specs.Refusal.{want_of_memory}
 use Rattle.resb_icu_text.specs.declared.error.IcuTextError.{IcuTextError}
 use Rattle.resb_icu_text.specs.Inner.Ahead.{KeyFails}
-use Rattle.resb_icu_text.specs.Inner.Steps.{shown, with_key, now, GroupThere, EndedThere, There}
-use Rattle.resb_icu_text.specs.Inner.Steps.{Steps, StepFails}
+use Rattle.resb_icu_text.specs.Inner.Steps.{shown, with_key, now, GroupThere, There, StepFails}
 use Rattle.resb_icu_text.specs.declared.steps.Waiting.{Waiting as Open}
+use Rattle.resb_icu_text.specs.declared.steps.Waiting.TheVariants as waiting
+use Rattle.resb_icu_text.specs.Inner.Build.{pairs_by}
+use Rattle.resb_icu_text.specs.Inner.Steps.{IsTaken, Resumes}
+use Rattle.resb_icu_text.specs.Inner.Reading.{StopsAt, HoldsRules}
 use Rattle.resb_icu_text.specs.declared.steps.Step.{Step}
 use Rattle.resb_icu_text.specs.declared.steps.Step.TheVariants as step
 use Rattle.resb_icu_text.specs.Inner.Reading.{around, NameFails, TypingThere, no_colon, a_type}
@@ -47,10 +49,10 @@ use Rattle.resb_icu_text.specs.Inner.Reading.{RootThere}
 use Rattle.resb_icu_text.specs.Inner.Reading.{RootFails}
 
 -- one group more is the innermost
-pub around_push : (ws : List Waiting) (os : List Open) (o : Open)
-    → around ws (os ++ o ∷ []) ≡ shown o ∷ around ws os
-around_push ws [] o = refl
-around_push ws (p ∷ os) o = around_push (shown p ∷ ws) os o
+pub around_push : {X : Type 0} (tree : X → Tree) (ws : List Waiting) (os : List (Open X))
+    (o : Open X) → around tree ws (os ++ o ∷ []) ≡ shown tree o ∷ around tree ws os
+around_push tree ws [] o = refl
+around_push tree ws (p ∷ os) o = around_push tree (shown tree p ∷ ws) os o
 
 name_is : (text : List ℕ) (at to end : ℕ) (k name : List ℕ) → KeyText text at to k
     → Name text at end name → name ≡ k
@@ -146,26 +148,33 @@ no_header_opening text a start end at name e b k n l (no_brace brace f t d h) =
     header_says text brace expect.LeftBrace e h
     (no_opening_brace text a start end at brace name f b k n l t d)
 
+-- at most one key is listed more
+pub with_key_length : {X : Type 0} (ks : List (List ℕ)) (o : Open X)
+    → length (with_key ks o) ≤ length ks + 1
+with_key_length ks (waiting.Array members) = omega arith
+with_key_length ks (waiting.Table entries key at) =
+    omega (arith, length-append ks (key.now ∷ []))
+
 -- a refusal inside these groups and with these keys
-pub stops_there : (text : List ℕ) (there : There) (e : IcuTextError) → StepFails text there e
-    → (ws : List Waiting) (ks : List (List ℕ))
-    → (e ≡ want_of_memory) ⊎ StuckFrom text (there ws ks) e.position e.expected
-stops_there text there e r ws ks = ⊎_elim (λ (m : e ≡ want_of_memory). inl m)
-    (λ (n : (ws : List Waiting) (ks : List (List ℕ))
-    → StuckFrom text (there ws ks) e.position e.expected). inr (n ws ks)) r
+pub stops_there : {X : Type 0} (text : List ℕ) (there : There X) (e : IcuTextError)
+    → StepFails text there e → (tree : X → Tree) (ws : List Waiting) (ks : List (List ℕ))
+    → StopsAt text (there tree ws ks) e
+stops_there {X} text there e r tree ws ks = ⊎_elim (λ (m : e ≡ want_of_memory). inl m)
+    (λ (n : (tree : X → Tree) (ws : List Waiting) (ks : List (List ℕ))
+    → StuckFrom text (there tree ws ks) e.position e.expected). inr (n tree ws ks)) r
 
 -- what is open after a push
-pub pushed : (old new : List Open) (o : Open) → new ≡ old ++ o ∷ []
-    → around [] new ≡ shown o ∷ around [] old
-pushed old new o e = ap (λ os. around [] os) e ∙ around_push [] old o
+pub pushed : {X : Type 0} (tree : X → Tree) (old new : List (Open X)) (o : Open X)
+    → new ≡ old ++ o ∷ [] → around tree [] new ≡ shown tree o ∷ around tree [] old
+pushed tree old new o e = ap (λ os. around tree [] os) e ∙ around_push tree [] old o
 
 -- a step inside a group that was just opened
-pub in_opened : (text : List ℕ) (at : ℕ) (r : Reading) (w : Open) (os ws : List Waiting)
-    (js ks : List (List ℕ)) → os ≡ shown w ∷ ws → js ≡ with_key ks w
-    → Comes text (GroupThere at os js) r → Comes text (now ws ks (step.Group w at)) r
-in_opened text at r w os ws js ks e f h =
-    subst (λ vs. Comes text (GroupThere at vs (with_key ks w)) r) e
-    (subst (λ is. Comes text (GroupThere at os is) r) f h)
+pub in_opened : {X : Type 0} (text : List ℕ) (at : ℕ) (r : Reading) (tree : X → Tree) (w : Open X)
+    (os ws : List Waiting) (js ks : List (List ℕ)) → os ≡ shown tree w ∷ ws → js ≡ with_key ks w
+    → Comes text (GroupThere X at tree os js) r → Comes text (now tree ws ks (step.Group w at)) r
+in_opened {X} text at r tree w os ws js ks e f h =
+    subst (λ vs. Comes text (GroupThere X at tree vs (with_key ks w)) r) e
+    (subst (λ is. Comes text (GroupThere X at tree os is) r) f h)
 
 -- one key more in the list of those that stand once
 pub more_keys : (ks : List (Bor (List ℕ))) (i : ℕ) (d : Bor (List ℕ)) (old new : List (List ℕ))
@@ -179,46 +188,59 @@ more_keys ks i d old new w e f =
     ∙ map-append (λ k. k.now) (take i ks) (get_or ks i d ∷ [])))
 
 -- nothing is open where nothing waits
-pub nothing_open : (os : List Open) → length os ≡ 0 → around [] os ≡ []
-nothing_open [] e = refl
-nothing_open (o ∷ os) e = absurd (omega arith)
+pub nothing_open : {X : Type 0} (tree : X → Tree) (os : List (Open X)) → length os ≡ 0
+    → around tree [] os ≡ []
+nothing_open tree [] e = refl
+nothing_open tree (o ∷ os) e = absurd (omega arith)
 
 -- a step behind a group, inside what was open around it
-pub behind_ended : (text : List ℕ) (w : Open) (r : Resource) (at : ℕ) (s : Step)
-    (os ws : List Waiting) (ks : List (List ℕ)) → os ≡ shown w ∷ ws
-    → Steps text (EndedThere w r at) s
-    → Comes text (now os ks (step.Ended r at)) (now ws ks s)
-behind_ended text w r at s os ws ks e h =
-    subst (λ vs. Comes text (reading_at vs ks (behind_group (tree_of r)) at) (now ws ks s)) (sym e)
-    (h ws ks)
+pub behind_ended : {X : Type 0} (text : List ℕ) (tree : X → Tree) (w : Open X) (x : X) (at : ℕ)
+    (s : Step X) (os ws : List Waiting) (ks : List (List ℕ)) → os ≡ shown tree w ∷ ws
+    → IsTaken w (tree x) → Resumes text w x at s
+    → Comes text (now tree os ks (step.Ended x at)) (now tree ws ks s)
+behind_ended text tree w x at s os ws ks e taken h =
+    subst (λ vs. Comes text (reading_at vs ks (behind_group (tree x)) at) (now tree ws ks s))
+    (sym e) (h tree ws ks taken)
+
+rules_stuck : {X : Type 0} (text : List ℕ) (tree : X → Tree) (w : Open X) (t : Tree) (at : ℕ)
+    (e : IcuTextError) (ws : List Waiting) (ks : List (List ℕ)) → HoldsRules w t e
+    → StuckFrom text (reading_at (shown tree w ∷ ws) ks (behind_group t) at) e.position e.expected
+rules_stuck text tree (waiting.Array members) t at e ws ks h = absurd h
+rules_stuck text tree (waiting.Table entries key begin) t at e ws ks h =
+    let around = move.in_table (pairs_by tree entries.items) key.now begin ∷ ws in
+    subst (λ (g : IcuTextError).
+    StuckFrom text (reading_at around ks (behind_group t) at) g.position g.expected)
+    (sym h.1) (record {
+      last = reading_at around ks (behind_group t) at;
+      comes = here (reading_at around ks (behind_group t) at);
+      there = behind _ ks t at begin expect.NoCollation
+          (stuck.a_collation ws (pairs_by tree entries.items) key.now begin h.0);
+    })
 
 -- a refusal there
-pub stops_ended : (text : List ℕ) (w : Open) (r : Resource) (at : ℕ) (e : IcuTextError)
-    (os ws : List Waiting) (ks : List (List ℕ)) → os ≡ shown w ∷ ws
-    → StepFails text (EndedThere w r at) e
-    → (e ≡ want_of_memory)
-    ⊎ StuckFrom text (now os ks (step.Ended r at)) e.position e.expected
-stops_ended text w r at e os ws ks f h =
-    subst (λ vs. (e ≡ want_of_memory)
-    ⊎ StuckFrom text (reading_at vs ks (behind_group (tree_of r)) at) e.position e.expected) (sym f)
-    (stops_there text (EndedThere w r at) e h ws ks)
+pub stops_ended : {X : Type 0} (text : List ℕ) (tree : X → Tree) (w : Open X) (x : X) (at : ℕ)
+    (e : IcuTextError) (os ws : List Waiting) (ks : List (List ℕ)) → os ≡ shown tree w ∷ ws
+    → HoldsRules w (tree x) e → StopsAt text (now tree os ks (step.Ended x at)) e
+stops_ended text tree w x at e os ws ks f h =
+    inr (subst
+    (λ vs. StuckFrom text (reading_at vs ks (behind_group (tree x)) at) e.position e.expected)
+    (sym f) (rules_stuck text tree w (tree x) at e ws ks h))
 
 -- where nothing is open, the root has ended
-pub root_ended : (text : List ℕ) (r : Resource) (at : ℕ) (os : List Waiting) (ks : List (List ℕ))
-    → os ≡ []
-    → Comes text (now os ks (step.Ended r at)) (reading_at [] ks (behind_group (tree_of r)) at)
-root_ended text r at os ks e =
-    subst (λ vs. Comes text (reading_at vs ks (behind_group (tree_of r)) at)
-    (reading_at [] ks (behind_group (tree_of r)) at)) (sym e) (here _)
+pub root_ended : {X : Type 0} (text : List ℕ) (tree : X → Tree) (x : X) (at : ℕ)
+    (os : List Waiting) (ks : List (List ℕ)) → os ≡ []
+    → Comes text (now tree os ks (step.Ended x at)) (reading_at [] ks (behind_group (tree x)) at)
+root_ended text tree x at os ks e =
+    subst (λ vs. Comes text (reading_at vs ks (behind_group (tree x)) at)
+    (reading_at [] ks (behind_group (tree x)) at)) (sym e) (here _)
 
--- where a reading stops that came from the root's first entry
-pub stops_root : (text : List ℕ) (first : ℕ) (r : Reading) (e : IcuTextError)
-    → Comes text (at_root first) r
-    → (e ≡ want_of_memory) ⊎ StuckFrom text r e.position e.expected → RootFails text first e
-stops_root text first r e c f = ⊎_elim (λ (m : e ≡ want_of_memory). inl m)
+-- where a reading stops that came from elsewhere
+pub stops_by : (text : List ℕ) (from r : Reading) (e : IcuTextError) → Comes text from r
+    → StopsAt text r e → StopsAt text from e
+stops_by text from r e c f = ⊎_elim (λ (m : e ≡ want_of_memory). inl m)
     (λ (n : StuckFrom text r e.position e.expected). inr (record {
       last = n.last;
-      comes = comes_by text (at_root first) r n.last c n.comes;
+      comes = comes_by text from r n.last c n.comes;
       there = n.there;
     })) f
 

@@ -1,5 +1,6 @@
 -- Words of private functions.
 pub mod Ahead
+pub mod Build
 pub mod Escaped
 pub mod Kept
 pub mod Leaf

@@ -4,6 +4,8 @@
 #![tactic(auto)]
 
 mod blanks;
+mod build;
+mod drafts;
 mod error;
 mod escapes;
 mod leaf;
@@ -12,6 +14,7 @@ mod pieces;
 mod reader;
 mod steps;
 mod strings;
+mod trees;
 mod turns;
 mod types;
 mod words;
@@ -19,6 +22,7 @@ mod words;
 pub use blanks::skip;
 pub use error::IcuTextError;
 pub use reader::IcuReader;
+pub use resb_draft::DraftBundle;
 pub use strings::{Lexeme, Said, string};
 pub use turns::IcuTurns;
 pub use types::{group_type, root_type};

@@ -1,32 +1,36 @@
 //! From a text of ICU's form to a bundle and its keys, in one pass and without recursion.
 //! What stands before the first entry of the root and behind the last is read here; what is open in
 //! between is kept in `open`.
-ghost use Rattle.std.specs.Prelude.{◌≡◌, ◌⊎◌, ℕ, ◌+◌, ◌*◌, ◌<◌, ◌≤◌, Bool, [], List, length, map};
-ghost use Rattle.std.specs.Prelude.{IfOk, IfErr, slice_index};
+ghost use Rattle.std.specs.Prelude.{◌≡◌, ◌⊎◌, ◌+◌, ◌*◌, ◌<◌, ◌≤◌, true, length, map};
+ghost use Rattle.std.specs.Prelude.{IfOk, IfErr};
+ghost use Rattle.resb_draft.specs.Drafts.{draft_tree, is_ready};
 ghost use Rattle.resb_grammar.specs.BundleText.{first_places};
 ghost use Rattle.resb_tree.specs.Bundle.{name_of, root_of};
-ghost use Rattle.resb_tree.specs.View.{tree_of};
 ghost use Rattle.resb_icu_grammar.specs.Blanks.{Begins};
 ghost use Rattle.resb_icu_grammar.specs.Bundle as bundle;
 ghost use Rattle.resb_icu_grammar.specs.Bundle.{IcuText};
 ghost use Rattle.resb_icu_text.specs.Answer.{IcuFails, IsNoIcuText};
-ghost use Rattle.resb_icu_text.specs.Borrowed.{IsBorrowedFrom, KeepsSlices};
+ghost use Rattle.resb_icu_text.specs.Borrowed.{IsBorrowedFrom};
 ghost use Rattle.resb_icu_text.specs.Refusal.{want_of_memory};
 ghost use Rattle.resb_icu_text.specs.Inner.Reading.{NameAhead, NameFails, TypingThere};
 ghost use Rattle.resb_icu_text.specs.Inner.Reading.{Opening, OpeningFails, HeaderFails};
 ghost use Rattle.resb_icu_text.specs.Inner.Reading.{RootThere, RootFails};
+ghost use Rattle.resb_icu_text.specs.Inner.Kept.{IsKept};
 ghost use Rattle.resb_grammar.specs.Inner.Reach.{reach};
 
 use crate::blanks::{byte, skip};
+use crate::build::Build;
 use crate::error::IcuTextError;
 use crate::open::{Next, OpenGroups};
 use crate::steps::{Step, key_at};
+use crate::trees::Trees;
 use crate::turns::IcuTurns;
 use crate::types::root_type;
 use crate::words::word_end;
+use resb_draft::{Draft, DraftBundle};
 use resb_grammar::KeyList;
 use resb_icu_grammar::IcuExpected;
-use resb_tree::{Key, NoMemory, Resource, ResourceBundle};
+use resb_tree::{Key, NoMemory, ResourceBundle};
 use std::alloc::Global;
 use std::borrow::CowStr;
 
@@ -70,6 +74,31 @@ impl IcuReader {
         turns.add_counted(own);
         read
     }
+
+    /// The bundle that the text is, with its root as a draft, and the keys as `read` gives them.
+    /// No map is made for a table whose keys ascend as they come.
+    pub fn read_draft<'a>(
+        alloc: Global,
+        input: &'a str,
+    ) -> Result<(DraftBundle<'a>, Vec<Key<'a>>), IcuTextError>
+        ensures ok { IfOk result (λ r. IcuText input.now r.0.name.now
+            r.0.is_locale_fallback_enabled (draft_tree r.0.root) r.1.items) }
+        ensures ready { IfOk result (λ r. is_ready r.0.root ≡ true) }
+        ensures err { IfErr result (IcuFails input.now) }
+        ensures no_text { IfErr result (λ e. (e ≡ want_of_memory) ⊎ IsNoIcuText input.now) }
+    {
+        let turns = &mut IcuTurns::new();
+        let (header, root, keys) = read_into(alloc, input, turns, Draft::new(alloc))?;
+        let Root { build, made } = root;
+        let mut draft = build;
+        draft.root = made;
+        let bundle = DraftBundle {
+            name: header.name,
+            root: draft,
+            is_locale_fallback_enabled: header.fallback,
+        };
+        Ok((bundle, keys))
+    }
 }
 
 /// The bundle and its keys, as `IcuReader::read` gives them.
@@ -85,21 +114,43 @@ fn read_bundle<'a>(
     ensures no_text { IfErr result (λ e. (e ≡ want_of_memory) ⊎ IsNoIcuText input.now) }
     ensures cost { turns.new.count ≤ turns.old.count + 8 * length input.now + 24 }
 {
-    let Header {
-        name,
-        fallback,
-        first,
-    } = read_header(alloc, input, turns)?;
-    let (root, keys) = read_root(alloc, input, first, turns)?;
-    let keys = each_once(alloc, &keys, turns)?;
+    let (header, root, keys) = read_into(alloc, input, turns, Trees {})?;
     Ok((
-        ResourceBundle::new(CowStr::Borrowed(name), root, fallback),
+        ResourceBundle::new(CowStr::Borrowed(header.name), root.made, header.fallback),
         keys,
     ))
 }
 
+/// What is made of the root, and what has made it.
+#[derive(Drop)]
+struct Root<B, X> {
+    build: B,
+    made: X,
+}
+
+/// What stands before the root, what is made of that, and the keys.
+fn read_into<'a, B: Build<'a>>(
+    alloc: Global,
+    input: &'a str,
+    turns: &mut IcuTurns,
+    build: B,
+) -> Result<(Header<'a>, Root<B, B::Made>, Vec<Key<'a>>), IcuTextError>
+    ensures ok { IfOk result (λ r. IcuText input.now r.0.name.now r.0.fallback
+        (B.tree r.1.build r.1.made) r.2.items) }
+    ensures kept { IfOk result (λ r. IsKept input.now (B.held r.1.build r.1.made)) }
+    ensures err { IfErr result (IcuFails input.now) }
+    ensures no_text { IfErr result (λ e. (e ≡ want_of_memory) ⊎ IsNoIcuText input.now) }
+    ensures cost { turns.new.count ≤ turns.old.count + 8 * length input.now + 24 }
+{
+    let header = read_header(alloc, input, turns)?;
+    let (root, keys) = read_root(alloc, input, header.first, turns, build)?;
+    let keys = each_once(alloc, &keys, turns)?;
+    Ok((header, root, keys))
+}
+
 /// What stands before the root's entries: the bundle's name, and whether fallback is on. And the
 /// place of the first entry.
+#[derive(Drop)]
 struct Header<'a> {
     name: &'a str,
     fallback: bool,
@@ -211,34 +262,36 @@ fn read_header<'a>(
     })
 }
 
-/// The root whose entries begin here, and the keys of its tables in order of place.
-fn read_root<'a>(
+/// What is made of the root whose entries begin here, and the keys of its tables in order of place.
+fn read_root<'a, B: Build<'a>>(
     alloc: Global,
     text: &'a str,
     first: usize,
     turns: &mut IcuTurns,
-) -> Result<(Resource<'a>, Vec<&'a str>), IcuTextError>
+    build: B,
+) -> Result<(Root<B, B::Made>, Vec<&'a str>), IcuTextError>
     requires within { first ≤ length text.now }
-    ensures ok { IfOk result
-        (λ r. RootThere text.now first (tree_of r.0, map (λ k. k.now) r.1.items)) }
-    ensures slices { IfOk result (λ r. KeepsSlices text.now r.0) }
+    ensures ok { IfOk result (λ r. RootThere text.now first
+        (B.tree r.0.build r.0.made, map (λ k. k.now) r.1.items)) }
+    ensures kept { IfOk result (λ r. IsKept text.now (B.held r.0.build r.0.made)) }
     ensures err { IfErr result (RootFails text.now first) }
     ensures cost { IfOk result (λ r. turns.new.count + 8 * reach text.now first + length r.1.items
         ≤ turns.old.count + 8 * length text.now + 8) }
     ensures most { turns.new.count + 8 * reach text.now first
         ≤ turns.old.count + 8 * length text.now + 8 }
 {
-    let mut open = OpenGroups::new(alloc);
+    let mut open = OpenGroups::new(alloc, build);
     let mut step = Step::Entries(Vec::new(alloc), first);
     'steps: loop {
         match open.advance(alloc, text, step, turns)? {
             Next::Step(next) => step = next,
-            Next::Root(root, at) => {
+            Next::Root(made, at) => {
                 let end = skip(text, at, turns);
                 if end < text.len() {
                     return Err(IcuTextError::new(end, IcuExpected::EndOfText));
                 }
-                return Ok((root, open.keys));
+                let OpenGroups { build, keys, .. } = open;
+                return Ok((Root { build, made }, keys));
             }
         }
     }

@@ -1,23 +1,20 @@
 //! One step of a reading: from where it stands to behind the next member, entry, brace or group.
-//! What is open around that place is kept in `open`; groups without items are read in `leaf`.
-ghost use Rattle.std.specs.Prelude.{◌≡◌, ◌≢◌, ℕ, ◌+◌, ◌*◌, ◌<◌, ◌≤◌, ◌↔◌, ◌&&◌, Bool, true};
-ghost use Rattle.std.specs.Prelude.{IsTrue, length};
-ghost use Rattle.std.specs.Prelude.{IfOk, IfErr, IfSome, IfNone, List, map, slice_index};
+//! What is open around that place is kept in `open`, and what a step has read is made there. Groups
+//! without items are read in `leaf`.
+ghost use Rattle.std.specs.Prelude.{◌≡◌, ◌≢◌, ℕ, ◌+◌, ◌*◌, ◌<◌, ◌≤◌, ◌&&◌, Bool, true, length};
+ghost use Rattle.std.specs.Prelude.{IfOk, IfErr, slice_index};
 ghost use Rattle.resb_grammar.specs.Ascii as ascii;
-ghost use Rattle.resb_tree.specs.Tree.{map_of};
-ghost use Rattle.resb_tree.specs.View.{tree_of, pairs_view, entries_view};
 ghost use Rattle.resb_icu_grammar.specs.Groups as spec;
-ghost use Rattle.resb_icu_grammar.specs.Machine.{AreDistinct};
 ghost use Rattle.resb_icu_grammar.specs.Stuck.{member_behind};
 ghost use Rattle.resb_icu_grammar.specs.Kinds.{kind_of};
-ghost use Rattle.resb_icu_text.specs.Inner.Steps.{last_of, Steps, StepFails, Goes};
+ghost use Rattle.resb_icu_text.specs.Inner.Steps.{last_of, Steps, StepFails, Goes, Resumes};
 ghost use Rattle.resb_icu_text.specs.Inner.Steps.{MembersThere, EntriesThere, GroupThere};
-ghost use Rattle.resb_icu_text.specs.Inner.Steps.{UntypedThere, TypedThere, EndedThere};
-ghost use Rattle.resb_icu_text.specs.Inner.Steps.{KeyAhead, spent};
+ghost use Rattle.resb_icu_text.specs.Inner.Steps.{UntypedThere, TypedThere};
+ghost use Rattle.resb_icu_text.specs.Inner.Steps.{KeyAhead, stands_at, progress, spent};
+ghost use Rattle.resb_icu_text.specs.Inner.Steps.{spent_reading};
 ghost use Rattle.resb_icu_text.specs.Inner.Ahead.{KeyFails};
-ghost use Rattle.resb_icu_text.specs.Inner.Kept.{Keeps, step_passes, members_pass, entries_pass};
-ghost use Rattle.resb_icu_text.specs.Inner.Kept.{Test, open_passes, nothing_before};
-ghost use Rattle.resb_icu_text.specs.Borrowed.{passes};
+ghost use Rattle.resb_icu_text.specs.Inner.Kept.{Keeps, step_passes, read_passes, members_pass};
+ghost use Rattle.resb_icu_text.specs.Inner.Kept.{Test, entries_pass, open_passes, nothing_before};
 ghost use Rattle.resb_grammar.specs.Inner.Reach.{reach};
 
 use crate::blanks::{byte, skip};
@@ -26,8 +23,8 @@ use crate::leaf::{leaf, text_of};
 use crate::strings::string_or;
 use crate::turns::IcuTurns;
 use crate::types::group_type;
-use resb_icu_grammar::{IcuExpected, IcuKind, is_collation, is_table};
-use resb_tree::{Key, NoMemory, Resource, Table, table_at_once};
+use resb_icu_grammar::{IcuExpected, IcuKind};
+use resb_tree::{NoMemory, Resource};
 use std::alloc::Global;
 
 /// What stands last among the members of an array so far.
@@ -72,105 +69,123 @@ impl Last {
     }
 }
 
-/// An entry of a table that is not finished yet.
-pub(crate) type Entry<'a> = (Key<'a>, Resource<'a>);
+/// An entry of a table that is not finished yet: its key, and what was made of its value.
+pub(crate) type Entry<'a, X> = (&'a str, X);
 
 /// What is open around a group: an array with the members before it, or a table with the entries
 /// before it, its key, and the place where it begins.
 #[derive(Drop)]
-pub(crate) enum Waiting<'a> {
-    Array(Vec<Resource<'a>>),
-    Table(Vec<Entry<'a>>, &'a str, usize),
+pub(crate) enum Waiting<'a, X> {
+    Array(Vec<X>),
+    Table(Vec<Entry<'a, X>>, &'a str, usize),
 }
 
 /// Where a reading stands: among members, among entries, before a group, or behind one.
 #[derive(Drop)]
-pub(crate) enum Step<'a> {
-    Members(Vec<Resource<'a>>, Last, usize),
-    Entries(Vec<Entry<'a>>, usize),
-    Group(Waiting<'a>, usize),
-    Ended(Resource<'a>, usize),
+pub(crate) enum Step<'a, X> {
+    Members(Vec<X>, Last, usize),
+    Entries(Vec<Entry<'a, X>>, usize),
+    Group(Waiting<'a, X>, usize),
+    Ended(X, usize),
+}
+
+/// What a step has read, of which nothing is made yet, and the place behind it.
+#[derive(Drop)]
+pub(crate) enum Read<'a, X> {
+    /// Nothing of which something is to be made.
+    Step(Step<'a, X>),
+    /// A string behind members.
+    Member(Vec<X>, Resource<'a>, usize),
+    /// An array of these members.
+    Array(Vec<X>, usize),
+    /// A table of these entries, and before the place behind it that of its `}`.
+    Table(Vec<Entry<'a, X>>, usize, usize),
+    /// A group without items.
+    Leaf(Resource<'a>, usize),
+    /// The root, which was made already.
+    Root(X, usize),
 }
 
 /// From among members to behind the next one, before the next group, or behind the array.
-pub(crate) fn member<'a>(
+pub(crate) fn member<'a, X: Drop>(
     text: &'a str,
-    members: Vec<Resource<'a>>,
+    members: Vec<X>,
     last: Last,
     at: usize,
     turns: &mut IcuTurns,
-) -> Result<Step<'a>, IcuTextError>
+) -> Result<Read<'a, X>, IcuTextError>
     requires within { at ≤ length text.now }
-    ensures ok { IfOk result (Steps text.now (MembersThere members.entry.items last at)) }
-    ensures err { IfErr result (StepFails text.now (MembersThere members.entry.items last at)) }
+    ensures ok { IfOk result (Steps text.now (MembersThere members.items last at)) }
+    ensures err { IfErr result (StepFails text.now (MembersThere members.items last at)) }
     ensures slices { IfOk result
-        (λ s. Keeps text.now (members_pass members.entry.items) (step_passes s)) }
+        (λ r. Keeps text.now (members_pass members.items) (read_passes r)) }
     ensures goes { IfOk result (Goes text.now (3 * at + 1)) }
-    ensures cost { IfOk result (λ s. turns.new.count + 8 * reach text.now at + 3
-        ≤ turns.old.count + spent text.now s) }
+    ensures cost { IfOk result (λ r. turns.new.count + 8 * reach text.now at + 3
+        ≤ turns.old.count + spent_reading text.now r) }
     ensures most { turns.new.count + 8 * reach text.now at
         ≤ turns.old.count + 8 * length text.now + 4 }
 {
     let b = byte(text, at);
     if b == b'}' {
-        return Ok(Step::Ended(Resource::Array(members), at + 1));
+        return Ok(Read::Array(members, at + 1));
     }
     if b == b',' {
         return comma(text, members, last, at, turns);
     }
     if b == b'{' || b == b':' {
-        return Ok(Step::Group(Waiting::Array(members), at));
+        return Ok(Read::Step(Step::Group(Waiting::Array(members), at)));
     }
     string_member(text, members, last, at, turns)
 }
 
 /// From a comma to behind it and the blanks there.
-fn comma<'a>(
+fn comma<'a, X: Drop>(
     text: &'a str,
-    members: Vec<Resource<'a>>,
+    members: Vec<X>,
     last: Last,
     at: usize,
     turns: &mut IcuTurns,
-) -> Result<Step<'a>, IcuTextError>
+) -> Result<Read<'a, X>, IcuTextError>
     requires within { at < length text.now }
     requires comma { slice_index text.now at ≡ ascii.comma }
-    ensures ok { IfOk result (Steps text.now (MembersThere members.entry.items last at)) }
-    ensures err { IfErr result (StepFails text.now (MembersThere members.entry.items last at)) }
+    ensures ok { IfOk result (Steps text.now (MembersThere members.items last at)) }
+    ensures err { IfErr result (StepFails text.now (MembersThere members.items last at)) }
     ensures slices { IfOk result
-        (λ s. Keeps text.now (members_pass members.entry.items) (step_passes s)) }
+        (λ r. Keeps text.now (members_pass members.items) (read_passes r)) }
     ensures goes { IfOk result (Goes text.now (3 * at + 1)) }
-    ensures cost { IfOk result (λ s. turns.new.count + 8 * reach text.now at + 3
-        ≤ turns.old.count + spent text.now s) }
+    ensures cost { IfOk result (λ r. turns.new.count + 8 * reach text.now at + 3
+        ≤ turns.old.count + spent_reading text.now r) }
     ensures most { turns.new.count + 8 * reach text.now at
         ≤ turns.old.count + 8 * length text.now + 4 }
 {
     if last.is_member() {
-        Ok(Step::Members(members, Last::Comma, skip(text, at + 1, turns)))
+        let next = skip(text, at + 1, turns);
+        Ok(Read::Step(Step::Members(members, Last::Comma, next)))
     } else {
         Err(IcuTextError::new(at, IcuExpected::Member))
     }
 }
 
 /// From the string that must stand here to behind it and the blanks there.
-fn string_member<'a>(
+fn string_member<'a, X: Drop>(
     text: &'a str,
-    mut members: Vec<Resource<'a>>,
+    members: Vec<X>,
     last: Last,
     at: usize,
     turns: &mut IcuTurns,
-) -> Result<Step<'a>, IcuTextError>
+) -> Result<Read<'a, X>, IcuTextError>
     requires within { at ≤ length text.now }
     requires no_brace { slice_index text.now at ≢ ascii.right_brace }
     requires no_comma { slice_index text.now at ≢ ascii.comma }
     requires no_group { slice_index text.now at ≢ ascii.left_brace }
     requires no_type { slice_index text.now at ≢ ascii.colon }
-    ensures ok { IfOk result (Steps text.now (MembersThere members.entry.items last at)) }
-    ensures err { IfErr result (StepFails text.now (MembersThere members.entry.items last at)) }
+    ensures ok { IfOk result (Steps text.now (MembersThere members.items last at)) }
+    ensures err { IfErr result (StepFails text.now (MembersThere members.items last at)) }
     ensures slices { IfOk result
-        (λ s. Keeps text.now (members_pass members.entry.items) (step_passes s)) }
+        (λ r. Keeps text.now (members_pass members.items) (read_passes r)) }
     ensures goes { IfOk result (Goes text.now (3 * at + 1)) }
-    ensures cost { IfOk result (λ s. turns.new.count + 8 * reach text.now at + 3
-        ≤ turns.old.count + spent text.now s) }
+    ensures cost { IfOk result (λ r. turns.new.count + 8 * reach text.now at + 3
+        ≤ turns.old.count + spent_reading text.now r) }
     ensures most { turns.new.count + 8 * reach text.now at
         ≤ turns.old.count + 8 * length text.now + 4 }
 {
@@ -179,8 +194,8 @@ fn string_member<'a>(
     if last.is_string() {
         return Err(IcuTextError::new(at, IcuExpected::Comma));
     }
-    members.push(Resource::String(text_of(lexeme.said)))?;
-    Ok(Step::Members(members, Last::String, lexeme.next))
+    let string = Resource::String(text_of(lexeme.said));
+    Ok(Read::Member(members, string, lexeme.next))
 }
 
 /// The key that stands here and the place behind the blanks that follow it; or, where none does,
@@ -209,66 +224,47 @@ pub(crate) fn key_at<'a>(
 }
 
 /// From among entries to before the value of the next one, or behind the table.
-pub(crate) fn entry<'a>(
+pub(crate) fn entry<'a, X: Drop>(
     alloc: Global,
     text: &'a str,
-    entries: Vec<Entry<'a>>,
+    entries: Vec<Entry<'a, X>>,
     at: usize,
     turns: &mut IcuTurns,
-) -> Result<Step<'a>, IcuTextError>
+) -> Result<Read<'a, X>, IcuTextError>
     requires within { at ≤ length text.now }
     ensures ok { IfOk result (Steps text.now (EntriesThere entries.entry.items at)) }
     ensures err { IfErr result (StepFails text.now (EntriesThere entries.entry.items at)) }
     ensures slices { IfOk result
-        (λ s. Keeps text.now (entries_pass entries.entry.items) (step_passes s)) }
+        (λ r. Keeps text.now (entries_pass entries.entry.items) (read_passes r)) }
     ensures goes { IfOk result (Goes text.now (3 * at + 1)) }
-    ensures cost { IfOk result (λ s. turns.new.count + 8 * reach text.now at + 3
-        ≤ turns.old.count + spent text.now s) }
+    ensures cost { IfOk result (λ r. turns.new.count + 8 * reach text.now at + 3
+        ≤ turns.old.count + spent_reading text.now r) }
     ensures most { turns.new.count + 8 * reach text.now at
         ≤ turns.old.count + 8 * length text.now + 4 }
 {
     if byte(text, at) == b'}' {
-        let Some(table) = table_of(alloc, entries)? else {
-            return Err(IcuTextError::new(at, IcuExpected::KeysOnce));
-        };
-        return Ok(Step::Ended(Resource::Table(table), at + 1));
+        return Ok(Read::Table(entries, at, at + 1));
     }
     let (next, key) = key_at(alloc, text, at, IcuExpected::Entry, turns)?;
-    Ok(Step::Group(Waiting::Table(entries, key, next), next))
-}
-
-/// The map of these entries, made at once, if each key stands once among them.
-fn table_of<'a>(alloc: Global, entries: Vec<Entry<'a>>) -> Result<Option<Table<'a>>, NoMemory>
-    ensures found { IfOk result (λ o. IfSome o (λ m. AreDistinct (pairs_view entries.entry.items)
-        × (entries_view m.entries ≡ map_of (pairs_view entries.entry.items)))) }
-    ensures slices { IfOk result (λ o. IfSome o (λ m. (t : Test)
-        → entries_pass entries.entry.items t ≡ true → entries_pass m.entries t ≡ true)) }
-    ensures none { IfOk result (λ o. IfNone o (AreDistinct (pairs_view entries.entry.items) → ⊥)) }
-{
-    let count = entries.len();
-    let table = table_at_once(alloc, entries)?;
-    if table.len() == count {
-        Ok(Some(table))
-    } else {
-        Ok(None)
-    }
+    let waiting = Waiting::Table(entries, key, next);
+    Ok(Read::Step(Step::Group(waiting, next)))
 }
 
 /// From before a group to among its members or entries, or behind it.
-pub(crate) fn group<'a>(
+pub(crate) fn group<'a, X: Drop>(
     alloc: Global,
     text: &'a str,
     at: usize,
     turns: &mut IcuTurns,
-) -> Result<Step<'a>, IcuTextError>
+) -> Result<Read<'a, X>, IcuTextError>
     requires within { at ≤ length text.now }
-    ensures ok { IfOk result (Steps text.now (GroupThere at)) }
-    ensures err { IfErr result (StepFails text.now (GroupThere at)) }
+    ensures ok { IfOk result (Steps text.now (GroupThere X at)) }
+    ensures err { IfErr result (StepFails text.now (GroupThere X at)) }
     ensures slices { IfOk result
-        (λ s. Keeps text.now nothing_before (step_passes s)) }
+        (λ r. Keeps text.now nothing_before (read_passes r)) }
     ensures goes { IfOk result (Goes text.now (3 * at + 2)) }
-    ensures cost { IfOk result (λ s. turns.new.count + 8 * reach text.now at + 5
-        ≤ turns.old.count + spent text.now s) }
+    ensures cost { IfOk result (λ r. turns.new.count + 8 * reach text.now at + 5
+        ≤ turns.old.count + spent_reading text.now r) }
     ensures most { turns.new.count + 8 * reach text.now at
         ≤ turns.old.count + 8 * length text.now + 4 }
 {
@@ -284,21 +280,21 @@ pub(crate) fn group<'a>(
 }
 
 /// From a type to among the members or entries of its group, or behind that.
-fn typed<'a>(
+fn typed<'a, X: Drop>(
     alloc: Global,
     text: &'a str,
     at: usize,
     turns: &mut IcuTurns,
-) -> Result<Step<'a>, IcuTextError>
+) -> Result<Read<'a, X>, IcuTextError>
     requires within { at < length text.now }
     requires colon { slice_index text.now at ≡ ascii.colon }
-    ensures ok { IfOk result (Steps text.now (GroupThere at)) }
-    ensures err { IfErr result (StepFails text.now (GroupThere at)) }
+    ensures ok { IfOk result (Steps text.now (GroupThere X at)) }
+    ensures err { IfErr result (StepFails text.now (GroupThere X at)) }
     ensures slices { IfOk result
-        (λ s. Keeps text.now nothing_before (step_passes s)) }
+        (λ r. Keeps text.now nothing_before (read_passes r)) }
     ensures goes { IfOk result (Goes text.now (3 * at + 2)) }
-    ensures cost { IfOk result (λ s. turns.new.count + 8 * reach text.now at + 5
-        ≤ turns.old.count + spent text.now s) }
+    ensures cost { IfOk result (λ r. turns.new.count + 8 * reach text.now at + 5
+        ≤ turns.old.count + spent_reading text.now r) }
     ensures most { turns.new.count + 8 * reach text.now at
         ≤ turns.old.count + 8 * length text.now + 4 }
 {
@@ -312,81 +308,82 @@ fn typed<'a>(
 }
 
 /// From behind the `{` of a group with a type to among its members or entries, or behind it.
-fn content<'a>(
+fn content<'a, X: Drop>(
     alloc: Global,
     text: &'a str,
     kind: IcuKind,
     at: usize,
     turns: &mut IcuTurns,
-) -> Result<Step<'a>, IcuTextError>
+) -> Result<Read<'a, X>, IcuTextError>
     requires within { at ≤ length text.now }
-    ensures ok { IfOk result (Steps text.now (TypedThere (kind_of kind) at)) }
-    ensures err { IfErr result (StepFails text.now (TypedThere (kind_of kind) at)) }
+    ensures ok { IfOk result (Steps text.now (TypedThere X (kind_of kind) at)) }
+    ensures err { IfErr result (StepFails text.now (TypedThere X (kind_of kind) at)) }
     ensures slices { IfOk result
-        (λ s. Keeps text.now nothing_before (step_passes s)) }
+        (λ r. Keeps text.now nothing_before (read_passes r)) }
     ensures goes { IfOk result (Goes text.now (3 * at)) }
-    ensures cost { IfOk result (λ s. turns.new.count + 8 * reach text.now at
-        ≤ turns.old.count + spent text.now s) }
+    ensures cost { IfOk result (λ r. turns.new.count + 8 * reach text.now at
+        ≤ turns.old.count + spent_reading text.now r) }
     ensures most { turns.new.count + 8 * reach text.now at
         ≤ turns.old.count + 8 * length text.now + 4 }
 {
     match kind {
-        IcuKind::Array => Ok(Step::Members(Vec::new(alloc), Last::Nothing, at)),
-        IcuKind::Table => Ok(Step::Entries(Vec::new(alloc), at)),
+        IcuKind::Array => Ok(Read::Step(Step::Members(Vec::new(alloc), Last::Nothing, at))),
+        IcuKind::Table => Ok(Read::Step(Step::Entries(Vec::new(alloc), at))),
         _ => {
             let (to, resource) = leaf(alloc, text, kind, at, turns)?;
-            Ok(Step::Ended(resource, to + 1))
+            Ok(Read::Leaf(resource, to + 1))
         }
     }
 }
 
 /// From behind the `{` of a group without a type to among its members or entries, or behind it.
-fn untyped<'a>(
+fn untyped<'a, X: Drop>(
     alloc: Global,
     text: &'a str,
     at: usize,
     turns: &mut IcuTurns,
-) -> Result<Step<'a>, IcuTextError>
+) -> Result<Read<'a, X>, IcuTextError>
     requires within { at ≤ length text.now }
-    ensures ok { IfOk result (Steps text.now (UntypedThere at)) }
-    ensures err { IfErr result (StepFails text.now (UntypedThere at)) }
+    ensures ok { IfOk result (Steps text.now (UntypedThere X at)) }
+    ensures err { IfErr result (StepFails text.now (UntypedThere X at)) }
     ensures slices { IfOk result
-        (λ s. Keeps text.now nothing_before (step_passes s)) }
+        (λ r. Keeps text.now nothing_before (read_passes r)) }
     ensures goes { IfOk result (Goes text.now (3 * at)) }
-    ensures cost { IfOk result (λ s. turns.new.count + 8 * reach text.now at
-        ≤ turns.old.count + spent text.now s) }
+    ensures cost { IfOk result (λ r. turns.new.count + 8 * reach text.now at
+        ≤ turns.old.count + spent_reading text.now r) }
     ensures most { turns.new.count + 8 * reach text.now at
         ≤ turns.old.count + 8 * length text.now + 4 }
 {
     let b = byte(text, at);
     if b == b'}' {
-        return Ok(Step::Ended(Resource::Array(Vec::new(alloc)), at + 1));
+        return Ok(Read::Array(Vec::new(alloc), at + 1));
     }
     if b == b'{' || b == b':' {
-        return Ok(Step::Members(Vec::new(alloc), Last::Nothing, at));
+        let members = Vec::new(alloc);
+        return Ok(Read::Step(Step::Members(members, Last::Nothing, at)));
     }
     untyped_string(alloc, text, at, turns)
 }
 
 /// From the string that must stand first in a group without a type to what the group is by what
 /// follows: a string, an array, or a table.
-fn untyped_string<'a>(
+fn untyped_string<'a, X: Drop>(
     alloc: Global,
     text: &'a str,
     at: usize,
     turns: &mut IcuTurns,
-) -> Result<Step<'a>, IcuTextError>
+) -> Result<Read<'a, X>, IcuTextError>
     requires within { at ≤ length text.now }
     requires no_brace { slice_index text.now at ≢ ascii.right_brace }
     requires no_group { slice_index text.now at ≢ ascii.left_brace }
     requires no_type { slice_index text.now at ≢ ascii.colon }
-    ensures ok { IfOk result (Steps text.now (UntypedThere at)) }
-    ensures err { IfErr result (StepFails text.now (UntypedThere at)) }
+    ensures ok { IfOk result (Steps text.now (UntypedThere X at)) }
+    ensures err { IfErr result (StepFails text.now (UntypedThere X at)) }
     ensures slices { IfOk result
-        (λ s. Keeps text.now nothing_before (step_passes s)) }
+        (λ r. Keeps text.now nothing_before (read_passes r)) }
     ensures goes { IfOk result (Goes text.now (3 * at)) }
-    ensures cost { IfOk result (λ s. turns.new.count + 8 * reach text.now at
-        ≤ turns.old.count + spent text.now s) }
+    ensures cost { IfOk result (λ r. turns.new.count + 8 * reach text.now at
+        ≤ turns.old.count + spent_reading text.now r) }
     ensures most { turns.new.count + 8 * reach text.now at
         ≤ turns.old.count + 8 * length text.now + 4 }
 {
@@ -394,12 +391,12 @@ fn untyped_string<'a>(
     let next = lexeme.next;
     let b = byte(text, next);
     if b == b'}' {
-        return Ok(Step::Ended(Resource::String(text_of(lexeme.said)), next + 1));
+        let string = Resource::String(text_of(lexeme.said));
+        return Ok(Read::Leaf(string, next + 1));
     }
     if b == b',' {
-        let mut members = Vec::new(alloc);
-        members.push(Resource::String(text_of(lexeme.said)))?;
-        return Ok(Step::Members(members, Last::String, next));
+        let string = Resource::String(text_of(lexeme.said));
+        return Ok(Read::Member(Vec::new(alloc), string, next));
     }
     if b != b'{' && b != b':' {
         return Err(IcuTextError::new(next, IcuExpected::AfterString));
@@ -407,24 +404,25 @@ fn untyped_string<'a>(
     let Some(key) = lexeme.said.key(turns) else {
         return Err(IcuTextError::new(at, IcuExpected::Key));
     };
-    Ok(Step::Group(Waiting::Table(Vec::new(alloc), key, next), next))
+    let waiting = Waiting::Table(Vec::new(alloc), key, next);
+    Ok(Read::Step(Step::Group(waiting, next)))
 }
 
-/// From behind a group to behind the blanks there, among what it stands in.
-pub(crate) fn resume<'a>(
+/// From behind a group of which this was made to behind the blanks there, among what it stands in.
+pub(crate) fn resume<'a, X: Drop>(
     text: &'a str,
-    waiting: Waiting<'a>,
-    resource: Resource<'a>,
+    waiting: Waiting<'a, X>,
+    made: X,
     at: usize,
     turns: &mut IcuTurns,
-) -> Result<Step<'a>, IcuTextError>
+) -> Result<Step<'a, X>, NoMemory>
     requires within { at ≤ length text.now }
-    ensures ok { IfOk result
-        (Steps text.now (EndedThere waiting.entry resource.entry at)) }
-    ensures err { IfErr result (StepFails text.now (EndedThere waiting.entry resource.entry at)) }
-    ensures slices { IfOk result (λ s. Keeps text.now
-        (λ t. open_passes waiting.entry t && passes t resource.entry) (step_passes s)) }
-    ensures goes { IfOk result (Goes text.now (3 * at)) }
+    ensures ok { IfOk result (Resumes text.now waiting.entry made at) }
+    ensures slices { IfOk result (λ s. (pass : X → Test → Bool) (test : Test)
+        → open_passes waiting.entry pass test ≡ true → pass made test ≡ true
+        → step_passes s pass test ≡ true) }
+    ensures goes { IfOk result (λ s. (stands_at s ≤ length text.now)
+        × (3 * at + 1 ≤ progress s)) }
     ensures cost { IfOk result (λ s. turns.new.count + 8 * at + 1
         ≤ turns.old.count + spent text.now s) }
     ensures most { IfErr result (λ e. turns.new.count ≡ turns.old.count) }
@@ -432,15 +430,12 @@ pub(crate) fn resume<'a>(
     match waiting {
         Waiting::Array(members) => {
             let mut members = members;
-            members.push(resource)?;
+            members.push(made)?;
             Ok(Step::Members(members, Last::Group, skip(text, at, turns)))
         }
-        Waiting::Table(entries, key, begin) => {
-            if is_collation(key) && is_table(&resource) {
-                return Err(IcuTextError::new(begin, IcuExpected::NoCollation));
-            }
+        Waiting::Table(entries, key, _) => {
             let mut entries = entries;
-            entries.push((Key::from(key), resource))?;
+            entries.push((key, made))?;
             Ok(Step::Entries(entries, skip(text, at, turns)))
         }
     }

@@ -1,5 +1,5 @@
 use Rattle.std.proofs.Common.{subst}
-use Rattle.resb_tree.specs.Bundle.{name_of, root_of}
+use Rattle.resb_draft.specs.Drafts.{draft_tree}
 use Rattle.resb_layout.specs.Written.{Written}
 use Rattle.resb_layout.specs.TreeFaults.{RefusesWriting}
 use Rattle.resb_write.specs.FaultOf.{fault_of}
@@ -9,23 +9,23 @@ use Rattle.resb_compile.proofs.compiling_icu.compile_icu.Goals as goal
 pub returns-clause-ok : goal.returns-clause-ok
 returns-clause-ok c = record {
   bundle = record {
-    name = name_of c.in_ok-bundle.bundle;
+    name = c.in_ok-bundle.bundle.name.now;
     fallback = c.in_ok-bundle.bundle.is_locale_fallback_enabled;
-    tree = root_of c.in_ok-bundle.bundle;
+    tree = draft_tree c.in_ok-bundle.bundle.root;
     keys = c.in_ok-bundle.keys.items;
     is = c.in_ok-bundle.ensures.ok;
   };
   file =
       let b = c.in_ok-bundle.bundle in
       let file = c.in_ok-file.file.items in
-      subst (λ ks. Written file (root_of b) b.is_locale_fallback_enabled ks)
+      subst (λ ks. Written file (draft_tree b.root) b.is_locale_fallback_enabled ks)
       c.as_slice.ensures.value c.in_ok-file.ensures.ok;
 }
 
 pub returns-in_err-file-clause-err : goal.returns-in_err-file-clause-err
 returns-in_err-file-clause-err c =
     let b = c.in_ok-bundle.ensures.ok in
-    let t = root_of c.in_ok-bundle.bundle in
+    let t = draft_tree c.in_ok-bundle.bundle.root in
     let bundle = c.in_ok-bundle.bundle in
     let keys = c.in_ok-bundle.keys.items in
     let e = c.in_err-file.field-0.0 in
@@ -34,7 +34,7 @@ returns-in_err-file-clause-err c =
     c.in_err-file.ensures.err in
     let r = c.from_residual-in_err-file in
     icu_writing_refused c.args.text.now
-    (name_of bundle) bundle.is_locale_fallback_enabled t keys e b
+    bundle.name.now bundle.is_locale_fallback_enabled t keys e b
     h r.result r.ensures.1
 
 pub returns-in_err-bundle-clause-err : goal.returns-in_err-bundle-clause-err

@@ -3,17 +3,19 @@ use Rattle.resb_icu_grammar.specs.Machine.{Comes, at_root}
 use Rattle.resb_icu_text.specs.Inner.Steps.{now, stands_at, progress, spent}
 use Rattle.resb_grammar.specs.Inner.Reach.{reach}
 use Rattle.resb_icu_text.specs.Inner.Reading.{groups, keys}
-use Rattle.resb_icu_text.specs.Inner.Kept.{Keeps, nothing_before, groups_pass, step_passes}
+use Rattle.resb_icu_text.specs.Inner.Kept.{IsKept, groups_pass, step_passes}
 use Rattle.resb_icu_text.proofs.reader.read_root.Given as goal
 
 abbrev pub invariant-steps : goal.invariant-steps
-invariant-steps l = record {
+invariant-steps g l = let b = l.open.build in record {
   within : stands_at l.step ≤ length l.text;
-  comes : Comes l.text (at_root l.first) (now (groups l.open) (keys l.open) l.step);
-  kept : Keeps l.text nothing_before (λ t. groups_pass l.open t && step_passes l.step t);
+  comes : Comes l.text (at_root l.first)
+      (now (g.B.Build.tree b) (groups (g.B.Build.tree b) l.open) (keys l.open) l.step);
+  kept : IsKept l.text (λ t. groups_pass l.open (g.B.Build.held b) t
+      && step_passes l.step (g.B.Build.held b) t);
   cost : l.turns.count + 8 * reach l.text l.first + 2 + length (keys l.open)
       ≤ l.fn.turns.count + spent l.text l.step;
 }
 
 abbrev pub decreases-steps : goal.decreases-steps
-decreases-steps l = 3 * length l.text + 3 - progress l.step
+decreases-steps g l = 3 * length l.text + 3 - progress l.step

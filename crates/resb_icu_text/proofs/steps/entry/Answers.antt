@@ -1,51 +1,40 @@
 use Rattle.std.proofs.Common.{arith, sym, ◌∙◌}
 use Rattle.std.proofs.lemmas.Result.{err_from_is_err_and}
-use Rattle.resb_icu_text.proofs.StepsLemmas.{entries_end, a_key_twice, entry_key, no_entry}
+use Rattle.resb_icu_text.proofs.StepsLemmas.{entries_end, entry_key, no_entry}
 use Rattle.resb_icu_grammar.proofs.Lexical.{key_string}
 use Rattle.resb_grammar.proofs.ReachLemmas.{reach_right, reach_low, reach_high}
 use Rattle.resb_icu_text.proofs.ReachLemmas.{reach_string}
 use Rattle.resb_icu_text.proofs.steps.entry.Goals as goal
 
 pub returns-then-byte-eq125-clause-ok : goal.returns-then-byte-eq125-clause-ok
-returns-then-byte-eq125-clause-ok c =
-    let found = rw c.in-Some.is at c.in_ok-table.ensures.found in
-    entries_end _ _ c.in-Some.table _ (sym c.byte.ensures.byte ∙ c.if-byte-eq125.true) found.0
-    found.1
-
-pub returns-in_default-clause-err : goal.returns-in_default-clause-err
-returns-in_default-clause-err c =
-    a_key_twice _ _ _ _ c.new.ensures (sym c.byte.ensures.byte ∙ c.if-byte-eq125.true)
-    (rw c.in_default.is at c.in_ok-table.ensures.none)
+returns-then-byte-eq125-clause-ok g c =
+    entries_end _ c.args.entries _ (sym c.byte.ensures.byte ∙ c.if-byte-eq125.true)
 
 pub returns-clause-ok : goal.returns-clause-ok
-returns-clause-ok c =
+returns-clause-ok g c =
     let found = c.in_ok-next.ensures.found in
     entry_key _ c.args.entries c.in_ok-next.key _ _ _ found.stands found.after
 
 pub returns-in_err-next-clause-err : goal.returns-in_err-next-clause-err
-returns-in_err-next-clause-err c =
-    let p = err_from_is_err_and c.from_residual-in_err-next.result
-    c.from_residual-in_err-next.ensures.1 in
+returns-in_err-next-clause-err g c =
+    let p = err_from_is_err_and c.from_residual.result
+    c.from_residual.ensures.1 in
     rw (p.1, p.2) (no_entry _ _ _ _ (λ e. c.if-byte-eq125.false (c.byte.ensures.byte ∙ e))
     c.in_err-next.ensures.err)
 
 pub returns-then-byte-eq125-clause-cost : goal.returns-then-byte-eq125-clause-cost
-returns-then-byte-eq125-clause-cost c =
+returns-then-byte-eq125-clause-cost g c =
     omega (
       arith,
       reach_right c.args.text.now c.args.at (sym c.byte.ensures.byte ∙ c.if-byte-eq125.true),
     )
 
 pub returns-then-byte-eq125-clause-most : goal.returns-then-byte-eq125-clause-most
-returns-then-byte-eq125-clause-most c =
-    omega (arith, reach_high c.args.text.now c.args.at c.requires.within)
-
-pub returns-in_default-clause-most : goal.returns-in_default-clause-most
-returns-in_default-clause-most c =
+returns-then-byte-eq125-clause-most g c =
     omega (arith, reach_high c.args.text.now c.args.at c.requires.within)
 
 pub returns-clause-cost : goal.returns-clause-cost
-returns-clause-cost c =
+returns-clause-cost g c =
     let found = c.in_ok-next.ensures.found in
     let cost = c.in_ok-next.ensures.cost in
     let within = c.in_ok-next.ensures.within in
@@ -56,7 +45,3 @@ returns-clause-cost c =
       reach_string c.args.text.now c.args.at _ _ (key_string _ _ _ _ found.stands),
       reach_low c.args.text.now _ within.1,
     )
-
-pub returns-in_err-table-clause-most : goal.returns-in_err-table-clause-most
-returns-in_err-table-clause-most c =
-    omega (arith, reach_high c.args.text.now c.args.at c.requires.within)

@@ -1,39 +1,31 @@
-use Rattle.std.proofs.Common.{arith, sym, ◌∙◌, ap, ◌++◌, ◌∷◌, []}
-use Rattle.resb_icu_text.proofs.StepsLemmas.{behind_member, behind_value, no_collation}
-use Rattle.std.specs.Cmp.Derive.{both_true}
-use Rattle.std.proofs.lemmas.Bool.{and_left, and_right}
+use Rattle.std.proofs.Common.{arith}
+use Rattle.resb_icu_text.proofs.KeptLemmas.{members_with, entries_with}
+use Rattle.resb_icu_text.proofs.StepsLemmas.{behind_member, behind_value}
 use Rattle.resb_grammar.proofs.ReachLemmas.{reach_low}
-use Rattle.resb_icu_text.proofs.steps.resume.Goals.{else-is_collation-via-then-is_collation+else-is_table}
-use Rattle.resb_icu_text.proofs.steps.resume.Goals.{else-is_collation-via-else-is_collation}
 use Rattle.resb_icu_text.proofs.steps.resume.Goals as goal
 
-pub returns-then-is_table-clause-err : goal.returns-then-is_table-clause-err
-returns-then-is_table-clause-err c =
-    rw c.in-Table.is (no_collation _ c.in-Table.entries c.in-Table.key c.args.resource _ _ _
-    c.new.ensures (both_true (sym c.is_collation.ensures ∙ c.if-is_collation.true)
-    (sym c.is_table.ensures ∙ c.if-is_table.true)))
-
 pub returns-in_ok-push-in-Array-clause-ok : goal.returns-in_ok-push-in-Array-clause-ok
-returns-in_ok-push-in-Array-clause-ok c =
-    rw c.in-Array.is (behind_member _ c.in-Array.members c.push.new.self c.args.resource _ _
+returns-in_ok-push-in-Array-clause-ok g c =
+    rw c.in-Array.is (behind_member _ c.in-Array.members c.push.new.self c.args.made _ _
     c.skip.ensures.skip c.in_ok-push-in-Array.ensures.items)
 
 pub returns-in_ok-push-in-Table-clause-ok : goal.returns-in_ok-push-in-Table-clause-ok
-returns-in_ok-push-in-Table-clause-ok c =
+returns-in_ok-push-in-Table-clause-ok g c =
     rw c.in-Table.is (behind_value _ c.in-Table.entries c.push-in-Table.new.self c.in-Table.key
-    c.args.resource _ _ _
-    (elim c.else-is_collation.branch [
-      | else-is_collation-via-then-is_collation+else-is_table w ↦
-          and_right _ _ (sym w.is_table.ensures ∙ w.if-is_table.false)
-      | else-is_collation-via-else-is_collation w ↦
-          and_left _ _ (sym c.is_collation.ensures ∙ w.if-is_collation.false)
-    ])
-    c.skip-in-Table.ensures.skip
-    (c.in_ok-push-in-Table.ensures.items
-    ∙ ap (λ k. c.in-Table.entries.items ++ (k, c.args.resource) ∷ []) c.from.ensures))
+    c.args.made _ _ _ c.skip-in-Table.ensures.skip c.in_ok-push-in-Table.ensures.items)
+
+pub returns-in_ok-push-in-Array-clause-slices : goal.returns-in_ok-push-in-Array-clause-slices
+returns-in_ok-push-in-Array-clause-slices g c = λ pass test h k.
+    members_with pass test _ _ _ c.in_ok-push-in-Array.ensures.items
+    (rw c.in-Array.is at h) k
+
+pub returns-in_ok-push-in-Table-clause-slices : goal.returns-in_ok-push-in-Table-clause-slices
+returns-in_ok-push-in-Table-clause-slices g c = λ pass test h k.
+    entries_with pass test _ _ _ _ c.in_ok-push-in-Table.ensures.items
+    (rw c.in-Table.is at h) k
 
 pub returns-in_ok-push-in-Array-clause-cost : goal.returns-in_ok-push-in-Array-clause-cost
-returns-in_ok-push-in-Array-clause-cost c =
+returns-in_ok-push-in-Array-clause-cost g c =
     omega (
       arith,
       c.skip.ensures.cost,
@@ -42,7 +34,7 @@ returns-in_ok-push-in-Array-clause-cost c =
     )
 
 pub returns-in_ok-push-in-Table-clause-cost : goal.returns-in_ok-push-in-Table-clause-cost
-returns-in_ok-push-in-Table-clause-cost c =
+returns-in_ok-push-in-Table-clause-cost g c =
     omega (
       arith,
       c.skip-in-Table.ensures.cost,

@@ -6,29 +6,29 @@ use Rattle.resb_icu_text.proofs.steps.untyped.Goals.{then-b-eq123-via-else-b-eq1
 use Rattle.resb_icu_text.proofs.steps.untyped.Goals as goal
 
 pub returns-then-b-eq125-clause-ok : goal.returns-then-b-eq125-clause-ok
-returns-then-b-eq125-clause-ok c =
+returns-then-b-eq125-clause-ok g c =
     untyped_empty _ c.new.result _ (sym c.byte-b.ensures.byte ∙ c.if-b-eq125.true)
     c.new.ensures.items
 
 pub returns-then-b-eq123-clause-ok : goal.returns-then-b-eq123-clause-ok
-returns-then-b-eq123-clause-ok c =
-    untyped_group _ c.new-then-b-eq123.result _ (elim c.then-b-eq123.branch [
+returns-then-b-eq123-clause-ok g c =
+    untyped_group _ c.new-members.result _ (elim c.then-b-eq123.branch [
       | then-b-eq123-via-then-b-eq123 w ↦ inl (sym c.byte-b.ensures.byte ∙ w.if-b-eq123.true)
       | then-b-eq123-via-else-b-eq123+then-b-eq58 w ↦
           inr (sym c.byte-b.ensures.byte ∙ w.if-b-eq58.true)
-    ]) c.new-then-b-eq123.ensures.items
+    ]) c.new-members.ensures.items
 
 pub returns-then-b-eq125-clause-cost : goal.returns-then-b-eq125-clause-cost
-returns-then-b-eq125-clause-cost c =
+returns-then-b-eq125-clause-cost g c =
     omega (
       arith,
       reach_right c.args.text.now c.args.at (sym c.byte-b.ensures.byte ∙ c.if-b-eq125.true),
     )
 
 pub returns-then-b-eq125-clause-most : goal.returns-then-b-eq125-clause-most
-returns-then-b-eq125-clause-most c =
+returns-then-b-eq125-clause-most g c =
     omega (arith, reach_high c.args.text.now c.args.at c.requires.within)
 
 pub returns-then-b-eq123-clause-most : goal.returns-then-b-eq123-clause-most
-returns-then-b-eq123-clause-most c =
+returns-then-b-eq123-clause-most g c =
     omega (arith, reach_high c.args.text.now c.args.at c.requires.within)

@@ -1,96 +1,83 @@
-use Rattle.std.proofs.Common.{arith, sym, ◌∙◌, ◌∷◌}
-use Rattle.std.proofs.lemmas.Result.{err_from_is_err_and}
-use Rattle.resb_icu_text.proofs.ReadingLemmas.{stops_there, pushed, in_opened, nothing_open}
-use Rattle.resb_icu_text.proofs.ReadingLemmas.{behind_ended, stops_ended, root_ended}
-use Rattle.resb_icu_text.specs.Inner.Steps.{shown}
-use Rattle.resb_icu_text.specs.Inner.Reading.{groups}
-use Rattle.resb_grammar.proofs.ReachLemmas.{reach_high}
-use Rattle.resb_icu_text.proofs.ReachLemmas.{spent_most}
+use Rattle.std.proofs.Common.{◌≡◌, ◌⊎◌, ◌&&◌, ◌+◌, ◌≤◌, true, length, arith, subst}
+use Rattle.resb_icu_text.proofs.Lists.{ok_by, ok_by_two, err_by}
+use Rattle.resb_icu_text.proofs.MakingLemmas.{advanced, advanced_kept, stops_made}
+use Rattle.resb_icu_text.proofs.ReadingLemmas.{stops_by}
+use Rattle.resb_icu_grammar.specs.Machine.{Comes}
+use Rattle.resb_icu_text.specs.Refusal.{want_of_memory}
+use Rattle.resb_icu_text.specs.declared.open.OpenGroups.{OpenGroups}
+use Rattle.resb_icu_text.specs.Inner.Build.{Grows}
+use Rattle.resb_icu_text.specs.Inner.Kept.{Test, IsKept, groups_pass, read_passes, next_passes}
+use Rattle.resb_icu_text.specs.Inner.Reading.{groups, keys, coming, Makes, StopsAt, IsDouble}
+use Rattle.resb_icu_text.specs.Inner.Reading.{spent_before}
+use Rattle.resb_icu_text.specs.Inner.Steps.{now, read_now, spent, spent_reading}
 use Rattle.resb_icu_text.proofs.open.OpenGroups.advance.Goals as goal
 
-pub returns-in_err-member-in-Members-clause-err : goal.returns-in_err-member-in-Members-clause-err
-returns-in_err-member-in-Members-clause-err c =
-    let p = err_from_is_err_and c.from_residual.result c.from_residual.ensures.1 in
-    rw (p.1, p.2, c.in-Members.is) (stops_there _ _ _ c.in_err-member-in-Members.ensures.err _ _)
+pub returns-clause-ok : goal.returns-clause-ok
+returns-clause-ok g c =
+    let text = c.args.text.now in
+    let tree = g.B.Build.tree in
+    let held = g.B.Build.held in
+    let first = c.args.self.now in
+    let mid = c.read.new.self in
+    let d = c.make.new.build in
+    let last : OpenGroups g.row.B.Denot g.row.X.Denot = record {
+      waiting = mid.waiting;
+      keys = mid.keys;
+      build = d;
+    } in
+    let r = c.in_ok-read.read in
+    let read = c.in_ok-read.ensures in
+    let from = now (tree first.build) (groups (tree first.build) first) (keys first) c.args.step in
+    ok_by_two c.make.result (Makes (tree mid.build) (tree d) r)
+    (λ n. Grows tree held mid.build d) (λ n. Comes text from (coming (tree d) last n))
+    (λ n h grows. advanced tree held text from mid.waiting.items (keys mid) first.build mid.build d
+    r n read.build read.ok read.slices read.ends grows h) c.make.ensures.ok c.make.ensures.grows
 
-pub returns-in_err-entry-in-Entries-clause-err : goal.returns-in_err-entry-in-Entries-clause-err
-returns-in_err-entry-in-Entries-clause-err c =
-    let p = err_from_is_err_and c.from_residual-in_err-entry-in-Entries.result
-    c.from_residual-in_err-entry-in-Entries.ensures.1 in
-    rw (p.1, p.2, c.in-Entries.is) (stops_there _ _ _ c.in_err-entry-in-Entries.ensures.err _ _)
+pub returns-clause-err : goal.returns-clause-err
+returns-clause-err g c =
+    let text = c.args.text.now in
+    let tree = g.B.Build.tree in
+    let first = c.args.self.now in
+    let mid = c.read.new.self in
+    let r = c.in_ok-read.read in
+    let read = c.in_ok-read.ensures in
+    let from = now (tree first.build) (groups (tree first.build) first) (keys first) c.args.step in
+    err_by c.make.result (λ e. (e ≡ want_of_memory) ⊎ IsDouble (tree mid.build) r e)
+    (StopsAt text from)
+    (λ e h. stops_by text from
+    (read_now (tree first.build) (groups (tree first.build) mid) (keys mid) r) e read.ok
+    (stops_made text (tree first.build) r e _ _ read.ends
+    (subst (λ b. (e ≡ want_of_memory) ⊎ IsDouble (tree b) r e) read.build h))) c.make.ensures.err
 
-pub returns-in_err-group-in-Group-clause-err : goal.returns-in_err-group-in-Group-clause-err
-returns-in_err-group-in-Group-clause-err c =
-    let p = err_from_is_err_and c.from_residual-in_err-group-in-Group.result
-    c.from_residual-in_err-group-in-Group.ensures.1 in
-    rw (p.1, p.2, c.in-Group.is) (stops_there _ _ _ c.in_err-group-in-Group.ensures.err
-    (shown c.in-Group.waiting ∷ groups c.args.self.now) _)
+pub returns-clause-slices : goal.returns-clause-slices
+returns-clause-slices g c =
+    let text = c.args.text.now in
+    let tree = g.B.Build.tree in
+    let held = g.B.Build.held in
+    let first = c.args.self.now in
+    let mid = c.read.new.self in
+    let d = c.make.new.build in
+    let last : OpenGroups g.row.B.Denot g.row.X.Denot = record {
+      waiting = mid.waiting;
+      keys = mid.keys;
+      build = d;
+    } in
+    let r = c.in_ok-read.read in
+    let read = c.in_ok-read.ensures in
+    ok_by_two c.make.result
+    (λ n. (t : Test) → read_passes r (held mid.build) t ≡ true → next_passes n (held d) t ≡ true)
+    (λ n. Grows tree held mid.build d)
+    (λ n. IsKept text (λ t. groups_pass last (held d) t && next_passes n (held d) t))
+    (λ n h grows. advanced_kept tree held text mid.waiting.items first.build mid.build d r n
+    read.build read.slices grows h) c.make.ensures.slices c.make.ensures.grows
 
-pub returns-in_err-resume-in-Some-clause-err : goal.returns-in_err-resume-in-Some-clause-err
-returns-in_err-resume-in-Some-clause-err c =
-    let p = err_from_is_err_and c.from_residual-in_err-resume-in-Some.result
-    c.from_residual-in_err-resume-in-Some.ensures.1 in
-    rw (p.1, p.2, c.in-Ended.is) (stops_ended _ c.in-Some.waiting c.in-Ended.resource _ _ _ _ _
-    (pushed _ _ _ c.in-Some.ensures.items) c.in_err-resume-in-Some.ensures.err)
-
-pub returns-in_ok-member-in-Members-clause-ok : goal.returns-in_ok-member-in-Members-clause-ok
-returns-in_ok-member-in-Members-clause-ok c =
-    rw c.in-Members.is (c.in_ok-member-in-Members.ensures.ok _ _)
-
-pub returns-in_ok-entry-in-Entries-clause-ok : goal.returns-in_ok-entry-in-Entries-clause-ok
-returns-in_ok-entry-in-Entries-clause-ok c =
-    rw c.in-Entries.is (c.in_ok-entry-in-Entries.ensures.ok _ _)
-
-pub returns-in_ok-group-in-Group-clause-ok : goal.returns-in_ok-group-in-Group-clause-ok
-returns-in_ok-group-in-Group-clause-ok c =
-    rw c.in-Group.is (in_opened _ _ _ c.in-Group.waiting _ _ _ _
-    c.in_ok-open-in-Group.ensures.groups c.in_ok-open-in-Group.ensures.keys
-    (c.in_ok-group-in-Group.ensures.ok _ _))
-
-pub returns-in_ok-resume-in-Some-clause-ok : goal.returns-in_ok-resume-in-Some-clause-ok
-returns-in_ok-resume-in-Some-clause-ok c =
-    rw c.in-Ended.is (behind_ended _ c.in-Some.waiting c.in-Ended.resource _ _ _ _ _
-    (pushed _ _ _ c.in-Some.ensures.items) c.in_ok-resume-in-Some.ensures.ok)
-
-pub returns-in-None-clause-ok : goal.returns-in-None-clause-ok
-returns-in-None-clause-ok c =
-    rw c.in-Ended.is (root_ended _ c.in-Ended.resource _ _ _
-    (nothing_open _ (sym c.args.self.now.waiting.ok.0 ∙ c.in-None.ensures.cases.0)))
-
-pub returns-in_err-member-in-Members-clause-most : goal.returns-in_err-member-in-Members-clause-most
-returns-in_err-member-in-Members-clause-most c =
-    rw c.in-Members.is (omega (arith, c.member.ensures.most, c.add.ensures.most))
-
-pub returns-in_err-entry-in-Entries-clause-most : goal.returns-in_err-entry-in-Entries-clause-most
-returns-in_err-entry-in-Entries-clause-most c =
-    rw c.in-Entries.is (omega (arith, c.entry.ensures.most, c.add.ensures.most))
-
-pub returns-in_err-group-in-Group-clause-most : goal.returns-in_err-group-in-Group-clause-most
-returns-in_err-group-in-Group-clause-most c =
-    rw c.in-Group.is (omega (arith, c.group.ensures.most, c.add.ensures.most))
-
-pub returns-in_ok-member-in-Members-clause-cost : goal.returns-in_ok-member-in-Members-clause-cost
-returns-in_ok-member-in-Members-clause-cost c =
-    rw c.in-Members.is (omega (arith, c.in_ok-member-in-Members.ensures.cost, c.add.ensures.most))
-
-pub returns-in_ok-entry-in-Entries-clause-cost : goal.returns-in_ok-entry-in-Entries-clause-cost
-returns-in_ok-entry-in-Entries-clause-cost c =
-    rw c.in-Entries.is (omega (arith, c.in_ok-entry-in-Entries.ensures.cost, c.add.ensures.most))
-
-pub returns-in_err-open-in-Group-clause-most : goal.returns-in_err-open-in-Group-clause-most
-returns-in_err-open-in-Group-clause-most c =
-    rw c.in-Group.is (omega (
-      arith,
-      c.add.ensures.most,
-      reach_high c.args.text.now c.in-Group.at (rw c.in-Group.is at c.requires.within),
-    ))
-
-pub returns-in_ok-resume-in-Some-clause-most : goal.returns-in_ok-resume-in-Some-clause-most
-returns-in_ok-resume-in-Some-clause-most c =
-    rw c.in-Ended.is (omega (
-      arith,
-      c.in_ok-resume-in-Some.ensures.cost,
-      c.add.ensures.most,
-      spent_most c.args.text.now c.in_ok-resume-in-Some.field-0
-          c.in_ok-resume-in-Some.ensures.goes.0,
-    ))
+pub returns-clause-cost : goal.returns-clause-cost
+returns-clause-cost g c =
+    let text = c.args.text.now in
+    let mid = c.read.new.self in
+    ok_by c.make.result
+    (λ n. (text : _) → spent_before text n ≡ spent_reading text c.in_ok-read.read)
+    (λ n. c.read.new.turns.count + spent text c.args.step + length (keys mid)
+    ≤ c.args.turns.now.count + spent_before text n + length (keys c.args.self.now))
+    (λ n h. omega (arith, h text, c.in_ok-read.ensures.cost, c.add.ensures.most))
+    c.make.ensures.cost

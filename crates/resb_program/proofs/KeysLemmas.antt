@@ -1,7 +1,7 @@
 -- The keys of a group beside what the code keeps, and the first places of keys.
 use Rattle.std.proofs.Common.{◌≡◌, ℕ, Bool, true, false, cond, List, [], ◌∷◌, ◌++◌, Option, Some}
 use Rattle.std.proofs.Common.{None, refl, sym, ◌∙◌, ap, append_assoc, nat_eq}
-use Rattle.std.specs.Prelude.{map}
+use Rattle.std.specs.Prelude.{map, not, ◌&&◌}
 use Rattle.std.specs.Option.{option_map}
 use Rattle.std.specs.Cmp.Lexicographic.{pointwise, bytes_decides}
 use Rattle.std.proofs.lemmas.Option.{none-some}
@@ -9,8 +9,13 @@ use Rattle.resb_program.specs.Pieces.{PlacedText}
 use Rattle.resb_program.specs.Groups.{GroupItem, string_item, group_item, comma_item, OpenGroup}
 use Rattle.resb_program.specs.Groups.{pair_keys}
 use Rattle.resb_program.specs.Warnings.{first_place, of_key, of_keys, of_some_keys, of_group}
+use Rattle.resb_program.specs.Warnings.{is_array}
+use Rattle.resb_program.specs.Warnings.{of_comma, of_comma_behind, warning_at}
 use Rattle.resb_program.specs.Inner.Looks.{Pairing, pairs, key, other, pairing_of, pairing_behind}
-use Rattle.resb_program.specs.Inner.Looks.{Level, level_of}
+use Rattle.resb_program.specs.Inner.Looks.{level_of, is_pairs}
+use Rattle.resb_program.specs.Inner.Looks.{code_may_be_table, code_has_pairs, is_nil}
+use Rattle.resb_program.specs.declared.warning.Reason.TheVariants as reason
+use Rattle.resb_program.specs.declared.text_pieces.StringAt.{StringAt}
 use Rattle.resb_program.specs.Inner.Looks.{pairing_in, placed_text_of, level_of_code}
 use Rattle.resb_program.specs.declared.warning.Warning.{Warning}
 use Rattle.resb_program.specs.declared.groups.Shape.{Shape}
@@ -51,40 +56,40 @@ keys_by_pairing (group_item ∷ group_item ∷ xs) = group_after_group (pairing_
 keys_by_pairing (group_item ∷ string_item s ∷ xs) =
     ap (option_map (λ ks. ks ++ s ∷ [])) (keys_by_pairing xs) ∙ group_after_string s (pairing_of xs)
 
--- the warnings of a group by what the code keeps of it
-abbrev pub of_level : Level → List Warning
-of_level l = cond l.is_array [] (of_some_keys (keys_if l.pairing))
+-- what the code asks of a group is what the definitions do
+abbrev pub keys_of_code : CodeGroup → List PlacedText
+keys_of_code c = map placed_text_of c.keys.items
 
-pub group_by_level : (l : Level) (g : OpenGroup) → l ≡ level_of g → of_level l ≡ of_group g
-group_by_level l g e =
-    ap of_level e ∙ ap (λ ks. cond g.is_array [] (of_some_keys ks)) (sym (keys_by_pairing g.items))
-
-pub tells_pairs : (c : CodeGroup) (g : OpenGroup) → level_of_code c ≡ level_of g
-    → c.is_array ≡ false
-    → c.shape ≡ shape.Pairs → of_keys [] (map placed_text_of c.keys.items) ≡ of_group g
-tells_pairs c g e a s =
-    let ks = map placed_text_of c.keys.items in
-    sym (ap (λ b. cond b [] (of_some_keys (keys_if (pairing_in c.shape ks)))) a
-    ∙ ap (λ sh. of_some_keys (keys_if (pairing_in sh ks))) s)
-    ∙ group_by_level (level_of_code c) g e
-
-pub tells_others : (c : CodeGroup) (g : OpenGroup) → level_of_code c ≡ level_of g
-    → (c.shape ≡ shape.Pairs → ⊥) → [] ≡ of_group g
-tells_others c g e s =
-    sym (ap (λ ks. cond c.is_array [] (of_some_keys ks))
-    (none c.shape s) ∙ all_none c.is_array) ∙ group_by_level (level_of_code c) g e
+pub group_by_code : (c : CodeGroup) (g : OpenGroup) → level_of_code c ≡ level_of g
+    → cond (code_may_be_table c) (of_keys [] (keys_of_code c)) [] ≡ of_group g
+group_by_code c g e =
+    by (is_array c.named) c.shape
+    ∙ ap (λ l. cond (is_array l.named) [] (of_some_keys (keys_if l.pairing))) e
+    ∙ ap (λ ks. cond (is_array g.named) [] (of_some_keys ks)) (sym (keys_by_pairing g.items))
   where
-    ks : List PlacedText
-    ks = map placed_text_of c.keys.items
+    by : (b : Bool) (sh : Shape) → cond (not b && is_pairs sh) (of_keys [] (keys_of_code c)) []
+        ≡ cond b [] (of_some_keys (keys_if (pairing_in sh (keys_of_code c))))
+    by true sh = refl
+    by false shape.Pairs = refl
+    by false (shape.Key k) = refl
+    by false shape.Other = refl
 
-    none : (sh : Shape) → (sh ≡ shape.Pairs → ⊥) → keys_if (pairing_in sh ks) ≡ None
-    none shape.Pairs f = absurd (f refl)
-    none (shape.Key k) f = refl
-    none shape.Other f = refl
-
-    all_none : (b : Bool) → cond b [] (of_some_keys None) ≡ []
-    all_none true = refl
-    all_none false = refl
+pub comma_by_code : (n : ℕ) (c : CodeGroup) (g : OpenGroup) → level_of_code c ≡ level_of g
+    → cond (code_has_pairs c) (warning_at reason.CommaBehindPairs n ∷ []) [] ≡ of_comma n g
+comma_by_code n c g e =
+    by (is_array c.named) c.shape c.keys.items
+    ∙ ap (λ l. cond (is_array l.named) [] (of_comma_behind n (keys_if l.pairing))) e
+    ∙ ap (λ ks. cond (is_array g.named) [] (of_comma_behind n ks)) (sym (keys_by_pairing g.items))
+  where
+    by : (b : Bool) (sh : Shape) (ks : List StringAt)
+        → cond ((not b && is_pairs sh) && not (is_nil ks))
+        (warning_at reason.CommaBehindPairs n ∷ []) []
+        ≡ cond b [] (of_comma_behind n (keys_if (pairing_in sh (map placed_text_of ks))))
+    by true sh ks = refl
+    by false shape.Pairs [] = refl
+    by false shape.Pairs (k ∷ ks) = refl
+    by false (shape.Key k) ks = refl
+    by false shape.Other ks = refl
 
 abbrev place_if : Bool → ℕ → Option ℕ → Option ℕ
 place_if b n (Some m) = Some m

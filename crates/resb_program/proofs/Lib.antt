@@ -1,10 +1,16 @@
 -- Nothing is passed on.
 mod Agreeing
-mod Sizes
+mod Ascending
+mod CommentRuns
+mod FirstBytes
 mod Heads
 mod HexText
 mod JsonLemmas
 mod KeysLemmas
 mod Lists
-mod Numbers
-mod PiecesLemmas
+mod NamesLemmas
+mod Passing
+mod Sizes
+mod Stops
+mod StringRuns
+mod TokenRuns

@@ -1,13 +1,16 @@
 -- The groups of a text, and the keys of those that are tables.
 --     groups_at text n   the groups that are open behind n bytes, with their items so far
 --     pair_keys items    the keys of a group, if its items are pairs of a key and a group
-use Rattle.std.specs.Prelude.{ℕ, zero, suc, Bool, true, false, List, [], ◌∷◌, ◌++◌, codes}
+use Rattle.std.specs.Prelude.{ℕ, zero, suc, Bool, true, false, ◌||◌, if◌then◌else◌, List, []}
+use Rattle.std.specs.Prelude.{◌∷◌, ◌++◌, codes}
 use Rattle.std.specs.Prelude.{Option, Some, None, nat_eq}
 use Rattle.std.specs.Option.{option_map}
 use Rattle.std.specs.Cmp.Lexicographic.{pointwise}
 use Rattle.resb_program.specs.Pieces.{PlacedText, TextPiece, a_string, a_type, opening, closing}
 use Rattle.resb_program.specs.Pieces.{a_comma}
 use Rattle.resb_program.specs.Pieces.{piece_at}
+use Rattle.resb_program.specs.declared.named.Named.{Named}
+use Rattle.resb_program.specs.declared.named.Named.TheVariants as named
 
 -- what stands right in a group: a string, a group, or a comma
 pub data GroupItem : Type 0 where
@@ -15,9 +18,9 @@ pub data GroupItem : Type 0 where
   group_item : GroupItem
   comma_item : GroupItem
 
--- an open group: whether it is `:array`, and its items so far, the last one first
+-- an open group: what it names as its type, and its items so far, the last one first
 pub record OpenGroup : Type 0 where
-  pub is_array : Bool
+  pub named : Named
   pub items : List GroupItem
 
 -- the last piece before a place; the innermost group that is open there, and the groups around it,
@@ -29,12 +32,20 @@ pub record Nesting : Type 0 where
 
 -- one item more
 abbrev pub with_one_more : GroupItem → OpenGroup → OpenGroup
-with_one_more x g = record { is_array = g.is_array; items = x ∷ g.items }
+with_one_more x g = record { named = g.named; items = x ∷ g.items }
 
--- this piece names the type of arrays
-abbrev pub names_array : Option TextPiece → Bool
-names_array (Some (a_type name)) = pointwise nat_eq name (codes "array")
-names_array _ = false
+-- what a name of a type names
+abbrev pub named_by : List ℕ → Named
+named_by name =
+    if pointwise nat_eq name (codes "array") then named.Array
+    else (if pointwise nat_eq name (codes "int") || pointwise nat_eq name (codes "integer")
+    then named.Integer
+    else (if pointwise nat_eq name (codes "intvector") then named.IntVector else named.Another))
+
+-- what a group names whose `{` stands behind this piece
+abbrev pub named_behind : Option TextPiece → Named
+named_behind (Some (a_type name)) = named_by name
+named_behind _ = named.Nothing
 
 -- this piece is a string
 abbrev pub is_string_piece : Option TextPiece → Bool
@@ -42,10 +53,10 @@ is_string_piece (Some (a_string s)) = true
 is_string_piece _ = false
 
 -- a `}` makes the innermost group an item of the one around it
-abbrev pub behind_closing : OpenGroup → List OpenGroup → Nesting
-behind_closing inner [] = record { last = Some closing; inner = inner; around = [] }
-behind_closing inner (outer ∷ around) =
-    record { last = Some closing; inner = with_one_more group_item outer; around = around }
+abbrev pub behind_closing : ℕ → OpenGroup → List OpenGroup → Nesting
+behind_closing n inner [] = record { last = Some (closing n); inner = inner; around = [] }
+behind_closing n inner (outer ∷ around) =
+    record { last = Some (closing n); inner = with_one_more group_item outer; around = around }
 
 -- the groups behind a piece
 abbrev pub behind_piece : TextPiece → Nesting → Nesting
@@ -56,12 +67,12 @@ behind_piece (a_type name) g =
     record { last = Some (a_type name); inner = g.inner; around = g.around }
 behind_piece opening g = record {
   last = Some opening;
-  inner = record { is_array = names_array g.last; items = [] };
+  inner = record { named = named_behind g.last; items = [] };
   around = g.inner ∷ g.around;
 }
-behind_piece closing g = behind_closing g.inner g.around
-behind_piece a_comma g =
-    record { last = Some a_comma; inner = with_one_more comma_item g.inner; around = g.around }
+behind_piece (closing n) g = behind_closing n g.inner g.around
+behind_piece (a_comma n) g =
+    record { last = Some (a_comma n); inner = with_one_more comma_item g.inner; around = g.around }
 
 -- the groups behind a place where a piece may end
 abbrev pub groups_behind : Option TextPiece → Nesting → Nesting
@@ -70,10 +81,10 @@ groups_behind (Some p) g = behind_piece p g
 
 -- a text begins without a piece, outside of all groups
 abbrev pub outside : Nesting
-outside = record { last = None; inner = record { is_array = false; items = [] }; around = [] }
+outside = record { last = None; inner = record { named = named.Nothing; items = [] }; around = [] }
 
--- the groups that are open behind so many bytes, from the inside out: whether each is `:array`, and
--- what stood right in it
+-- the groups that are open behind so many bytes, from the inside out: what each names as its type,
+-- and what stood right in it
 abbrev pub groups_at : List ℕ → ℕ → Nesting
 groups_at text zero = outside
 groups_at text (suc n) = groups_behind (piece_at text n) (groups_at text n)

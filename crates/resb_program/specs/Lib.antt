@@ -17,6 +17,7 @@ pub mod Sources
 pub mod Json
 pub mod Files
 pub mod Messages
+pub mod Names
 pub mod Location
 pub mod Braces
 pub mod Excerpt

@@ -20,13 +20,13 @@ pub record PlacedText : Type 0 where
   pub bytes : List ℕ
   pub place : ℕ
 
--- a string, the name of a type, `{`, `}` or `,`
+-- a string, the name of a type, `{`, or `}` or `,` with its place
 pub data TextPiece : Type 0 where
   a_string : PlacedText → TextPiece
   a_type : List ℕ → TextPiece
   opening : TextPiece
-  closing : TextPiece
-  a_comma : TextPiece
+  closing : ℕ → TextPiece
+  a_comma : ℕ → TextPiece
 
 -- where the run of word characters before a place begins: at the place itself if there is none
 abbrev pub word_start : List ℕ → ℕ → ℕ
@@ -65,8 +65,8 @@ abbrev pub token_at : List ℕ → ℕ → ℕ → Option TextPiece
 token_at text n b =
     if is_word b then word_at text n
     else (if b == left_brace then Some opening
-    else (if b == right_brace then Some closing
-    else (if b == comma then Some a_comma else None)))
+    else (if b == right_brace then Some (closing n)
+    else (if b == comma then Some (a_comma n) else None)))
 
 -- the string between the last quote before a place and that place
 abbrev pub quoted_at : List ℕ → ℕ → TextPiece

@@ -1,18 +1,26 @@
--- The warnings of a text: of backslashes, of strings in a row, and of keys that stand twice.
+-- The warnings of a text: of backslashes, of strings in a row, of keys that stand twice, of empty
+-- groups, of commas between pairs, and of numbers.
 --     warned text n   those of the first n bytes
 -- In a text that is a bundle, a group of pairs that is not `:array` is a table.
 use Rattle.std.specs.Prelude.{ℕ, zero, suc, Bool, true, false, ◌&&◌, ◌||◌, not, ◌==◌, List}
+use Rattle.std.specs.Prelude.{◌*◌, ◌+◌, ◌-◌, ◌^◌, ◌%◌, nat_lt, nat_le, ℤ, fold}
 use Rattle.std.specs.Prelude.{[], ◌∷◌, ◌++◌, slice_index, if◌then◌else◌, Option, Some, None, nat_eq}
 use Rattle.std.specs.Cmp.Lexicographic.{pointwise}
 use Rattle.resb_program.specs.Braces.{mode_at, backslash}
-use Rattle.resb_program.specs.Pieces.{PlacedText, TextPiece, a_string, closing, piece_at}
-use Rattle.resb_program.specs.Groups.{OpenGroup, Nesting, is_string_piece, pair_keys, groups_at}
+use Rattle.resb_program.specs.Pieces.{PlacedText, TextPiece, a_string, closing, a_comma}
+use Rattle.resb_program.specs.Pieces.{piece_at}
+use Rattle.resb_program.specs.Groups.{GroupItem, OpenGroup, Nesting, is_string_piece, pair_keys}
+use Rattle.resb_program.specs.Groups.{groups_at}
 use Rattle.resb_program.specs.declared.braces.Mode.{Mode}
 use Rattle.resb_program.specs.declared.braces.Mode.TheVariants as mode
 use Rattle.resb_program.specs.declared.warning.Reason.{Reason}
 use Rattle.resb_program.specs.declared.warning.Reason.TheVariants as reason
 use Rattle.resb_program.specs.declared.warning.Warning.{Warning}
-use Rattle.resb_grammar.specs.Ascii.{quote}
+use Rattle.resb_program.specs.declared.named.Named.{Named}
+use Rattle.resb_program.specs.declared.named.Named.TheVariants as named
+use Rattle.resb_grammar.specs.Ascii.{quote, dash, digit_0}
+use Rattle.resb_grammar.specs.Lexical.{negated}
+use Rattle.resb_tree.specs.Int28.{signed}
 
 -- a warning at a place
 abbrev pub warning_at : Reason → ℕ → Warning
@@ -62,15 +70,105 @@ abbrev pub of_some_keys : Option (List PlacedText) → List Warning
 of_some_keys None = []
 of_some_keys (Some keys) = of_keys [] keys
 
+-- a group of this type is an array, whatever stands in it
+abbrev pub is_array : Named → Bool
+is_array named.Array = true
+is_array _ = false
+
 -- the warnings of a group whose `}` stands: those of its keys, if it is a table
 abbrev pub of_group : OpenGroup → List Warning
-of_group g = if g.is_array then [] else of_some_keys (pair_keys g.items)
+of_group g = if is_array g.named then [] else of_some_keys (pair_keys g.items)
 
--- the warnings of a piece: of a string right behind another one, and of a group at its `}`
+-- it names no type
+abbrev pub is_nothing : Named → Bool
+is_nothing named.Nothing = true
+is_nothing _ = false
+
+-- there are no items
+abbrev pub has_none : List GroupItem → Bool
+has_none [] = true
+has_none (x ∷ xs) = false
+
+-- a group without a type, in which nothing stands
+abbrev pub is_empty : OpenGroup → Bool
+is_empty g = is_nothing g.named && has_none g.items
+
+-- a group that stands in others that are these is neither the root nor the text itself
+abbrev pub is_below_root : List OpenGroup → Bool
+is_below_root (outer ∷ next ∷ around) = true
+is_below_root _ = false
+
+-- the warning of an empty group at its `}`
+abbrev pub of_empty : ℕ → Nesting → List Warning
+of_empty n g =
+    if is_empty g.inner && is_below_root g.around then warning_at reason.EmptyGroup n ∷ [] else []
+
+-- the warning of a comma behind these keys of pairs
+abbrev pub of_comma_behind : ℕ → Option (List PlacedText) → List Warning
+of_comma_behind n (Some (k ∷ ks)) = warning_at reason.CommaBehindPairs n ∷ []
+of_comma_behind n _ = []
+
+-- the warning of a comma: behind pairs of a string and a group, in a group that isn't `:array`
+abbrev pub of_comma : ℕ → OpenGroup → List Warning
+of_comma n g = if is_array g.named then [] else of_comma_behind n (pair_keys g.items)
+
+-- the warning of a string: right behind another one
+abbrev pub of_string : PlacedText → Option TextPiece → List Warning
+of_string s last =
+    if is_string_piece last then warning_at reason.StringsInRow s.place ∷ [] else []
+
+-- a number's bytes without its sign
+abbrev pub unsigned : List ℕ → List ℕ
+unsigned [] = []
+unsigned (b ∷ bs) = if b == dash then bs else b ∷ bs
+
+-- digits that begin with a 0, and go on
+abbrev pub is_octal : List ℕ → Bool
+is_octal (b ∷ c ∷ bs) = b == digit_0
+is_octal _ = false
+
+-- the warning of a number that another reader takes for an octal one
+abbrev pub of_octal : PlacedText → List Warning
+of_octal s = if is_octal (unsigned s.bytes) then warning_at reason.LeadingZero s.place ∷ [] else []
+
+-- a dash stands before the digits
+abbrev pub is_negative : List ℕ → Bool
+is_negative [] = false
+is_negative (b ∷ bs) = b == dash
+
+-- the number that digits say
+abbrev pub number_of : List ℕ → ℕ
+number_of digits = fold (λ n b. n * 10 + (b - digit_0)) 0 digits
+
+-- what is kept of a number, negative or not, that a text may have, and that 28 bits don't hold: its
+-- lowest 28 bits, with bit 27 as the sign
+abbrev pub cut : Bool → ℕ → Option ℤ
+cut true n =
+    if nat_lt (2 ^ 27) n && nat_le n (2 ^ 31) then Some (signed (negated n % 2 ^ 28)) else None
+cut false n =
+    if nat_le (2 ^ 28) n && nat_lt n (2 ^ 32) then Some (signed (n % 2 ^ 28)) else None
+
+-- the warning of a number at a place of which only this is kept
+abbrev pub of_kept : ℕ → Option ℤ → List Warning
+of_kept n None = []
+of_kept n (Some z) = warning_at (reason.CutNumber z) n ∷ []
+
+-- the warning of an integer that 28 bits don't hold
+abbrev pub of_cut : PlacedText → List Warning
+of_cut s = of_kept s.place (cut (is_negative s.bytes) (number_of (unsigned s.bytes)))
+
+-- the warnings of a number, in a group that names this type
+abbrev pub of_number : PlacedText → Named → List Warning
+of_number s named.Integer = of_octal s ++ of_cut s
+of_number s named.IntVector = of_octal s
+of_number s _ = []
+
+-- the warnings of a piece: of a string by what stands before it and by its group, of a group at its
+-- `}`, and of a comma
 abbrev pub of_piece : TextPiece → Nesting → List Warning
-of_piece (a_string s) g =
-    if is_string_piece g.last then warning_at reason.StringsInRow s.place ∷ [] else []
-of_piece closing g = of_group g.inner
+of_piece (a_string s) g = of_string s g.last ++ of_number s g.inner.named
+of_piece (closing n) g = of_group g.inner ++ of_empty n g
+of_piece (a_comma n) g = of_comma n g.inner
 of_piece _ g = []
 
 -- the same of a place where a piece may end

@@ -1,19 +1,23 @@
 //! The groups of a text that are open while warnings are looked for, and their keys.
 //! Which bytes are strings and braces is found in `text_pieces`.
-ghost use Rattle.std.specs.Prelude.{◌≡◌, ◌++◌, OnOk, [], map, codes, nat_eq};
-ghost use Rattle.std.specs.Cmp.Lexicographic.{pointwise};
+ghost use Rattle.std.specs.Prelude.{◌≡◌, ◌++◌, OnOk, [], ◌&&◌, map, nat_lt, length, IsTrue};
 ghost use Rattle.resb_program.specs.Groups as spec;
 ghost use Rattle.resb_program.specs.Groups.{with_one_more, string_item, group_item, comma_item};
 ghost use Rattle.resb_program.specs.Groups.{behind_piece};
-ghost use Rattle.resb_program.specs.Warnings.{of_keys, of_group, of_piece};
+ghost use Rattle.resb_program.specs.Warnings.{of_keys, of_group, of_comma, of_empty, of_string};
+ghost use Rattle.resb_program.specs.Warnings.{of_piece};
 ghost use Rattle.resb_program.specs.Inner.Looks.{placed_text_of, text_piece_of, level_of_code};
-ghost use Rattle.resb_program.specs.Inner.Looks.{level_of};
+ghost use Rattle.resb_program.specs.Inner.Looks.{level_of, code_may_be_table, code_is_empty};
+ghost use Rattle.resb_program.specs.Inner.Looks.{code_has_pairs};
 ghost use Rattle.resb_program.specs.Inner.Looks.{ShowsNesting, IsOpened, IsClosed};
 
+use crate::named::{Named, named_by};
+use crate::numbers::tell_number;
 use crate::text_pieces::{Piece, StringAt};
 use crate::warning::{Reason, Warning};
 use indexmap::IndexMap;
 use std::alloc::{AllocError, Global};
+use std::cmp::Ordering;
 use std::mem;
 
 /// What the items of a group are so far.
@@ -30,7 +34,7 @@ enum Shape<'a> {
 /// An open group.
 #[derive(Drop)]
 struct Group<'a> {
-    is_array: bool,
+    named: Named,
     shape: Shape<'a>,
     /// The strings of the pairs, in order.
     keys: Vec<StringAt<'a>>,
@@ -38,11 +42,11 @@ struct Group<'a> {
 
 impl<'a> Group<'a> {
     /// A group without items.
-    fn new(alloc: Global, is_array: bool) -> Group<'a>
-        ensures { level_of_code result ≡ level_of (record { is_array = is_array; items = [] }) }
+    fn new(alloc: Global, named: Named) -> Group<'a>
+        ensures { level_of_code result ≡ level_of (record { named = named; items = [] }) }
     {
         Group {
-            is_array,
+            named,
             shape: Shape::Pairs,
             keys: Vec::new(alloc),
         }
@@ -82,23 +86,68 @@ impl<'a> Group<'a> {
         self.shape = Shape::Other;
     }
 
-    /// Adds the warnings of the group, now closed.
+    /// Whether it may be a table: it is no `:array`, and has pairs of a string and a group, or
+    /// nothing.
+    fn may_be_table(&self) -> bool
+        ensures { result ≡ code_may_be_table self.now }
+    {
+        !self.named.is_array() && matches!(self.shape, Shape::Pairs)
+    }
+
+    /// Whether it has no type, and nothing stands in it.
+    fn is_empty(&self) -> bool
+        ensures { result ≡ code_is_empty self.now }
+    {
+        self.named.is_nothing() && matches!(self.shape, Shape::Pairs) && self.keys.is_empty()
+    }
+
+    /// Whether it has pairs, and may be a table.
+    fn has_pairs(&self) -> bool
+        ensures { result ≡ code_has_pairs self.now }
+    {
+        self.may_be_table() && !self.keys.is_empty()
+    }
+
+    /// Adds the warnings of the keys of the group, now closed.
     fn tell(&self, alloc: Global, found: &mut Vec<Warning>) -> Result<(), AllocError>
         ensures { OnOk result ((g : spec.OpenGroup) → level_of_code self.now ≡ level_of g
             → found.new.items ≡ found.old.items ++ of_group g) }
     {
-        if self.is_array {
+        if !self.may_be_table() {
             return Ok(());
         }
-        let Shape::Pairs = self.shape else {
-            return Ok(());
-        };
         tell_keys(alloc, self.keys.as_slice(), found)?;
+        Ok(())
+    }
+
+    /// Adds the warning of a comma that stands at a place, if it stands behind pairs.
+    fn tell_comma(&self, at: usize, found: &mut Vec<Warning>) -> Result<(), AllocError>
+        ensures { OnOk result ((g : spec.OpenGroup) → level_of_code self.now ≡ level_of g
+            → found.new.items ≡ found.old.items ++ of_comma at g) }
+    {
+        if self.has_pairs() {
+            found.push(Warning {
+                place: at,
+                reason: Reason::CommaBehindPairs,
+            })?;
+        }
         Ok(())
     }
 }
 
-/// Adds a warning for each key that stands before.
+/// Whether each key is above the one before.
+fn ascend(keys: &[StringAt<'_>]) -> bool
+    ensures { IsTrue result → of_keys [] (map placed_text_of keys.now) ≡ [] }
+{
+    for at in 1..keys.len() {
+        if keys[at - 1].content.cmp(keys[at].content) != Ordering::Less {
+            return false;
+        }
+    }
+    true
+}
+
+/// Adds a warning for each key that stands before. Keys that ascend need no map.
 fn tell_keys(
     alloc: Global,
     keys: &[StringAt<'_>],
@@ -107,6 +156,9 @@ fn tell_keys(
     ensures { OnOk result
         (found.new.items ≡ found.old.items ++ of_keys [] (map placed_text_of keys.now)) }
 {
+    if ascend(keys) {
+        return Ok(());
+    }
     let mut seen = IndexMap::new(alloc);
     for key in keys {
         match seen.get(key.content) {
@@ -120,13 +172,6 @@ fn tell_keys(
         }
     }
     Ok(())
-}
-
-/// Whether this is the name of the type of arrays.
-fn is_array(name: &[u8]) -> bool
-    ensures { result ≡ pointwise nat_eq name.now (codes "array") }
-{
-    name == b"array".as_slice()
 }
 
 /// The last piece, and what is open behind it.
@@ -148,7 +193,7 @@ impl<'a> Groups<'a> {
         Groups {
             alloc,
             last: None,
-            inner: Group::new(alloc, false),
+            inner: Group::new(alloc, Named::Nothing),
             around: Vec::new(alloc),
         }
     }
@@ -158,17 +203,55 @@ impl<'a> Groups<'a> {
         ensures { OnOk result ((g : spec.Nesting) → ShowsNesting self.now g
             → found.new.items ≡ found.old.items ++ of_piece (text_piece_of piece.entry) g) }
     {
-        match (piece, self.last) {
-            (Piece::Close, _) => self.inner.tell(self.alloc, found),
-            (Piece::String(string), Some(Piece::String(_))) => {
-                found.push(Warning {
-                    place: string.place,
-                    reason: Reason::StringsInRow,
-                })?;
-                Ok(())
+        match piece {
+            Piece::Close(at) => {
+                self.inner.tell(self.alloc, found)?;
+                self.tell_empty(at, found)
+            }
+            Piece::Comma(at) => self.inner.tell_comma(at, found),
+            Piece::String(string) => {
+                self.tell_row(string, found)?;
+                tell_number(string, self.inner.named, found)
             }
             _ => Ok(()),
         }
+    }
+
+    /// Whether the innermost group is empty, and not the root.
+    fn has_empty_group(&self) -> bool
+        ensures { result
+            ≡ (code_is_empty self.now.inner && nat_lt 1 (length self.now.around.items)) }
+    {
+        self.inner.is_empty() && 1 < self.around.len()
+    }
+
+    /// Adds the warning of an empty group whose `}` stands at a place, if it is one.
+    fn tell_empty(&self, at: usize, found: &mut Vec<Warning>) -> Result<(), AllocError>
+        ensures { OnOk result ((g : spec.Nesting) → ShowsNesting self.now g
+            → found.new.items ≡ found.old.items ++ of_empty at g) }
+    {
+        if self.has_empty_group() {
+            found.push(Warning {
+                place: at,
+                reason: Reason::EmptyGroup,
+            })?;
+        }
+        Ok(())
+    }
+
+    /// Adds the warning of a string that comes, if it stands behind another one.
+    fn tell_row(&self, string: StringAt<'a>, found: &mut Vec<Warning>) -> Result<(), AllocError>
+        ensures { OnOk result ((g : spec.Nesting) → ShowsNesting self.now g
+            → found.new.items
+            ≡ found.old.items ++ of_string (placed_text_of string.entry) g.last) }
+    {
+        if let Some(Piece::String(_)) = self.last {
+            found.push(Warning {
+                place: string.place,
+                reason: Reason::StringsInRow,
+            })?;
+        }
+        Ok(())
     }
 
     /// Goes on behind a piece.
@@ -178,9 +261,9 @@ impl<'a> Groups<'a> {
     {
         match piece {
             Piece::String(string) => self.inner.string(string),
-            Piece::Comma => self.inner.comma(),
+            Piece::Comma(_) => self.inner.comma(),
             Piece::Open => self.open()?,
-            Piece::Close => self.close()?,
+            Piece::Close(_) => self.close()?,
             Piece::Type(_) => {}
         }
         self.last = Some(piece);
@@ -192,11 +275,11 @@ impl<'a> Groups<'a> {
         ensures { OnOk result ((g : spec.Nesting) → ShowsNesting self.old g
             → IsOpened self.new g) }
     {
-        let is_array = match self.last {
-            Some(Piece::Type(name)) => is_array(name),
-            _ => false,
+        let named = match self.last {
+            Some(Piece::Type(name)) => named_by(name),
+            _ => Named::Nothing,
         };
-        let inner = Group::new(self.alloc, is_array);
+        let inner = Group::new(self.alloc, named);
         let outer = mem::replace(&mut self.inner, inner);
         self.around.push(outer)?;
         Ok(())

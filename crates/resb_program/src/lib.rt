@@ -14,7 +14,11 @@ mod json;
 mod json_bytes;
 mod location;
 mod memory;
+mod named;
+mod names;
 mod nesting;
+mod numbers;
+mod runs;
 mod sources;
 mod streams;
 mod text_pieces;
@@ -28,6 +32,7 @@ pub use files::{check_file, count_file, measure_file, read_bundle};
 pub use json::{JsonError, has_json, json_text, json_text_within};
 pub use location::{Location, location_of};
 pub use memory::keep_freed_memory;
+pub use names::{bundle_name, icu_bundle_name};
 pub use sources::{
     Blame, compile_icu_source, compile_source, compile_source_within, compile_text, text_of,
     where_to_look,

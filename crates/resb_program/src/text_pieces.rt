@@ -1,15 +1,18 @@
-//! The pieces of a text: strings, types, braces and commas, found byte by byte.
-//! What the pieces say of groups is in `groups`.
-ghost use Rattle.std.specs.Prelude.{◌≡◌, ◌+◌, ◌<◌, ◌^◌, ◌==◌, ◌||◌};
-ghost use Rattle.std.specs.Prelude.{if◌then◌else◌, false};
-ghost use Rattle.std.specs.Prelude.{length, option_map, slice_index};
+//! The pieces of a text: strings, types, braces and commas, found from place to place.
+//! Where a string or a comment ends is found in `runs`; what the pieces say of groups is in
+//! `groups`.
+ghost use Rattle.std.specs.Prelude.{◌≡◌, ◌==◌, ◌+◌, ◌<◌, length, slice_index, true, false};
+ghost use Rattle.std.specs.Prelude.{None, option_map};
+ghost use Rattle.resb_grammar.specs.Ascii as ascii;
 ghost use Rattle.resb_grammar.specs.ByteRuns as bytes;
-ghost use Rattle.resb_program.specs.Pieces.{piece_at, token_at, word_at, is_behind_colon};
-ghost use Rattle.resb_program.specs.Warnings.{is_first_backslash};
-ghost use Rattle.resb_program.specs.Inner.Looks.{text_piece_of, Passed};
+ghost use Rattle.resb_program.specs.Pieces.{is_behind_colon};
+ghost use Rattle.resb_program.specs.Braces as braces;
+ghost use Rattle.resb_program.specs.Inner.Tokens.{IsBetween, IsToken, IsQuiet, IsFirst, IsFound};
+ghost use Rattle.resb_program.specs.Inner.Tokens.{one_byte_piece};
+ghost use Rattle.resb_program.specs.Inner.Looks.{text_piece_of};
 
-use crate::braces::{Mode, Modes};
-use resb_grammar::is_word;
+use crate::runs::{comment_end, first_byte, string_stop, word_end};
+use resb_grammar::{blanks_end, is_word};
 
 /// A string of a text.
 #[derive(Clone, Copy)]
@@ -29,24 +32,166 @@ pub(crate) enum Piece<'a> {
     Type(&'a [u8]),
     /// A `{`.
     Open,
-    /// A `}`.
-    Close,
-    /// A `,`.
-    Comma,
+    /// A `}`, and where it stands.
+    Close(usize),
+    /// A `,`, and where it stands.
+    Comma(usize),
 }
 
-/// How far the bytes of a text were looked at.
-#[derive(Drop)]
-pub(crate) struct Pieces<'a> {
-    text: &'a [u8],
-    /// What the next byte stands in.
-    mode: Mode,
-    /// Where the run of word characters begins that ends before the next byte.
-    word: usize,
-    /// The last quote.
-    quote: usize,
-    /// Whether a backslash stands behind that.
-    has_backslash: bool,
+/// What stands at a place between pieces.
+#[derive(Clone, Copy)]
+pub(crate) struct Token<'a> {
+    /// The piece that ends there, if one does.
+    pub piece: Option<Piece<'a>>,
+    /// The first backslash, if it is a string in quotes that has one.
+    pub backslash: Option<usize>,
+    /// Behind it.
+    pub end: usize,
+}
+
+/// Blanks, and what stands behind them.
+pub(crate) fn next_token(text: &[u8], from: usize) -> Token<'_>
+    requires fits { from < length text.now }
+    requires between { IsBetween text.now from }
+    ensures { IsToken text.now from result }
+{
+    let at = blanks_end(text, from);
+    if at == text.len() {
+        return Token {
+            piece: None,
+            backslash: None,
+            end: at,
+        };
+    }
+    token_at(text, at)
+}
+
+/// What stands at a place where no blank does.
+fn token_at(text: &[u8], at: usize) -> Token<'_>
+    requires fits { at < length text.now }
+    requires between { IsBetween text.now at }
+    ensures { IsToken text.now at result }
+{
+    let byte = text[at];
+    if byte == b'"' {
+        return quoted(text, at);
+    }
+    if let Some(piece) = sign(at, byte) {
+        return Token {
+            piece: Some(piece),
+            backslash: None,
+            end: at + 1,
+        };
+    }
+    if is_word(byte) {
+        return word(text, at);
+    }
+    Token {
+        piece: None,
+        backslash: None,
+        end: behind_other(text, at, byte),
+    }
+}
+
+/// The end of a comment, or of a byte that is nothing by itself.
+fn behind_other(text: &[u8], at: usize, byte: u8) -> usize
+    requires fits { at < length text.now }
+    requires between { IsBetween text.now at }
+    requires byte { byte ≡ slice_index text.now at }
+    requires not_word { bytes.is_word byte ≡ false }
+    requires not_quote { (byte == ascii.quote) ≡ false }
+    requires no_piece { one_byte_piece at byte ≡ None }
+    ensures { IsQuiet text.now at result }
+{
+    if byte == b'/' {
+        comment_end(text, at)
+    } else {
+        at + 1
+    }
+}
+
+/// The piece that is the byte at a place, if it is one.
+fn sign<'a>(at: usize, byte: u8) -> Option<Piece<'a>>
+    ensures { option_map text_piece_of result ≡ one_byte_piece at byte }
+{
+    match byte {
+        b'{' => Some(Piece::Open),
+        b'}' => Some(Piece::Close(at)),
+        b',' => Some(Piece::Comma(at)),
+        _ => None,
+    }
+}
+
+/// The string in quotes that begins at a place, or what is left of the text, if it doesn't end.
+fn quoted(text: &[u8], at: usize) -> Token<'_>
+    requires fits { at < length text.now }
+    requires between { IsBetween text.now at }
+    requires quote { slice_index text.now at ≡ ascii.quote }
+    ensures { IsToken text.now at result }
+{
+    let Some(stop) = string_stop(text, at + 1) else {
+        return open_string(text, None);
+    };
+    if text[stop] == b'"' {
+        return closed_string(text, at, stop, None);
+    }
+    let Some(end) = first_byte(text, b'"', stop, text.len()) else {
+        return open_string(text, Some(stop));
+    };
+    closed_string(text, at, end, Some(stop))
+}
+
+/// What is left of a text, behind a quote that nothing closes.
+fn open_string<'a>(text: &[u8], backslash: Option<usize>) -> Token<'a>
+    ensures piece { result.piece ≡ None }
+    ensures backslash { result.backslash ≡ backslash }
+    ensures end { result.end ≡ length text.now }
+{
+    Token {
+        piece: None,
+        backslash,
+        end: text.len(),
+    }
+}
+
+/// The string between the quotes at two places.
+fn closed_string(text: &[u8], at: usize, end: usize, backslash: Option<usize>) -> Token<'_>
+    requires between { IsBetween text.now at }
+    requires quote { slice_index text.now at ≡ ascii.quote }
+    requires closes { IsFirst ascii.quote text.now (at + 1) (length text.now) end }
+    requires found { IsFound braces.backslash text.now (at + 1) end backslash }
+    ensures { IsToken text.now at result }
+{
+    let string = StringAt {
+        content: &text[at + 1..end],
+        place: at,
+    };
+    Token {
+        piece: Some(Piece::String(string)),
+        backslash,
+        end: end + 1,
+    }
+}
+
+/// The word that begins at a place.
+fn word(text: &[u8], at: usize) -> Token<'_>
+    requires fits { at < length text.now }
+    requires between { IsBetween text.now at }
+    requires word { bytes.is_word (slice_index text.now at) ≡ true }
+    ensures { IsToken text.now at result }
+{
+    let end = word_end(text, at);
+    let content = &text[at..end];
+    let piece = if is_behind(text, at) {
+        Piece::Type(content)
+    } else {
+        Piece::String(StringAt { content, place: at })
+    };
+    Token {
+        piece: Some(piece),
+        backslash: None,
+        end,
+    }
 }
 
 /// Whether a `:` or a `(` stands right before a place.
@@ -55,121 +200,4 @@ fn is_behind(text: &[u8], place: usize) -> bool
     ensures { result ≡ is_behind_colon text.now place }
 {
     0 < place && (text[place - 1] == b':' || text[place - 1] == b'(')
-}
-
-/// Where the run of word characters begins that ends behind the byte at a place.
-fn word_behind(word: usize, at: usize, byte: u8) -> usize
-    requires { at < 2 ^ 63 }
-    ensures { result ≡ (if bytes.is_word byte then word else at + 1) }
-{
-    if is_word(byte) { word } else { at + 1 }
-}
-
-/// The last quote up to the byte at a place.
-fn quote_behind(quote: usize, at: usize, byte: u8) -> usize
-    ensures { result ≡ (if byte == 34 then at else quote) }
-{
-    if byte == b'"' { at } else { quote }
-}
-
-/// Whether a backslash stands behind the last quote up to a byte.
-fn backslash_behind(has_backslash: bool, byte: u8) -> bool
-    ensures { result ≡ (if byte == 34 then false else (byte == 92 || has_backslash)) }
-{
-    byte != b'"' && (byte == b'\\' || has_backslash)
-}
-
-impl<'a> Pieces<'a> {
-    /// No byte was looked at.
-    pub(crate) fn new(text: &'a [u8]) -> Pieces<'a>
-        ensures start { Passed result 0 }
-        ensures text { result.text.now ≡ text.now }
-    {
-        Pieces {
-            text,
-            mode: Mode::Tokens,
-            word: 0,
-            quote: 0,
-            has_backslash: false,
-        }
-    }
-
-    /// Whether the first backslash of a string in quotes is the byte at a place.
-    pub(crate) fn is_backslash(&self, at: usize) -> bool
-        requires passed { Passed self.now at }
-        requires fits { at < length self.now.text.now }
-        ensures { result ≡ is_first_backslash self.now.text.now at }
-    {
-        self.mode == Mode::Quotes && self.text[at] == b'\\' && !self.has_backslash
-    }
-
-    /// The piece whose last byte is the one at a place.
-    pub(crate) fn piece(&self, at: usize) -> Option<Piece<'a>>
-        requires passed { Passed self.now at }
-        requires fits { at < length self.now.text.now }
-        ensures { option_map text_piece_of result ≡ piece_at self.now.text.now at }
-    {
-        match self.mode {
-            Mode::Tokens | Mode::Slash => self.token(at),
-            Mode::Quotes if self.text[at] == b'"' => Some(Piece::String(StringAt {
-                content: &self.text[self.quote + 1..at],
-                place: self.quote,
-            })),
-            _ => None,
-        }
-    }
-
-    /// The same among tokens.
-    fn token(&self, at: usize) -> Option<Piece<'a>>
-        requires passed { Passed self.now at }
-        requires fits { at < length self.now.text.now }
-        ensures { option_map text_piece_of result
-            ≡ token_at self.now.text.now at (slice_index self.now.text.now at) }
-    {
-        let byte = self.text[at];
-        if is_word(byte) {
-            return self.word(at);
-        }
-        match byte {
-            b'{' => Some(Piece::Open),
-            b'}' => Some(Piece::Close),
-            b',' => Some(Piece::Comma),
-            _ => None,
-        }
-    }
-
-    /// The word whose last byte is the one at a place, if one ends there.
-    fn word(&self, at: usize) -> Option<Piece<'a>>
-        requires passed { Passed self.now at }
-        requires fits { at < length self.now.text.now }
-        ensures { option_map text_piece_of result
-            ≡ word_at self.now.text.now at }
-    {
-        let to = at + 1;
-        if to < self.text.len() && is_word(self.text[to]) {
-            return None;
-        }
-        let content = &self.text[self.word..to];
-        if is_behind(self.text, self.word) {
-            return Some(Piece::Type(content));
-        }
-        Some(Piece::String(StringAt {
-            content,
-            place: self.word,
-        }))
-    }
-
-    /// Goes on behind the byte at a place.
-    pub(crate) fn pass(&mut self, at: usize)
-        requires passed { Passed self.old at }
-        requires fits { at < length self.old.text.now }
-        ensures passed { Passed self.new (at + 1) }
-        ensures text { self.new.text.now ≡ self.old.text.now }
-    {
-        let byte = self.text[at];
-        self.word = word_behind(self.word, at, byte);
-        self.quote = quote_behind(self.quote, at, byte);
-        self.has_backslash = backslash_behind(self.has_backslash, byte);
-        self.mode = self.mode.behind(byte);
-    }
 }

@@ -1,22 +1,24 @@
 //! What another reader of bundles, ICU's `genrb`, takes otherwise in a text that is a bundle here.
 //! A warning changes nothing about what is made. Why a text is refused isn't found here.
-ghost use Rattle.std.specs.Prelude.{◌≡◌, ◌++◌, ◌+◌, ◌<◌, length, option_map, IfOk, OnOk};
+ghost use Rattle.std.specs.Prelude.{◌≡◌, ◌++◌, ◌<◌, length, option_map, IfOk, OnOk};
 ghost use Rattle.std.specs.Prelude.{IsPermutation};
 ghost use Rattle.std.specs.List.Sorted.{IsSortedByKey};
 ghost use Rattle.std.specs.Ordering.{nat_cmp};
 ghost use Rattle.resb_program.specs.Groups as spec;
 ghost use Rattle.resb_program.specs.Groups.{groups_behind};
-ghost use Rattle.resb_program.specs.Warnings.{warned, of_backslash, of_end};
-ghost use Rattle.resb_program.specs.Inner.Looks.{text_piece_of, Passed, ShowsNesting, HasScanned};
+ghost use Rattle.resb_program.specs.Warnings.{warned, of_end};
+ghost use Rattle.resb_program.specs.Inner.Looks.{text_piece_of, ShowsNesting};
+ghost use Rattle.resb_program.specs.Inner.Tokens.{of_some_backslash, HasScanned};
 
 use crate::groups::Groups;
-use crate::text_pieces::{Piece, Pieces};
+use crate::text_pieces::{Piece, next_token};
 use std::alloc::{AllocError, Global};
 
 /// What another reader takes otherwise. Places are in bytes from the text's start.
 #[derive(Clone, Copy, Debug, PartialEq, Eq, PartialOrd, Ord)]
 pub struct Warning {
-    /// Where it stands: a string's first byte, its quote included, or a backslash.
+    /// Where it stands: at a string's first byte, its quote included, at a backslash, a comma or a
+    /// `}`.
     pub place: usize,
     /// What is taken otherwise.
     pub reason: Reason,
@@ -32,6 +34,15 @@ pub enum Reason {
     Backslash,
     /// The string follows another one without a comma; `genrb` makes one string of both.
     StringsInRow,
+    /// The comma follows pairs of a string and a group: the group is an Array of all of them, and
+    /// `genrb` refuses it.
+    CommaBehindPairs,
+    /// The group is empty and has no type: it is a Table, and an Array for `genrb`.
+    EmptyGroup,
+    /// The number begins with a 0: it is decimal here, and octal for `genrb`.
+    LeadingZero,
+    /// The integer has more than 28 bits: these are kept, the highest one as the sign.
+    CutNumber(i32),
 }
 
 /// The warnings of a text, in order of place. They are right for a text that is a bundle; for any
@@ -42,8 +53,8 @@ pub fn warnings(alloc: Global, text: &str) -> Result<Vec<Warning>, AllocError>
     ensures order { IfOk result (λ found. IsSortedByKey (λ w. w.place) nat_cmp found.items) }
 {
     let mut scan = Scan::new(alloc, text.as_bytes());
-    'bytes: for at in 0..text.len() {
-        scan.byte(at)?;
+    'tokens: while scan.at < text.len() {
+        scan.advance()?;
     }
     let mut found = scan.found;
     found.sort_unstable();
@@ -53,7 +64,9 @@ pub fn warnings(alloc: Global, text: &str) -> Result<Vec<Warning>, AllocError>
 /// How far a text was looked at, and what was found.
 #[derive(Drop)]
 struct Scan<'a> {
-    pieces: Pieces<'a>,
+    text: &'a [u8],
+    /// A place between two pieces, or the text's end.
+    at: usize,
     groups: Groups<'a>,
     found: Vec<Warning>,
 }
@@ -61,40 +74,41 @@ struct Scan<'a> {
 impl<'a> Scan<'a> {
     /// Nothing was looked at.
     fn new(alloc: Global, text: &'a [u8]) -> Scan<'a>
-        ensures { HasScanned result text.now 0 }
+        ensures { HasScanned result text.now }
     {
         Scan {
-            pieces: Pieces::new(text),
+            text,
+            at: 0,
             groups: Groups::new(alloc),
             found: Vec::new(alloc),
         }
     }
 
-    /// Looks at the byte at a place.
-    fn byte(&mut self, at: usize) -> Result<(), AllocError>
-        requires fits { at < length self.old.pieces.text.now }
-        requires reads { HasScanned self.old self.old.pieces.text.now at }
-        ensures { OnOk result (HasScanned self.new self.old.pieces.text.now (at + 1)) }
+    /// Goes on behind the next piece, or to the text's end.
+    fn advance(&mut self) -> Result<(), AllocError>
+        requires more { self.old.at < length self.old.text.now }
+        requires reads { HasScanned self.old self.old.text.now }
+        ensures { OnOk result
+            (HasScanned self.new self.old.text.now × (self.old.at < self.new.at)) }
     {
-        self.tell_backslash(at)?;
-        let piece = self.pieces.piece(at);
-        self.take(piece)?;
-        self.pieces.pass(at);
+        let token = next_token(self.text, self.at);
+        self.tell_backslash(token.backslash)?;
+        self.take(token.piece)?;
+        self.at = token.end;
         Ok(())
     }
 
-    /// Adds a warning if the byte at a place is the first backslash of a string in quotes.
-    fn tell_backslash(&mut self, at: usize) -> Result<(), AllocError>
-        requires fits { at < length self.old.pieces.text.now }
-        requires passed { Passed self.old.pieces at }
-        ensures pieces { self.new.pieces ≡ self.old.pieces }
+    /// Adds a warning of a first backslash, if one stands in a string.
+    fn tell_backslash(&mut self, backslash: Option<usize>) -> Result<(), AllocError>
+        ensures text { self.new.text ≡ self.old.text }
+        ensures at { self.new.at ≡ self.old.at }
         ensures groups { self.new.groups ≡ self.old.groups }
         ensures found { OnOk result (self.new.found.items
-            ≡ self.old.found.items ++ of_backslash self.old.pieces.text.now at) }
+            ≡ self.old.found.items ++ of_some_backslash backslash) }
     {
-        if self.pieces.is_backslash(at) {
+        if let Some(place) = backslash {
             self.found.push(Warning {
-                place: at,
+                place,
                 reason: Reason::Backslash,
             })?;
         }
@@ -103,7 +117,7 @@ impl<'a> Scan<'a> {
 
     /// Adds the warnings of a piece, if one comes, and goes on behind it.
     fn take(&mut self, piece: Option<Piece<'a>>) -> Result<(), AllocError>
-        ensures pieces { self.new.pieces ≡ self.old.pieces }
+        ensures text { self.new.text ≡ self.old.text }
         ensures groups { OnOk result ((g : spec.Nesting) → ShowsNesting self.old.groups g
             → ShowsNesting self.new.groups
             (groups_behind (option_map text_piece_of piece.entry) g)) }

@@ -1,23 +1,20 @@
 -- What the code keeps of the groups that are open, beside their items.
-use Rattle.std.specs.Prelude.{◌≡◌, ◌<◌, ◌≤◌, ℕ, Bool, List, [], ◌∷◌, ◌++◌, map}
+use Rattle.std.specs.Prelude.{◌≡◌, Bool, true, false, ◌&&◌, not, List, []}
+use Rattle.std.specs.Prelude.{◌∷◌, ◌++◌, map}
 use Rattle.std.specs.Option.{option_map}
-use Rattle.resb_program.specs.Braces.{mode_at}
 use Rattle.resb_program.specs.Pieces.{PlacedText, TextPiece, a_string, a_type, opening, closing}
 use Rattle.resb_program.specs.Pieces.{a_comma}
-use Rattle.resb_program.specs.Pieces.{word_start, quote_before}
 use Rattle.resb_program.specs.Groups.{GroupItem, string_item, group_item, OpenGroup, Nesting}
-use Rattle.resb_program.specs.Groups.{groups_at, names_array, with_one_more}
-use Rattle.resb_program.specs.Warnings.{has_backslash, warned}
-use Rattle.resb_program.specs.declared.braces.Mode.TheVariants as modes
+use Rattle.resb_program.specs.Groups.{named_behind, with_one_more}
+use Rattle.resb_program.specs.Warnings.{is_array, is_nothing}
 use Rattle.resb_program.specs.declared.text_pieces.StringAt.{StringAt}
 use Rattle.resb_program.specs.declared.text_pieces.Piece.{Piece as CodePiece}
 use Rattle.resb_program.specs.declared.text_pieces.Piece.TheVariants as piece
-use Rattle.resb_program.specs.declared.text_pieces.Pieces.{Pieces}
+use Rattle.resb_program.specs.declared.named.Named.{Named}
 use Rattle.resb_program.specs.declared.groups.Shape.{Shape}
 use Rattle.resb_program.specs.declared.groups.Shape.TheVariants as shape
 use Rattle.resb_program.specs.declared.groups.Group.{Group as CodeGroup}
 use Rattle.resb_program.specs.declared.groups.Groups.{Groups as CodeGroups}
-use Rattle.resb_program.specs.declared.warning.Scan.{Scan}
 
 abbrev pub placed_text_of : StringAt → PlacedText
 placed_text_of s = record { bytes = s.content.now; place = s.place }
@@ -26,17 +23,8 @@ abbrev pub text_piece_of : CodePiece → TextPiece
 text_piece_of (piece.String s) = a_string (placed_text_of s)
 text_piece_of (piece.Type name) = a_type name.now
 text_piece_of piece.Open = opening
-text_piece_of piece.Close = closing
-text_piece_of piece.Comma = a_comma
-
--- the code has passed so many bytes
-pub record Passed (p : Pieces) (n : ℕ) : Type 0 where
-  pub mode : p.mode ≡ mode_at p.text.now n
-  pub word : p.word ≡ word_start p.text.now n
-  pub quote : p.quote ≡ quote_before p.text.now n
-  pub backslash : p.has_backslash ≡ has_backslash p.text.now n
-  pub word_fits : p.word ≤ n
-  pub quote_fits : p.mode ≡ modes.Quotes → p.quote < n
+text_piece_of (piece.Close n) = closing n
+text_piece_of (piece.Comma n) = a_comma n
 
 -- what items are: pairs with these keys; the same, and then a key; anything else
 pub data Pairing : Type 0 where
@@ -58,16 +46,34 @@ pairing_in shape.Pairs ks = pairs ks
 pairing_in (shape.Key s) ks = key ks (placed_text_of s)
 pairing_in shape.Other ks = other
 
+abbrev pub is_pairs : Shape → Bool
+is_pairs shape.Pairs = true
+is_pairs _ = false
+
 pub record Level : Type 0 where
-  pub is_array : Bool
+  pub named : Named
   pub pairing : Pairing
 
 abbrev pub level_of_code : CodeGroup → Level
 level_of_code g =
-    record { is_array = g.is_array; pairing = pairing_in g.shape (map placed_text_of g.keys.items) }
+    record { named = g.named; pairing = pairing_in g.shape (map placed_text_of g.keys.items) }
 
 abbrev pub level_of : OpenGroup → Level
-level_of g = record { is_array = g.is_array; pairing = pairing_of g.items }
+level_of g = record { named = g.named; pairing = pairing_of g.items }
+
+abbrev pub is_nil : {A : Type 0} → List A → Bool
+is_nil [] = true
+is_nil (x ∷ xs) = false
+
+-- what the code asks of a group
+abbrev pub code_may_be_table : CodeGroup → Bool
+code_may_be_table g = not (is_array g.named) && is_pairs g.shape
+
+abbrev pub code_is_empty : CodeGroup → Bool
+code_is_empty g = is_nothing g.named && (is_pairs g.shape && is_nil g.keys.items)
+
+abbrev pub code_has_pairs : CodeGroup → Bool
+code_has_pairs g = code_may_be_table g && not (is_nil g.keys.items)
 
 -- groups from the inside out, as the code lists them: the innermost last
 abbrev pub levels_of : List OpenGroup → List Level
@@ -83,7 +89,7 @@ pub record ShowsNesting (c : CodeGroups) (g : Nesting) : Type 0 where
 -- a group began, behind these
 pub record IsOpened (c : CodeGroups) (g : Nesting) : Type 0 where
   pub inner : level_of_code c.inner
-      ≡ level_of (record { is_array = names_array g.last; items = [] })
+      ≡ level_of (record { named = named_behind g.last; items = [] })
   pub around : map level_of_code c.around.items ≡ levels_of (g.inner ∷ g.around)
 
 -- the innermost group ended
@@ -93,10 +99,3 @@ IsClosed c inner [] =
 IsClosed c inner (outer ∷ around) =
     (level_of_code c.inner ≡ level_of (with_one_more group_item outer))
     × (map level_of_code c.around.items ≡ levels_of around)
-
--- the code has read so many bytes of a text
-pub record HasScanned (s : Scan) (whole : List ℕ) (n : ℕ) : Type 0 where
-  pub text : s.pieces.text.now ≡ whole
-  pub passed : Passed s.pieces n
-  pub shows : ShowsNesting s.groups (groups_at whole n)
-  pub found : s.found.items ≡ warned whole n

@@ -1,6 +1,10 @@
 -- The text was read up to the place.
-use Rattle.resb_program.specs.Inner.Looks.{HasScanned}
+use Rattle.std.proofs.Common.{◌-◌, length}
+use Rattle.resb_program.specs.Inner.Tokens.{HasScanned}
 use Rattle.resb_program.proofs.warning.warnings.Given as goal
 
-abbrev pub invariant-bytes : goal.invariant-bytes
-invariant-bytes l = HasScanned l.scan l.text l.at
+abbrev pub invariant-tokens : goal.invariant-tokens
+invariant-tokens l = HasScanned l.scan l.text
+
+abbrev pub decreases-tokens : goal.decreases-tokens
+decreases-tokens l = length l.text - l.scan.at

@@ -179,6 +179,18 @@ told 0 '' "warned.txt:1:7: warning: this backslash is a character here, and an e
 warned.txt:1:11: warning: this key stands at 1:3 too; genrb refuses that
 warned.txt:1:29: warning: this string is an item of its own here; genrb joins it to the one before" \
   compile warned.txt
+# nor do those of what would be lost without a word
+printf 'b{a{}i:int{300000000}o:intvector{010,-07,0}c{x{"1"},y{"2"},}n:int{-200000000}z:table{}}' \
+  > lost.txt
+told 0 '' "lost.txt:1:5: warning: the empty group that ends here is a Table, and an Array for genrb
+lost.txt:1:12: warning: this number has more than 28 bits; 31564544 is kept
+lost.txt:1:34: warning: this number is decimal here; genrb takes its 0 for that of an octal one
+lost.txt:1:38: warning: this number is decimal here; genrb takes its 0 for that of an octal one
+lost.txt:1:52: warning: pairs with commas are an Array; genrb refuses this
+lost.txt:1:67: warning: this number has more than 28 bits; 68435456 is kept" \
+  compile lost.txt
+told 0 '{"a":{},"c":["x","1","y","2"],"i":31564544,"n":68435456,"o":[10,-7,0],"z":{}}' '' \
+  dump --json lost.res
 
 # one text that fails doesn't stop the others
 told 1 '' $'open.txt:1:2: expected \'}\' before the text ends inside this\nb{\n ^' \
@@ -218,12 +230,12 @@ told 0 '' '' compile small.txt --limit 1558
 told 0 'v' '' get small.res k
 told 1 '' 'small.txt: reading this text takes more than the limit of 1557 bytes' \
   compile --limit 1557 small.txt
-# each number of a vector is weighed as it comes: 72 for the root's brace, 195 for v, 4 for 1
+# each number of a vector is weighed as it comes: 72 for the root's brace, 195 for v, 8 for 1
 printf 'b{v:intvector{1,x' > vector.txt
-told 1 '' 'vector.txt: reading this text takes more than the limit of 270 bytes' \
-  compile --limit 270 vector.txt
+told 1 '' 'vector.txt: reading this text takes more than the limit of 274 bytes' \
+  compile --limit 274 vector.txt
 told 1 '' $'vector.txt:1:17: expected \'}\'\nb{v:intvector{1,x\n                ^' \
-  compile --limit 271 vector.txt
+  compile --limit 275 vector.txt
 told 2 '' 'resb: --limit is a number of bytes' compile small.txt --limit ten
 
 # where no text holds a string, the path to it is said
@@ -354,7 +366,7 @@ told 0 '{"a[":"x"}' "keys.res: this has no text in ICU's form, since a key has a
 that may not stand in one at a[; here is its JSON" dump --icu keys.res
 told 2 '' $'error: the argument \'--icu\' cannot be used with \'--json\'
 
-Usage: resb dump --icu <FILE>
+Usage: resb dump --icu <FILE>...
 
 For more information, try \'--help\'.' dump --icu icu.res --json
 
@@ -481,6 +493,164 @@ printf 'b{a{"x"}}' > s.txt
 printf 'b:table(nofallback){a{"x"}}' > t.txt
 told 0 '' '' compile s.txt t.txt
 told 0 '' '' diff s.res t.res
+
+# holds FOLDER NAMES: the names in a folder
+holds() {
+  local names
+  names=$(ls "$1" | xargs)
+  if [ "$names" = "$2" ]; then passed=$((passed + 1)); else failed=$((failed + 1)); echo "$names"; fi
+}
+
+# a text with warnings: without them, with a status of their own, and without a file
+mkdir alone
+told 0 '' '' compile --quiet warned.txt -d alone
+holds alone warned.res
+warned="warned.txt:1:7: warning: this backslash is a character here, and an escape for genrb
+warned.txt:1:11: warning: this key stands at 1:3 too; genrb refuses that
+warned.txt:1:29: warning: this string is an item of its own here; genrb joins it to the \
+one before"
+rm alone/warned.res
+told 1 '' "$warned" compile --strict warned.txt -d alone
+holds alone warned.res
+rm alone/warned.res
+told 1 '' '' compile --quiet --strict warned.txt -d alone
+holds alone warned.res
+told 0 '' '' compile --strict names.txt small.txt -d alone
+holds alone 'names.res small.res warned.res'
+told 0 '' '' compile --strict --icu icu.txt -d alone
+rm alone/*
+told 0 '' "$warned" compile --check warned.txt -d alone
+told 1 '' "$warned" compile --check --strict warned.txt -d alone
+told 1 '' $'open.txt:1:2: expected \'}\' before the text ends inside this\nb{\n ^' \
+  compile --check --quiet open.txt names.txt -d alone
+told 2 '' 'two/a.txt: another of these texts has its file' \
+  compile --check one/a.txt two/a.txt -d alone
+input=names.txt
+told 0 '' '' compile --check -
+input=
+holds alone ''
+{ printf 'b{l:array{'; printf '"s" %.0s' {1..23}; printf '}}'; } > many.txt
+(exec -a resb "$program" compile many.txt) 2> err
+[ "$(grep -c warning: err)" = 20 ] && [ "$(tail -n 1 err)" = 'many.txt: 2 more warnings' ] \
+  && passed=$((passed + 1)) || { failed=$((failed + 1)); cat err; }
+
+# the bundle's name for the file, in either form, beside the text or in a folder
+printf 'de{a{"x"}}' > alone/text.txt
+told 0 '' '' compile --by-name alone/text.txt
+holds alone 'de.res text.txt'
+printf '\357\273\277// ICU\n"de_AT" {a{"x"}}' > alone/icu.txt
+told 0 '' '' compile --icu --by-name alone/icu.txt -d alone
+holds alone 'de.res de_AT.res icu.txt text.txt'
+told 0 'x' '' get alone/de_AT.res a
+input=alone/text.txt
+told 0 '' '' compile --by-name -
+input=
+same de.res alone/de.res
+printf '"../de"{a{"x"}}' > slash.txt
+told 2 '' 'slash.txt: the name of its bundle is no name of a file' compile --by-name slash.txt
+printf 'slash{a{"y"}}' > other.txt
+told 2 '' 'alone/text.txt: another of these texts has its file' \
+  compile --by-name alone/text.txt alone/text.txt
+printf '"slash.txt.res/../slash"{}' > up.txt
+told 2 '' 'up.txt: the name of its bundle is no name of a file' compile --by-name up.txt
+told 1 '' $'open.txt:1:2: expected \'}\' before the text ends inside this\nb{\n ^' \
+  compile --by-name open.txt
+told 2 '' "error: the argument '--output <OUT>' cannot be used with '--by-name'
+
+Usage: resb compile --output <OUT> <FILE>...
+
+For more information, try '--help'." compile names.txt -o a.res --by-name
+
+# folders: the files right inside them, in the order of their names, without hidden ones
+mkdir -p texts/sub.txt texts/sub nothing shared
+printf 'b{' > texts/b.txt
+printf 'a{k{"1"}}' > texts/a.txt
+printf 'c{k{"3"}}' > texts/c.txt
+printf 'b{' > texts/.hidden.txt
+told 1 '' $'texts/b.txt:1:2: expected \'}\' before the text ends inside this\nb{\n ^' compile texts
+holds texts 'a.res a.txt b.txt c.res c.txt sub sub.txt'
+told 2 'texts/a.res: 2 resources, format 2.0, fallback, largest table 1
+texts/c.res: 2 resources, format 2.0, fallback, largest table 1
+small.res: 2 resources, format 2.0, fallback, largest table 1' \
+  'nothing: this folder has no .res file' check texts nothing small.res
+told 2 '' 'nothing: this folder has no .txt file' compile nothing
+told 2 '' 'texts: this is a folder' compile texts -o x.res
+told 2 '' 'two/a.txt: another of these texts has its file' compile one two --check -d into
+told 2 '' 'texts: this is a folder' dump texts
+
+# check as JSON: what the line says, or the kind of the cause and what is said of it
+told 1 '{"path":"names.res","ok":true,"resources":8,"format":"2.0","fallback":true,'\
+'"largest_table":5,"pool_bundle":false,"over":null}
+{"path":"broken.res","ok":false,"kind":"invalid data","message":"Invalid resource bundle data: '\
+'input is too short to contain file header"}
+{"path":"one.res","ok":false,"kind":"unsupported format","message":"Unsupported resource bundle '\
+'format: format version 1.0 is not supported"}
+{"path":"off.res","ok":true,"resources":2,"format":"2.0","fallback":false,"largest_table":1,'\
+'"pool_bundle":false,"over":null}' '' check --json names.res broken.res one.res off.res
+told 2 '{"path":"none\"\n.res","ok":false,"kind":"input","message":"no such file"}
+{"path":"nothing","ok":false,"kind":"input","message":"this folder has no .res file"}
+{"path":"p.dat","ok":false,"kind":"package","message":"this is a package of ICU'"'"'s data: '\
+'name an item inside it (resb list)"}
+{"path":"p.dat/b.res","ok":false,"kind":"package","message":"the package has no item of this '\
+'name"}' '' check --json $'none"\n.res' nothing p.dat p.dat/b.res
+python3 -c "
+import sys
+sys.path.insert(0, '$top/tests')
+import pools
+for name, words in (('shared/pool', pools.POOL3), ('shared/a', pools.A3), ('a', pools.A3),
+                    ('other', pools.POOL3.replace('e31610fa', 'e31610fb'))):
+    open(f'{name}.res', 'wb').write(pools.file(words))
+"
+told 1 '{"path":"shared/a.res","ok":true,"resources":3,"format":"3.0","fallback":true,'\
+'"largest_table":2,"pool_bundle":false,"over":"shared/pool.res"}
+{"path":"shared/pool.res","ok":true,"resources":1,"format":"3.0","fallback":false,'\
+'"largest_table":0,"pool_bundle":true,"over":null}
+{"path":"a.res","ok":false,"kind":"pool bundle","message":"this file uses a pool bundle, and '\
+'there is no pool.res beside it; name one by --pool"}' '' check --json shared a.res
+told 1 '{"path":"a.res","ok":false,"kind":"pool bundle","message":"Invalid resource bundle data: '\
+'pool bundle has another checksum: other.res"}' '' check --json a.res --pool other.res
+told 2 '{"path":"a.res","ok":false,"kind":"pool bundle","message":"its pool bundle isn'"'"'t '\
+'read"}' 'none.res: no such file' check --json a.res --pool none.res
+
+# several paths, in their order; keys with a slash or a tilde
+printf 'k{"a/b":table{"~":table{"~1"{x} "~0"{y} "0"{z}} 1{s}} l:array{"p","q"} "m~n"{t}}' > key.txt
+told 0 '' '' compile key.txt
+told 0 $'x\ny\nz\nz\ns\nt\nt' '' get key.res a~1b/~/~01 a~1b/~0/~00 a~1b/~/0 a~1b/~0/0 a~1b/1 \
+  m~n m~0n
+told 1 $'q\n["p","q"]\np' $'key.res: nothing stands at l/2\nkey.res: nothing stands at a/b/1' \
+  get key.res l/1 l/2 l a/b/1 l/0
+told 1 $'hello\nc' 'names.res: nothing stands at nowhere' \
+  get --check names.res hi nowhere list/1
+# the tree of a file that has none is asked for once, and what needs none is shown
+told 1 $'hello\n-5' "$outside" get cut.res hi list list n
+told 1 '' "$outside" get --check cut.res hi n
+mkdir next
+sed 's/{z}/{"w"}/' key.txt > next/key.txt
+told 0 '' '' compile next/key.txt
+told 1 '~ a~1b/~/0 "z" -> "w"' '' diff key.res next/key.res
+told 1 '{"path":"a~1b/~/0","old":"z","new":"w"}' '' diff --json key.res next/key.res
+told 0 'w' '' get next/key.res a~1b/~/0
+
+# the texts of several files in a folder
+mkdir shown
+told 0 '' '' dump small.res key.res -d shown
+holds shown 'key.txt small.txt'
+told 0 '' '' compile shown/small.txt
+same small.res shown/small.res
+told 1 '' "path.res: this has no text, since a string holds a '\"' at zones/Pole/list/1; \
+here is its JSON
+broken.res: Invalid resource bundle data: input is too short to contain file header
+six.res: this has no text, since the root is no table; here is its JSON" \
+  dump path.res broken.res six.res -d shown
+holds shown 'key.txt path.json six.json small.res small.txt'
+told 0 '' '' dump --json small.res -d shown
+[ "$(cat shown/small.json)" = '{"k":"v"}' ] && passed=$((passed + 1)) || failed=$((failed + 1))
+told 2 '' 'shown/small.res: its text would take the place of one of these files or of their texts' \
+  dump small.res shown/small.res -d shown
+told 2 '' 'nowhere/small.txt: no such folder' dump small.res -d nowhere
+told 2 '' 'resb: the texts of several files go to a folder, named by --directory' \
+  dump small.res key.res
+told 2 '' 'resb: --directory is the name of a folder' dump small.res -d ''
 
 told 0 'resb 0.2.0' '' --version
 for command in compile check dump get diff list extract; do

@@ -1,13 +1,18 @@
 //! The command `compile`: each text to a file of its own.
 //! What a text's file is, and why it has none, is in `resb_program`.
+use crate::folders::{Named, TEXTS, named_files};
 use crate::place::{Place, place_of};
 use crate::progress::Progress;
 use crate::save::save;
-use crate::say::{fail, fail_input, refuse, warn};
+use crate::say::{fail, fail_input, or_fail, refuse, warn};
+use crate::show::settled;
 use crate::streams::{made, read_input};
 use crate::taken::Taken;
 use crate::words::{NO_UTF8, is_marked};
-use resb_program::{SourceError, compile_icu_source, compile_source, compile_source_within};
+use resb_program::{
+    SourceError, bundle_name, compile_icu_source, compile_source, compile_source_within,
+    icu_bundle_name,
+};
 use resb_words::CompileWords;
 use std::alloc::Global;
 use std::path::{Path, PathBuf};
@@ -15,21 +20,53 @@ use std::path::{Path, PathBuf};
 /// What is said of a text whose file has no name.
 const NO_NAME: &str = "this has no name for a file; say one by --output";
 
+/// Where the bytes of a text's file go.
+#[derive(Drop)]
+struct Target {
+    /// The name of the file.
+    output: PathBuf,
+    place: Place,
+}
+
 /// Compiles each text. One that fails doesn't stop the others; the status says whether one did.
 pub(crate) fn compile(rt: &HostRuntime, wanted: &CompileWords<'_>) -> u8 {
-    match Taken::new(rt, wanted.texts.as_slice()) {
-        Ok(mut taken) => compile_each(rt, wanted, &mut taken),
+    // the file of one text is named: that isn't one of a folder's
+    let kind = if wanted.output.is_some() {
+        None
+    } else {
+        Some(TEXTS)
+    };
+    match named_files(rt, wanted.texts.as_slice(), kind) {
+        Ok(texts) => compile_files(rt, wanted, texts.as_slice()),
         Err(cause) => fail(rt, "resb", cause),
     }
 }
 
+/// The same, where the folders' texts are known.
+fn compile_files(rt: &HostRuntime, wanted: &CompileWords<'_>, texts: &[Named]) -> u8 {
+    let mut taken = Taken::new(rt);
+    for text in texts {
+        if let Err(cause) = taken.add_text(rt, text.name.as_str()) {
+            return fail(rt, "resb", cause);
+        }
+    }
+    compile_each(rt, wanted, texts, &mut taken)
+}
+
 /// The same, where none of the taken files is written over.
-fn compile_each(rt: &HostRuntime, wanted: &CompileWords<'_>, taken: &mut Taken) -> u8 {
+fn compile_each(
+    rt: &HostRuntime,
+    wanted: &CompileWords<'_>,
+    texts: &[Named],
+    taken: &mut Taken,
+) -> u8 {
     let mut status = 0;
-    let mut progress = Progress::new(rt, wanted.texts.len());
-    for name in wanted.texts.iter().copied() {
-        status = status.max(match compile_one(rt, name, wanted, taken) {
-            Ok(status) | Err(status) => status,
+    let mut progress = Progress::new(rt, if wanted.is_quiet { 0 } else { texts.len() });
+    for text in texts {
+        let name = text.name.as_str();
+        status = status.max(match text.fault {
+            Some(cause) => fail(rt, name, cause),
+            None => settled(compile_one(rt, name, wanted, taken)),
         });
         progress.one_more(rt);
     }
@@ -44,43 +81,101 @@ fn compile_one(
     wanted: &CompileWords<'_>,
     taken: &mut Taken,
 ) -> Result<u8, u8> {
-    let output = told(rt, name, output_of(rt.alloc(), name, wanted))?;
-    let output = output.as_path().as_str();
-    let place = told(rt, output, place_of(rt, output))?;
-    let (file, status) = file_of(rt, name, wanted)?;
-    told(rt, name, taken.take(rt, name, &place))?;
-    told(rt, output, save(rt, &place, file.as_slice()))?;
+    if wanted.is_by_name {
+        return compile_named(rt, name, wanted, taken);
+    }
+    let target = target_of(rt, name, output_of(rt.alloc(), name, wanted))?;
+    let source = source_of(rt, name, wanted)?;
+    let (file, status) = file_of(rt, name, source.as_slice(), wanted)?;
+    or_fail(rt, name, taken.take(rt, name, &target.place))?;
+    if !wanted.is_check {
+        target.write(rt, file.as_slice())?;
+    }
     Ok(status)
 }
 
-/// What was done, or the status, once it is said what failed.
-fn told<T>(rt: &HostRuntime, name: &str, done: Result<T, &'static str>) -> Result<T, u8> {
-    match done {
-        Ok(done) => Ok(done),
-        Err(cause) => Err(fail(rt, name, cause)),
+/// The same, where the bundle names the file.
+fn compile_named(
+    rt: &HostRuntime,
+    name: &str,
+    wanted: &CompileWords<'_>,
+    taken: &mut Taken,
+) -> Result<u8, u8> {
+    let source = source_of(rt, name, wanted)?;
+    let (file, status) = file_of(rt, name, source.as_slice(), wanted)?;
+    let target = named_target(rt, name, source.as_slice(), wanted)?;
+    or_fail(rt, name, taken.take(rt, name, &target.place))?;
+    if !wanted.is_check {
+        target.write(rt, file.as_slice())?;
+    }
+    Ok(status)
+}
+
+/// Where a text's file goes, or the status, once it is said why that is nowhere.
+fn target_of(
+    rt: &HostRuntime,
+    name: &str,
+    output: Result<PathBuf, &'static str>,
+) -> Result<Target, u8> {
+    let output = or_fail(rt, name, output)?;
+    let path = output.as_path().as_str();
+    let place = or_fail(rt, path, place_of(rt, path))?;
+    Ok(Target { output, place })
+}
+
+/// Where the file of a text goes that its bundle names, which is known to be one.
+fn named_target(
+    rt: &HostRuntime,
+    name: &str,
+    source: &[u8],
+    wanted: &CompileWords<'_>,
+) -> Result<Target, u8> {
+    let bundle = bundle_of(rt, name, source, wanted.is_icu)?;
+    let output = named_by_bundle(rt.alloc(), name, bundle.as_str(), wanted.folder);
+    target_of(rt, name, output)
+}
+
+impl Target {
+    /// Writes bytes there, or says why they aren't written and gives the status of that.
+    fn write(&self, rt: &HostRuntime, bytes: &[u8]) -> Result<(), u8> {
+        or_fail(
+            rt,
+            self.output.as_path().as_str(),
+            save(rt, &self.place, bytes),
+        )
+    }
+}
+
+/// The bytes of a text, or the status, once it is said why there are none.
+fn source_of(rt: &HostRuntime, name: &str, wanted: &CompileWords<'_>) -> Result<Vec<u8>, u8> {
+    match read_input(rt, name, wanted.limit) {
+        Ok(source) => Ok(source),
+        Err(e) => Err(fail_input(rt, name, e)),
     }
 }
 
 /// The bytes of a text's file, and the status of its warnings; or the status, once it is said why
 /// there is none.
-fn file_of(rt: &HostRuntime, name: &str, wanted: &CompileWords<'_>) -> Result<(Vec<u8>, u8), u8> {
-    match read_input(rt, name, wanted.limit) {
-        Ok(source) => file_of_source(rt, name, source.as_slice(), wanted),
-        Err(e) => Err(fail_input(rt, name, e)),
-    }
-}
-
-/// The same, of the text's bytes.
-fn file_of_source(
+fn file_of(
     rt: &HostRuntime,
     name: &str,
     source: &[u8],
     wanted: &CompileWords<'_>,
 ) -> Result<(Vec<u8>, u8), u8> {
     match compiled(rt.alloc(), source, wanted) {
-        Ok(file) if wanted.is_icu => Ok((file, 0)),
-        Ok(file) => Ok((file, warn(rt, name, source))),
+        Ok(file) => Ok((file, warned(rt, name, source, wanted))),
         Err(e) => Err(refuse(rt, name, source, &e)),
+    }
+}
+
+/// The status of a text's warnings, once they are said: one of ICU's own form has none.
+fn warned(rt: &HostRuntime, name: &str, source: &[u8], wanted: &CompileWords<'_>) -> u8 {
+    if wanted.is_icu || (wanted.is_quiet && !wanted.is_strict) {
+        return 0;
+    }
+    match warn(rt, name, source, wanted.is_quiet) {
+        Ok(is_warned) => u8::from(is_warned && wanted.is_strict),
+        Err(status) => status,
     }
 }
 
@@ -124,9 +219,45 @@ fn named_by_text(
     folder: Option<&str>,
 ) -> Result<PathBuf, &'static str> {
     let stem = text.file_stem().ok_or(NO_NAME)?;
+    file_named(alloc, text, stem, folder)
+}
+
+/// The name of a text's file by that of its bundle.
+fn named_by_bundle(
+    alloc: Global,
+    text: &str,
+    bundle: &str,
+    folder: Option<&str>,
+) -> Result<PathBuf, &'static str> {
+    if bundle.is_empty() || bundle.contains('/') || bundle.contains('\0') {
+        return Err("the name of its bundle is no name of a file");
+    }
+    file_named(alloc, Path::new(text), bundle, folder)
+}
+
+/// The name of a text's file, in the folder that was said or beside the text.
+fn file_named(
+    alloc: Global,
+    text: Path<'_>,
+    stem: &str,
+    folder: Option<&str>,
+) -> Result<PathBuf, &'static str> {
     let file = made(format!(in alloc; "{stem}.res"))?;
     made(match folder {
         Some(folder) => Path::new(folder).join(alloc, file.as_str()),
         None => text.with_file_name(alloc, file.as_str()),
     })
+}
+
+/// The name of a text's bundle, or the status, once it is said why it isn't known.
+fn bundle_of(rt: &HostRuntime, name: &str, source: &[u8], is_icu: bool) -> Result<String, u8> {
+    let bundle = if is_icu {
+        icu_bundle_name(rt.alloc(), source)
+    } else {
+        bundle_name(rt.alloc(), source)
+    };
+    match bundle {
+        Ok(bundle) => Ok(bundle),
+        Err(e) => Err(refuse(rt, name, source, &e)),
+    }
 }

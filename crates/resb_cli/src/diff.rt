@@ -1,6 +1,7 @@
 //! The command `diff`: what differs between the trees of two files, a line each.
 //! What a difference is, is in `resb_diff`; how files are read is in `show`.
 use crate::input::Input;
+use crate::paths::Name;
 use crate::say::{complain, fail, refuse_memory};
 use crate::show::{TOO_DEEP, bundle_of, refuse_long, show};
 use crate::shown::Shown;
@@ -213,7 +214,10 @@ fn path_text(alloc: Global, path: &[PathStep<'_>]) -> Result<String, AllocError>
             text.push_str("/")?;
         }
         match step {
-            PathStep::Key(key) => text.push_str(key)?,
+            PathStep::Key(key) => {
+                let name = Name(key);
+                write!(text, "{name}")?;
+            }
             PathStep::Number(number) => write!(text, "{number}")?,
         }
     }

@@ -1,15 +1,18 @@
-//! The command `get`: what stands at a path in a file. What has nothing inside, as a string, is read
+//! The command `get`: what stands at paths in a file. What has nothing inside, as a string, is read
 //! alone, and nothing else in the file is looked at; arrays and tables are read as parts of the
 //! whole tree. How files are read and shown as a whole is in `show`.
 use crate::input::{Beside, Input, uses_pool};
-use crate::say::refuse_memory;
-use crate::show::{bundle_of, refuse, settled, show_json, status_of};
+use crate::paths::{BETWEEN, names_of};
+use crate::refusal::refuse;
+use crate::say::{fail, refuse_memory};
+use crate::show::{bundle_of, settled, show_json, status_of};
 use crate::shown::Shown;
+use crate::words::is_marked;
 use resb_format::{BinaryDeserializerError, ResourceReprType};
 use resb_path::{Found, find, find_with_pool};
 use resb_program::FileError;
 use resb_read::{Cursor, Walk};
-use resb_tree::Resource;
+use resb_tree::{Resource, ResourceBundle};
 use resb_words::GetWords;
 use std::alloc::Global;
 use std::mem;
@@ -27,67 +30,147 @@ enum Along<'f> {
     More,
 }
 
-/// Prints what stands at a path: a string as it is, a number with its sign, all else as JSON.
+/// A file of which things are shown.
+#[derive(Clone, Copy)]
+struct Source<'f> {
+    name: &'f str,
+    bytes: &'f [u8],
+    beside: &'f Beside<'f>,
+    limit: Option<u64>,
+    /// Whether its tree has to be right, whatever is asked for.
+    is_checked: bool,
+}
+
+/// The tree of a file, as far as it was asked for.
+#[derive(Drop)]
+enum Whole<'f> {
+    /// It wasn't read yet.
+    Unread,
+    /// It isn't had, as was said with this status.
+    Refused(u8),
+    Read(ResourceBundle<'f>),
+}
+
+/// Prints what stands at each path: a string as it is, a number with its sign, all else as JSON.
 pub(crate) fn get(rt: &HostRuntime, wanted: &GetWords<'_>) -> u8 {
+    for path in wanted.paths.iter().copied() {
+        if is_marked(path) {
+            return fail(rt, path, "this path is no UTF-8");
+        }
+    }
     settled(get_found(rt, wanted))
 }
 
 /// The same: the status, or that of a file that isn't read.
 fn get_found(rt: &HostRuntime, wanted: &GetWords<'_>) -> Result<u8, u8> {
-    let name = wanted.file;
-    let input = Input::read(rt, name, wanted.limit)?;
+    let (name, limit) = (wanted.file, wanted.limit);
+    let input = Input::read(rt, name, limit)?;
     let opened = input.open(rt, name)?;
-    let file = opened.bytes;
-    let beside = opened.pool(rt, name, wanted.pool, wanted.limit)?;
-    let Ok(names) = wanted.path.split('/').collect::<Vec<&str>>(rt.alloc()) else {
-        return Ok(refuse_memory(rt, name));
+    let beside = opened.pool(rt, name, wanted.pool, limit)?;
+    let source = Source {
+        name,
+        bytes: opened.bytes,
+        beside: &beside,
+        limit,
+        is_checked: wanted.is_checked || limit.is_some(),
     };
-    if !wanted.is_checked && wanted.limit.is_none() {
-        match look_along(rt, name, file, &beside, names.as_slice())? {
-            Along::Nothing => return Ok(say_nothing(rt, wanted)),
+    Ok(get_each(rt, source, wanted.paths.as_slice()))
+}
+
+/// Prints what stands at each path in a file. The tree is read where it is needed, and once.
+fn get_each(rt: &HostRuntime, source: Source<'_>, paths: &[&str]) -> u8 {
+    let mut status = 0;
+    let mut whole = Whole::Unread;
+    for path in paths.iter().copied() {
+        status = status.max(settled(get_one(rt, source, &mut whole, path)));
+    }
+    // the program ends, and the system takes all memory back at once
+    mem::forget(whole);
+    status
+}
+
+/// The tree of a file, or the status, once it is said why there is none.
+fn whole_of<'f>(rt: &HostRuntime, source: Source<'f>) -> Whole<'f> {
+    let Source { name, bytes, .. } = source;
+    match bundle_of(rt, name, bytes, source.beside, source.limit) {
+        Ok(bundle) => Whole::Read(bundle),
+        Err(status) => Whole::Refused(status),
+    }
+}
+
+/// Prints what stands at a path, by a look along it alone where that is enough.
+fn get_one<'f>(
+    rt: &HostRuntime,
+    source: Source<'f>,
+    whole: &mut Whole<'f>,
+    path: &str,
+) -> Result<u8, u8> {
+    let name = source.name;
+    let Ok(names) = names_of(rt.alloc(), path) else {
+        return Err(refuse_memory(rt, name));
+    };
+    let Ok(names) = names.split(BETWEEN).collect::<Vec<&str>>(rt.alloc()) else {
+        return Err(refuse_memory(rt, name));
+    };
+    if !source.is_checked {
+        match look_along(rt, source, names.as_slice())? {
+            Along::Nothing => return Err(say_nothing(rt, name, path)),
             Along::Number(number) => return Ok(show_found(rt, name, Found::Number(number), None)),
             Along::Leaf(leaf) => return Ok(show_found(rt, name, Found::Resource(&leaf), None)),
             Along::More => {}
         }
     }
-    let bundle = bundle_of(rt, name, file, &beside, wanted.limit)?;
-    let status = match find(bundle.root(), names.as_slice()) {
-        None => say_nothing(rt, wanted),
-        Some(found) => show_found(rt, name, found, wanted.limit),
-    };
-    // the program ends, and the system takes all memory back at once
-    mem::forget(bundle);
-    Ok(status)
+    match find(root_of(rt, source, whole)?, names.as_slice()) {
+        None => Err(say_nothing(rt, name, path)),
+        Some(found) => Ok(show_found(rt, name, found, source.limit)),
+    }
 }
 
-/// Says that nothing stands at the path, and gives the status of that.
-fn say_nothing(rt: &HostRuntime, wanted: &GetWords<'_>) -> u8 {
-    let (name, path) = (Shown(wanted.file), Shown(wanted.path));
+/// The root of the tree of a file, which is read now if it wasn't yet; or the status of a file that
+/// has none, once it is said why, the first time.
+fn root_of<'w, 'f>(
+    rt: &HostRuntime,
+    source: Source<'f>,
+    whole: &'w mut Whole<'f>,
+) -> Result<&'w Resource<'f>, u8> {
+    if let Whole::Unread = whole {
+        *whole = whole_of(rt, source);
+    }
+    match whole {
+        Whole::Read(bundle) => Ok(bundle.root()),
+        Whole::Refused(status) => Err(*status),
+        Whole::Unread => Err(1),
+    }
+}
+
+/// Says that nothing stands at a path, and gives the status of that.
+fn say_nothing(rt: &HostRuntime, name: &str, path: &str) -> u8 {
+    let (name, path) = (Shown(name), Shown(path));
     let _ = eprintln!(rt; "{name}: nothing stands at {path}");
     1
 }
 
 /// What stands at a path, by a look along it alone; or the status, once it is said why the way
 /// there is no right one.
-fn look_along<'f>(
-    rt: &HostRuntime,
-    name: &str,
-    file: &'f [u8],
-    beside: &'f Beside<'f>,
-    names: &[&str],
-) -> Result<Along<'f>, u8> {
+fn look_along<'f>(rt: &HostRuntime, source: Source<'f>, names: &[&str]) -> Result<Along<'f>, u8> {
+    let Source {
+        name,
+        bytes,
+        beside,
+        ..
+    } = source;
     let pool = beside.bundle(rt, name)?;
-    if pool.is_none() && uses_pool(file) {
+    if pool.is_none() && uses_pool(bytes) {
         return Ok(Along::More);
     }
-    let found = match find_with_pool(file, pool, names) {
+    let found = match find_with_pool(bytes, pool, names) {
         Ok(Some(at)) => read_alone(rt.alloc(), at),
         Ok(None) => Ok(Along::Nothing),
         Err(e) => Err(e),
     };
     match found {
         Ok(found) => Ok(found),
-        Err(e) => Err(refuse(rt, name, file, &FileError::Reading(e), beside.name())),
+        Err(e) => Err(refuse(rt, name, bytes, &FileError::Reading(e), beside.name())),
     }
 }
 

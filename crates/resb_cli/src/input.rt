@@ -1,9 +1,10 @@
 //! Files by their names, which may be those of items inside a package, and the pool bundles beside
 //! them. How bytes are read is in `streams`; what is said of files is in `show`.
-use crate::packages::{found, item_of, package_of};
+use crate::packages::{found, package_in};
 use crate::say::{fail, fail_input, refuse_memory};
 use crate::shown::Shown;
 use crate::streams::read_input;
+use crate::unread::Unread;
 use resb_package::Package;
 use resb_pool_bundle::{FileHead, PoolBundle};
 use std::alloc::{AllocError, Global};
@@ -44,7 +45,7 @@ pub(crate) fn bytes_of(rt: &HostRuntime, name: &str, limit: Option<u64>) -> Resu
 }
 
 /// The front of a name that is a file's, and what stands behind it and a slash, if there is any.
-fn split_package<'n>(rt: &HostRuntime, name: &'n str) -> Option<(&'n str, &'n str)> {
+pub(crate) fn split_package<'n>(rt: &HostRuntime, name: &'n str) -> Option<(&'n str, &'n str)> {
     let mut end = 0usize;
     for part in name.split('/') {
         end = end.saturating_add(part.len());
@@ -62,8 +63,16 @@ impl Input {
     /// Reads the file that has a name, or the package that has the name's front: that one as a
     /// whole, whatever the limit. The status is answered once it is said why there is none.
     pub(crate) fn read(rt: &HostRuntime, name: &str, limit: Option<u64>) -> Result<Input, u8> {
+        match Input::take(rt, name, limit) {
+            Ok(input) => Ok(input),
+            Err(e) => Err(e.say(rt, name)),
+        }
+    }
+
+    /// The same, and nothing is said.
+    fn take(rt: &HostRuntime, name: &str, limit: Option<u64>) -> Result<Input, Unread> {
         let Some((package, item)) = split_package(rt, name) else {
-            let bytes = bytes_of(rt, name, limit)?;
+            let bytes = read_input(rt, name, limit).map_err(Unread::Input)?;
             let package = String::new(rt.alloc());
             return Ok(Input {
                 bytes,
@@ -71,30 +80,29 @@ impl Input {
                 item: None,
             });
         };
-        let bytes = bytes_of(rt, package, None)?;
-        Input::of_item(rt, name, bytes, package, item)
+        let bytes = read_input(rt, package, None).map_err(Unread::Input)?;
+        Input::of_item(rt.alloc(), bytes, package, item)
     }
 
     /// The input of the next name: of the same bytes where both are items of one package, which is
     /// read once then.
-    pub(crate) fn next(self, rt: &HostRuntime, name: &str) -> Result<Input, u8> {
-        match split_package(rt, name) {
-            Some((package, item)) if self.package.as_str() == package => {
-                Input::of_item(rt, name, self.bytes, package, item)
-            }
-            _ => Input::read(rt, name, None),
-        }
-    }
-
-    /// An item of a package of these bytes, or the status of want of memory, once that is said.
-    fn of_item(
+    pub(crate) fn next(
+        before: Option<Input>,
         rt: &HostRuntime,
         name: &str,
-        bytes: Vec<u8>,
-        package: &str,
-        item: &str,
-    ) -> Result<Input, u8> {
-        let alloc = rt.alloc();
+        limit: Option<u64>,
+    ) -> Result<Input, Unread> {
+        let (Some(before), Some((package, item))) = (before, split_package(rt, name)) else {
+            return Input::take(rt, name, limit);
+        };
+        if before.package.as_str() != package {
+            return Input::take(rt, name, limit);
+        }
+        Input::of_item(rt.alloc(), before.bytes, package, item)
+    }
+
+    /// An item of a package of these bytes.
+    fn of_item(alloc: Global, bytes: Vec<u8>, package: &str, item: &str) -> Result<Input, Unread> {
         match (
             String::from_str(alloc, package),
             String::from_str(alloc, item),
@@ -104,23 +112,35 @@ impl Input {
                 package,
                 item: Some(item),
             }),
-            _ => Err(refuse_memory(rt, name)),
+            _ => Err(Unread::Memory),
         }
     }
 
     /// The file, or the status, once it is said why there is none.
     pub(crate) fn open(&self, rt: &HostRuntime, name: &str) -> Result<Opened<'_>, u8> {
+        match self.opened(rt.alloc()) {
+            Ok(opened) => Ok(opened),
+            Err(e) => Err(e.say(rt, name)),
+        }
+    }
+
+    /// The same, and nothing is said.
+    pub(crate) fn opened(&self, alloc: Global) -> Result<Opened<'_>, Unread> {
         let bytes = self.bytes.as_slice();
         let Some(item) = &self.item else {
             let folder = None;
             return Ok(Opened { bytes, folder });
         };
         let item = item.as_str();
-        let front = package_name(name, item);
-        let package = package_of(rt, front, bytes)?;
-        let bytes = item_of(rt, &package, front, item)?;
-        let folder = Some((package, item));
-        Ok(Opened { bytes, folder })
+        let package = package_in(bytes).map_err(Unread::Package)?;
+        match found(alloc, &package, item) {
+            Ok(Some(bytes)) => {
+                let folder = Some((package, item));
+                Ok(Opened { bytes, folder })
+            }
+            Ok(None) => Err(Unread::NoItem),
+            Err(_) => Err(Unread::Memory),
+        }
     }
 }
 
@@ -160,14 +180,6 @@ fn pool_item<'f>(
         Ok(Some(bytes)) => Ok(Beside::Item(path, bytes)),
         Ok(None) => Ok(Beside::Nowhere),
         Err(_) => Err(refuse_memory(rt, name)),
-    }
-}
-
-/// The front of a name that is the package's, where this item stands behind it.
-fn package_name<'n>(name: &'n str, item: &str) -> &'n str {
-    match name.strip_suffix(item) {
-        Some(front) => front.strip_suffix('/').unwrap_or(front),
-        None => name,
     }
 }
 

@@ -2,19 +2,25 @@
 //! What its words ask for is in `resb_words`, and what it does with bytes in `resb_program`.
 #![tactic(auto)]
 
+mod check;
 mod compile;
 mod diff;
+mod dump;
+mod folders;
 mod get;
 mod input;
 mod packages;
+mod paths;
 mod place;
 mod progress;
+mod refusal;
 mod save;
 mod say;
 mod show;
 mod shown;
 mod streams;
 mod taken;
+mod unread;
 mod words;
 
 use resb_program::keep_freed_memory;
@@ -54,11 +60,8 @@ fn answer(rt: &HostRuntime, e: &WordsError) -> u8 {
 fn perform_request(rt: &HostRuntime, request: &Request<'_>) -> u8 {
     match request {
         Request::Compile(words) => compile::compile(rt, words),
-        Request::Check(words) => show::check(rt, words),
-        Request::Dump(words) => show::dump(rt, words),
-        Request::Get(words) if words::is_marked(words.path) => {
-            say::fail(rt, words.path, "this path is no UTF-8")
-        }
+        Request::Check(words) => check::check(rt, words),
+        Request::Dump(words) => dump::dump(rt, words),
         Request::Get(words) => get::get(rt, words),
         Request::Diff(words) => diff::diff(rt, words),
         Request::List(name) => packages::list(rt, name),

@@ -3,12 +3,12 @@
 use crate::input::bytes_of;
 use crate::place::{Place, place_of};
 use crate::save::save;
-use crate::say::{complain, fail, refuse_memory};
+use crate::say::{complain, or_fail, refuse_memory};
 use crate::show::{settled, show};
 use crate::shown::Shown;
 use crate::streams::NO_MEMORY;
 use crate::taken::Taken;
-use resb_package::Package;
+use resb_package::{Package, PackageError};
 use resb_words::ExtractWords;
 use std::alloc::{AllocError, Global};
 
@@ -34,19 +34,26 @@ pub(crate) fn package_of<'f>(
     name: &str,
     file: &'f [u8],
 ) -> Result<Package<'f>, u8> {
-    let e = match Package::read(file) {
-        Ok(package) => return Ok(package),
-        Err(e) => e,
-    };
-    package_inside(file).ok_or_else(|| {
-        complain(rt, name, e);
-        1
-    })
+    match package_in(file) {
+        Ok(package) => Ok(package),
+        Err(e) => {
+            complain(rt, name, e);
+            Err(1)
+        }
+    }
+}
+
+/// The package that a file is or has inside, or why it is none itself.
+pub(crate) fn package_in(file: &[u8]) -> Result<Package<'_>, PackageError> {
+    match Package::read(file) {
+        Ok(package) => Ok(package),
+        Err(e) => package_inside(file).ok_or(e),
+    }
 }
 
 /// Whether a file is a package or has one inside.
 pub(crate) fn is_package(file: &[u8]) -> bool {
-    Package::read(file).is_ok() || package_inside(file).is_some()
+    package_in(file).is_ok()
 }
 
 /// The package inside a file.
@@ -78,15 +85,17 @@ fn extract_item(rt: &HostRuntime, wanted: &ExtractWords<'_>) -> Result<u8, u8> {
     let file = bytes_of(rt, name, None)?;
     let package = package_of(rt, name, file.as_slice())?;
     let bytes = item_of(rt, &package, name, wanted.item)?;
-    let place = free_place(rt, name, output).map_err(|cause| fail(rt, output, cause))?;
-    save(rt, &place, bytes).map_err(|cause| fail(rt, output, cause))?;
+    let place = or_fail(rt, output, free_place(rt, name, output))?;
+    or_fail(rt, output, save(rt, &place, bytes))?;
     Ok(0)
 }
 
 /// The place of the item's file, which isn't that of its package.
 fn free_place(rt: &HostRuntime, package: &str, output: &str) -> Result<Place, &'static str> {
     let place = place_of(rt, output)?;
-    match Taken::new(rt, &[package])?.take(rt, package, &place) {
+    let mut taken = Taken::new(rt);
+    taken.add_text(rt, package)?;
+    match taken.take(rt, package, &place) {
         Ok(()) => Ok(place),
         Err(NO_MEMORY) => Err(NO_MEMORY),
         Err(_) => Err("the item would take the place of its package"),

@@ -1,5 +1,6 @@
 //! What is said on standard error: the place, the cause, the line round it, and warnings.
 //! What the causes are called is theirs to print.
+use crate::paths::Name;
 use crate::shown::Shown;
 use crate::streams::{InputError, NO_MEMORY};
 use resb_compile::{CompileError, IcuCompileError};
@@ -26,6 +27,18 @@ pub(crate) fn complain<R: Eprint, C: Display + Drop>(rt: &R, name: &str, cause: 
 pub(crate) fn fail<R: Eprint>(rt: &R, name: &str, cause: &str) -> u8 {
     complain(rt, name, cause);
     2
+}
+
+/// What was done, or the status, once it is said what failed.
+pub(crate) fn or_fail<T, R: Eprint>(
+    rt: &R,
+    name: &str,
+    done: Result<T, &'static str>,
+) -> Result<T, u8> {
+    match done {
+        Ok(done) => Ok(done),
+        Err(cause) => Err(fail(rt, name, cause)),
+    }
 }
 
 /// Says that memory was refused, and gives the status of that.
@@ -106,7 +119,7 @@ fn say_no_form<R: Eprint, C: Display + Drop>(rt: &R, name: &str, form: NoText, c
     let _ = eprintln!(rt; "{name}: this has no {what}, since {cause}{end}");
 }
 
-/// The keys and numbers of a path, with a slash between two of them.
+/// The keys and numbers of a path, as `get` takes it.
 fn path_text(alloc: Global, path: &[PathStep<'_>]) -> Result<String, AllocError> {
     let mut text = String::new(alloc);
     for (number, step) in path.iter().enumerate() {
@@ -114,7 +127,10 @@ fn path_text(alloc: Global, path: &[PathStep<'_>]) -> Result<String, AllocError>
             text.push_str("/")?;
         }
         match step {
-            PathStep::Key(key) => text.push_str(key)?,
+            PathStep::Key(key) => {
+                let name = Name(key);
+                write!(text, "{name}")?;
+            }
             PathStep::Member(number) => write!(text, "{number}")?,
         }
     }
@@ -201,15 +217,29 @@ fn point<R: Eprint + AllocGlobal>(rt: &R, name: &str, source: &[u8], place: usiz
     }
 }
 
-/// Says what another reader takes otherwise in a text that was compiled, and gives the status: 2
-/// where memory for that is wanted.
-pub(crate) fn warn<R: Eprint + AllocGlobal>(rt: &R, name: &str, source: &[u8]) -> u8 {
+/// Finds what another reader takes otherwise in a text that was compiled, says it unless this is to
+/// be quiet, and answers whether there is any. The status of a want of memory is answered once that
+/// is said.
+pub(crate) fn warn<R: Eprint + AllocGlobal>(
+    rt: &R,
+    name: &str,
+    source: &[u8],
+    is_quiet: bool,
+) -> Result<bool, u8> {
     let Ok(text) = text_of(source) else {
-        return 0;
+        return Ok(false);
     };
     let Ok(found) = warnings(rt.alloc(), text) else {
-        return fail(rt, name, "its warnings are not known: out of memory");
+        return Err(fail(rt, name, "its warnings are not known: out of memory"));
     };
+    if !is_quiet {
+        say_warnings(rt, name, source, found.as_slice());
+    }
+    Ok(!found.is_empty())
+}
+
+/// Says the first of the warnings of a text, and how many more there are.
+fn say_warnings<R: Eprint>(rt: &R, name: &str, source: &[u8], found: &[Warning]) {
     for warning in found.iter().take(MOST_WARNINGS) {
         say_at(rt, name, source, warning.place, Told { source, warning });
     }
@@ -217,7 +247,6 @@ pub(crate) fn warn<R: Eprint + AllocGlobal>(rt: &R, name: &str, source: &[u8]) -
         let (name, more) = (Shown(name), found.len() - MOST_WARNINGS);
         let _ = eprintln!(rt; "{name}: {more} more warnings");
     }
-    0
 }
 
 /// A warning of a text, as it is said.
@@ -243,6 +272,19 @@ impl fmt::Display for Told<'_> {
             ),
             Reason::StringsInRow => f.write_str(
                 "warning: this string is an item of its own here; genrb joins it to the one before",
+            ),
+            Reason::CommaBehindPairs => {
+                f.write_str("warning: pairs with commas are an Array; genrb refuses this")
+            }
+            Reason::EmptyGroup => f.write_str(
+                "warning: the empty group that ends here is a Table, and an Array for genrb",
+            ),
+            Reason::LeadingZero => f.write_str(
+                "warning: this number is decimal here; genrb takes its 0 for that of an octal one",
+            ),
+            Reason::CutNumber(kept) => write!(
+                f,
+                "warning: this number has more than 28 bits; {kept} is kept"
             ),
         }
     }

@@ -15,20 +15,16 @@ pub(crate) struct Taken {
 }
 
 impl Taken {
-    /// No file is written yet.
-    pub(crate) fn new(rt: &HostRuntime, texts: &[&str]) -> Result<Taken, &'static str> {
-        let mut taken = Taken {
+    /// No text is known, and no file is written yet.
+    pub(crate) fn new(rt: &HostRuntime) -> Taken {
+        Taken {
             texts: BTreeSet::new(rt.alloc()),
             files: BTreeSet::new(rt.alloc()),
-        };
-        for name in texts.iter().copied() {
-            taken.add_text(rt, name)?;
         }
-        Ok(taken)
     }
 
     /// Notes a text that is there.
-    fn add_text(&mut self, rt: &HostRuntime, name: &str) -> Result<(), &'static str> {
+    pub(crate) fn add_text(&mut self, rt: &HostRuntime, name: &str) -> Result<(), &'static str> {
         if let Some(path) = real_path(rt, name)? {
             insert(&mut self.texts, path)?;
         }

@@ -6,6 +6,13 @@ use std::alloc::{AllocError, Global};
 /// What a word for a file may be.
 const RES_FILE: &str = "A .res file, or one inside a package; '-' is standard input";
 
+/// What words for files that are checked may be.
+const RES_FILES: &str =
+    "Files, also inside a package, or folders of .res files; '-' is standard input";
+
+/// What words for texts may be.
+const TEXT_FILES: &str = "Texts of bundles, or folders of .txt files; '-' is standard input";
+
 /// The program's words.
 pub(crate) fn program<'a>(alloc: Global) -> Result<Command<'a>, AllocError> {
     let program = Command::new(alloc, "resb")
@@ -43,14 +50,32 @@ fn compile<'a>(alloc: Global) -> Result<Command<'a>, AllocError> {
     let command = Command::new(alloc, "compile")
         .about("Compiles texts of bundles into .res files")
         .after_help("Example: resb compile root.txt de.txt -d out")
-        .arg(several(alloc, "Texts of bundles; '-' is standard input"))?
+        .arg(several(alloc, TEXT_FILES))?
         .arg(output(alloc))?;
     let command = with_arg(command, folder(alloc))?;
+    let command = with_arg(command, by_name(alloc))?;
     let command = with_arg(command, icu_texts(alloc))?;
-    command.arg(limit(
+    let command = command.arg(limit(
         alloc,
         "Refuses a text whose reading takes more bytes of memory than this",
-    ))
+    ))?;
+    with_manner(alloc, command)
+}
+
+/// The command for texts with the arguments of how it is done and what is said of it.
+fn with_manner<'a>(alloc: Global, command: Command<'a>) -> Result<Command<'a>, AllocError> {
+    command
+        .arg(flag(alloc, "check", "Does all of it, but writes no file"))?
+        .arg(flag(
+            alloc,
+            "quiet",
+            "Says no warnings, and not how many files are done",
+        ))?
+        .arg(flag(
+            alloc,
+            "strict",
+            "Ends with status 1 where a text has a warning; its file is written",
+        ))
 }
 
 /// What is said of files.
@@ -58,7 +83,12 @@ fn check<'a>(alloc: Global) -> Result<Command<'a>, AllocError> {
     Command::new(alloc, "check")
         .about("Checks .res files, a line for each")
         .after_help("Example: resb check out/root.res icudt72l.dat/curr/de.res")
-        .arg(several(alloc, RES_FILE))?
+        .arg(several(alloc, RES_FILES))?
+        .arg(flag(
+            alloc,
+            "json",
+            "Prints an object of JSON for each file, right or not",
+        ))?
         .arg(pool(alloc))
 }
 
@@ -67,21 +97,29 @@ fn dump<'a>(alloc: Global) -> Result<Command<'a>, AllocError> {
     let command = Command::new(alloc, "dump")
         .about("Prints the text of a .res file, or JSON where it has none")
         .after_help("Example: resb dump out/root.res")
-        .arg(file(alloc, RES_FILE))?
-        .arg(json(alloc))?;
+        .arg(several(
+            alloc,
+            "A .res file, or one inside a package; several with -d; '-' is standard input",
+        ))?
+        .arg(flag(alloc, "json", "Prints JSON in place of a text"))?;
+    let command = command.arg(folder_of_texts(alloc))?;
     let command = with_arg(command, icu_text(alloc))?;
     let command = command.arg(tree_limit(alloc))?;
     command.arg(pool(alloc))
 }
 
-/// One thing of a file.
+/// Some things of a file.
 fn get<'a>(alloc: Global) -> Result<Command<'a>, AllocError> {
     Command::new(alloc, "get")
-        .about("Prints what stands at a path in a .res file")
+        .about("Prints what stands at paths in a .res file")
         .after_help("Example: resb get out/zones.res zones/Pole/base")
         .arg(file(alloc, RES_FILE))?
-        .arg(path(alloc))?
-        .arg(whole(alloc))?
+        .arg(paths(alloc))?
+        .arg(flag(
+            alloc,
+            "check",
+            "Looks at the whole of the file first, not only along the path",
+        ))?
         .arg(tree_limit(alloc))?
         .arg(pool(alloc))
 }
@@ -93,7 +131,11 @@ fn diff<'a>(alloc: Global) -> Result<Command<'a>, AllocError> {
         .after_help("Example: resb diff old/de.res out/de.res")
         .arg(one_of_two(alloc, "OLD"))?
         .arg(one_of_two(alloc, "NEW"))?
-        .arg(objects(alloc))?;
+        .arg(flag(
+            alloc,
+            "json",
+            "Prints an object of JSON for each difference",
+        ))?;
     let command = command.arg(tree_limit(alloc))?;
     command.arg(pool(alloc))
 }
@@ -159,11 +201,46 @@ fn output<'a>(alloc: Global) -> Arg<'a> {
 
 /// The folder for the files of texts.
 fn folder<'a>(alloc: Global) -> Result<Arg<'a>, AllocError> {
-    Arg::new(alloc, "DIR")
-        .short('d')
-        .long("directory")
+    directory(alloc)
         .help("The folder for the files, in place of that of each text")
         .conflicts_with("OUT")
+}
+
+/// The folder for the texts of files.
+fn folder_of_texts<'a>(alloc: Global) -> Arg<'a> {
+    directory(alloc).help("The folder for the texts, a file for each, in place of standard output")
+}
+
+/// The argument of a folder for files.
+fn directory<'a>(alloc: Global) -> Arg<'a> {
+    Arg::new(alloc, "DIR").short('d').long("directory")
+}
+
+/// Whether a text's file is named by its bundle.
+fn by_name<'a>(alloc: Global) -> Result<Arg<'a>, AllocError> {
+    flag(
+        alloc,
+        "by-name",
+        "Names each file by the bundle's name, as genrb does, not by the text's",
+    )
+    .conflicts_with("OUT")
+}
+
+/// An argument that is there or not.
+fn flag<'a>(alloc: Global, name: &'a str, help: &'a str) -> Arg<'a> {
+    Arg::new(alloc, name)
+        .long(name)
+        .help(help)
+        .action(ArgAction::SetTrue)
+}
+
+/// The paths to the things that are shown.
+fn paths<'a>(alloc: Global) -> Arg<'a> {
+    Arg::new(alloc, "PATH")
+        .help("Keys and numbers from 0, such as zones/Pole/pairs/0; '~1' is a slash, '~0' a tilde")
+        .required(true)
+        .action(ArgAction::Append)
+        .num_args(1..)
 }
 
 /// Whether texts are in ICU's own form.
@@ -184,40 +261,9 @@ fn icu_text<'a>(alloc: Global) -> Result<Arg<'a>, AllocError> {
         .conflicts_with("json")
 }
 
-/// Whether JSON is printed.
-fn json<'a>(alloc: Global) -> Arg<'a> {
-    Arg::new(alloc, "json")
-        .long("json")
-        .help("Prints JSON in place of a text")
-        .action(ArgAction::SetTrue)
-}
-
 /// One of the files that are compared.
 fn one_of_two<'a>(alloc: Global, name: &'a str) -> Arg<'a> {
     Arg::new(alloc, name).help(RES_FILE).required(true)
-}
-
-/// Whether each difference is printed as JSON.
-fn objects<'a>(alloc: Global) -> Arg<'a> {
-    Arg::new(alloc, "json")
-        .long("json")
-        .help("Prints an object of JSON for each difference")
-        .action(ArgAction::SetTrue)
-}
-
-/// The path to the thing that is shown.
-fn path<'a>(alloc: Global) -> Arg<'a> {
-    Arg::new(alloc, "PATH")
-        .help("Keys and numbers of members, from 0, such as zones/Pole/pairs/0")
-        .required(true)
-}
-
-/// Whether the whole of the file is looked at first.
-fn whole<'a>(alloc: Global) -> Arg<'a> {
-    Arg::new(alloc, "check")
-        .long("check")
-        .help("Looks at the whole of the file first, not only along the path")
-        .action(ArgAction::SetTrue)
 }
 
 /// The pool bundle of the files.

@@ -19,6 +19,8 @@ pub enum WordsError {
     NoFolder,
     /// `--output` names one file, for several texts.
     SeveralTexts,
+    /// The texts of several files are asked for, and no folder for them is named.
+    SeveralFiles,
     /// A request for memory was refused.
     Memory,
 }
@@ -45,6 +47,10 @@ impl fmt::Display for WordsError {
             WordsError::SeveralTexts => write!(
                 f,
                 "resb: --output is for one text; --directory is for several"
+            ),
+            WordsError::SeveralFiles => write!(
+                f,
+                "resb: the texts of several files go to a folder, named by --directory"
             ),
             WordsError::Memory => write!(f, "resb: out of memory"),
         }

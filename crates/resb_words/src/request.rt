@@ -14,9 +14,9 @@ pub enum Request<'w> {
     Compile(CompileWords<'w>),
     /// `check`: a line of each of these files.
     Check(CheckWords<'w>),
-    /// `dump`: a file's text.
+    /// `dump`: the texts of files.
     Dump(DumpWords<'w>),
-    /// `get`: one thing of a file.
+    /// `get`: some things of a file.
     Get(GetWords<'w>),
     /// `diff`: what differs between two files.
     Diff(DiffWords<'w>),
@@ -35,10 +35,18 @@ pub struct CompileWords<'w> {
     pub output: Option<&'w str>,
     /// The folder for the files.
     pub folder: Option<&'w str>,
+    /// Whether a text's file is named by its bundle, not by the text.
+    pub is_by_name: bool,
     /// Whether the texts are in ICU's own form.
     pub is_icu: bool,
     /// The most bytes that reading a text may make.
     pub limit: Option<u64>,
+    /// Whether no file is written.
+    pub is_check: bool,
+    /// Whether warnings and progress are left unsaid.
+    pub is_quiet: bool,
+    /// Whether a warning makes the status 1.
+    pub is_strict: bool,
 }
 
 /// What is asked of files that are checked.
@@ -46,32 +54,36 @@ pub struct CompileWords<'w> {
 pub struct CheckWords<'w> {
     /// The names of the files; `-` is standard input.
     pub files: Vec<&'w str>,
+    /// Whether JSON is printed.
+    pub is_json: bool,
     /// The name of the pool bundle of those that use one.
     pub pool: Option<&'w str>,
 }
 
-/// What is asked of a file whose text is printed.
-#[derive(Clone, Copy, Debug)]
+/// What is asked of files whose texts are printed, or written to a folder.
+#[derive(Debug, Drop)]
 pub struct DumpWords<'w> {
-    /// The file's name; `-` is standard input.
-    pub file: &'w str,
+    /// The names of the files, one alone where no folder is named; `-` is standard input.
+    pub files: Vec<&'w str>,
+    /// The folder for the texts; standard output if there is none.
+    pub folder: Option<&'w str>,
     /// Whether JSON is printed.
     pub is_json: bool,
     /// Whether the text is printed in ICU's own form.
     pub is_icu: bool,
-    /// The most bytes that the file's tree, its keys and the output may take.
+    /// The most bytes that the tree of a file, its keys and the output may take.
     pub limit: Option<u64>,
-    /// The name of the file's pool bundle, if it uses one.
+    /// The name of the pool bundle of the files that use one.
     pub pool: Option<&'w str>,
 }
 
-/// What is asked of a file of which one thing is printed.
-#[derive(Clone, Copy, Debug)]
+/// What is asked of a file of which some things are printed.
+#[derive(Debug, Drop)]
 pub struct GetWords<'w> {
     /// The file's name; `-` is standard input.
     pub file: &'w str,
-    /// Keys and numbers of members, with a slash between two of them.
-    pub path: &'w str,
+    /// Paths of keys and numbers of members, with a slash between two of them.
+    pub paths: Vec<&'w str>,
     /// Whether the whole of the file is looked at first.
     pub is_checked: bool,
     /// The most bytes that the file's tree, its keys and the output may take.
@@ -117,11 +129,11 @@ fn asked<'w>(alloc: Global, matches: &ArgMatches<'w>) -> Result<Request<'w>, Wor
     match matches.subcommand() {
         Some(("compile", matches)) => compile(alloc, matches),
         Some(("check", matches)) => check(alloc, matches),
-        Some(("dump", matches)) => dump(matches),
+        Some(("dump", matches)) => dump(alloc, matches),
         Some(("diff", matches)) => diff(matches),
         Some(("list", matches)) => Ok(Request::List(word(matches, "FILE"))),
         Some(("extract", matches)) => Ok(extract(matches)),
-        Some((_, matches)) => get(matches),
+        Some((_, matches)) => get(alloc, matches),
         None => Err(WordsError::NoCommand),
     }
 }
@@ -130,11 +142,8 @@ fn asked<'w>(alloc: Global, matches: &ArgMatches<'w>) -> Result<Request<'w>, Wor
 fn compile<'w>(alloc: Global, matches: &ArgMatches<'w>) -> Result<Request<'w>, WordsError> {
     let limit = limit(matches)?;
     let output = matches.get_str("OUT");
-    let folder = matches.get_str("DIR");
-    let texts = names(alloc, matches)?;
-    if folder == Some("") {
-        return Err(WordsError::NoFolder);
-    }
+    let folder = folder(matches)?;
+    let texts = names(alloc, matches, "FILE")?;
     if output.is_some() && texts.len() > 1 {
         return Err(WordsError::SeveralTexts);
     }
@@ -142,37 +151,50 @@ fn compile<'w>(alloc: Global, matches: &ArgMatches<'w>) -> Result<Request<'w>, W
         texts,
         output,
         folder,
+        is_by_name: matches.get_flag("by-name"),
         is_icu: matches.get_flag("ICU"),
         limit,
+        is_check: matches.get_flag("check"),
+        is_quiet: matches.get_flag("quiet"),
+        is_strict: matches.get_flag("strict"),
     }))
 }
 
 /// What is asked of files that are checked.
 fn check<'w>(alloc: Global, matches: &ArgMatches<'w>) -> Result<Request<'w>, WordsError> {
     Ok(Request::Check(CheckWords {
-        files: names(alloc, matches)?,
+        files: names(alloc, matches, "FILE")?,
+        is_json: matches.get_flag("json"),
         pool: matches.get_str("POOL"),
     }))
 }
 
-/// What is asked of a file whose text is printed.
-fn dump<'w>(matches: &ArgMatches<'w>) -> Result<Request<'w>, WordsError> {
+/// What is asked of files whose texts are printed, or written to a folder.
+fn dump<'w>(alloc: Global, matches: &ArgMatches<'w>) -> Result<Request<'w>, WordsError> {
+    let limit = limit(matches)?;
+    let folder = folder(matches)?;
+    let files = names(alloc, matches, "FILE")?;
+    if folder.is_none() && files.len() > 1 {
+        return Err(WordsError::SeveralFiles);
+    }
     Ok(Request::Dump(DumpWords {
-        file: word(matches, "FILE"),
+        files,
+        folder,
         is_json: matches.get_flag("json"),
         is_icu: matches.get_flag("ICU"),
-        limit: limit(matches)?,
+        limit,
         pool: matches.get_str("POOL"),
     }))
 }
 
-/// What is asked of a file of which one thing is printed.
-fn get<'w>(matches: &ArgMatches<'w>) -> Result<Request<'w>, WordsError> {
+/// What is asked of a file of which some things are printed.
+fn get<'w>(alloc: Global, matches: &ArgMatches<'w>) -> Result<Request<'w>, WordsError> {
+    let limit = limit(matches)?;
     Ok(Request::Get(GetWords {
         file: word(matches, "FILE"),
-        path: word(matches, "PATH"),
+        paths: names(alloc, matches, "PATH")?,
         is_checked: matches.get_flag("check"),
-        limit: limit(matches)?,
+        limit,
         pool: matches.get_str("POOL"),
     }))
 }
@@ -202,10 +224,22 @@ fn word<'w>(matches: &ArgMatches<'w>, name: &str) -> &'w str {
     matches.get_str(name).unwrap_or("")
 }
 
-/// The names of the files.
-fn names<'w>(alloc: Global, matches: &ArgMatches<'w>) -> Result<Vec<&'w str>, WordsError> {
-    let names = matches.get_strs("FILE").unwrap_or(&[]);
+/// The words of an argument that may have several.
+fn names<'w>(
+    alloc: Global,
+    matches: &ArgMatches<'w>,
+    argument: &str,
+) -> Result<Vec<&'w str>, WordsError> {
+    let names = matches.get_strs(argument).unwrap_or(&[]);
     Ok(names.iter().copied().collect::<Vec<&str>>(alloc)?)
+}
+
+/// The folder of `--directory`, if the words say it.
+fn folder<'w>(matches: &ArgMatches<'w>) -> Result<Option<&'w str>, WordsError> {
+    match matches.get_str("DIR") {
+        Some("") => Err(WordsError::NoFolder),
+        folder => Ok(folder),
+    }
 }
 
 /// The bytes of `--limit`, if the words say it.

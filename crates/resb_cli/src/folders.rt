@@ -1,0 +1,115 @@
+//! Folders in the place of files: one stands for the files right inside it that have an ending, in
+//! the order of their names, as `FOLDER/*.txt` does for a shell.
+//! What is done with the files is in the modules of the commands.
+use crate::streams::{NO_MEMORY, cause_of, made};
+use std::alloc::Global;
+use std::fs::{self, DirEntry};
+use std::io::{self, ErrorKind};
+use std::path::Path;
+
+/// A file that is asked for, or a folder of which no file is had, with the cause of that.
+#[derive(Drop)]
+pub(crate) struct Named {
+    pub(crate) name: String,
+    pub(crate) fault: Option<&'static str>,
+}
+
+/// Which files in a folder are meant.
+#[derive(Clone, Copy)]
+pub(crate) struct Kind {
+    ending: &'static str,
+    /// What is said of a folder without any.
+    none: &'static str,
+}
+
+/// The files that are compiled.
+pub(crate) const TEXTS: Kind = Kind {
+    ending: ".txt",
+    none: "this folder has no .txt file",
+};
+
+/// The files that are checked.
+pub(crate) const BUNDLES: Kind = Kind {
+    ending: ".res",
+    none: "this folder has no .res file",
+};
+
+/// The files of these names, where a folder's stands for the files of this kind in it, if one is
+/// given, and else for itself.
+pub(crate) fn named_files(
+    rt: &HostRuntime,
+    names: &[&str],
+    kind: Option<Kind>,
+) -> Result<Vec<Named>, &'static str> {
+    let mut files = Vec::new(rt.alloc());
+    for name in names.iter().copied() {
+        match kind {
+            Some(kind) if name != "-" && Path::new(name).is_dir(rt) => {
+                add_folder(rt, &mut files, name, kind)?;
+            }
+            _ => add(rt.alloc(), &mut files, name, None)?,
+        }
+    }
+    Ok(files)
+}
+
+/// Adds a name.
+fn add(
+    alloc: Global,
+    files: &mut Vec<Named>,
+    name: &str,
+    fault: Option<&'static str>,
+) -> Result<(), &'static str> {
+    let name = made(String::from_str(alloc, name))?;
+    match files.push(Named { name, fault }) {
+        Ok(()) => Ok(()),
+        Err(_) => Err(NO_MEMORY),
+    }
+}
+
+/// Adds the files in a folder, or the folder itself where none is had.
+fn add_folder(
+    rt: &HostRuntime,
+    files: &mut Vec<Named>,
+    folder: &str,
+    kind: Kind,
+) -> Result<(), &'static str> {
+    let found = match files_in(rt, folder, kind.ending) {
+        Ok(found) => found,
+        Err(e) => return add(rt.alloc(), files, folder, Some(cause_of_reading(&e))),
+    };
+    if found.is_empty() {
+        return add(rt.alloc(), files, folder, Some(kind.none));
+    }
+    for name in found.iter() {
+        add(rt.alloc(), files, name.as_str(), None)?;
+    }
+    Ok(())
+}
+
+/// The names of the files in a folder that have this ending, sorted.
+fn files_in(rt: &HostRuntime, folder: &str, ending: &str) -> io::Result<Vec<String>> {
+    let mut found = Vec::new(rt.alloc());
+    for entry in fs::read_dir(rt, folder)? {
+        let entry = entry?;
+        if is_wanted(rt, &entry, ending) {
+            found.push(String::from_str(rt.alloc(), entry.path().as_str())?)?;
+        }
+    }
+    found.sort_unstable();
+    Ok(found)
+}
+
+/// Whether what stands in a folder is a file with this ending, and isn't hidden by a dot.
+fn is_wanted(rt: &HostRuntime, entry: &DirEntry, ending: &str) -> bool {
+    let name = entry.file_name();
+    name.ends_with(ending) && !name.starts_with('.') && !entry.path().is_dir(rt)
+}
+
+/// What a failed call on a folder is called.
+fn cause_of_reading(e: &io::Error) -> &'static str {
+    match e.kind() {
+        ErrorKind::InvalidFilename => "a name in this folder is no UTF-8",
+        _ => cause_of(e),
+    }
+}

@@ -1,16 +1,22 @@
 -- What a name says as a number, and what stands at a number.
 use Rattle.std.proofs.Common.{◌≡◌, ◌∙◌, ℕ, zero, suc, ◌<◌, ◌≤◌, ◌^◌, Bool, true, false, List}
 use Rattle.std.proofs.Common.{[], ◌∷◌, length, refl, sym, ap, arith, Option, Some, None, Bor}
+use Rattle.std.proofs.Common.{slice_get}
 use Rattle.std.specs.Prelude.{cond, nat_lt, ◌&&◌, ◌||◌, ◌==◌, slice_index_or, option_map}
 use Rattle.std.specs.Char.{digit_value, is_digit}
 use Rattle.std.specs.Slice.{IsItemAt}
+use Rattle.std.specs.Str.{bytes_eq}
 use Rattle.std.specs.Str.Parse.{AllDigits, IsNumeral, digits_value, without_leading_plus}
 use Rattle.std.proofs.lemmas.Bool.{false≢true, lt-ltb}
 use Rattle.std.proofs.lemmas.Bool.Decides.{Decides-ltb}
+use Rattle.std.proofs.lemmas.Map.Text.{is_eq-slice_cmp}
+use Rattle.resb_tree.specs.LayingOrder.{array_members}
+use Rattle.resb_tree.specs.Maps.{get}
+use Rattle.resb_tree.specs.Tree.{Tree, Entries, entry}
 use Rattle.resb_tree.specs.View.{tree_of, items_view}
 use Rattle.resb_tree.specs.declared.resource.Resource.{Resource}
+use Rattle.resb_read.proofs.InsideTrees.{same_test}
 use Rattle.resb_path.specs.Finding.{are_digits, number_written, number_said, is_adorned}
-use Rattle.resb_path.specs.Finding.{tree_at}
 
 digits_test : (bs : List ℕ) → AllDigits 10 bs → are_digits bs ≡ true
 digits_test [] h = refl
@@ -85,20 +91,27 @@ no_number_is_said bs a h =
 pub none_is_said : (bs : List ℕ) → is_adorned bs ≡ true → None ≡ number_said bs
 none_is_said bs h = rw h refl
 
+-- the tree at a key, where an entry stands first
+pub found_first : (name k : List ℕ) (t : Tree) (es : Entries)
+    → get name (entry k t es) ≡ cond (bytes_eq k name) (Some t) (get name es)
+found_first name k t es =
+    ap (λ b. cond b (Some t) (get name es)) (is_eq-slice_cmp name k ∙ sym (same_test k name))
+
 -- the member of this number
-past_trees : (rs : List Resource) (n : ℕ) → length rs ≤ n → tree_at (items_view rs) n ≡ None
+past_trees : (rs : List Resource) (n : ℕ) → length rs ≤ n
+    → slice_get (array_members (items_view rs)) n ≡ None
 past_trees [] n h = refl
 past_trees (r ∷ rs) zero h = absurd (omega arith)
 past_trees (r ∷ rs) (suc n) h = past_trees rs n (omega arith)
 
 tree_there : (rs : List Resource) (n : ℕ) (d : Resource) → n < length rs
-    → tree_at (items_view rs) n ≡ Some (tree_of (slice_index_or rs n d))
+    → slice_get (array_members (items_view rs)) n ≡ Some (tree_of (slice_index_or rs n d))
 tree_there [] n d h = absurd (omega arith)
 tree_there (r ∷ rs) zero d h = refl
 tree_there (r ∷ rs) (suc n) d h = tree_there rs n d (omega arith)
 
 pub tree_found : (rs : List Resource) (n : ℕ) (r : Option (Bor Resource)) → IsItemAt rs n r
-    → option_map (λ x. tree_of x.now) r ≡ tree_at (items_view rs) n
+    → option_map (λ x. tree_of x.now) r ≡ slice_get (array_members (items_view rs)) n
 tree_found rs n None h = sym (past_trees rs n h.3)
 tree_found rs n (Some x) h =
     ap (λ y. Some (tree_of y)) h.1 ∙ sym (tree_there rs n x.now h.3.0)

@@ -5,15 +5,11 @@ use Rattle.std.specs.Prelude.{◌==◌, ◌||◌, option_map, cond, Result, Matc
 use Rattle.std.specs.Prelude.{is_some}
 use Rattle.std.proofs.Common.{Ok, Err}
 use Rattle.std.specs.Option.{option_and_then}
-use Rattle.std.specs.Ordering.{eq_by_cmp}
-use Rattle.std.specs.Str.{bytes_eq}
 use Rattle.std.proofs.lemmas.Bool.{false≢true, or_cases, eqb-true}
-use Rattle.std.proofs.lemmas.Map.Text.{is_eq-slice_cmp}
 use Rattle.std.proofs.lemmas.Option.{same_Some, slice_get-map}
 use Rattle.resb_tree.specs.LayingOrder.{array_members}
-use Rattle.resb_tree.specs.Maps.{get, text_cmp}
+use Rattle.resb_tree.specs.Maps.{get}
 use Rattle.resb_tree.specs.Tree.{Tree, string, alias, array, table, binary, integer, int_vector}
-use Rattle.resb_tree.specs.Tree.{Trees, no_trees, more_trees, Entries, no_entries, entry}
 use Rattle.resb_format.specs.Parts.{Parts}
 use Rattle.resb_format.specs.declared.error.ReadingError.{ReadingError}
 use Rattle.resb_walk.specs.BlockRefusals.{Says}
@@ -29,25 +25,10 @@ use Rattle.resb_read.specs.declared.cursor.Cursor.{Cursor}
 use Rattle.resb_read.specs.declared.cursor.Spot as cursor
 use Rattle.resb_read.specs.declared.cursor.Spot.TheVariants as spot
 use Rattle.resb_read.proofs.InsideTrees.{entries_stand_inside, members_stand_inside}
-use Rattle.resb_read.proofs.InsideTrees.{numbers_stand_inside, types_tell_trees, same_test}
-use Rattle.resb_path.specs.Finding.{Spot, tree_spot, number_spot, number_said, value_named, tree_at}
+use Rattle.resb_read.proofs.InsideTrees.{numbers_stand_inside, types_tell_trees}
+use Rattle.resb_path.specs.Finding.{Spot, tree_spot, number_spot, number_said}
 use Rattle.resb_path.specs.Finding.{found_inside, found_at, member_said, element_said}
 use Rattle.resb_path.specs.InFiles.{IsAt, AreFound}
-
--- the value of a name is the tree at this key
-named_is_got : (name : List ℕ) (es : Entries) → value_named name es ≡ get name es
-named_is_got name no_entries = refl
-named_is_got name (entry k t es) =
-    let test : bytes_eq k name ≡ eq_by_cmp text_cmp name k =
-    same_test k name ∙ sym (is_eq-slice_cmp name k) in
-    rw test (ap (cond (eq_by_cmp text_cmp name k) (Some t)) (named_is_got name es))
-
--- the member of a number
-numbered : (ts : Trees) (k : ℕ) → tree_at ts k ≡ slice_get (array_members ts) k
-numbered no_trees zero = refl
-numbered no_trees (suc k) = refl
-numbered (more_trees t ts) zero = refl
-numbered (more_trees t ts) (suc k) = numbered ts k
 
 found_tree : (c : Option Place) (t : Option Tree) → StandsAs c t
     → AreFound c (option_map tree_spot t)
@@ -123,10 +104,9 @@ module _ (p : Place) (type : ℕ) (told : type_at p ≡ Some type) where
         let (places, is, stand) = entries_stand_inside p es n d in
         let same : last_named name places ≡ c =
         same_Some _ _ (sym (ap (option_map (last_named name)) is) ∙ are) in
-        let there : AreFound (last_named name places) (option_map tree_spot (value_named name es)) =
-        rw (named_is_got name es)
-        (found_tree (last_named name places) (get name es) (stand name)) in
-        subst (λ q. AreFound q (option_map tree_spot (value_named name es))) same there
+        let there : AreFound (last_named name places) (option_map tree_spot (get name es)) =
+        found_tree (last_named name places) (get name es) (stand name) in
+        subst (λ q. AreFound q (option_map tree_spot (get name es))) same there
     in_table c are n (array ts) d k = absurd (false≢true (sym no_array ∙ k))
     in_table c are n (int_vector ns) d k = absurd (false≢true (sym no_vector ∙ k))
     in_table c are n (string x) d k = absurd (false≢true (sym k.0 ∙ is_table))
@@ -171,7 +151,7 @@ module _ (p : Place) (type : ℕ) (told : type_at p ≡ Some type) where
         let same : slice_get places k ≡ c =
         same_Some _ _ (sym (ap (option_map (λ (ps : List Place). slice_get ps k)) is) ∙ are) in
         let tree : member_said ts name ≡ slice_get (array_members ts) k =
-        ap (option_and_then (tree_at ts)) said ∙ numbered ts k in
+        ap (option_and_then (slice_get (array_members ts))) said in
         let there : AreFound (slice_get places k) (option_map tree_spot (member_said ts name)) =
         rw tree (found_tree (slice_get places k) (slice_get (array_members ts) k) (stand k)) in
         subst (λ q. AreFound q (option_map tree_spot (member_said ts name))) same there
@@ -217,7 +197,7 @@ module _ (p : Place) (type : ℕ) (told : type_at p ≡ Some type) where
     unsaid : number_said name ≡ None → (n : ℕ) (t : Tree) → DenPlace p t n → IsTypeOf t type
         → AreFound None (found_inside (tree_spot t) name)
     unsaid said n (array ts) d kind =
-        rw (ap (option_and_then (tree_at ts)) said) tt
+        rw (ap (option_and_then (slice_get (array_members ts))) said) tt
     unsaid said n (int_vector ns) d kind =
         rw (ap (option_and_then (slice_get ns)) said) tt
     unsaid said n (table es) d kind = absurd (false≢true (sym no_table_type ∙ kind))

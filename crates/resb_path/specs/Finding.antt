@@ -3,15 +3,16 @@
 --     number_said name     the number that a name says, if it says one
 --     found_inside s name  what stands inside, under one name
 --     found_at s names     what stands at a path of names
-use Rattle.std.specs.Prelude.{ℕ, zero, suc, ◌^◌, nat_lt, Bool, true, ◌&&◌, ◌||◌, ◌==◌, List}
+use Rattle.std.specs.Prelude.{ℕ, ◌^◌, nat_lt, Bool, true, ◌&&◌, ◌||◌, ◌==◌, List}
 use Rattle.std.specs.Prelude.{[], ◌∷◌, length, slice_index, Option, Some, None, option_map}
 use Rattle.std.specs.Prelude.{slice_get, if◌then◌else◌}
 use Rattle.std.specs.Option.{option_and_then}
 use Rattle.std.specs.Char.{is_digit}
-use Rattle.std.specs.Str.{bytes_eq}
 use Rattle.std.specs.Str.Parse.{digits_value}
 use Rattle.resb_tree.specs.Tree.{Tree, string, alias, array, table, binary, integer, int_vector}
-use Rattle.resb_tree.specs.Tree.{Trees, no_trees, more_trees, Entries, no_entries, entry}
+use Rattle.resb_tree.specs.Tree.{Trees}
+use Rattle.resb_tree.specs.LayingOrder.{array_members}
+use Rattle.resb_tree.specs.Maps.{get}
 use Rattle.resb_tree.specs.View.{tree_of}
 use Rattle.resb_path.specs.declared.tree.Found.{Found}
 use Rattle.resb_path.specs.declared.tree.Found.TheVariants as found
@@ -49,20 +50,9 @@ is_adorned name =
 abbrev pub number_said : List ℕ → Option ℕ
 number_said name = if is_adorned name then None else number_written name
 
--- the tree of the first entry of this name; a table has each key once
-abbrev pub value_named : List ℕ → Entries → Option Tree
-value_named name no_entries = None
-value_named name (entry k t es) = if bytes_eq k name then Some t else value_named name es
-
--- the tree of this number, from 0
-abbrev pub tree_at : Trees → ℕ → Option Tree
-tree_at no_trees n = None
-tree_at (more_trees t ts) zero = Some t
-tree_at (more_trees t ts) (suc n) = tree_at ts n
-
 -- the member of an array that has the number that a name says
 abbrev pub member_said : Trees → List ℕ → Option Tree
-member_said ts name = option_and_then (tree_at ts) (number_said name)
+member_said ts name = option_and_then (slice_get (array_members ts)) (number_said name)
 
 -- the number of a vector that has the number that a name says
 abbrev pub element_said : List ℕ → List ℕ → Option ℕ
@@ -71,7 +61,7 @@ element_said ns name = option_and_then (slice_get ns) (number_said name)
 -- what stands inside a tree under one name: in a table the tree of the entry of this name, in an
 -- array or a vector what has this number; and nothing inside all else. An alias isn't followed
 abbrev pub found_inside : Spot → List ℕ → Option Spot
-found_inside (tree_spot (table es)) name = option_map tree_spot (value_named name es)
+found_inside (tree_spot (table es)) name = option_map tree_spot (get name es)
 found_inside (tree_spot (array ts)) name = option_map tree_spot (member_said ts name)
 found_inside (tree_spot (int_vector ns)) name = option_map number_spot (element_said ns name)
 found_inside (tree_spot (string s)) name = None

@@ -2,7 +2,8 @@
 //! Which number a name says is in `names`; paths in files are in `file`.
 ghost use Rattle.std.specs.Prelude.{◌≡◌, map, option_map};
 ghost use Rattle.resb_tree.specs.View.{tree_of, items_view, entries_view};
-ghost use Rattle.resb_path.specs.Finding.{spot_of, value_named, found_at};
+ghost use Rattle.resb_tree.specs.Maps.{get};
+ghost use Rattle.resb_path.specs.Finding.{spot_of, found_at};
 ghost use Rattle.resb_path.specs.Finding.{found_inside};
 ghost use Rattle.resb_path.specs.Finding.{member_said, element_said, tree_spot};
 
@@ -53,9 +54,10 @@ fn step<'t, 'a>(found: Found<'t, 'a>, name: &str) -> Option<Found<'t, 'a>>
 }
 
 /// The value of the entry of this name.
+#[tactic(auto, using(crate::proofs::FindingLemmas::found_first))]
 fn value_of<'t, 'a>(entries: &'t Table<'a>, name: &str) -> Option<&'t Resource<'a>>
     ensures { option_map (λ r. tree_of r.now) result
-        ≡ value_named name.now (entries_view entries.now.entries) }
+        ≡ get name.now (entries_view entries.now.entries) }
 {
     for (key, value) in entries.iter() {
         if key.as_str() == name {

@@ -5,12 +5,13 @@
     real_texts.py --make FOLDER           writes the texts there, and times nothing
     real_texts.py --turns N ..            the least of N runs, in place of five
 
-`--program PATH` in front of these times another program; it may be given more than once. `--icu
-PATH` times the program `resb` with `compile --icu`, which reads ICU's own form of text. The texts
-are made of the files that the installed ICU library holds: each is cut out of libicudata, printed
-by ICU's `derb`, and put as a table into one text for its kind, with its keys in quotes. Aliases,
-and backslashes and quotes in strings, are left out, so that both programs read the same. Nothing of
-ICU's data is kept: the texts are made anew, in a temporary folder.
+`--program PATH` in front of these times another program; it may be given more than once. `--resb
+PATH` times the program `resb` with `compile`, and `--icu PATH` with `compile --icu`, which reads
+ICU's own form of text. The texts are made of the files that the installed ICU library holds: each
+is cut out of libicudata, printed by ICU's `derb`, and put as a table into one text for its kind,
+with its keys in quotes. Aliases, and backslashes and quotes in strings, are left out, so that both
+programs read the same. Nothing of ICU's data is kept: the texts are made anew, in a temporary
+folder.
 
 A line for each text and program has milliseconds of processor, the least of so many runs, and the
 most memory of the process in MB, and what both are beside `genrb`'s.
@@ -119,12 +120,14 @@ def main(words):
     if '--help' in words:
         print(__doc__)
         return
-    if words and words[-1] in ('--program', '--icu', '--turns', '--make'):
+    if words and words[-1] in ('--program', '--resb', '--icu', '--turns', '--make'):
         sys.exit(words[-1] + ' takes a word more')
     while words:
         word = words.pop(0)
         if word == '--program':
             programs.append([words.pop(0), 'compile', 'TEXT', 'FILE'])
+        elif word == '--resb':
+            programs.append([words.pop(0), 'compile', 'TEXT', '-d', 'FOLDER'])
         elif word == '--icu':
             programs.append([words.pop(0), 'compile', '--icu', 'TEXT', '-d', 'FOLDER'])
         elif word == '--turns':

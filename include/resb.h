@@ -39,12 +39,12 @@ extern "C" {
 #define RESB_NO_FILE 4u
 /* The bytes are no file of a bundle. */
 #define RESB_NOT_A_FILE 5u
-/* The file has version 1.0 of the format, another order of bytes, or EBCDIC. Versions 1.1 to 3.0 are
- * read by each call, with their aliases. A version or a format that isn't known at all is
+/* The file has version 1.0 of the format, another order of bytes, or EBCDIC. Versions 1.1 to 3.0
+ * are read by each call, with their aliases. A version or a format that isn't known at all is
  * RESB_NOT_A_FILE. */
 #define RESB_UNSUPPORTED 6u
-/* The file's tree has no text: its root is no table, it has an alias, or a name, key or string holds
- * a '"'. */
+/* The file's tree has no text: its root is no table, it has an alias, or a name, key or string
+ * holds a '"'. */
 #define RESB_NOT_PRINTABLE 7u
 /* A request for memory was refused. The input may be sound. */
 #define RESB_NO_MEMORY 8u

@@ -8,9 +8,9 @@ Run by hand, where ICU's library is installed; where it isn't, a line says so. T
 out of the library libicudata at its symbol `icudtNN_dat`. It is read here by the layout that ICU's
 `ucmndata.h` gives, and compared with what `icupkg` lists and extracts, where that is installed.
 COMMAND is given the package on standard input, and prints a line for each item: its name, its
-number of bytes, and the sum of its bytes. The program of `packages.rattle` is such a command: let it
-be `src/main.rt` of a crate `packages: resb_package` for the time being, and give `rt run` in that
-crate; the command is `out/packages`. The last line is 'N passed, M failed'.
+number of bytes, and the sum of its bytes. The program of `packages.rattle` is such a command: let
+it be `src/main.rt` of a crate `packages: resb_package` for the time being, and give `rt run` in
+that crate; the command is `out/packages`. The last line is 'N passed, M failed'.
 """
 import glob
 import os

@@ -35,7 +35,8 @@ def main():
     for first in range(0, len(names), AT_ONCE):
         batch = names[first:first + AT_ONCE]
         for name, wanted in zip(batch, answers(other, [given(it) for it in batch])):
-            ran = subprocess.run([program, 'dump', '--json', name], capture_output=True, check=False)
+            words = [program, 'dump', '--json', name]
+            ran = subprocess.run(words, capture_output=True, check=False)
             if ran.returncode or json.loads(ran.stdout) != json.loads(wanted):
                 failed += 1
                 print(f'{name}: status {ran.returncode}, {ran.stderr.decode()[:200]}')

@@ -3,8 +3,8 @@
 
     pool_compare.py RESB OTHER FOLDER [COUNT [SEED]]
 
-RESB is the program `resb`, whose `check` is asked. OTHER is a command as `answers.py` says, which is
-given the number of a pool's bytes in four bytes, these, and those of a file, and answers
+RESB is the program `resb`, whose `check` is asked. OTHER is a command as `answers.py` says, which
+is given the number of a pool's bytes in four bytes, these, and those of a file, and answers
 `ok COUNT` or `err MESSAGE`, that of the pool if the file uses it and it is none. FOLDER has
 folders of `.res` files with a `pool.res` each, such as those that `icupkg` extracts; of each the
 small files are taken. One file in seven and three pools in five stay whole. Differences are printed

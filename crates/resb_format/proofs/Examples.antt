@@ -190,13 +190,15 @@ an_unknown_type = refl
 
 -- The array holds the integer 5 and the string "x": three resources.
 array_denotes : Den small 0x8000_0001 (array (trees_of (integer 5 ∷ string (120 ∷ []) ∷ []))) 3
-unfolding content_at small words_of units_of key_place_by text_place_by index_by text_at string_at utf16_chars lib.Utf8.encode
+unfolding content_at small words_of units_of key_place_by text_place_by index_by text_at string_at
+    utf16_chars lib.Utf8.encode
 array_denotes =
     den_list refl
     (each_more (den_word (den_leaf refl)) (each_more (den_word (den_leaf refl)) each_none))
 
 table_denotes : Den small 0x5000_0003 (table (entry (97 ∷ []) (string (120 ∷ [])) no_entries)) 2
-unfolding content_at small words_of units_of key_place_by text_place_by index_by text_at string_at utf16_chars key_at lib.Utf8.encode
+unfolding content_at small words_of units_of key_place_by text_place_by index_by text_at string_at
+    utf16_chars key_at lib.Utf8.encode
 table_denotes =
     let key : key_at small.keys 0 ≡ Some (97 ∷ []) = rw (ascii_key 97 (omega arith)) refl in
     den_entries refl (entries_more key (den_unit refl) entries_none)

@@ -10,8 +10,8 @@ use crate::error::BinaryDeserializerError;
 /// below.)
 #[derive(Clone, Copy, Debug, PartialEq, Eq)]
 pub enum ResourceReprType {
-    /// A string of the older formats, in words from the body's start. It is read beside a pool
-    /// bundle alone, the file's own or none.
+    /// A string of the older formats, in words from the body's start. It is read by the
+    /// calls that are handed a pool bundle, or none.
     _String = 0,
     /// Bytes, in words from the body's start.
     Binary = 1,

@@ -1,5 +1,6 @@
 //! What is known of a block of keys or of units, so that no key and no string of it, but short
-//! ones, is looked at again and again as a whole. Which block a position tells is found in `places`.
+//! ones, is looked at again and again as a whole. Which block a position tells is found in
+//! `places`.
 ghost use Rattle.std.specs.Prelude.{◌≡◌, ◌+◌, ◌≤◌, ℕ, List, length, take, drop, Some, IfOk, IfSome};
 ghost use Rattle.std.specs.Prelude.{IsTrue};
 ghost use Rattle.std.specs.Option.{ForSome};

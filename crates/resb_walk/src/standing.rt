@@ -31,6 +31,7 @@ use resb_format::{BinaryDeserializerError, FileBlocks, MAX_UNMARKED, ResourceRep
 
 /// The units of the string at a unit of the block, where it has no marker and no surrogate, as most
 /// have: one look at each unit finds the 0 behind it and that it is a text.
+#[inline(always)]
 fn plain_text(block: &[u8], unit: usize) -> Option<&[u8]>
     ensures { let units = units_of block.now in
         IfSome result (λ v. strings.text_at units unit ≡ Some (text_of_bytes v.now)) }
@@ -55,6 +56,7 @@ fn plain_text(block: &[u8], unit: usize) -> Option<&[u8]>
 }
 
 /// The key at a byte of a block of keys: what stands before the next zero byte.
+#[inline(always)]
 #[tactic(auto, using(crate::proofs::Keys::at), unfolding(resb_format::specs::Strings::key_at))]
 fn block_key(keys: &[u8], at: usize) -> Result<&str, BinaryDeserializerError>
     ensures stands { MatchResult result (λ s. strings.key_at keys.now at ≡ Some s.now)
@@ -68,6 +70,7 @@ fn block_key(keys: &[u8], at: usize) -> Result<&str, BinaryDeserializerError>
 }
 
 /// The key at a position, in bytes from the body's start, or of the pool.
+#[inline(always)]
 pub fn key_at(file: FileBlocks<'_>, position: usize) -> Result<&str, BinaryDeserializerError>
     ensures stands { let p = parts_in file.entry in
         MatchResult result (λ s. key_in p position ≡ Some s.now)
@@ -79,16 +82,27 @@ pub fn key_at(file: FileBlocks<'_>, position: usize) -> Result<&str, BinaryDeser
 }
 
 /// The units of the string at a unit of a 16-bit block, two bytes for each, which are a text.
-#[tactic(auto, using(crate::proofs::Placed::text_some, crate::proofs::Placed::text_unpaired))]
+#[inline(always)]
 fn block_text(units: &[u8], unit: usize) -> Result<&[u8], BinaryDeserializerError>
     ensures stands { let block = units_of units.now in
         MatchResult result (λ v. strings.text_at block unit ≡ Some (text_of_bytes v.now))
         (λ e. (strings.text_at block unit ≡ None) × IsFault e) }
     ensures says { IfErr result (Says (block_text_refusal (units_of units.now) unit)) }
 {
-    if let Some(bytes) = plain_text(units, unit) {
-        return Ok(bytes);
+    match plain_text(units, unit) {
+        Some(bytes) => Ok(bytes),
+        None => any_text(units, unit),
     }
+}
+
+/// The same of a string with a marker or surrogates too: first it is found, and then tested.
+#[tactic(auto, using(crate::proofs::Placed::text_some, crate::proofs::Placed::text_unpaired))]
+fn any_text(units: &[u8], unit: usize) -> Result<&[u8], BinaryDeserializerError>
+    ensures stands { let block = units_of units.now in
+        MatchResult result (λ v. strings.text_at block unit ≡ Some (text_of_bytes v.now))
+        (λ e. (strings.text_at block unit ≡ None) × IsFault e) }
+    ensures says { IfErr result (Says (block_text_refusal (units_of units.now) unit)) }
+{
     let text = string_at(units, unit)?;
     let bytes = text.as_bytes();
     if !is_well_formed(bytes) {
@@ -98,6 +112,7 @@ fn block_text(units: &[u8], unit: usize) -> Result<&[u8], BinaryDeserializerErro
 }
 
 /// The units of the string with an index, own or the pool's, which are a text.
+#[inline(always)]
 pub fn text_at(file: FileBlocks<'_>, index: usize) -> Result<&[u8], BinaryDeserializerError>
     ensures stands { let p = parts_in file.entry in
         MatchResult result (λ v. text_in p index ≡ Some (text_of_bytes v.now))

@@ -109,8 +109,8 @@ fn compile_to(text: &[u8], limit: u64, out: &mut [u8]) -> Result<(usize, bool), 
     }
 }
 
-/// The file of a bundle's text, which is UTF-8. A text whose reading makes more bytes than the limit
-/// is refused.
+/// The file of a bundle's text, which is UTF-8. A text whose reading makes more bytes than the
+/// limit is refused.
 pub fn compile_within(text: &[u8], limit: u64) -> Result<Vec<u8>, Error> {
     let (length, _) = compile_to(text, limit, &mut [])?;
     let mut file = vec![0; length];

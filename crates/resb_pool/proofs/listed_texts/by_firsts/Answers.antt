@@ -201,5 +201,6 @@ returns-clause-small c =
       c.len-string_count.ensures,
       c.args.strings.ok,
     )) in
-    let e : texts_size (nows (take i xs)) ≡ texts_size (nows xs) = ap (λ z. texts_size (nows z)) full in
+    let e : texts_size (nows (take i xs)) ≡ texts_size (nows xs) =
+    ap (λ z. texts_size (nows z)) full in
     omega (arith, e, c.loop-number.invariant.size, c.loop-number.invariant.small)

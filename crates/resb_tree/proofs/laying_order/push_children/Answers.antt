@@ -31,6 +31,7 @@ returns-in-Table c =
     fact_from_extend (λ y. y.now) c.extend-in-Table.result c.extend-in-Table.ensures.ran
     (λ it b. YieldsList-from_rest (values c.in-Table.table)
     (b ∙ c.values.ensures.rest))
-    (λ xs f h. trees_in-extend old xs c.extend-in-Table.new.self.items (values c.in-Table.table) f h.0
+    (λ xs f h.
+    trees_in-extend old xs c.extend-in-Table.new.self.items (values c.in-Table.table) f h.0
     ∙ ap (λ l. trees_in old ++ l) (sym (values_view c.in-Table.table.entries))
     ∙ ap (λ t. trees_in old ++ children t) (sym e))

@@ -25,7 +25,8 @@ returns-in_err-text_at-clause-meets c =
     let p = err_from_is_err_and c.from_residual-in_err-text_at.result
     c.from_residual-in_err-text_at.ensures.1 in
     let h = c.in_err-text_at.ensures in
-    rw (p.1, p.2) (λ _. rw (h.says, c.index_of.ensures) (meets_text (rw c.index_of.ensures at h.stands.0)))
+    rw (p.1, p.2) (λ _. rw (h.says, c.index_of.ensures)
+    (meets_text (rw c.index_of.ensures at h.stands.0)))
 
 pub returns-clause-answers : goal.returns-clause-answers
 returns-clause-answers c =

@@ -84,7 +84,8 @@ returns c =
     let there = some_field c.args.index.now.field_count (get_or (words_of (drop 4 body)) 6 0)
     c.in_ok-block_end.block_end (sym c.requires.indexed.data_16_bit_end
     ∙ c.ok_or.ensures.ok_part ∙ ap result_ok c.in_ok-block_end.was) in
-    let b : c.in_ok-block_end.block_end ≡ get_or (words_of body) 7 0 = sym there.1 ∙ field_behind body 6 in
+    let b : c.in_ok-block_end.block_end ≡ get_or (words_of body) 7 0 =
+    sym there.1 ∙ field_behind body 6 in
     let ordered : get_or (words_of body) 2 0 ≤ get_or (words_of body) 7 0 =
     omega (arith, k, b, c.if-block_end-keys_end.false) in
     let keys = c.split_at-2.ensures.front

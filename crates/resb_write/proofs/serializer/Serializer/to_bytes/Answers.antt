@@ -41,7 +41,8 @@ pub returns-clause-ok : goal.returns-clause-ok
 returns-clause-ok c =
     let same = c.in_ok-order.ensures in
     IfOk-weaker c.write_order.result _ _ (λ v h. subst (λ t. Written v.items t
-    c.args.bundle.now.is_locale_fallback_enabled c.args.keys_in_discovery_order.now) c.root.ensures.tree
+    c.args.bundle.now.is_locale_fallback_enabled c.args.keys_in_discovery_order.now)
+    c.root.ensures.tree
     (h (tree_of c.root.result.now)
     (subst (AreNodes c.in_ok-nodes.nodes.items) same c.in_ok-nodes.ensures)
     (subst (NumbersKeys c.in_ok-keys.keys) (ap (flat_map own_keys) same)
@@ -50,8 +51,8 @@ returns-clause-ok c =
 pub returns-clause-err : goal.returns-clause-err
 returns-clause-err c =
     let same = c.in_ok-order.ensures in
-    IfErr-weaker c.write_order.result _ _ (λ e h. subst (λ t. RefusesWriting t c.args.keys_in_discovery_order.now
-    (fault_of e)) c.root.ensures.tree
+    IfErr-weaker c.write_order.result _ _ (λ e h. subst (λ t.
+    RefusesWriting t c.args.keys_in_discovery_order.now (fault_of e)) c.root.ensures.tree
     (h (tree_of c.root.result.now)
     (subst (AreNodes c.in_ok-nodes.nodes.items) same c.in_ok-nodes.ensures)
     (subst (NumbersKeys c.in_ok-keys.keys) (ap (flat_map own_keys) same)

@@ -8,7 +8,8 @@ use Rattle.resb.specs.Spots.{cost_at}
 use Rattle.resb.specs.Views.{pair_bytes}
 use Rattle.resb_examples.specs.Zones.{base_name, pairs_name, IsReadable}
 use Rattle.resb_examples.specs.Inner.Fields.{entry_of, ReadsPairView}
-use Rattle.resb_examples.proofs.Costs.{key_is_free, number_costs, view_costs, lacks_base, lacks_pairs}
+use Rattle.resb_examples.proofs.Costs.{key_is_free, number_costs, view_costs}
+use Rattle.resb_examples.proofs.Costs.{lacks_base, lacks_pairs}
 use Rattle.resb_examples.proofs.Takings.{takes_base, takes_pairs, takes_other}
 use Rattle.resb_examples.proofs.Lists.{OnErr_from, other_text}
 use Rattle.resb_examples.proofs.zones.fields.Fields.take.Goals as goal

@@ -1,7 +1,7 @@
 use Rattle.std.proofs.lemmas.Result.{err_from_is_err_and}
 use Rattle.resb_format.specs.Bytes.{units_of}
 use Rattle.resb_walk.proofs.Placed.{text_none, string_fails}
-use Rattle.resb_walk.proofs.standing.block_text.Goals as goal
+use Rattle.resb_walk.proofs.standing.any_text.Goals as goal
 
 pub returns-in_err-text-clause-stands : goal.returns-in_err-text-clause-stands
 returns-in_err-text-clause-stands c =

@@ -80,8 +80,9 @@ uint32_t resb_compile(const uint8_t *text, size_t text_length, uint8_t *out, siz
 /* Compiles a stranger's text: as resb_compile does, but a text is refused by RESB_OVER_LIMIT whose
  * reading would take more bytes of memory than the limit. Counted are 72 for each group, 192 for
  * each string among items, keys too, 1024 for each table that has entries, 3 for each byte of a
- * string, 1 for each byte of a binary, 4 for each number of a vector. The reading stops before the
- * token by which there would be more. What the file takes beside that is not within the limit. */
+ * string, 1 for each byte of a binary, 8 for each number of a vector, and 32 for each binary and
+ * vector. The reading stops before the token by which there would be more. What the file takes
+ * beside that is not within the limit. */
 uint32_t resb_compile_within(const uint8_t *text, size_t text_length, uint64_t limit, uint8_t *out,
                              size_t out_length, size_t *length, resb_error *error);
 

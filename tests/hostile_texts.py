@@ -26,7 +26,7 @@ ROOT = GROUP + TABLE + A_STRING
 OWN = 8_000_000
 
 # members that need a comma between them, and those that may be the value of a key: what they make
-STRINGS = {'a': A_STRING, '""': STRING, '"ab"': A_STRING + BYTE}
+STRINGS = {'a': A_STRING, '""': STRING, '"ab"': A_STRING + BYTE, '"\\"': A_STRING}
 GROUPS = {
     '{a}': GROUP + A_STRING,
     '{a,}': GROUP + A_STRING,
@@ -64,6 +64,8 @@ LONG = {
     'a vector': ('b{v:intvector{', '1,', '}}', NUMBER, ROOT + GROUP + REQUEST),
     'a vector of long numbers':
         ('b{v:intvector{', '4000000000,', '}}', NUMBER, ROOT + GROUP + REQUEST),
+    'a vector of warned numbers':
+        ('b{v:intvector{', '01,', '}}', NUMBER, ROOT + GROUP + REQUEST),
     'a binary': ('b{v:bin{"', '00', '"}}', 1, ROOT + GROUP + REQUEST),
     'a name': ('b', 'b', '{}', 0, GROUP),
     'a key': ('b{k', 'k', '{x}}', BYTE, ROOT + GROUP + A_STRING),

@@ -4,7 +4,7 @@ use crate::folders::{Named, TEXTS, named_files};
 use crate::place::{Place, place_of};
 use crate::progress::Progress;
 use crate::save::save;
-use crate::say::{fail, fail_input, or_fail, refuse, warn};
+use crate::say::{complain, fail, fail_input, or_fail, refuse, warn};
 use crate::show::settled;
 use crate::streams::{made, read_input};
 use crate::taken::Taken;
@@ -173,9 +173,28 @@ fn warned(rt: &HostRuntime, name: &str, source: &[u8], wanted: &CompileWords<'_>
     if wanted.is_icu || (wanted.is_quiet && !wanted.is_strict) {
         return 0;
     }
+    if may_pass(source.len(), wanted.limit) {
+        if !wanted.is_quiet {
+            complain(
+                rt,
+                name,
+                "its warnings may take more than the limit: none is looked for",
+            );
+        }
+        return u8::from(wanted.is_strict);
+    }
     match warn(rt, name, source, wanted.is_quiet) {
         Ok(is_warned) => u8::from(is_warned && wanted.is_strict),
         Err(status) => status,
+    }
+}
+
+/// Whether the warnings of a text of so many bytes may take more than a limit: they take up to
+/// sixteen bytes for each.
+fn may_pass(length: usize, limit: Option<u64>) -> bool {
+    match limit {
+        Some(limit) => (length as u64).saturating_mul(16) > limit,
+        None => false,
     }
 }
 

@@ -11,6 +11,7 @@ run may take more memory than 1.5 times the limit and the text, and 8 MB. The la
 'N passed, M failed'.
 """
 import os
+import resource
 import sys
 import tempfile
 
@@ -104,8 +105,6 @@ def refusal(path, text, limit):
 
 def runs(path, name, text, made):
     """A text within its own limit, within one byte less, and within a tenth."""
-    # what a program is started from counts as its memory
-    *_, start = ran(['--version'])
     for limit in (made, made - 1, made // 10):
         words = ['compile', '--limit', str(limit), path, '-o', '/dev/null']
         status, out, said, _, most = ran(words)
@@ -115,8 +114,10 @@ def runs(path, name, text, made):
         # warnings of a text that compiles are lines too
         same = (status, out) == wanted[:2] and (said == wanted[2] or status == 0)
         seen(same, f'{name}, {len(text)}, {limit}: {status}, {said[:200]}')
-        bound = 1.5 * (limit + len(text)) + OWN
-        seen(most <= max(start, bound), f'{name}, {len(text)}, {limit}: {most} bytes of memory')
+        # the memory of what starts a program counts as its own
+        started = resource.getrusage(resource.RUSAGE_SELF).ru_maxrss * 1024
+        bound = max(started, 1.5 * (limit + len(text)) + OWN)
+        seen(most <= bound, f'{name}, {len(text)}, {limit}: {most} bytes of memory')
 
 
 def main():

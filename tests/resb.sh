@@ -498,7 +498,8 @@ told 0 '' '' diff s.res t.res
 holds() {
   local names
   names=$(ls "$1" | xargs)
-  if [ "$names" = "$2" ]; then passed=$((passed + 1)); else failed=$((failed + 1)); echo "$names"; fi
+  if [ "$names" = "$2" ]; then passed=$((passed + 1))
+  else failed=$((failed + 1)); echo "$names"; fi
 }
 
 # a text with warnings: without them, with a status of their own, and without a file

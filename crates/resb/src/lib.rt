@@ -9,10 +9,12 @@ pub mod diff;
 pub mod fields;
 pub mod headline;
 pub mod laws;
+pub mod opened;
 pub mod package;
 pub mod path;
 pub mod text;
 
 pub use resb_compile::{
-    CompileError, CompileWithinError, IcuCompileError, compile, compile_icu, compile_within,
+    CompileError, CompileWithinError, IcuCompileError, IcuCompileWithinError, compile, compile_icu,
+    compile_icu_within, compile_within,
 };

@@ -6,6 +6,6 @@ pub use resb_icu_grammar::IcuExpected;
 pub use resb_icu_print::{
     IcuCause, IcuPrintError, icu_cause_path, print_icu_text, print_icu_text_within,
 };
-pub use resb_icu_text::{IcuReader, IcuTextError, IcuTurns};
+pub use resb_icu_text::{IcuLimitError, IcuReader, IcuTextError, IcuTurns};
 pub use resb_print::{Cause, PathStep, PrintError, cause_path, print_text, print_text_within};
 pub use resb_text::{DraftBundle, Expected, LimitError, Reader, TextParserError, Turns};

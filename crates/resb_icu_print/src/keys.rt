@@ -22,14 +22,14 @@ fn are_words(bytes: &[u8]) -> bool
 }
 
 /// Whether a text is a word.
-pub(crate) fn is_bare(text: &str) -> bool
+pub fn is_bare(text: &str) -> bool
     ensures { result ≡ printed.is_bare text.now }
 {
     !text.is_empty() && are_words(text.as_bytes())
 }
 
 /// Whether a text may be a key.
-pub(crate) fn is_key(text: &str) -> bool
+pub fn is_key(text: &str) -> bool
     ensures { result ≡ causes.is_icu_key text.now }
 {
     are_key_bytes(text.as_bytes()) && !has_quote(text)

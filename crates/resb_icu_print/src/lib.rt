@@ -15,3 +15,7 @@ pub use cause::IcuCause;
 pub use error::IcuPrintError;
 pub use path::icu_cause_path;
 pub use print::{print_icu_text, print_icu_text_within};
+
+// What a printer of other handles takes from this one.
+pub use keys::{is_bare, is_key};
+pub use quoting::{push_key, push_piece};

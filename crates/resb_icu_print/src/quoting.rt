@@ -49,7 +49,7 @@ fn push_inside(alloc: Global, out: &mut String, text: &str) -> Result<(), AllocE
 }
 
 /// Writes a string in quotes.
-pub(crate) fn push_piece(alloc: Global, out: &mut String, text: &str) -> Result<(), AllocError>
+pub fn push_piece(alloc: Global, out: &mut String, text: &str) -> Result<(), AllocError>
     ensures { OnOk result (Appends out.old out.new (piece_on text.now)) }
 {
     out.push_str("\"")?;
@@ -58,7 +58,7 @@ pub(crate) fn push_piece(alloc: Global, out: &mut String, text: &str) -> Result<
 }
 
 /// Writes a key.
-pub(crate) fn push_key(out: &mut String, text: &str) -> Result<(), AllocError>
+pub fn push_key(out: &mut String, text: &str) -> Result<(), AllocError>
     ensures { OnOk result (Appends out.old out.new (key_on text.now)) }
 {
     if is_bare(text) {

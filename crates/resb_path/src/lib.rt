@@ -8,4 +8,5 @@ mod names;
 mod tree;
 
 pub use file::{find_in, find_with_pool};
+pub use names::number_of;
 pub use tree::{Found, find};

@@ -12,7 +12,7 @@ fn is_adorned(name: &[u8]) -> bool
 }
 
 /// The number that decimal digits say, without a sign and without a zero before other digits.
-pub(crate) fn number_of(name: &str) -> Option<usize>
+pub fn number_of(name: &str) -> Option<usize>
     ensures { result ≡ number_said name.now }
 {
     if is_adorned(name.as_bytes()) {

@@ -24,4 +24,6 @@ pub use place::Place;
 pub use room::has_room;
 pub use step::{deeper, push_bytes, push_entries, push_integer, push_members, push_vector};
 pub use task::Task;
-pub use tokens::{has_quote, push_end, push_line, push_quoted, push_root_type};
+pub use tokens::{
+    has_quote, push_end, push_line, push_name, push_number, push_quoted, push_root_type,
+};

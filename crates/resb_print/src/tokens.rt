@@ -54,7 +54,7 @@ pub fn push_quoted(out: &mut String, text: &str) -> Result<(), AllocError>
 }
 
 /// Writes a name or key.
-pub(crate) fn push_name(out: &mut String, text: &str) -> Result<(), AllocError>
+pub fn push_name(out: &mut String, text: &str) -> Result<(), AllocError>
     ensures { OnOk result (Appends out.old out.new (name_on text.now)) }
 {
     if is_bare(text) {
@@ -97,14 +97,14 @@ pub fn push_root_type(out: &mut String, fallback: bool) -> Result<(), AllocError
 }
 
 /// Writes a number.
-pub(crate) fn push_number(out: &mut String, number: u32) -> Result<(), AllocError>
+pub fn push_number(out: &mut String, number: u32) -> Result<(), AllocError>
     ensures { OnOk result (Appends out.old out.new (λ rest. decimal number ++ rest)) }
 {
     write!(out, "{number}")
 }
 
 /// Writes numbers with commas.
-pub(crate) fn push_numbers(out: &mut String, numbers: &[u32]) -> Result<(), AllocError>
+pub fn push_numbers(out: &mut String, numbers: &[u32]) -> Result<(), AllocError>
     ensures { OnOk result (Appends out.old out.new (numbers_on numbers.now)) }
 {
     let Some((first, more)) = numbers.split_first() else {

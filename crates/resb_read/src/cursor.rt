@@ -41,6 +41,13 @@ impl<'de> Cursor<'de> {
         Ok(Cursor::begin(parts, bytes))
     }
 
+    /// The spot where the cursor stands in the parts of its file.
+    pub fn spot(self) -> Spot
+        ensures { result ≡ self.entry.at }
+    {
+        self.at
+    }
+
     /// A cursor at the root of the parts of a file, and the whole budget of the file's bytes.
     pub(crate) fn begin(parts: CheckedFile<'de>, bytes: &[u8]) -> (Cursor<'de>, Walk)
         ensures root { place_of result.0

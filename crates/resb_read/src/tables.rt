@@ -2,7 +2,9 @@
 //! Its entries one after another are in `entries`; a table whose keys ascend is in `sorted`.
 ghost use Rattle.std.specs.Prelude.{◌≡◌, ◌≤◌, ◌<◌, ◌+◌, ◌⊎◌, ℕ, Some, None, length, option_map};
 ghost use Rattle.std.specs.Prelude.{MatchResult, IfOk, IfErr, IfSome, get_or, slice_index, true};
-ghost use Rattle.resb_walk.specs.Inner.Members.{member_of, members_of, positions_of};
+ghost use Rattle.std.specs.Prelude.{map};
+ghost use Rattle.resb_format.specs.Parts.{parts_in};
+ghost use Rattle.resb_walk.specs.Inner.Members.{member_of, members_of, positions_of, keyed_members};
 ghost use Rattle.resb_walk.specs.Refusals.{IsSpent};
 ghost use Rattle.resb_read.specs.Places.{place_of};
 ghost use Rattle.resb_read.specs.Sequences as sequences;
@@ -29,6 +31,14 @@ pub struct TableView<'de> {
 }
 
 impl<'de> TableView<'de> {
+    /// The table of these entries of a file. Nothing is paid, and no entry is looked at.
+    pub fn of(file: FileBlocks<'de>, entries: TableParts<'de>) -> TableView<'de>
+        ensures { view_entries result
+            ≡ map (sequences.at_entry (parts_in file.entry)) (keyed_members entries.entry) }
+    {
+        TableView { file, entries }
+    }
+
     /// How many entries there are.
     #[tactic(auto, using(crate::proofs::Viewing::lengths))]
     pub fn len(&self) -> usize

@@ -43,5 +43,6 @@ returns-in_err-key-in-Some-split-clause-meets g c = λ w n h.
     let o = rw c.in-Table.is at h in
     let p = err_from_is_err_and c.from_residual.result c.from_residual.ensures.1 in
     rw (p.1, p.2) (λ f. rw c.in_err-key-in-Some-split.ensures.says
-    (table_meets (parts_in c.args.file) g.M.Make.lists g.M.Make.tables c.in-Table.rest c.in-Some-split.rest c.in-Some-split.position _ c.in-Table.made w n o
+    (table_meets (parts_in c.args.file) g.M.Make.lists g.M.Make.tables c.in-Table.rest
+    c.in-Some-split.rest c.in-Some-split.position _ c.in-Table.made w n o
     c.in-Some-split.ensures c.in_err-key-in-Some-split.ensures.stands.0))

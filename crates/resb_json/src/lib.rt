@@ -1,0 +1,11 @@
+//! JSON of what is shown: objects by key, arrays, strings, signed numbers, bytes as hex digits, and
+//! aliases by their paths. It is written in blocks, and nothing calls itself.
+//! What a resource is stands in `resb_tree`, and what is shown of it in `resb_shown`.
+#![tactic(auto)]
+
+mod quoted;
+mod task;
+mod text;
+mod write;
+
+pub use write::{json_fits, json_text, write_json};

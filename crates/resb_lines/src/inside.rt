@@ -1,0 +1,11 @@
+//! What is inside a collection and is still to be looked at.
+//! What it is looked at for is said in `causes`.
+
+/// The members of an array or the entries of a table that are still to come.
+#[derive(Drop)]
+pub(crate) enum Inside<M, E> {
+    /// Members.
+    Members(M),
+    /// Entries.
+    Entries(E),
+}

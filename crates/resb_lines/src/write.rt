@@ -1,0 +1,55 @@
+//! The call that writes a bundle's text.
+//! What is written, and in which order, is said in `text`.
+ghost use Rattle.std.specs.Prelude.{OnOk, OnErr};
+ghost use Rattle.std.specs.Io.KnownBytes.{Appends};
+ghost use Rattle.resb_shown.specs.Sink.{AppendsPart};
+ghost use Rattle.resb_lines.specs.Lines.{lines_of};
+
+use crate::form::Form;
+use crate::text::LinesText;
+use resb_shown::{Node, Shown, write_blocks};
+use std::alloc::Global;
+use std::io;
+use std::io::Write;
+
+/// A bundle that is shown: its name, its root, and whether fallback is on.
+#[derive(Clone, Copy)]
+pub struct ShownBundle<'s, S: Copy> {
+    /// The name.
+    pub name: &'s str,
+    /// The root, which is a table where the bundle has lines.
+    pub root: S,
+    /// Whether fallback is on.
+    pub is_locale_fallback_enabled: bool,
+}
+
+/// Writes the lines of a bundle in a form, in blocks, however deep it nests. These are its text of
+/// the form where it has one; a root that is no table has no lines. Where the writer fails or
+/// memory is wanted, a part of them from their start was written. The writer isn't flushed.
+/// The hex digits of a binary stand in one block.
+pub fn write_lines<'s, F: Form, S: Shown<'s>, W: Write>(
+    alloc: Global,
+    writer: &mut W,
+    form: F,
+    bundle: ShownBundle<'s, S>,
+) -> io::Result<()>
+    ensures ok { let text = lines_of F.spelling bundle.entry.name.now
+        bundle.entry.is_locale_fallback_enabled (S.tree bundle.entry.root) in
+        OnOk result (Appends (W.contents writer.old) (W.contents writer.new) text) }
+    ensures part { let text = lines_of F.spelling bundle.entry.name.now
+        bundle.entry.is_locale_fallback_enabled (S.tree bundle.entry.root) in
+        OnErr result (AppendsPart (W.contents writer.old) (W.contents writer.new) text) }
+{
+    let Node::Table(entries) = bundle.root.node() else {
+        return Ok(());
+    };
+    let fallback = bundle.is_locale_fallback_enabled;
+    let mut text: LinesText<'s, F, S, S::Members, S::Entries> = LinesText::new(
+        alloc,
+        form,
+        bundle.name,
+        fallback,
+        entries,
+    )?;
+    write_blocks(alloc, writer, &mut text)
+}

@@ -1,0 +1,2 @@
+-- The words of private functions.
+pub mod Holding

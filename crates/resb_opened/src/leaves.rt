@@ -1,0 +1,93 @@
+//! What a resource without members holds: its text, its bytes, its number or numbers.
+//! What is inside arrays and tables is found in `inside`.
+ghost use Rattle.std.specs.Prelude.{◌≡◌, ◌<◌, ◌++◌, IfOk, IfSome, option_map, slice_get};
+ghost use Rattle.std.specs.String.{string_bytes};
+ghost use Rattle.resb_walk.specs.Inner.Members.{text_of_bytes};
+ghost use Rattle.resb_shown.specs.Shown as shown;
+ghost use Rattle.resb_opened.specs.Handles as seen;
+ghost use Rattle.resb_opened.specs.Handles.{tree_at, kind_of};
+
+use crate::handle::Handle;
+use crate::kind::Kind;
+use resb_format::bytes::some_word;
+use resb_tree::{Int28, NoMemory};
+use resb_walk::{Leaf, Standing, text_of_units};
+
+impl<'a> Handle<'a> {
+    /// Which kind of resource stands here.
+    pub fn kind(self) -> Kind
+        ensures { result ≡ kind_of (tree_at self.entry) }
+    {
+        match self.standing() {
+            Standing::Leaf(Leaf::Text(_) | Leaf::Empty) => Kind::String,
+            Standing::Leaf(Leaf::Alias(_)) => Kind::Alias,
+            Standing::Leaf(Leaf::Binary(_)) => Kind::Binary,
+            Standing::Leaf(Leaf::Integer(_)) => Kind::Integer,
+            Standing::Leaf(Leaf::Numbers(_)) => Kind::IntVector,
+            Standing::List(_) => Kind::Array,
+            Standing::Table(_) => Kind::Table,
+        }
+    }
+
+    /// The bytes of a binary.
+    pub fn bytes(self) -> Option<&'a [u8]>
+        ensures { option_map (λ bytes. bytes.now) result ≡ seen.bytes_in (tree_at self.entry) }
+    {
+        match self.standing() {
+            Standing::Leaf(Leaf::Binary(bytes)) => Some(bytes),
+            _ => None,
+        }
+    }
+
+    /// The number of an integer, of 28 bits.
+    pub fn integer(self) -> Option<Int28>
+        ensures { result ≡ seen.integer_in (tree_at self.entry) }
+    {
+        match self.standing() {
+            Standing::Leaf(Leaf::Integer(word)) => Some(Int28::from(word)),
+            _ => None,
+        }
+    }
+
+    /// The number that a vector has at this place, counted from 0, if it has so many.
+    #[tactic(auto, using(crate::proofs::TextLemmas::no_word))]
+    pub fn number(self, at: usize) -> Option<u32>
+        ensures number { result ≡ slice_get (shown.numbers_in (tree_at self.entry)) at }
+        ensures place { IfSome result (λ _. at < usize.MAX) }
+    {
+        match self.standing() {
+            Standing::Leaf(Leaf::Numbers(words)) if at < words.len() => some_word(words, at),
+            _ => None,
+        }
+    }
+
+    #[tactic(auto, using(crate::proofs::TextLemmas::empty_text))]
+    /// The UTF-16 units of a string, or of an alias's path: two bytes for each unit, the lower one
+    /// first.
+    pub fn utf16(self) -> Option<&'a [u8]>
+        ensures { option_map (λ units. text_of_bytes units.now) result
+            ≡ seen.text_of (tree_at self.entry) }
+    {
+        match self.standing() {
+            Standing::Leaf(Leaf::Text(units) | Leaf::Alias(units)) => Some(units),
+            Standing::Leaf(Leaf::Empty) => Some(&[]),
+            _ => None,
+        }
+    }
+
+    /// Puts the text of a string, or the path of an alias, behind what stands; of any other
+    /// resource nothing.
+    pub fn push_text(self, text: &mut String) -> Result<(), NoMemory>
+        ensures { IfOk result (λ _. string_bytes text.new
+            ≡ string_bytes text.old ++ shown.text_in (tree_at self.entry)) }
+    {
+        match self.standing() {
+            Standing::Leaf(Leaf::Text(units) | Leaf::Alias(units)) => {
+                let own = text_of_units(*text.allocator(), units)?;
+                text.push_str(own.as_str())?;
+                Ok(())
+            }
+            _ => Ok(()),
+        }
+    }
+}

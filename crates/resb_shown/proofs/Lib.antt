@@ -1,0 +1,3 @@
+-- For crates above: none.
+mod NumbersLemmas
+mod Sinking

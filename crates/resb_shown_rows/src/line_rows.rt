@@ -1,0 +1,63 @@
+//! Texts with the lines of their bundles in both forms, by the rules of printed texts, and whether
+//! each is a text of the form.
+use resb_icu_text::IcuReader;
+use resb_lines::{Form, Icu, Plain, ShownBundle, has_text, write_lines};
+use resb_tree::{Resource, ResourceBundle};
+use std::alloc::Global;
+use std::test::Fail;
+
+/// Texts whose lines are the same in both forms.
+const ROWS: [(&str, &str); 3] = [
+    ("b{}", "b{\n}\n"),
+    ("b{a{\"x\"}}", "b{\n    a{\"x\"}\n}\n"),
+    (
+        "b{w:table{}v:intvector{1,2}t{u:int{7}}l:array{\"y\",:bin{\"0a\"}}e:array{}}",
+        "b{\n    e:array{}\n    l:array{\n        \"y\",\n        :bin{\"0a\"},\n    }\n    \
+         t{\n        u:int{7}\n    }\n    v:intvector{1,2}\n    w:table{}\n}\n",
+    ),
+];
+
+/// A bundle as it is shown.
+fn shown<'t, 'a>(bundle: &'t ResourceBundle<'a>) -> ShownBundle<'t, &'t Resource<'a>> {
+    ShownBundle {
+        name: bundle.name(),
+        root: bundle.root(),
+        is_locale_fallback_enabled: bundle.is_locale_fallback_enabled,
+    }
+}
+
+/// The lines of a text's bundle in a form, and whether it has a text of that form.
+fn lines_of<F: Form>(alloc: Global, form: F, text: &str) -> Result<String, Fail> {
+    let (bundle, _) = IcuReader::read(alloc, text)?;
+    let mut lines = Vec::new(alloc);
+    write_lines(alloc, &mut lines, form, shown(&bundle))?;
+    let lines = str::from_utf8(lines.as_slice())?;
+    let has = has_text(alloc, form, shown(&bundle))?;
+    Ok(format!(in alloc; "{lines}{has}")?)
+}
+
+#[test]
+fn bundles_have_their_lines(rt: HostRuntime) -> Result<(), Fail> {
+    for (text, wanted) in ROWS {
+        let wanted = format!(in rt.alloc(); "{wanted}true")?;
+        let plain = lines_of(rt.alloc(), Plain, text)?;
+        assert_eq!(rt; plain.as_str(), wanted.as_str());
+        let icu = lines_of(rt.alloc(), Icu, text)?;
+        assert_eq!(rt; icu.as_str(), wanted.as_str());
+    }
+    Ok(())
+}
+
+#[test]
+fn quotes_and_aliases_have_no_plain_text(rt: HostRuntime) -> Result<(), Fail> {
+    let icu = lines_of(rt.alloc(), Icu, "b{q{\"a\\\"b\"}x:alias{\"/p\"}}")?;
+    assert_eq!(rt;
+        icu.as_str(),
+        "b{\n    q{\"a\\\"b\"}\n    x:alias{\"/p\"}\n}\ntrue"
+    );
+    let plain = lines_of(rt.alloc(), Plain, "b{x:alias{\"/p\"}}")?;
+    assert_eq!(rt; plain.as_str(), "b{\n    x:alias{\"/p\"}\n}\nfalse");
+    let plain = lines_of(rt.alloc(), Plain, "b{q{\"a\\\"b\"}}")?;
+    assert!(rt; plain.as_str().ends_with("false"));
+    Ok(())
+}

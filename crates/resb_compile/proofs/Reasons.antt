@@ -51,7 +51,7 @@ writing_refused text name fallback t ks e b h (Err made) is =
     subst (IsRefused text) (sym is) (unwritable text name fallback t ks e b h)
 
 -- a bundle in ICU's form whose tree the writer refuses
-icu_unwritable : (text name : List ℕ) (fallback : Bool) (t : Tree) (ks : List (List ℕ))
+pub icu_unwritable : (text name : List ℕ) (fallback : Bool) (t : Tree) (ks : List (List ℕ))
     (e : BinarySerializerError) → IcuText text name fallback t ks → RefusesWriting t ks (fault_of e)
     → IsIcuUnwritable text e
 icu_unwritable text name fallback t ks e b h = record {

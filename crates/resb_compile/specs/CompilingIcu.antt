@@ -2,10 +2,12 @@
 --     IsIcuCompiled text bytes   the bytes are a file of the bundle that the text is
 --     IsIcuRefused text e        the error has its reason in the text
 --     message_of e               the text that it prints as
+--     IsIcuRefusedWithin text limit e, within_message_of e   the same within a limit of bytes
 use Rattle.std.specs.Prelude.{◌≡◌, ◌≢◌, ◌⊎◌, ℕ, List, Bool, codes}
 use Rattle.resb_tree.specs.Tree.{Tree}
 use Rattle.resb_icu_grammar.specs.Bundle.{IcuText}
-use Rattle.resb_icu_text.specs.Answer.{IcuFails, IsNoIcuText}
+use Rattle.resb_icu_grammar.specs.Limit.{IcuMadeWithin, IcuMakesMore}
+use Rattle.resb_icu_text.specs.Answer.{IcuFails, IsNoIcuText, IcuNeverMore}
 use Rattle.resb_icu_text.specs.Refusal as refusal
 use Rattle.resb_icu_text.specs.declared.error.IcuTextError.{IcuTextError}
 use Rattle.resb_layout.specs.Written.{Written}
@@ -15,6 +17,8 @@ use Rattle.resb_write.specs.FaultOf.{fault_of}
 use Rattle.resb_write.specs.declared.error.BinarySerializerError.{BinarySerializerError}
 use Rattle.resb_compile.specs.declared.compiling_icu.IcuCompileError.{IcuCompileError}
 use Rattle.resb_compile.specs.declared.compiling_icu.IcuCompileError.TheVariants.{Reading, Writing}
+use Rattle.resb_compile.specs.declared.compiling_icu.IcuCompileWithinError.{IcuCompileWithinError}
+use Rattle.resb_compile.specs.declared.compiling_icu.IcuCompileWithinError.TheVariants as within
 
 -- the bundle that a text of ICU's form is
 pub record IsIcuBundle (text : List ℕ) : Type 0 where
@@ -50,3 +54,22 @@ IsIcuRefused text (Writing e) = IsIcuUnwritable text e
 abbrev pub message_of : IcuCompileError → List ℕ
 message_of (Reading e) = refusal.message_of e
 message_of (Writing e) = fault.message_of (fault_of e)
+
+-- memory was wanted to read the text, or no reading of it makes more bytes than the limit
+abbrev pub IsIcuWithinLimit : List ℕ → ℕ → IcuCompileError → Type 0
+IsIcuWithinLimit text limit (Reading e) = IcuNeverMore text limit e
+IsIcuWithinLimit text limit (Writing e) = IcuMakesMore text limit → ⊥
+
+-- why a text isn't compiled within a limit: for what it is refused without one, and no reading
+-- makes more bytes than the limit, unless memory was wanted to read the text; or a reading comes to
+-- a token by which more are made, and the whole reading is not within the limit
+abbrev pub IsIcuRefusedWithin : List ℕ → ℕ → IcuCompileWithinError → Type 0
+IsIcuRefusedWithin text limit (within.Text e) =
+    IsIcuRefused text e × IsIcuWithinLimit text limit e
+IsIcuRefusedWithin text limit within.Larger =
+    IcuMakesMore text limit × (IcuMadeWithin text limit → ⊥)
+
+-- what that error prints
+abbrev pub within_message_of : IcuCompileWithinError → List ℕ
+within_message_of (within.Text e) = message_of e
+within_message_of within.Larger = codes "text larger than the limit"

@@ -4,6 +4,7 @@ pub use Rattle.resb_tree.specs.Tree
 pub use Rattle.resb_grammar.specs.BundleText
 pub use Rattle.resb_grammar.specs.Limit
 pub use Rattle.resb_icu_grammar.specs.Bundle as IcuBundle
+pub use Rattle.resb_icu_grammar.specs.Limit as IcuLimit
 pub use Rattle.resb_text.specs.Answer
 pub use Rattle.resb_text.specs.Refusal
 pub use Rattle.resb_icu_text.specs.Answer as IcuAnswer

@@ -2,9 +2,11 @@
 //! the discovered keys. No tree is made in between, but a draft of one.
 //! The way from a text of the other form is in `compiling`.
 ghost use Rattle.std.specs.Prelude.{Some, IfOk, IfErr};
+ghost use Rattle.resb_icu_grammar.specs.Limit.{IcuMadeWithin};
 ghost use Rattle.resb_compile.specs.CompilingIcu.{IsIcuCompiled, IsIcuRefused, message_of};
+ghost use Rattle.resb_compile.specs.CompilingIcu.{IsIcuRefusedWithin, within_message_of};
 
-use resb_icu_text::{IcuReader, IcuTextError};
+use resb_icu_text::{IcuLimitError, IcuReader, IcuTextError};
 use resb_write::{BinarySerializerError, Serializer};
 use std::alloc::Global;
 use std::error::Error;
@@ -34,9 +36,9 @@ impl Error for IcuCompileError {}
 
 impl From<IcuTextError> for IcuCompileError {
     ghost use Rattle.std.specs.Prelude.{◌≡◌};
-    ghost use Rattle.resb_compile.specs.declared.compiling_icu.IcuCompileError.TheVariants.{Reading};
+    ghost use Rattle.resb_compile.specs.declared.compiling_icu.IcuCompileError.TheVariants as the;
 
-    ghost from_gives = { λ e made. made ≡ Reading e };
+    ghost from_gives = { λ e made. made ≡ the.Reading e };
 
     fn from(e: IcuTextError) -> IcuCompileError {
         IcuCompileError::Reading(e)
@@ -45,9 +47,9 @@ impl From<IcuTextError> for IcuCompileError {
 
 impl From<BinarySerializerError> for IcuCompileError {
     ghost use Rattle.std.specs.Prelude.{◌≡◌};
-    ghost use Rattle.resb_compile.specs.declared.compiling_icu.IcuCompileError.TheVariants.{Writing};
+    ghost use Rattle.resb_compile.specs.declared.compiling_icu.IcuCompileError.TheVariants as the;
 
-    ghost from_gives = { λ e made. made ≡ Writing e };
+    ghost from_gives = { λ e made. made ≡ the.Writing e };
 
     fn from(e: BinarySerializerError) -> IcuCompileError {
         IcuCompileError::Writing(e)
@@ -69,4 +71,53 @@ pub fn compile_icu(alloc: Global, text: &str) -> Result<Vec<u8>, IcuCompileError
     let fallback = bundle.is_locale_fallback_enabled;
     let file = Serializer::draft_to_bytes(alloc, bundle.root, fallback, keys.as_slice())?;
     Ok(file)
+}
+
+/// Why a text of ICU's form has no file, where reading it may make no more bytes than a limit. It
+/// prints as the error inside, or as `text larger than the limit`.
+#[derive(Debug, Drop)]
+pub enum IcuCompileWithinError {
+    /// What the text is refused for without a limit.
+    Text(IcuCompileError),
+    /// Reading the text makes more bytes than the limit.
+    Larger,
+}
+
+impl fmt::Display for IcuCompileWithinError {
+    ghost output = { λ e. Some (within_message_of e) };
+
+    fn fmt<W: fmt::Write>(&self, f: &mut fmt::Formatter<W>) -> fmt::Result {
+        match self {
+            IcuCompileWithinError::Text(e) => write!(f, "{e}"),
+            IcuCompileWithinError::Larger => write!(f, "text larger than the limit"),
+        }
+    }
+}
+
+impl Error for IcuCompileWithinError {}
+
+/// The bytes of the `.res` file of a bundle's text in ICU's own form, where reading the text makes
+/// no more bytes than the limit, as `IcuReader::read_within` counts them. The limit is for the
+/// reading: what the writer takes beside it is not within it.
+pub fn compile_icu_within(
+    alloc: Global,
+    text: &str,
+    limit: u64,
+) -> Result<Vec<u8>, IcuCompileWithinError>
+    ensures ok { IfOk result (λ file. IsIcuCompiled text.now file.items) }
+    ensures within { IfOk result (λ file. IcuMadeWithin text.now limit) }
+    ensures err { IfErr result (IsIcuRefusedWithin text.now limit) }
+{
+    let (bundle, keys) = match IcuReader::read_draft_within(alloc, text, limit) {
+        Ok(read) => read,
+        Err(IcuLimitError::Text(e)) => {
+            return Err(IcuCompileWithinError::Text(IcuCompileError::Reading(e)));
+        }
+        Err(IcuLimitError::Larger) => return Err(IcuCompileWithinError::Larger),
+    };
+    let fallback = bundle.is_locale_fallback_enabled;
+    match Serializer::draft_to_bytes(alloc, bundle.root, fallback, keys.as_slice()) {
+        Ok(file) => Ok(file),
+        Err(e) => Err(IcuCompileWithinError::Text(IcuCompileError::Writing(e))),
+    }
 }

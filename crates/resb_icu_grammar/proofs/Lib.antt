@@ -14,6 +14,7 @@ pub mod Moves
 pub mod OneStep
 pub mod Refused
 pub mod Limited
+pub mod Blocked
 mod OneRefusal
 mod WholeReading
 mod Examples

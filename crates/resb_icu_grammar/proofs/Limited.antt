@@ -5,7 +5,8 @@ use Rattle.std.specs.Prelude.{slice_index}
 use Rattle.resb_grammar.specs.Ascii as ascii
 use Rattle.resb_grammar.proofs.Numbers.{plus_no_bytes}
 use Rattle.resb_tree.specs.Tree.{Tree, string}
-use Rattle.resb_tree.specs.Weights.{resource_weight, text_byte_weight, number_weight}
+use Rattle.resb_tree.specs.Weights.{resource_weight, text_byte_weight}
+use Rattle.resb_grammar.specs.Limit.{number_bytes}
 use Rattle.resb_icu_grammar.specs.Kinds.{vector_kind}
 use Rattle.resb_icu_grammar.specs.Words.{Number}
 use Rattle.resb_icu_grammar.specs.Groups.{a_string, Numbers, last_number, last_comma, one_more}
@@ -108,7 +109,7 @@ made_by_one text from _ r c (inside ws ks s at _ v) =
 made_by_one text from _ r c (outside ws ks t at _ v) = plus_no_bytes (made_on_the_way c)
 
 -- no step, or a first one and the others, and what they make
-data Split (text : List ℕ) (from r : Reading) (n : ℕ) : Type 0 where
+pub data Split (text : List ℕ) (from r : Reading) (n : ℕ) : Type 0 where
   no_step : from ≡ r → n ≡ 0 → Split text from r n
   first_step : (mid : Reading) → Next text from mid → (d : Comes text mid r)
       → n ≡ said from.stands mid + made_on_the_way d → Split text from r n
@@ -123,7 +124,7 @@ split_on text from last r n m next sum (first_step mid first d s) =
     first_step mid first (go_on text mid last r d next)
     (omega (arith, sum, s, made_by_one text mid last r d next))
 
-split : (text : List ℕ) (from r : Reading) → (c : Comes text from r)
+pub split : (text : List ℕ) (from r : Reading) → (c : Comes text from r)
     → Split text from r (made_on_the_way c)
 split text from _ (here _) = no_step refl refl
 split text from r (moves _ _ ws ks s at c v) =
@@ -136,7 +137,7 @@ split text from r (leaves _ _ ws ks t at c v) =
     (split text from (reading_at ws ks (behind_group t) at) c)
 
 -- of two places of a reading, each with what is made up to it, one is on the way to the other
-data Meet (text : List ℕ) (r q : Reading) (n m : ℕ) : Type 0 where
+pub data Meet (text : List ℕ) (r q : Reading) (n m : ℕ) : Type 0 where
   ahead : (d : Comes text r q) → m ≡ n + made_on_the_way d → Meet text r q n m
   behind : (d : Comes text q r) → n ≡ m + made_on_the_way d → Meet text r q n m
 
@@ -172,7 +173,7 @@ meet text from r q (leaves _ _ ws ks t at c v) d =
     (meet text from (reading_at ws ks (behind_group t) at) q c d)
 
 -- the same from the one first entry
-meet_roots : (text : List ℕ) (f g : ℕ) (r q : Reading) → f ≡ g
+pub meet_roots : (text : List ℕ) (f g : ℕ) (r q : Reading) → f ≡ g
     → (c : Comes text (at_root f) r) → (d : Comes text (at_root g) q)
     → Meet text r q (made_on_the_way c) (made_on_the_way d)
 meet_roots text f g r q e c =
@@ -233,9 +234,9 @@ some_number text at to _ (last_comma _ i j _ v p k c l) = omega arith
 some_number text at to _ (one_more _ i j m _ v us p k c l r) = omega arith
 
 -- a vector makes no less than some of its numbers
-no_less : (text : List ℕ) (from at i to v : ℕ) (t : Tree) → (before : NumbersSoFar text from at)
+pub no_less : (text : List ℕ) (from at i to v : ℕ) (t : Tree) → (before : NumbersSoFar text from at)
     → Number text at i v → LeafContent text from to vector_kind t → Closes text to
-    → number_weight * suc (count_so_far before) ≤ leaf_bytes t
+    → number_bytes * suc (count_so_far before) ≤ leaf_bytes t
 no_less text from at i to v _ before p (no_numbers e) c =
     absurd (counted_begin text from at before (number_first text at i v p)
     (ap (λ u. slice_index text u) e ∙ c))
@@ -246,7 +247,7 @@ no_less text from at i to v _ before p (numbers ns r) c =
     omega (arith, some, sum)
 
 -- the step from the first number of a vector on leads behind it
-vector_step : (text : List ℕ) (ws : List Waiting) (ks : List (List ℕ)) (from : ℕ) (r : Reading)
+pub vector_step : (text : List ℕ) (ws : List Waiting) (ks : List (List ℕ)) (from : ℕ) (r : Reading)
     → Move text ws ks (in_typed vector_kind) from r
     → (to : ℕ) × (t : Tree) × LeafContent text from to vector_kind t × Closes text to
     × (said (in_typed vector_kind) r ≡ leaf_bytes t)

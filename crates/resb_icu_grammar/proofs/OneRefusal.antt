@@ -137,7 +137,7 @@ end_stays text _ ks t at _ _ r (a_collation ws es k _ e) (was_value _ _ _ _ j f 
     false≢true (sym f ∙ e)
 end_stays text _ ks t at _ _ r (more_text end k w) l = elim l [ ]
 
-reading_stays : (text : List ℕ) (from r : Reading) (to : ℕ) (x : IcuExpected)
+pub reading_stays : (text : List ℕ) (from r : Reading) (to : ℕ) (x : IcuExpected)
     → ReadStuck text from to x
     → Next text from r → ⊥
 reading_stays text _ r to x (stuck.inside ws ks s at _ _ b) (inside _ _ _ _ _ v) =

@@ -8,7 +8,7 @@
 use Rattle.std.specs.Prelude.{◌≡◌, ℕ, suc, ◌+◌, ◌*◌, ◌<◌, ◌≤◌, Bool, List, [], ◌∷◌, length}
 use Rattle.resb_tree.specs.Tree.{Tree, string, alias, binary, int_vector}
 use Rattle.resb_tree.specs.Weights.{resource_weight, table_weight, entry_weight, text_byte_weight}
-use Rattle.resb_tree.specs.Weights.{number_weight}
+use Rattle.resb_grammar.specs.Limit.{number_bytes, request_bytes}
 use Rattle.resb_icu_grammar.specs.Blanks.{Skip}
 use Rattle.resb_icu_grammar.specs.Kinds.{Kind, array_kind, table_kind, vector_kind}
 use Rattle.resb_icu_grammar.specs.Words.{Number}
@@ -34,12 +34,13 @@ next_key_bytes [] k = table_weight + key_bytes k
 next_key_bytes (e ∷ es) k = key_bytes k
 
 -- a group that holds neither members nor entries, with its `}`: a resource, and 3 for each byte of
--- a string or a path, 1 for each byte of a binary, 4 for each number of a vector
+-- a string or a path; for a vector and a binary the memory that is asked for it, and 8 for each
+-- number of a vector or 1 for each byte of a binary
 abbrev pub leaf_bytes : Tree → ℕ
 leaf_bytes (string s) = string_bytes s
 leaf_bytes (alias s) = string_bytes s
-leaf_bytes (binary s) = resource_weight + length s
-leaf_bytes (int_vector ns) = resource_weight + number_weight * length ns
+leaf_bytes (binary s) = resource_weight + request_bytes + length s
+leaf_bytes (int_vector ns) = resource_weight + request_bytes + number_bytes * length ns
 leaf_bytes _ = resource_weight
 
 -- a type and its `{`: a resource, for an array or a table
@@ -105,8 +106,8 @@ pub data IcuMakesMore (text : List ℕ) (limit : ℕ) : Type 0 where
   by_a_step : (bytes : ℕ) (ws : List Waiting) (ks : List (List ℕ)) (s : Standing) (at : ℕ)
       (r : Reading) → IcuMakes text bytes (reading_at ws ks s at)
       → (step : Move text ws ks s at r) → limit < bytes + made_by step → IcuMakesMore text limit
-  -- a number of a vector, whatever follows it: 4 bytes for each up to that
+  -- a number of a vector, whatever follows it: 8 bytes for each up to that
   by_a_number : (bytes : ℕ) (ws : List Waiting) (ks : List (List ℕ)) (from at to v : ℕ)
       → IcuMakes text bytes (reading_at ws ks (in_typed vector_kind) from)
       → (before : NumbersSoFar text from at) → Number text at to v
-      → limit < bytes + number_weight * suc (count_so_far before) → IcuMakesMore text limit
+      → limit < bytes + number_bytes * suc (count_so_far before) → IcuMakesMore text limit

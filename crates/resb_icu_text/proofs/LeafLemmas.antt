@@ -1,12 +1,17 @@
 -- The content of groups without items: what stands there, and where it is stuck.
 use Rattle.std.proofs.Common.{◌≡◌, ◌≢◌, ℕ, ◌%◌, ◌^◌, List, [], ◌∷◌, ◌++◌, Some}
-use Rattle.std.proofs.Common.{⊎_elim, inl, inr, refl, sym, ◌∙◌, ap, subst, append_assoc}
+use Rattle.std.proofs.Common.{inl, refl, sym, ◌∙◌, ap, subst, append_assoc, suc, ◌+◌, ◌*◌, ◌≤◌}
+use Rattle.std.proofs.Common.{◌<◌, false, length, arith, length-append}
+use Rattle.std.proofs.lemmas.Bool.{false≢true}
 use Rattle.std.specs.Prelude.{slice_index}
 use Rattle.resb_grammar.specs.Ascii as ascii
 use Rattle.resb_grammar.specs.Group.{hex_bytes}
 use Rattle.resb_icu_grammar.specs.Kinds.{Kind, string_kind, alias_kind, binary_kind, integer_kind}
 use Rattle.resb_icu_grammar.specs.Kinds.{vector_kind}
-use Rattle.resb_tree.specs.Tree.{string, alias, binary, integer, int_vector}
+use Rattle.resb_grammar.specs.Limit.{number_bytes}
+use Rattle.resb_tree.specs.View.{tree_of}
+use Rattle.resb_tree.specs.declared.resource.Resource.{Resource}
+use Rattle.resb_tree.specs.Tree.{Tree, string, alias, binary, integer, int_vector}
 use Rattle.resb_icu_grammar.specs.Blanks.{Skip}
 use Rattle.resb_icu_grammar.specs.Words.{Text, Number}
 use Rattle.resb_icu_grammar.specs.Groups.{last_number, last_comma, one_more}
@@ -14,13 +19,21 @@ use Rattle.resb_icu_grammar.specs.Groups.{string_content, alias_content, binary_
 use Rattle.resb_icu_grammar.specs.Groups.{integer_content}
 use Rattle.resb_icu_grammar.specs.Groups.{no_numbers, numbers}
 use Rattle.resb_icu_grammar.specs.Faults.{Told}
+use Rattle.resb_icu_grammar.specs.Limit.{leaf_bytes, count_so_far, by_a_number}
+use Rattle.resb_icu_grammar.specs.Machine.{reading_at, in_typed, leaf_follows}
 use Rattle.resb_icu_grammar.specs.Stuck.{NumbersSoFar, one_number, LeafStuck, NoStringAt}
+use Rattle.resb_icu_grammar.specs.Stuck.{inside, in_leaf}
+use Rattle.resb_icu_grammar.proofs.Blocked.{is_vector, NumbersFit, NumbersEnd, numbers_most}
 use Rattle.resb_icu_grammar.specs.declared.expected.IcuExpected.{IcuExpected}
 use Rattle.resb_icu_grammar.specs.declared.expected.IcuExpected.TheVariants as expect
 use Rattle.resb_icu_text.specs.Inner.Ahead.{StringFails}
 use Rattle.resb_icu_text.specs.Refusal.{want_of_memory}
 use Rattle.resb_icu_text.specs.declared.error.IcuTextError.{IcuTextError}
-use Rattle.resb_icu_text.specs.Inner.Leaf.{Leaf, LeafFails, Vector}
+use Rattle.resb_icu_text.specs.declared.quota.Quota.{Quota}
+use Rattle.resb_icu_text.specs.Borrowed.{KeepsSlices}
+use Rattle.resb_icu_text.specs.Inner.Quota.{TakesBytes, RunsOver}
+use Rattle.resb_icu_text.specs.Inner.Leaf.{Leaf, IsReadLeaf, LeafStops, Vector, IsBrace}
+use Rattle.resb_icu_text.proofs.QuotaLemmas.{over_stops, memory_stops, stuck_stops, as_many}
 use Rattle.resb_icu_text.specs.Inner.Leaf.{IsBehindNumber, at_brace, at_comma}
 
 -- a `}` stands there behind blanks
@@ -30,9 +43,9 @@ pub record Closing (text : List ℕ) (from to : ℕ) : Type 0 where
 
 -- the `}` that stands where blanks end
 pub closing_at : (text : List ℕ) (at brace to : ℕ) → Skip text at brace
-    → (to ≡ brace) × (slice_index text brace ≡ ascii.right_brace) → Closing text at to
+    → IsBrace text brace to → Closing text at to
 closing_at text at brace to k c =
-    subst (λ i. Closing text at i) (sym c.0) (record { blanks = k; closes = c.1 })
+    subst (λ i. Closing text at i) (sym c.same) (record { blanks = k; closes = c.closes })
 
 -- the content of a string
 pub string_stands : (text : List ℕ) (at i to : ℕ) (s : List ℕ) → Text text at i s
@@ -97,31 +110,103 @@ continues_more text at here i place v next ns p k (at_comma c l) b f =
           closes = w.closes;
         }))
 
--- the numbers so far, each with a comma
-pub counted_more : (text : List ℕ) (from at i place v next : ℕ) → NumbersSoFar text from at
+-- the numbers so far, each with a comma, and how many these are
+abbrev pub Counted : List ℕ → ℕ → ℕ → List ℕ → Type 0
+Counted text from at ns = (c : NumbersSoFar text from at) × (count_so_far c ≡ length ns)
+
+pub counted_more : (text : List ℕ) (from at i place v next : ℕ) (ns : List ℕ)
+    → Counted text from at ns
     → Number text at i v → Skip text i place → IsBehindNumber text place next
-    → slice_index text next ≢ ascii.right_brace → NumbersSoFar text from next
-counted_more text from at i place v next d p k (at_brace c e) b =
+    → slice_index text next ≢ ascii.right_brace → Counted text from next (ns ++ v ∷ [])
+counted_more text from at i place v next ns d p k (at_brace c e) b =
     absurd (b (ap (λ u. slice_index text u) e ∙ c))
-counted_more text from at i place v next d p k (at_comma c l) b =
-    one_number from at i place next v d p k c l
+counted_more text from at i place v next ns d p k (at_comma c l) b =
+    (one_number from at i place next v d.0 p k c l, omega (arith, d.1, length-append ns (v ∷ [])))
 
--- an error that says where the content of a group is stuck
-pub leaf_fails : (text : List ℕ) (from : ℕ) (kind : Kind) (e : IcuTextError) (to : ℕ)
+-- where the content of a group is stuck, said of the error
+pub leaf_says : (text : List ℕ) (from : ℕ) (kind : Kind) (e : IcuTextError) (to : ℕ)
     (x : IcuExpected) → e ≡ record { position = to; expected = x } → LeafStuck text from kind to x
-    → LeafFails text from kind e
-leaf_fails text from kind e to x h s =
-    inr (subst (λ (f : IcuTextError). LeafStuck text from kind f.position f.expected) (sym h) s)
+    → LeafStuck text from kind e.position e.expected
+leaf_says text from kind e to x h s =
+    subst (λ (f : IcuTextError). LeafStuck text from kind f.position f.expected) (sym h) s
 
--- where the content lacks a string, and what is told in its place
-pub told_leaf : (text : List ℕ) (from : ℕ) (kind : Kind) (e : IcuTextError)
-    → (NoStringAt text from → Told text from expect.String e.position e.expected
-    → LeafStuck text from kind e.position e.expected)
-    → StringFails text from expect.String e → LeafFails text from kind e
-told_leaf text from kind e f h =
-    ⊎_elim (λ (m : e ≡ want_of_memory). inl m)
-    (λ (n : NoStringAt text from × Told text from expect.String e.position e.expected).
-    inr (f n.0 n.1)) h
+module _ {text : List ℕ} {p q : Quota} where
+  -- an error that says where the content of a group is stuck
+  pub leaf_fails : (from : ℕ) (kind : Kind) (e : IcuTextError) (to : ℕ) (x : IcuExpected)
+      → TakesBytes p q 0 → is_vector (in_typed kind) ≡ false
+      → e ≡ record { position = to; expected = x } → LeafStuck text from kind to x
+      → LeafStops text from kind p q e
+  leaf_fails from kind e to x t v h s ws ks =
+      stuck_stops (reading_at ws ks (in_typed kind) from) e t
+      (inside ws ks (in_typed kind) from e.position e.expected
+      (in_leaf kind from e.position e.expected (leaf_says text from kind e to x h s)))
+      (λ is. absurd (false≢true (sym v ∙ is)))
+
+  -- where the content lacks a string, and what is told in its place
+  pub told_leaf : (from : ℕ) (kind : Kind) (e : IcuTextError) → TakesBytes p q 0
+      → is_vector (in_typed kind) ≡ false
+      → (NoStringAt text from → Told text from expect.String e.position e.expected
+      → LeafStuck text from kind e.position e.expected)
+      → StringFails text from expect.String e → LeafStops text from kind p q e
+  told_leaf from kind e t v f h =
+      leaf_fails from kind e e.position e.expected t v refl (f h.0 h.1)
+
+  -- memory is wanted
+  pub leaf_lacks : {k : ℕ} (from : ℕ) (kind : Kind) (e : IcuTextError)
+      → TakesBytes p q k → e ≡ want_of_memory → LeafStops text from kind p q e
+  leaf_lacks from kind e t h ws ks = memory_stops (reading_at ws ks (in_typed kind) from) e t h
+
+  -- what it makes is larger than what is left
+  pub leaf_over : {k : ℕ} (from : ℕ) (kind : Kind) (to : ℕ) (u : Tree) (e : IcuTextError)
+      → Leaf text from kind to u → RunsOver p q k → k ≡ leaf_bytes u
+      → e ≡ want_of_memory → LeafStops text from kind p q e
+  leaf_over from kind to u e l o sum h ws ks =
+      over_stops ws ks _ from _ e (leaf_follows kind from to u l.content l.closes) sum o h
+
+  -- what is read and taken of it
+  pub leaf_read : {k : ℕ} (from : ℕ) (kind : Kind) (to : ℕ) (r : Resource) (u : Tree)
+      → u ≡ tree_of r → Leaf text from kind to u → TakesBytes p q k → k ≡ leaf_bytes u
+      → KeepsSlices text r → from ≤ to → to < length text → IsReadLeaf text from kind p q (to, r)
+  leaf_read from kind to r u e l t sum keeps order fits = record {
+    leaf = subst (λ v. Leaf text from kind to v) e l;
+    takes = subst (λ v. TakesBytes p q (leaf_bytes v)) e (as_many t sum);
+    slices = keeps;
+    order = order;
+    fits = fits;
+  }
+
+  -- where numbers end, and each was taken
+  pub numbers_stop : (from a room r : ℕ) (e : IcuTextError) → (c : NumbersSoFar text from a)
+      → NumbersEnd text a r → TakesBytes p q (number_bytes * room)
+      → room ≡ count_so_far c + r
+      → LeafStuck text from vector_kind e.position e.expected
+      → LeafStops text from vector_kind p q e
+  numbers_stop from a room r e c end t sum s ws ks =
+      stuck_stops (reading_at ws ks (in_typed vector_kind) from) e t
+      (inside ws ks (in_typed vector_kind) from e.position e.expected
+      (in_leaf vector_kind from e.position e.expected s)) fit
+    where
+      fit : NumbersFit text (reading_at ws ks (in_typed vector_kind) from) (number_bytes * room)
+      fit is other same =
+          subst (λ u. (at to v : ℕ) → (before : NumbersSoFar text u at) → Number text at to v
+          → number_bytes * suc (count_so_far before) ≤ number_bytes * room) same
+          (λ at to v before p. omega (
+            arith,
+            numbers_most text from a at r to v c end before p,
+            sum,
+          ))
+
+module _ {text : List ℕ} {p o q : Quota} where
+  -- one number is larger than what is left
+  pub number_over : (from a i v k : ℕ) (e : IcuTextError) → (c : NumbersSoFar text from a)
+      → count_so_far c ≡ k → Number text a i v → TakesBytes p o (number_bytes * k)
+      → RunsOver o q number_bytes → e ≡ want_of_memory
+      → LeafStops text from vector_kind p q e
+  number_over from a i v k e c sum p t r h ws ks limit at = record {
+    fails = inl h;
+    over = λ _. by_a_number at.bytes ws ks from a i v at.made c p
+        (omega (arith, at.sum, t.left, r.more, sum));
+  }
 
 -- nothing and a `}`
 pub empty_vector : (text : List ℕ) (at : ℕ) → slice_index text at ≡ ascii.right_brace

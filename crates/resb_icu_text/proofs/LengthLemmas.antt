@@ -26,7 +26,7 @@ blanks_order text from to (comment _ k _ c r) =
 encoded : (c : ℕ) → length (encode_utf8 c) ≤ 4
 encoded c = omega (arith, length-encode c, (len_utf8_bounds c).1)
 
-escape_short : (text : List ℕ) (at to : ℕ) (s : List ℕ) → Escape text at to s
+pub escape_short : (text : List ℕ) (at to : ℕ) (s : List ℕ) → Escape text at to s
     → length s + at ≤ to
 escape_short text at to s (itself f h) = omega arith
 escape_short text at to s (line_feed h) = omega arith
@@ -35,7 +35,8 @@ escape_short text at to s (tab h) = omega arith
 escape_short text at to s (four_digits c h k e f g) = omega (arith, encoded c)
 escape_short text at to s (eight_digits c h k e f g) = omega (arith, encoded c)
 
-inside_short : (text : List ℕ) (at to : ℕ) (s : List ℕ) → QuotedBytes text at to s
+-- nor is what a piece says
+pub inside_short : (text : List ℕ) (at to : ℕ) (s : List ℕ) → QuotedBytes text at to s
     → length s + at ≤ to
 inside_short text at to s (ends _ h) = omega arith
 inside_short text at to s (byte _ _ vs l q b r) =

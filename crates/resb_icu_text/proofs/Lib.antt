@@ -11,6 +11,7 @@ mod LengthLemmas
 mod TypesLemmas
 mod DistinctLemmas
 mod KeptLemmas
+mod QuotaLemmas
 mod MakingLemmas
 mod DraftLemmas
 mod LeafLemmas

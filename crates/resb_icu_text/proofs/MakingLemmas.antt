@@ -1,7 +1,7 @@
 -- What was made stays while more is made, and where a reading stands once something is made.
 use Rattle.std.proofs.Common.{◌≡◌, ◌&&◌, ◌⊎◌, ℕ, ◌+◌, Bool, true, List, [], ◌∷◌, ◌++◌, Vec, Global}
 use Rattle.std.proofs.Common.{Bor, inl, inr, refl, sym, ◌∙◌, ap, subst}
-use Rattle.std.proofs.lemmas.Bool.{and_from, and_parts}
+use Rattle.std.proofs.lemmas.Bool.{and_from, and_parts, false≢true}
 use Rattle.std.proofs.lemmas.List.{map-append}
 use Rattle.std.specs.Prelude.{map, slice_index}
 use Rattle.resb_grammar.specs.Ascii as ascii
@@ -10,12 +10,11 @@ use Rattle.resb_tree.specs.Tree.{Tree, table, map_of}
 use Rattle.resb_tree.specs.View.{tree_of}
 use Rattle.resb_tree.specs.declared.resource.Resource.{Resource}
 use Rattle.resb_icu_grammar.specs.Groups.{a_string}
-use Rattle.resb_icu_grammar.specs.Machine.{Waiting, in_array, in_table, Reading, reading_at, Comes}
-use Rattle.resb_icu_grammar.specs.Machine.{AreDistinct, here, among_members, among_entries}
+use Rattle.resb_icu_grammar.specs.Machine.{Waiting, in_array, in_table, Reading, reading_at}
+use Rattle.resb_icu_grammar.specs.Machine.{AreDistinct, among_members, among_entries}
 use Rattle.resb_icu_grammar.specs.Machine.{behind_group, table_ends}
-use Rattle.resb_icu_grammar.specs.Stuck.{StuckFrom, inside, key_twice}
+use Rattle.resb_icu_grammar.specs.Stuck.{ReadStuck, inside, key_twice}
 use Rattle.resb_icu_grammar.specs.declared.expected.IcuExpected.TheVariants as expect
-use Rattle.resb_icu_grammar.proofs.Moves.{one_move, comes_by}
 use Rattle.resb_icu_text.specs.Borrowed.{PassesWhatIsSaid, passes}
 use Rattle.resb_icu_text.specs.Refusal.{want_of_memory}
 use Rattle.resb_icu_text.specs.declared.error.IcuTextError.{IcuTextError}
@@ -30,7 +29,10 @@ use Rattle.resb_icu_text.specs.declared.open.Next.TheVariants as next
 use Rattle.resb_icu_text.specs.Inner.Build.{Grows, Adds, pairs_by}
 use Rattle.resb_icu_text.specs.Inner.Kept.{Test, anything, members_pass, entries_pass, open_passes}
 use Rattle.resb_icu_text.specs.Inner.Kept.{read_passes, next_passes, IsKept}
-use Rattle.resb_icu_text.specs.Inner.Reading.{around, coming_to, Makes, StopsAt, IsDouble}
+use Rattle.resb_icu_text.specs.Inner.Reading.{around, coming_to, Makes, IsDouble}
+use Rattle.resb_icu_text.specs.Inner.Quota.{GoesOn, StopsAt}
+use Rattle.resb_icu_text.specs.declared.quota.Quota.{Quota}
+use Rattle.resb_icu_text.proofs.QuotaLemmas.{none_taken, by_move, memory_stops, stuck_stops}
 use Rattle.resb_icu_text.specs.Inner.Steps.{shown, read_now, Ends}
 use Rattle.resb_icu_text.proofs.KeptLemmas.{members_with}
 
@@ -100,83 +102,82 @@ module _ {B X : Type 0} (tree : B → X → Tree) (held : B → X → Test → B
       (adds.1 t both.1)
 
   -- where a reading stands once a string is a member
-  pub member_made : (text : List ℕ) (ws : List Waiting) (ks : List (List ℕ))
+  pub member_made : (text : List ℕ) (ws : List Waiting) (ks : List (List ℕ)) (q : Quota)
       (v old : Vec X Global) (x : X) (r : Resource) (at : ℕ)
       → Adds tree held b d x (tree_of r) (λ t. passes t r) → v.items ≡ old.items ++ x ∷ []
       → (members_pass old.items (held b) anything && passes anything r) ≡ true
-      → Comes text (read_now (tree b) ws ks (read.Member old r at))
+      → GoesOn text q q (read_now (tree b) ws ks (read.Member old r at))
       (coming_to (tree d) ws ks (next.Step (step.Members v last.String at)))
-  member_made text ws ks v old x r at adds e h =
-      subst (λ ts. Comes text (read_now (tree b) ws ks (read.Member old r at))
+  member_made text ws ks q v old x r at adds e h =
+      subst (λ ts. GoesOn text q q (read_now (tree b) ws ks (read.Member old r at))
       (reading_at ws ks (among_members a_string ts) at))
       (sym (member_more v.items old.items x (tree_of r) (λ t. passes t r) adds e
-      (and_parts _ _ h).0)) (here _)
+      (and_parts _ _ h).0)) (λ limit a. a)
 
 -- where a reading stands once a group is made
-pub group_made : (text : List ℕ) (ws : List Waiting) (ks : List (List ℕ)) (t u : Tree) (at : ℕ)
-    → t ≡ u
-    → Comes text (reading_at ws ks (behind_group u) at) (reading_at ws ks (behind_group t) at)
-group_made text ws ks t u at e =
-    subst (λ s. Comes text (reading_at ws ks (behind_group u) at)
-    (reading_at ws ks (behind_group s) at)) (sym e) (here _)
+pub group_made : (text : List ℕ) (ws : List Waiting) (ks : List (List ℕ)) (q : Quota) (t u : Tree)
+    (at : ℕ) → t ≡ u
+    → GoesOn text q q (reading_at ws ks (behind_group u) at) (reading_at ws ks (behind_group t) at)
+group_made text ws ks q t u at e =
+    subst (λ s. GoesOn text q q (reading_at ws ks (behind_group u) at)
+    (reading_at ws ks (behind_group s) at)) (sym e) (λ limit a. a)
 
 -- where it stands once a table is
-pub table_made : (text : List ℕ) (ws : List Waiting) (ks : List (List ℕ)) (t : Tree)
+pub table_made : (text : List ℕ) (ws : List Waiting) (ks : List (List ℕ)) (q : Quota) (t : Tree)
     (es : List (List ℕ × Tree)) (at to : ℕ) → t ≡ table (map_of es) → AreDistinct es
     → (slice_index text at ≡ ascii.right_brace) × (to ≡ at + 1)
-    → Comes text (reading_at ws ks (among_entries es) at) (reading_at ws ks (behind_group t) to)
-table_made text ws ks t es at to e h ends =
-    subst (λ n. Comes text (reading_at ws ks (among_entries es) at)
+    → GoesOn text q q (reading_at ws ks (among_entries es) at)
+    (reading_at ws ks (behind_group t) to)
+table_made text ws ks q t es at to e h ends =
+    subst (λ n. GoesOn text q q (reading_at ws ks (among_entries es) at)
     (reading_at ws ks (behind_group t) n)) (sym ends.1)
-    (subst (λ s. Comes text (reading_at ws ks (among_entries es) at)
+    (subst (λ s. GoesOn text q q (reading_at ws ks (among_entries es) at)
     (reading_at ws ks (behind_group s) (at + 1))) (sym e)
-    (one_move text ws ks _ at _ (table_ends es at ends.0 h)))
+    (by_move ws ks _ at _ (table_ends es at ends.0 h) refl (none_taken q)))
 
-double_stuck : {X : Type 0} (text : List ℕ) (tree : X → Tree) (r : Read X) (e : IcuTextError)
-    (ws : List Waiting) (ks : List (List ℕ)) → Ends text r → IsDouble tree r e
-    → StuckFrom text (read_now tree ws ks r) e.position e.expected
-double_stuck text tree (read.Step s) e ws ks ends h = absurd h
-double_stuck text tree (read.Member members r at) e ws ks ends h = absurd h
-double_stuck text tree (read.Array members at) e ws ks ends h = absurd h
-double_stuck text tree (read.Table entries at to) e ws ks ends h =
+double_stops : {X : Type 0} (text : List ℕ) (q : Quota) (tree : X → Tree) (r : Read X)
+    (e : IcuTextError) (ws : List Waiting) (ks : List (List ℕ)) → Ends text r → IsDouble tree r e
+    → StopsAt text q q (read_now tree ws ks r) e
+double_stops text q tree (read.Step s) e ws ks ends h = absurd h
+double_stops text q tree (read.Member members r at) e ws ks ends h = absurd h
+double_stops text q tree (read.Array members at) e ws ks ends h = absurd h
+double_stops text q tree (read.Table entries at to) e ws ks ends h =
     let es = pairs_by tree entries.items in
-    subst (λ (f : IcuTextError).
-    StuckFrom text (reading_at ws ks (among_entries es) at) f.position f.expected) (sym h.1)
-    (record {
-      last = reading_at ws ks (among_entries es) at;
-      comes = here (reading_at ws ks (among_entries es) at);
-      there = inside ws ks (among_entries es) at at expect.KeysOnce
-          (key_twice es at ends.0 h.0);
-    })
-double_stuck text tree (read.Leaf r at) e ws ks ends h = absurd h
-double_stuck text tree (read.Root x at) e ws ks ends h = absurd h
+    stuck_stops (reading_at ws ks (among_entries es) at) e (none_taken q)
+    (subst (λ (f : IcuTextError).
+    ReadStuck text (reading_at ws ks (among_entries es) at) f.position f.expected) (sym h.1)
+    (inside ws ks (among_entries es) at at expect.KeysOnce (key_twice es at ends.0 h.0)))
+    (λ is. absurd (false≢true is))
+double_stops text q tree (read.Leaf r at) e ws ks ends h = absurd h
+double_stops text q tree (read.Root x at) e ws ks ends h = absurd h
 
 -- a reading stops where nothing is made
-pub stops_made : {X : Type 0} (text : List ℕ) (tree : X → Tree) (r : Read X) (e : IcuTextError)
-    (ws : List Waiting) (ks : List (List ℕ)) → Ends text r
-    → (e ≡ want_of_memory) ⊎ IsDouble tree r e → StopsAt text (read_now tree ws ks r) e
-stops_made text tree r e ws ks ends (inl m) = inl m
-stops_made text tree r e ws ks ends (inr n) = inr (double_stuck text tree r e ws ks ends n)
+pub stops_made : {X : Type 0} (text : List ℕ) (q : Quota) (tree : X → Tree) (r : Read X)
+    (e : IcuTextError) (ws : List Waiting) (ks : List (List ℕ)) → Ends text r
+    → (e ≡ want_of_memory) ⊎ IsDouble tree r e → StopsAt text q q (read_now tree ws ks r) e
+stops_made text q tree r e ws ks ends (inl m) =
+    memory_stops (read_now tree ws ks r) e (none_taken q) m
+stops_made text q tree r e ws ks ends (inr n) = double_stops text q tree r e ws ks ends n
 
 module _ {B X : Type 0} (tree : B → X → Tree) (held : B → X → Test → Bool) where
   -- where a reading comes that makes what it has read
-  pub advanced : (text : List ℕ) (from : Reading) (os : List (Open X)) (ks : List (List ℕ))
-      (b₀ b d : B) (r : Read X) (n : Next X) → b ≡ b₀
-      → Comes text from (read_now (tree b₀) (around (tree b₀) [] os) ks r)
+  pub advanced : (text : List ℕ) (p q : Quota) (from : Reading) (os : List (Open X))
+      (ks : List (List ℕ)) (b₀ b d : B) (r : Read X) (n : Next X) → b ≡ b₀
+      → GoesOn text p q from (read_now (tree b₀) (around (tree b₀) [] os) ks r)
       → IsKept text (λ t. all_true (map (λ o. open_passes o (held b₀) t) os)
       && read_passes r (held b₀) t)
       → Ends text r → Grows tree held b d → Makes (tree b) (tree d) r n
-      → Comes text from (coming_to (tree d) (around (tree d) [] os) ks n)
-  advanced text from os ks b₀ b d r n e comes kept ends grows made =
+      → GoesOn text p q from (coming_to (tree d) (around (tree d) [] os) ks n)
+  advanced text p q from os ks b₀ b d r n e comes kept ends grows made =
       let outer = (and_parts _ _ (kept anything (anything_said text))).0 in
       let on = subst (λ c. Grows tree held c d) e grows in
       let same = (around_grows tree held b₀ d on anything [] os outer).0 in
-      let then = subst (λ c. Comes text (read_now (tree c) (around (tree b₀) [] os) ks r)
+      let then = subst (λ c. GoesOn text q q (read_now (tree c) (around (tree b₀) [] os) ks r)
       (coming_to (tree d) (around (tree b₀) [] os) ks n)) e
-      (made text (around (tree b₀) [] os) ks ends) in
-      comes_by text from (read_now (tree b₀) (around (tree b₀) [] os) ks r) _ comes
-      (subst (λ ws. Comes text (read_now (tree b₀) (around (tree b₀) [] os) ks r)
-      (coming_to (tree d) ws ks n)) (sym same) then)
+      (made text (around (tree b₀) [] os) ks q ends) in
+      λ limit a. (subst (λ ws. GoesOn text q q
+      (read_now (tree b₀) (around (tree b₀) [] os) ks r)
+      (coming_to (tree d) ws ks n)) (sym same) then) limit (comes limit a)
 
   -- what is there passes what it did
   pub advanced_kept : (text : List ℕ) (os : List (Open X)) (b₀ b d : B) (r : Read X) (n : Next X)

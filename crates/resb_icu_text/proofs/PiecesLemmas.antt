@@ -7,7 +7,7 @@ use Rattle.std.proofs.Common.{Result, Ok, Err, OnOk, is_ok, if◌then◌else◌}
 use Rattle.std.specs.Prelude.{slice_range}
 use Rattle.std.specs.Str.{IsUtf8, IsCharBoundary}
 use Rattle.std.proofs.lemmas.Str.{IsCharBoundary-after_ascii}
-use Rattle.std.proofs.lemmas.List.{take_more, get_or-drop}
+use Rattle.std.proofs.lemmas.List.{take_more, get_or-drop, length-append}
 use Rattle.std.specs.Prelude.{slice_index, nat_lt}
 use Rattle.std.proofs.lemmas.Bool.Decides.{nat_tests}
 use Rattle.resb_icu_text.proofs.Lists.{slice_none}
@@ -25,17 +25,19 @@ use Rattle.resb_icu_grammar.specs.Words.{HasNoEscape}
 use Rattle.resb_icu_text.specs.Inner.Stops.{HasNoStop}
 use Rattle.resb_icu_grammar.proofs.Lexical.{Escape-one, Inside-one}
 
--- some inside of a piece stands between these places
-abbrev pub SomeInside : List ℕ → ℕ → ℕ → Type 0
-SomeInside text from to = (s : List ℕ) × QuotedBytes text from to s
+-- some inside of a piece stands between these places, and says so many bytes
+abbrev pub SomeInside : List ℕ → ℕ → ℕ → ℕ → Type 0
+SomeInside text from to n = (s : List ℕ) × QuotedBytes text from to s × (length s ≡ n)
 
--- what goes on from one place goes on from the other
-abbrev pub GoesOn : List ℕ → ℕ → ℕ → Type 0
-GoesOn text at from = (to : ℕ) → SomeInside text at to → SomeInside text from to
+-- what goes on from one place goes on from the other, and says so many bytes more there
+abbrev pub GoesOn : List ℕ → ℕ → ℕ → ℕ → Type 0
+GoesOn text at from n = (to m : ℕ) → SomeInside text at to m → SomeInside text from to (n + m)
 
-goes_byte : (text : List ℕ) (from at : ℕ) → at < length text → slice_index text at ≢ ascii.quote
-    → slice_index text at ≢ backslash → GoesOn text at from → GoesOn text (at + 1) from
-goes_byte text from at l q s f to h = f to (_, byte at to h.0 l q s h.1)
+goes_byte : (text : List ℕ) (from at n : ℕ) → at < length text → slice_index text at ≢ ascii.quote
+    → slice_index text at ≢ backslash → GoesOn text at from n → GoesOn text (at + 1) from (n + 1)
+goes_byte text from at n l q s f to m h =
+    let more = f to (suc m) (_, byte at to h.0 l q s h.1, ap suc h.2) in
+    subst (λ k. SomeInside text from to k) (omega arith) more
 
 -- a fault that stands from one place on stands from the other on
 abbrev pub FaultOn : List ℕ → ℕ → ℕ → ℕ → Type 0
@@ -72,10 +74,16 @@ kept_bytes text P keeps at stop o l h p =
     (subst (λ i. HasNoStop text at i) (sym e) h) p)
 
 -- bytes that stand for themselves, up to the first quote or backslash
-pub goes_bytes : (text : List ℕ) (from at stop : ℕ) → at ≤ stop → stop ≤ length text
-    → HasNoStop text at stop → GoesOn text at from → GoesOn text stop from
-goes_bytes text from =
-    kept_bytes text (λ i. GoesOn text i from) (λ i l q s f. goes_byte text from i l q s f)
+pub goes_bytes : (text : List ℕ) (from at stop n : ℕ) → at ≤ stop → stop ≤ length text
+    → HasNoStop text at stop → GoesOn text at from n → GoesOn text stop from (n + (stop - at))
+goes_bytes text from at stop n o l h f =
+    (kept_bytes text (λ i. (at ≤ i) × GoesOn text i from (n + (i - at)))
+    (λ i l q s g. (omega (arith, g.0), by i g.0 (goes_byte text from i _ l q s g.1)))
+    at stop o l h (omega arith, subst (λ j. GoesOn text at from j) (omega arith) f)).1
+  where
+    by : (i : ℕ) → at ≤ i → GoesOn text (i + 1) from (n + (i - at) + 1)
+        → GoesOn text (i + 1) from (n + (i + 1 - at))
+    by i low g = subst (λ j. GoesOn text (i + 1) from j) (omega (arith, low)) g
 
 -- and a fault behind them
 pub fault_bytes : (text : List ℕ) (opening from at stop : ℕ) → at ≤ stop → stop ≤ length text
@@ -83,11 +91,16 @@ pub fault_bytes : (text : List ℕ) (opening from at stop : ℕ) → at ≤ stop
 fault_bytes text o from =
     kept_bytes text (λ i. FaultOn text o i from) (λ i l q s f. fault_byte text o from i l q s f)
 
-pub goes_escape : (text : List ℕ) (from at next b : ℕ) (xs : List ℕ) → b ≡ slice_index text at
-    → b ≡ backslash → Escape text (at + 1) next xs → GoesOn text at from
-    → GoesOn text next from
-goes_escape text from at next b xs e s x f to h =
-    f to (_, escape at next to xs h.0 (sym e ∙ s) x h.1)
+pub goes_escape : (text : List ℕ) (from at next b n k : ℕ) (xs : List ℕ) → b ≡ slice_index text at
+    → b ≡ backslash → Escape text (at + 1) next xs → k ≡ length xs → GoesOn text at from n
+    → GoesOn text next from (n + k)
+goes_escape text from at next b n k xs e s x c f to m h =
+    let more = f to (k + m) (
+      _,
+      escape at next to xs h.0 (sym e ∙ s) x h.1,
+      omega (arith, length-append xs h.0, c, h.2),
+    ) in
+    subst (λ j. SomeInside text from to j) (omega arith) more
 
 pub fault_escape : (text : List ℕ) (opening from at next b : ℕ) (xs : List ℕ)
     → b ≡ slice_index text at → b ≡ backslash → Escape text (at + 1) next xs
@@ -117,9 +130,10 @@ says_fault text o from to x e h f =
     subst (λ (g : IcuTextError). PieceFault text o from g.position g.expected) (sym h) f
 
 -- a closing quote
-pub piece_closes : (text : List ℕ) (from at : ℕ) → slice_index text at ≡ ascii.quote
-    → GoesOn text at from → SomeInside text from at
-piece_closes text from at q f = f at ([], ends at q)
+pub piece_closes : (text : List ℕ) (from at n : ℕ) → slice_index text at ≡ ascii.quote
+    → GoesOn text at from n → SomeInside text from at n
+piece_closes text from at n q f =
+    subst (λ k. SomeInside text from at k) (omega arith) (f at 0 ([], ends at q, refl))
 
 -- bytes more without a backslash
 pub no_escape_more : (text : List ℕ) (from at stop : ℕ) → HasNoStop text at stop

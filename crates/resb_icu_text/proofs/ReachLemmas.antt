@@ -13,6 +13,9 @@ use Rattle.resb_icu_text.specs.declared.steps.Step.{Step}
 use Rattle.resb_icu_text.specs.declared.steps.Step.TheVariants as step
 use Rattle.resb_grammar.specs.Inner.Reach.{reach}
 use Rattle.resb_grammar.proofs.ReachLemmas.{reach_high, reach_here, reach_slash, reach_quote}
+use Rattle.resb_icu_text.specs.declared.steps.Read.{Read}
+use Rattle.resb_icu_text.specs.declared.steps.Read.TheVariants as read
+use Rattle.resb_icu_text.specs.Inner.Steps.{read_to, spent_reading}
 use Rattle.resb_icu_text.specs.Inner.Steps.{stands_at, spent}
 
 slash_no_word : (b : ℕ) → b ≡ ascii.slash → is_word b ≡ true → ⊥
@@ -72,3 +75,13 @@ spent_most text (step.Members members last at) l = omega (arith, reach_high text
 spent_most text (step.Entries entries at) l = omega (arith, reach_high text at l)
 spent_most text (step.Group w at) l = omega (arith, reach_high text at l)
 spent_most text (step.Ended x at) l = omega (arith, l)
+
+-- nor one that has read what it did
+pub reading_most : {X : Type 0} (text : List ℕ) (r : Read X) → read_to r ≤ length text
+    → spent_reading text r ≤ 8 * length text + 3
+reading_most text (read.Step s) l = spent_most text s l
+reading_most text (read.Member members r at) l = omega (arith, reach_high text at l)
+reading_most text (read.Array members at) l = omega (arith, l)
+reading_most text (read.Table entries at next) l = omega (arith, l)
+reading_most text (read.Leaf r at) l = omega (arith, l)
+reading_most text (read.Root x at) l = omega (arith, l)

@@ -1,5 +1,6 @@
 -- What is open around a place, what stands before the root, and where a reading of a text stops.
-use Rattle.std.proofs.Common.{◌≡◌, ◌≢◌, ℕ, ◌+◌, ◌≤◌, ◌<◌, Bool, true, false, List, [], ◌∷◌, ◌++◌}
+use Rattle.std.proofs.Common.{◌≡◌, ◌≢◌, ◌&&◌, ℕ, ◌+◌, ◌*◌, ◌≤◌, ◌<◌, Bool, true, false}
+use Rattle.std.proofs.Common.{List, [], ◌∷◌, ◌++◌}
 use Rattle.std.proofs.Common.{refl, sym, ◌∙◌, ap, subst, arith, length, get_or, Bor, ◌⊎◌, inl, inr}
 use Rattle.std.proofs.Common.{⊎_elim}
 use Rattle.std.specs.Prelude.{slice_index, map, take, nat_eq, ◌==◌}
@@ -15,38 +16,51 @@ use Rattle.resb_grammar.proofs.ByteRunsLemmas.{Run-one}
 use Rattle.resb_tree.specs.Tree.{Tree}
 use Rattle.resb_icu_grammar.specs.Bytes.{is_word}
 use Rattle.resb_icu_grammar.specs.Blanks.{Begins, Skip}
-use Rattle.resb_icu_grammar.specs.Bundle.{Header, Typing, without, with}
+use Rattle.resb_icu_grammar.specs.Bundle.{Header, Typing, without, with, IcuText}
 use Rattle.resb_icu_grammar.specs.Words.{KeyText, Name}
 use Rattle.resb_icu_grammar.specs.Machine.{at_root, Waiting, Reading, reading_at, behind_group}
-use Rattle.resb_icu_grammar.specs.Machine.{Comes, here}
+use Rattle.resb_icu_grammar.specs.Machine.{before_group}
+use Rattle.resb_icu_grammar.specs.Limit.{IcuMadeWithin, IcuMakesMore, by_the_root}
+use Rattle.std.specs.Prelude.{Result, Ok, Err, IfErr, MatchResult}
+use Rattle.resb_icu_grammar.proofs.Blocked.{root_makes, header_never_more, whole_text}
 use Rattle.resb_icu_grammar.specs.Machine as move
-use Rattle.resb_icu_grammar.specs.Stuck.{HeaderStuck, StuckFrom, Stuck, in_header, in_root}
+use Rattle.resb_icu_grammar.specs.Stuck.{HeaderStuck, ReadStuck, in_header}
 use Rattle.resb_icu_grammar.specs.Stuck.{no_root_type, no_root_brace, no_typed_brace, behind}
-use Rattle.resb_icu_grammar.specs.Stuck.{more_text, NoKeyAt}
+use Rattle.resb_icu_grammar.specs.Stuck.{more_text}
 use Rattle.resb_icu_grammar.specs.Faults.{Told}
 use Rattle.resb_icu_grammar.specs.Stuck as stuck
 use Rattle.resb_icu_grammar.specs.declared.expected.IcuExpected.{IcuExpected}
 use Rattle.resb_icu_grammar.specs.declared.expected.IcuExpected.TheVariants as expect
 use Rattle.resb_icu_grammar.proofs.Faults.{string_told}
 use Rattle.resb_icu_grammar.proofs.Lexical.{String-one, key_string}
-use Rattle.resb_icu_grammar.proofs.Moves.{comes_by, comes_same}
 use Rattle.resb_icu_grammar.proofs.Refused.{stuck_is_no_text}
-use Rattle.resb_icu_text.specs.Answer.{IcuFails, IsNoIcuText}
+use Rattle.resb_icu_text.specs.Answer.{IcuFails, IsNoIcuText, IcuNeverMore}
 use Rattle.resb_icu_text.specs.Refusal.{want_of_memory}
 use Rattle.resb_icu_text.specs.declared.error.IcuTextError.{IcuTextError}
 use Rattle.resb_icu_text.specs.Inner.Ahead.{KeyFails}
-use Rattle.resb_icu_text.specs.Inner.Steps.{shown, with_key, now, GroupThere, There, StepFails}
+use Rattle.resb_icu_text.specs.Inner.Steps.{shown, with_key, now}
 use Rattle.resb_icu_text.specs.declared.steps.Waiting.{Waiting as Open}
 use Rattle.resb_icu_text.specs.declared.steps.Waiting.TheVariants as waiting
 use Rattle.resb_icu_text.specs.Inner.Build.{pairs_by}
 use Rattle.resb_icu_text.specs.Inner.Steps.{IsTaken, Resumes}
-use Rattle.resb_icu_text.specs.Inner.Reading.{StopsAt, HoldsRules}
+use Rattle.resb_icu_text.specs.Inner.Reading.{HoldsRules, IsWhole}
+use Rattle.resb_icu_text.specs.Inner.Quota.{TakesBytes, RunsOver, IsAt, GoesOn, IsStuck}
+use Rattle.resb_icu_text.specs.Inner.Quota.{Stops, StopsAt}
+use Rattle.resb_icu_text.specs.declared.quota.Quota.{Quota}
+use Rattle.resb_icu_text.proofs.QuotaLemmas.{none_taken, memory_stops, stuck_stops}
+use Rattle.std.proofs.lemmas.Bool.{false≢true, and_from, and_parts}
+use Rattle.resb_tree.specs.Borrowing.{all_true}
+use Rattle.resb_icu_text.specs.Inner.Kept.{Test, Passing, IsKept, groups_pass, open_passes}
+use Rattle.resb_icu_text.specs.Inner.Steps.{Place, StepsTo, group_place, read_now}
+use Rattle.resb_icu_text.specs.Inner.Reading.{groups, keys, stands, IsRead}
+use Rattle.resb_icu_text.specs.declared.open.OpenGroups.{OpenGroups}
+use Rattle.resb_icu_text.specs.declared.steps.Read.{Read}
+use Rattle.resb_tree.specs.Weights.{resource_weight}
 use Rattle.resb_icu_text.specs.declared.steps.Step.{Step}
 use Rattle.resb_icu_text.specs.declared.steps.Step.TheVariants as step
 use Rattle.resb_icu_text.specs.Inner.Reading.{around, NameFails, TypingThere, no_colon, a_type}
 use Rattle.resb_icu_text.specs.Inner.Reading.{OpeningFails, no_type, no_brace, HeaderFails}
 use Rattle.resb_icu_text.specs.Inner.Reading.{RootThere}
-use Rattle.resb_icu_text.specs.Inner.Reading.{RootFails}
 
 -- one group more is the innermost
 pub around_push : {X : Type 0} (tree : X → Tree) (ws : List Waiting) (os : List (Open X))
@@ -63,21 +77,17 @@ name_is text at to end k name p n =
 -- no name stands where no key does
 pub no_name : (text : List ℕ) (at : ℕ) (e : IcuTextError) → KeyFails text at expect.Name e
     → NameFails text at e
-no_name text at e h =
-    ⊎_elim (λ (m : e ≡ want_of_memory). inl m)
-    (λ (n : NoKeyAt text at × Told text at expect.Name e.position e.expected).
-    inr (λ end name w. n.0 end name w.key, n.1)) h
+no_name text at e n = (λ end name w. n.0 end name w.key, n.1)
 
 -- where a key is no name, the name is told
 pub unfit_name : (text : List ℕ) (at to : ℕ) (k : List ℕ) (e : IcuTextError)
     → e ≡ record { position = at; expected = expect.Name } → KeyText text at to k
     → ((end : ℕ) (name : List ℕ) → Name text at end name → ⊥) → NameFails text at e
-unfit_name text at to k e h p f =
-    inr (
-      f,
-      subst (λ (g : IcuTextError). Told text at expect.Name g.position g.expected) (sym h)
-          (string_told text at to k expect.Name (key_string text at to k p)),
-    )
+unfit_name text at to k e h p f = (
+  f,
+  subst (λ (g : IcuTextError). Told text at expect.Name g.position g.expected) (sym h)
+      (string_told text at to k expect.Name (key_string text at to k p)),
+)
 
 -- an empty key is no name
 pub empty_name : (text : List ℕ) (at to : ℕ) (k : List ℕ) → KeyText text at to k
@@ -118,14 +128,12 @@ header_says : (text : List ℕ) (to : ℕ) (x : IcuExpected) (e : IcuTextError)
     → e ≡ record { position = to; expected = x } → HeaderStuck text to x
     → HeaderFails text e
 header_says text to x e h s =
-    inr (subst (λ (g : IcuTextError). HeaderStuck text g.position g.expected) (sym h) s)
+    subst (λ (g : IcuTextError). HeaderStuck text g.position g.expected) (sym h) s
 
 -- where no name stands, a reading stops before the first entry
 pub no_header_name : (text : List ℕ) (a start : ℕ) (e : IcuTextError) → Begins text a
     → Skip text a start → NameFails text start e → HeaderFails text e
-no_header_name text a start e b k (inl m) = inl m
-no_header_name text a start e b k (inr n) =
-    inr (stuck.no_name a start e.position e.expected b k n.0 n.1)
+no_header_name text a start e b k n = stuck.no_name a start e.position e.expected b k n.0 n.1
 
 no_opening_brace : (text : List ℕ) (a start end at brace : ℕ) (name : List ℕ) (f : Bool)
     → Begins text a → Skip text a start → Name text start end name → Skip text end at
@@ -155,26 +163,65 @@ with_key_length ks (waiting.Array members) = omega arith
 with_key_length ks (waiting.Table entries key at) =
     omega (arith, length-append ks (key.now ∷ []))
 
--- a refusal inside these groups and with these keys
-pub stops_there : {X : Type 0} (text : List ℕ) (there : There X) (e : IcuTextError)
-    → StepFails text there e → (tree : X → Tree) (ws : List Waiting) (ks : List (List ℕ))
-    → StopsAt text (there tree ws ks) e
-stops_there {X} text there e r tree ws ks = ⊎_elim (λ (m : e ≡ want_of_memory). inl m)
-    (λ (n : (tree : X → Tree) (ws : List Waiting) (ks : List (List ℕ))
-    → StuckFrom text (there tree ws ks) e.position e.expected). inr (n tree ws ks)) r
-
 -- what is open after a push
 pub pushed : {X : Type 0} (tree : X → Tree) (old new : List (Open X)) (o : Open X)
     → new ≡ old ++ o ∷ [] → around tree [] new ≡ shown tree o ∷ around tree [] old
 pushed tree old new o e = ap (λ os. around tree [] os) e ∙ around_push tree [] old o
 
--- a step inside a group that was just opened
-pub in_opened : {X : Type 0} (text : List ℕ) (at : ℕ) (r : Reading) (tree : X → Tree) (w : Open X)
-    (os ws : List Waiting) (js ks : List (List ℕ)) → os ≡ shown tree w ∷ ws → js ≡ with_key ks w
-    → Comes text (GroupThere X at tree os js) r → Comes text (now tree ws ks (step.Group w at)) r
-in_opened {X} text at r tree w os ws js ks e f h =
-    subst (λ vs. Comes text (GroupThere X at tree vs (with_key ks w)) r) e
-    (subst (λ is. Comes text (GroupThere X at tree os is) r) f h)
+-- where a group was just opened, a reading stands inside it
+pub in_opened : {X : Type 0} (P : Reading → Type 0) (at : ℕ) (tree : X → Tree)
+    (w : Open X) (os ws : List Waiting) (js ks : List (List ℕ)) → os ≡ shown tree w ∷ ws
+    → js ≡ with_key ks w → P (reading_at os js before_group at)
+    → P (now tree ws ks (step.Group w at))
+in_opened P at tree w os ws js ks e f h =
+    subst (λ vs. P (reading_at vs (with_key ks w) before_group at)) e
+    (subst (λ is. P (reading_at os is before_group at)) f h)
+
+-- what a step reads inside what is open
+pub is_read : {B X : Type 0} (tree : X → Tree) (pass : Passing X) (text : List ℕ) (place : Place X)
+    (g : OpenGroups B X) (p q : Quota) (r : Read X) → StepsTo text place p q r
+    → IsKept text (λ t. groups_pass g pass t && place.passes pass t)
+    → IsRead tree pass text (place.there tree (groups tree g) (keys g)) place.progress g p q r
+is_read tree pass text place g p q r s kept = record {
+  leaf = s.leaf;
+  ends = s.ends;
+  comes = s.comes tree (groups tree g) (keys g);
+  kept = λ t h. let both = and_parts _ _ (kept t h) in
+      and_from _ _ both.0 (s.keeps pass t h both.1);
+  goes = s.goes;
+}
+
+-- what one reads inside a group that was just opened
+pub opened_read : {B X : Type 0} (tree : X → Tree) (pass : Passing X) (text : List ℕ) (at : ℕ)
+    (w : Open X) (old g : OpenGroups B X) (p q : Quota) (r : Read X)
+    → StepsTo text (group_place X at) p q r → groups tree g ≡ shown tree w ∷ groups tree old
+    → keys g ≡ with_key (keys old) w → IsKept text (λ t. groups_pass g pass t)
+    → IsRead tree pass text (stands tree old (step.Group w at)) (3 * at + 2) g p q r
+opened_read tree pass text at w old g p q r s e f kept = record {
+  leaf = s.leaf;
+  ends = s.ends;
+  comes = in_opened (λ u. GoesOn text p q u (read_now tree (groups tree g) (keys g) r)) at tree w
+      (groups tree g) (groups tree old) (keys g) (keys old) e f
+      (s.comes tree (groups tree g) (keys g));
+  kept = λ t h. and_from _ _ (kept t h) (s.keeps pass t h refl);
+  goes = s.goes;
+}
+
+-- what passes of all that is open passes of the innermost group, and of the others
+pub waiting_parts : {X : Type 0} (pass : Passing X) (t : Test) (old new : List (Open X))
+    (o : Open X) → old ≡ new ++ o ∷ []
+    → all_true (map (λ w. open_passes w pass t) old) ≡ true
+    → (all_true (map (λ w. open_passes w pass t) new) ≡ true) × (open_passes o pass t ≡ true)
+waiting_parts pass t old new o e h =
+    by new (sym (ap (λ l. all_true (map (λ w. open_passes w pass t) l)) e) ∙ h)
+  where
+    by : (ws : List (Open _)) → all_true (map (λ w. open_passes w pass t) (ws ++ o ∷ [])) ≡ true
+        → (all_true (map (λ w. open_passes w pass t) ws) ≡ true) × (open_passes o pass t ≡ true)
+    by [] k = (refl, (and_parts (open_passes o pass t) _ k).0)
+    by (x ∷ xs) k =
+        let both = and_parts (open_passes x pass t) _ k in
+        let rest = by xs both.1 in
+        (and_from _ _ both.0 rest.0, rest.1)
 
 -- one key more in the list of those that stand once
 pub more_keys : (ks : List (Bor (List ℕ))) (i : ℕ) (d : Bor (List ℕ)) (old new : List (List ℕ))
@@ -194,93 +241,166 @@ nothing_open tree [] e = refl
 nothing_open tree (o ∷ os) e = absurd (omega arith)
 
 -- a step behind a group, inside what was open around it
-pub behind_ended : {X : Type 0} (text : List ℕ) (tree : X → Tree) (w : Open X) (x : X) (at : ℕ)
-    (s : Step X) (os ws : List Waiting) (ks : List (List ℕ)) → os ≡ shown tree w ∷ ws
+pub behind_ended : {X : Type 0} (text : List ℕ) (q : Quota) (tree : X → Tree) (w : Open X) (x : X)
+    (at : ℕ) (s : Step X) (os ws : List Waiting) (ks : List (List ℕ)) → os ≡ shown tree w ∷ ws
     → IsTaken w (tree x) → Resumes text w x at s
-    → Comes text (now tree os ks (step.Ended x at)) (now tree ws ks s)
-behind_ended text tree w x at s os ws ks e taken h =
-    subst (λ vs. Comes text (reading_at vs ks (behind_group (tree x)) at) (now tree ws ks s))
-    (sym e) (h tree ws ks taken)
+    → GoesOn text q q (now tree os ks (step.Ended x at)) (now tree ws ks s)
+behind_ended text q tree w x at s os ws ks e taken h =
+    subst (λ vs. GoesOn text q q (reading_at vs ks (behind_group (tree x)) at) (now tree ws ks s))
+    (sym e) (h.comes tree ws ks q taken)
 
 rules_stuck : {X : Type 0} (text : List ℕ) (tree : X → Tree) (w : Open X) (t : Tree) (at : ℕ)
     (e : IcuTextError) (ws : List Waiting) (ks : List (List ℕ)) → HoldsRules w t e
-    → StuckFrom text (reading_at (shown tree w ∷ ws) ks (behind_group t) at) e.position e.expected
+    → ReadStuck text (reading_at (shown tree w ∷ ws) ks (behind_group t) at) e.position e.expected
 rules_stuck text tree (waiting.Array members) t at e ws ks h = absurd h
 rules_stuck text tree (waiting.Table entries key begin) t at e ws ks h =
     let around = move.in_table (pairs_by tree entries.items) key.now begin ∷ ws in
     subst (λ (g : IcuTextError).
-    StuckFrom text (reading_at around ks (behind_group t) at) g.position g.expected)
-    (sym h.1) (record {
-      last = reading_at around ks (behind_group t) at;
-      comes = here (reading_at around ks (behind_group t) at);
-      there = behind _ ks t at begin expect.NoCollation
-          (stuck.a_collation ws (pairs_by tree entries.items) key.now begin h.0);
-    })
+    ReadStuck text (reading_at around ks (behind_group t) at) g.position g.expected)
+    (sym h.1) (behind _ ks t at begin expect.NoCollation
+    (stuck.a_collation ws (pairs_by tree entries.items) key.now begin h.0))
 
 -- a refusal there
-pub stops_ended : {X : Type 0} (text : List ℕ) (tree : X → Tree) (w : Open X) (x : X) (at : ℕ)
-    (e : IcuTextError) (os ws : List Waiting) (ks : List (List ℕ)) → os ≡ shown tree w ∷ ws
-    → HoldsRules w (tree x) e → StopsAt text (now tree os ks (step.Ended x at)) e
-stops_ended text tree w x at e os ws ks f h =
-    inr (subst
-    (λ vs. StuckFrom text (reading_at vs ks (behind_group (tree x)) at) e.position e.expected)
-    (sym f) (rules_stuck text tree w (tree x) at e ws ks h))
+pub stops_ended : {X : Type 0} (text : List ℕ) (q : Quota) (tree : X → Tree) (w : Open X) (x : X)
+    (at : ℕ) (e : IcuTextError) (os ws : List Waiting) (ks : List (List ℕ))
+    → os ≡ shown tree w ∷ ws
+    → HoldsRules w (tree x) e → StopsAt text q q (now tree os ks (step.Ended x at)) e
+stops_ended text q tree w x at e os ws ks f h =
+    subst (λ vs. StopsAt text q q (reading_at vs ks (behind_group (tree x)) at) e)
+    (sym f) (stuck_stops (reading_at (shown tree w ∷ ws) ks (behind_group (tree x)) at) e
+    (none_taken q) (rules_stuck text tree w (tree x) at e ws ks h)
+    (λ is. absurd (false≢true is)))
 
 -- where nothing is open, the root has ended
-pub root_ended : {X : Type 0} (text : List ℕ) (tree : X → Tree) (x : X) (at : ℕ)
+pub root_ended : {X : Type 0} (text : List ℕ) (q : Quota) (tree : X → Tree) (x : X) (at : ℕ)
     (os : List Waiting) (ks : List (List ℕ)) → os ≡ []
-    → Comes text (now tree os ks (step.Ended x at)) (reading_at [] ks (behind_group (tree x)) at)
-root_ended text tree x at os ks e =
-    subst (λ vs. Comes text (reading_at vs ks (behind_group (tree x)) at)
-    (reading_at [] ks (behind_group (tree x)) at)) (sym e) (here _)
-
--- where a reading stops that came from elsewhere
-pub stops_by : (text : List ℕ) (from r : Reading) (e : IcuTextError) → Comes text from r
-    → StopsAt text r e → StopsAt text from e
-stops_by text from r e c f = ⊎_elim (λ (m : e ≡ want_of_memory). inl m)
-    (λ (n : StuckFrom text r e.position e.expected). inr (record {
-      last = n.last;
-      comes = comes_by text from r n.last c n.comes;
-      there = n.there;
-    })) f
+    → GoesOn text q q (now tree os ks (step.Ended x at))
+    (reading_at [] ks (behind_group (tree x)) at)
+root_ended text q tree x at os ks e =
+    subst (λ vs. GoesOn text q q (reading_at vs ks (behind_group (tree x)) at)
+    (reading_at [] ks (behind_group (tree x)) at)) (sym e) (λ limit a. a)
 
 -- where more than blanks stands behind the root
-pub text_goes_on : (text : List ℕ) (first at end : ℕ) (t : Tree) (ks : List (List ℕ))
-    (e : IcuTextError) → Comes text (at_root first) (reading_at [] ks (behind_group t) at)
+pub text_goes_on : (text : List ℕ) (p q : Quota) (from : Reading) (at end : ℕ) (t : Tree)
+    (ks : List (List ℕ)) (e : IcuTextError)
+    → GoesOn text p q from (reading_at [] ks (behind_group t) at)
     → Skip text at end → end < length text
-    → e ≡ record { position = end; expected = expect.EndOfText } → RootFails text first e
-text_goes_on text first at end t ks e c k w h =
-    inr (subst (λ (g : IcuTextError). StuckFrom text (at_root first) g.position g.expected) (sym h)
-    (record {
-      last = reading_at [] ks (behind_group t) at;
-      comes = c;
-      there = behind [] ks t at end expect.EndOfText (more_text end k w);
-    }))
+    → e ≡ record { position = end; expected = expect.EndOfText } → StopsAt text p q from e
+text_goes_on text p q from at end t ks e c k w h limit a =
+    stuck_stops (reading_at [] ks (behind_group t) at) e (none_taken q)
+    (subst (λ (g : IcuTextError). ReadStuck text (reading_at [] ks (behind_group t) at)
+    g.position g.expected) (sym h)
+    (behind [] ks t at end expect.EndOfText (more_text end k w)))
+    (λ is. absurd (false≢true is)) limit (c limit a)
 
--- where nothing but blanks does, the root has this meaning
-pub text_ends : (text : List ℕ) (first at end : ℕ) (t : Tree) (ks : List (List ℕ))
-    → Comes text (at_root first) (reading_at [] ks (behind_group t) at) → Skip text at end
-    → length text ≤ end → end ≤ length text → RootThere text first (t, ks)
-text_ends text first at end t ks c k w v =
-    let whole : Skip text at (length text) =
-    subst (λ n. Skip text at n) (omega (arith, w, v)) k in
-    (comes_same text (at_root first) (reading_at [] ks (behind_group t) at) c (t, ks)).1
-    (record { after = whole; means = refl })
+-- where nothing but blanks does, the text is read to its end
+pub text_ends : (text : List ℕ) (first : ℕ) (p q : Quota) (at end : ℕ) (t : Tree)
+    (ks : List (List ℕ))
+    → GoesOn text p q (at_root first) (reading_at [] ks (behind_group t) at)
+    → Skip text at end → length text ≤ end → end ≤ length text → RootThere text first p q t ks
+text_ends text first p q at end t ks c k w v limit a =
+    record {
+      end = at;
+      stands = c limit a;
+      after = subst (λ n. Skip text at n) (omega (arith, w, v)) k;
+    }
 
 -- a refusal of the header is one of the text
-pub header_refused : (text : List ℕ) (e : IcuTextError) → HeaderFails text e → IcuFails text e
-header_refused text e r = ⊎_elim (λ (m : e ≡ want_of_memory). inl m)
-    (λ (n : HeaderStuck text e.position e.expected). inr (in_header n)) r
+pub header_refused : (text : List ℕ) (limit : ℕ) (q : Quota) (e : IcuTextError)
+    → q.is_over ≡ false → HeaderFails text e → Stops text limit q e
+header_refused text limit q e h s = record {
+  fails = inr (record {
+    stuck = in_header s;
+    first = header_never_more text limit e.position e.expected s;
+  });
+  over = λ o. absurd (false≢true (sym h ∙ o));
+}
 
--- and so is one of the root
-pub root_refused : (text name : List ℕ) (f : Bool) (a : ℕ) (e : IcuTextError)
-    → Header text name f a → RootFails text a e → IcuFails text e
-root_refused text name f a e h r = ⊎_elim (λ (m : e ≡ want_of_memory). inl m)
-    (λ (n : StuckFrom text (at_root a) e.position e.expected). inr (in_root name f a h n)) r
+-- a limit that is less than the root makes
+pub root_over : (text name : List ℕ) (f : Bool) (first : ℕ) (p q : Quota) (e : IcuTextError)
+    → Header text name f first → RunsOver p q resource_weight → e ≡ want_of_memory
+    → Stops text p.left q e
+root_over text name f first p q e h o memory = record {
+  fails = inl memory;
+  over = λ _. by_the_root name f first h o.more;
+}
+
+-- the root has begun
+pub root_begun : (text name : List ℕ) (f : Bool) (first : ℕ) (p q : Quota)
+    → Header text name f first → TakesBytes p q resource_weight → p.is_over ≡ false
+    → IsAt text p.left q (at_root first)
+root_begun text name f first p q h t o = record {
+  bytes = resource_weight;
+  made = root_makes text name f first h;
+  sum = omega (arith, t.left);
+  over = t.over ∙ o;
+}
+
+-- want of memory behind the root
+pub memory_last : (text : List ℕ) (limit : ℕ) (q : Quota) (e : IcuTextError) (r : Reading)
+    → e ≡ want_of_memory → IsAt text limit q r → Stops text limit q e
+memory_last text limit q e r h a = memory_stops r e (none_taken q) h limit a
+
+-- the whole text is within the limit
+pub made_within : (text : List ℕ) (limit : ℕ) (q : Quota) (tree : Tree) (places : List (List ℕ))
+    → IsWhole text limit q tree places → IcuMadeWithin text limit
+made_within text limit q tree places w = record {
+  tree = tree;
+  places = places;
+  end = w.end;
+  bytes = w.stands.bytes;
+  made = w.stands.made;
+  after = w.after;
+  within = omega (arith, w.stands.sum);
+}
+
+-- and it is a bundle
+pub whole_root : (text name : List ℕ) (f : Bool) (first limit : ℕ) (q : Quota) (tree : Tree)
+    (places : List (List ℕ)) → Header text name f first → IsWhole text limit q tree places
+    → IcuText text name f tree (first_places places)
+whole_root text name f first limit q tree places h w =
+    whole_text text w.stands.bytes places tree w.end name f first h w.stands.made w.after
+
+-- what a stop says of the text
+pub stop_fails : (text : List ℕ) (limit : ℕ) (q : Quota) (e : IcuTextError)
+    → Stops text limit q e → IcuFails text e
+stop_fails text limit q e s = ⊎_elim (λ (m : e ≡ want_of_memory). inl m)
+    (λ (n : IsStuck text limit e). inr n.stuck) s.fails
 
 -- a text that is refused is no bundle
-pub refused_is_no_text : (text : List ℕ) (e : IcuTextError) → IcuFails text e
-    → (e ≡ want_of_memory) ⊎ IsNoIcuText text
-refused_is_no_text text e r = ⊎_elim (λ (m : e ≡ want_of_memory). inl m)
-    (λ (n : Stuck text e.position e.expected).
-    inr (stuck_is_no_text text e.position e.expected n)) r
+pub stop_is_no_text : (text : List ℕ) (limit : ℕ) (q : Quota) (e : IcuTextError)
+    → Stops text limit q e → (e ≡ want_of_memory) ⊎ IsNoIcuText text
+stop_is_no_text text limit q e s = ⊎_elim (λ (m : e ≡ want_of_memory). inl m)
+    (λ (n : IsStuck text limit e).
+    inr (stuck_is_no_text text e.position e.expected n.stuck)) s.fails
+
+-- and none of its readings makes more before
+pub stop_never_more : (text : List ℕ) (limit : ℕ) (q : Quota) (e : IcuTextError)
+    → Stops text limit q e → IcuNeverMore text limit e
+stop_never_more text limit q e s = ⊎_elim (λ (m : e ≡ want_of_memory). inl m)
+    (λ (n : IsStuck text limit e). inr n.first) s.fails
+
+-- what an answer says that is a stop
+pub answer_fails : {T : Type 0} (text : List ℕ) (limit : ℕ) (q : Quota) (P : T → Type 0)
+    (r : Result T IcuTextError) → MatchResult r P (Stops text limit q) → IfErr r (IcuFails text)
+answer_fails text limit q P (Ok x) h = tt
+answer_fails text limit q P (Err e) h = stop_fails text limit q e h
+
+pub answer_no_text : {T : Type 0} (text : List ℕ) (limit : ℕ) (q : Quota) (P : T → Type 0)
+    (r : Result T IcuTextError) → MatchResult r P (Stops text limit q)
+    → IfErr r (λ e. (e ≡ want_of_memory) ⊎ IsNoIcuText text)
+answer_no_text text limit q P (Ok x) h = tt
+answer_no_text text limit q P (Err e) h = stop_is_no_text text limit q e h
+
+-- where more was asked for than this limit, a reading makes more
+pub larger_makes : (text : List ℕ) (limit n : ℕ) (q : Quota) (e : IcuTextError) → limit ≡ n
+    → Stops text limit q e → q.is_over ≡ true → IcuMakesMore text n
+larger_makes text limit n q e same s o = subst (λ l. IcuMakesMore text l) same (s.over o)
+
+-- and the text's own refusal is within it
+pub text_within : (text : List ℕ) (limit n : ℕ) (q : Quota) (e : IcuTextError) → limit ≡ n
+    → Stops text limit q e → IcuFails text e × IcuNeverMore text n e
+text_within text limit n q e same s = (
+  stop_fails text limit q e s,
+  subst (λ l. IcuNeverMore text l e) same (stop_never_more text limit q e s),
+)

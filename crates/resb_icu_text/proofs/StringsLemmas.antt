@@ -1,5 +1,5 @@
 -- Laws of strings and keys, as the reader's functions use them.
-use Rattle.std.proofs.Common.{◌≡◌, ◌≢◌, ℕ, suc, ◌+◌, ◌-◌, ◌<◌, ◌≤◌, true, false, List, [], ◌∷◌}
+use Rattle.std.proofs.Common.{◌≡◌, ◌≢◌, ℕ, suc, ◌+◌, ◌-◌, ◌<◌, ◌≤◌, true, List, [], ◌∷◌}
 use Rattle.std.proofs.Common.{◌++◌, length, arith, subst, sym, refl, ap, ◌∙◌, take, drop}
 use Rattle.std.proofs.Common.{append_assoc, append-nil, drop-cons, ◌⊎◌, ⊎_elim, inl, inr}
 use Rattle.std.specs.Prelude.{slice_index, slice_range}
@@ -17,15 +17,20 @@ use Rattle.resb_icu_grammar.specs.declared.expected.IcuExpected.{IcuExpected}
 use Rattle.resb_icu_grammar.proofs.Faults.{fault_no_string, unquoted_told}
 use Rattle.resb_icu_grammar.specs.Words.{Word, Text, KeyText, HasNoEscape}
 use Rattle.resb_icu_grammar.specs.Words as words
-use Rattle.resb_icu_grammar.proofs.Lexical.{Piece-one, word_first, joined_first}
+use Rattle.resb_icu_grammar.proofs.Lexical.{Piece-one, word_first, joined_first, Inside-one}
+use Rattle.resb_icu_grammar.proofs.Lexical.{Skip-one}
+use Rattle.std.proofs.lemmas.List.{length-append}
+use Rattle.resb_icu_text.proofs.LengthLemmas.{blanks_order}
 use Rattle.resb_icu_text.specs.declared.strings.Said.{Said}
-use Rattle.resb_icu_text.specs.declared.strings.Said.TheVariants as the
 use Rattle.resb_icu_grammar.specs.Stuck.{NoStringAt}
 use Rattle.resb_icu_text.specs.Lexemes.{IsLexeme, Verbatim, a_word, a_piece}
-use Rattle.resb_icu_text.specs.Inner.Ahead.{Ahead, no_more, more, HasFault, StringFails}
-use Rattle.resb_icu_text.specs.Refusal.{want_of_memory}
+use Rattle.resb_icu_text.specs.Inner.Ahead.{Ahead, no_more, more, StringFails, AreSeen, GoesToEnd}
+use Rattle.resb_icu_text.specs.Inner.Found.{IsFound, IsSaid, Shows, length_of}
+use Rattle.resb_icu_text.specs.declared.strings.Found.{Found}
+use Rattle.resb_icu_text.specs.declared.strings.Stands.{Stands}
+use Rattle.resb_icu_text.specs.declared.strings.Stands.TheVariants as found
+use Rattle.resb_icu_text.specs.declared.strings.Pieces.{Pieces}
 use Rattle.resb_icu_text.specs.declared.error.IcuTextError.{IcuTextError}
-use Rattle.resb_icu_text.specs.Lexemes.{bytes_said, may_be_key, stands_whole}
 use Rattle.resb_icu_text.proofs.PiecesLemmas.{inside_order, inside_closes, escape_order}
 use Rattle.resb_icu_text.proofs.Lists.{slice_none}
 
@@ -53,36 +58,36 @@ join text from mid next to first later p s (no_more h) =
 join text from mid next to first later p s (more _ _ j) =
     one_more from mid next to first later p s j
 
--- what was added, what is ahead now of what was ahead, and whose fault a fault further on is
-pub record Added (text : List ℕ) (end next at coming : ℕ) (old value : List ℕ) : Type 0 where
+-- how much is said so far, what is ahead now of what was ahead, and whose fault a fault further on
+-- is
+pub record Added (text : List ℕ) (end next at coming n m : ℕ) : Type 0 where
   pub middle : List ℕ
-  pub whole : value ≡ old ++ middle
+  pub whole : m ≡ n + length middle
   pub on : (to : ℕ) (later : List ℕ) → Ahead text at coming to later
       → Ahead text end next to (middle ++ later)
   pub fault : (to : ℕ) (x : IcuExpected) → StringFault text coming to x
       → StringFault text next to x
 
 -- nothing is added yet
-pub added_none : (text : List ℕ) (end next : ℕ) (old : List ℕ)
-    → Added text end next end next old old
-added_none text end next old = record {
+pub added_none : (text : List ℕ) (end next n : ℕ) → Added text end next end next n n
+added_none text end next n = record {
   middle = [];
-  whole = sym (append-nil old);
+  whole = omega arith;
   on = λ to later a. a;
   fault = λ to x h. h;
 }
 
 -- one piece more is added
-pub added_piece : (text : List ℕ) (end next at coming last behind : ℕ)
-    (old value bytes value1 : List ℕ) → slice_index text coming ≡ ascii.quote
+pub added_piece : (text : List ℕ) (end next at coming last behind n m k : ℕ) (bytes : List ℕ)
+    → slice_index text coming ≡ ascii.quote
     → QuotedBytes text (coming + 1) last bytes → Skip text (last + 1) behind
-    → value1 ≡ value ++ bytes → Added text end next at coming old value
-    → Added text end next (last + 1) behind old value1
-added_piece text end next at coming last behind old value bytes value1 q h s e a =
+    → length bytes ≡ k → Added text end next at coming n m
+    → Added text end next (last + 1) behind n (m + k)
+added_piece text end next at coming last behind n m k bytes q h s e a =
     let p = piece_of text coming last bytes q h in
     record {
       middle = a.middle ++ bytes;
-      whole = e ∙ ap (λ l. l ++ bytes) a.whole ∙ append_assoc old a.middle bytes;
+      whole = omega (arith, e, a.whole, length-append a.middle bytes);
       on = λ to later b. subst (λ (l : List ℕ). Ahead text end next to l)
           (sym (append_assoc a.middle bytes later))
           (a.on to (bytes ++ later)
@@ -91,14 +96,20 @@ added_piece text end next at coming last behind old value bytes value1 q h s e a
     }
 
 -- no piece is ahead any more
-pub added_all : (text : List ℕ) (end next at coming : ℕ) (old value : List ℕ)
-    → slice_index text coming ≢ ascii.quote → Added text end next at coming old value
-    → (later : List ℕ) × Ahead text end next at later × (value ≡ old ++ later)
-added_all text end next at coming old value h a = (
-  a.middle ++ [],
-  a.on at [] (no_more h),
-  a.whole ∙ ap (λ l. old ++ l) (sym (append-nil a.middle)),
-)
+pub added_all : (text : List ℕ) (first all : Pieces) → slice_index text all.next ≢ ascii.quote
+    → first.end ≤ all.end → (all.next ≡ first.next) ⊎ (first.end < all.end) → AreSeen text all
+    → Added text first.end first.next all.end all.next first.length all.length
+    → GoesToEnd text first all
+added_all text first all h order moved seen a = record {
+  later = a.middle ++ [];
+  ahead = a.on all.end [] (no_more h);
+  sum = a.whole ∙ ap (λ l. first.length + length l) (sym (append-nil a.middle));
+  order = order;
+  moves = λ q. ⊎_elim (λ (e : all.next ≡ first.next).
+      absurd (h (ap (λ i. slice_index text i) e ∙ q)))
+      (λ (l : first.end < all.end). l) moved;
+  seen = seen;
+}
 
 -- where neither a quote nor a word stands, no string does
 pub no_lexeme : (text : List ℕ) (from : ℕ) → slice_index text from ≢ ascii.quote
@@ -107,57 +118,35 @@ no_lexeme text from n never to s (words.a_word w) = never to s w
 no_lexeme text from n never to s (words.quoted j) = n (joined_first text from to s j)
 
 -- the fault of the piece that begins here
-pub piece_fault : (text : List ℕ) (from : ℕ) (e : IcuTextError)
+pub piece_fault : (text : List ℕ) (from to : ℕ) (x : IcuExpected)
     → slice_index text from ≡ ascii.quote
-    → PieceFault text (from + 1 - 1) (from + 1) e.position e.expected → HasFault text from e
-piece_fault text from e q h =
+    → PieceFault text (from + 1 - 1) (from + 1) to x → StringFault text from to x
+piece_fault text from to x q h =
     let same : from + 1 - 1 ≡ from = omega arith in
-    inr (this_piece from e.position e.expected q
-    (subst (λ i. PieceFault text i (from + 1) e.position e.expected) same h))
-
--- the fault of a piece that is ahead
-pub fault_ahead : (text : List ℕ) (end next at coming : ℕ) (old value : List ℕ) (e : IcuTextError)
-    → Added text end next at coming old value → HasFault text coming e → HasFault text next e
-fault_ahead text end next at coming old value e a h =
-    ⊎_elim (λ (m : e ≡ want_of_memory). inl m)
-    (λ (f : StringFault text coming e.position e.expected).
-    inr (a.fault e.position e.expected f)) h
+    this_piece from to x q (subst (λ i. PieceFault text i (from + 1) to x) same h)
 
 -- the fault of a piece behind the first one
-pub later_fault : (text : List ℕ) (from last next : ℕ) (bytes : List ℕ) (e : IcuTextError)
+pub later_fault : (text : List ℕ) (from last next to : ℕ) (bytes : List ℕ) (x : IcuExpected)
     → slice_index text from ≡ ascii.quote → QuotedBytes text (from + 1) last bytes
-    → Skip text (last + 1) next → HasFault text next e → HasFault text from e
-later_fault text from last next bytes e q i s h =
-    ⊎_elim (λ (m : e ≡ want_of_memory). inl m)
-    (λ (f : StringFault text next e.position e.expected).
-    inr (later_piece from (last + 1) next e.position bytes e.expected
-    (piece_of text from last bytes q i) s f)) h
+    → Skip text (last + 1) next → StringFault text next to x → StringFault text from to x
+later_fault text from last next to bytes x q i s f =
+    later_piece from (last + 1) next to bytes x (piece_of text from last bytes q i) s f
 
--- a quoted string with a fault is none, and its fault is told
+-- where a string has a fault none stands, and the fault is told
 pub fault_fails : (text : List ℕ) (from : ℕ) (x : IcuExpected) (e : IcuTextError)
-    → HasFault text from e → StringFails text from x e
-fault_fails text from x e h =
-    ⊎_elim (λ (m : e ≡ want_of_memory). inl m)
-    (λ (f : StringFault text from e.position e.expected).
-    inr (fault_no_string text from e.position e.expected f, a_fault e.position e.expected f)) h
+    → StringFault text from e.position e.expected → StringFails text from x e
+fault_fails text from x e f =
+    (fault_no_string text from e.position e.expected f, a_fault e.position e.expected f)
 
 -- where neither a quote nor a word stands, what was expected is told
 pub unquoted_fails : (text : List ℕ) (from : ℕ) (x : IcuExpected) (e : IcuTextError)
     → e ≡ record { position = from; expected = x } → slice_index text from ≢ ascii.quote
     → ((to : ℕ) (s : List ℕ) → Word text from to s → ⊥) → StringFails text from x e
-unquoted_fails text from x e h n w =
-    inr (
-      no_lexeme text from n w,
-      subst (λ (f : IcuTextError). Told text from x f.position
-          f.expected) (sym h) (unquoted_told text from x n),
-    )
-
--- an error that doesn't want memory says that no string stands there
-pub no_string_there : (text : List ℕ) (from : ℕ) (x : IcuExpected) (e : IcuTextError)
-    → StringFails text from x e → (e ≢ want_of_memory) → NoStringAt text from
-no_string_there text from x e h n =
-    ⊎_elim (λ (m : e ≡ want_of_memory). absurd (n m))
-    (λ (f : NoStringAt text from × Told text from x e.position e.expected). f.0) h
+unquoted_fails text from x e h n w = (
+  no_lexeme text from n w,
+  subst (λ (f : IcuTextError). Told text from x f.position f.expected) (sym h)
+      (unquoted_told text from x n),
+)
 
 -- a string put together isn't plain, if a piece follows its first one or an escape stands there
 pub not_plain : (text : List ℕ) (from last to : ℕ) (first s : List ℕ)
@@ -246,12 +235,14 @@ plain_is_string : (text : List ℕ) (from to : ℕ) (s : List ℕ) → Verbatim 
 plain_is_string text from to s (a_word w) = words.a_word w
 plain_is_string text from to s (a_piece j p n) = words.quoted j
 
--- what a string that stands in the text as it is answers
-pub plain_lexeme : (text : List ℕ) (from end next : ℕ) (slice : Bor (List ℕ))
+-- a string that stands in the text as it is
+pub plain_found : (text : List ℕ) (from end next : ℕ) (slice : Bor (List ℕ))
     → Verbatim text from end slice.now → Skip text end next → from < end → end ≤ next
     → next ≤ length text
-    → IsLexeme text from (record { end = end; next = next; said = the.Slice slice })
-plain_lexeme text from end next slice p s low order fits = record {
+    → IsFound text from (record { end = end; next = next; stands = found.Whole slice })
+plain_found text from end next slice p s low order fits = record {
+  said = slice.now;
+  shows = refl;
   string = plain_is_string text from end slice.now p;
   key = (
     λ t. plain_key text from end slice.now p t,
@@ -264,51 +255,56 @@ plain_lexeme text from end next slice p s low order fits = record {
   fits = fits;
 }
 
--- what a word answers
-pub word_lexeme : (text : List ℕ) (from end next : ℕ) (slice : Bor (List ℕ))
+-- a word
+pub word_found : (text : List ℕ) (from end next : ℕ) (slice : Bor (List ℕ))
     → Word text from end slice.now → Skip text end next → end ≤ next → next ≤ length text
-    → IsLexeme text from (record { end = end; next = next; said = the.Slice slice })
-word_lexeme text from end next slice w s order fits =
-    plain_lexeme text from end next slice (a_word w) s w.some order fits
+    → IsFound text from (record { end = end; next = next; stands = found.Whole slice })
+word_found text from end next slice w s order fits =
+    plain_found text from end next slice (a_word w) s w.some order fits
 
 module _ (text : List ℕ) (from last next : ℕ) (first : List ℕ) where
-  -- what one piece without escapes and with no other behind it answers
-  pub piece_lexeme : (slice : Bor (List ℕ)) → slice_index text from ≡ ascii.quote
+  -- one piece without escapes and with no other behind it
+  pub piece_found : (slice : Bor (List ℕ)) → slice_index text from ≡ ascii.quote
       → QuotedBytes text (from + 1) last first → Skip text (last + 1) next
       → slice_index text next ≢ ascii.quote → HasNoEscape text (from + 1) last
       → slice.now ≡ slice_range text (from + 1) last → last + 1 ≤ next → next ≤ length text
-      → IsLexeme text from (record { end = last + 1; next = next; said = the.Slice slice })
-  piece_lexeme slice q h s n f e order fits =
+      → IsFound text from (record { end = last + 1; next = next; stands = found.Whole slice })
+  piece_found slice q h s n f e order fits =
       let b : first ≡ slice.now = plain_inside text (from + 1) last first h f ∙ sym e in
       let h' : QuotedBytes text (from + 1) last slice.now =
       subst (λ (l : List ℕ). QuotedBytes text (from + 1) last l) b h in
-      plain_lexeme text from (last + 1) next slice
+      plain_found text from (last + 1) next slice
       (plain_piece text from last next slice.now q h' s n f) s
       (omega (arith, inside_order text (from + 1) last first h)) order fits
 
-  -- what pieces that were put together answer
-  pub built_lexeme : (to behind : ℕ) (later : List ℕ) (said : Said)
-      → slice_index text from ≡ ascii.quote → QuotedBytes text (from + 1) last first
-      → Skip text (last + 1) next → Ahead text (last + 1) next to later → Skip text to behind
-      → bytes_said said ≡ first ++ later → may_be_key said ≡ false → stands_whole said ≡ false
-      → (HasNoEscape text (from + 1) last → last + 1 ≢ to) → last + 1 ≤ to → to ≤ behind
-      → behind ≤ length text
-      → IsLexeme text from (record { end = to; next = behind; said = said })
-  built_lexeme to behind later said q h s a t e k l f low order fits =
-      let j = join text from (last + 1) next to first later (piece_of text from last first q h) s
-      a in
-      let never = not_plain text from last to first (bytes_said said) q h f in
+  -- pieces that have to be put together
+  pub pieces_found : (n : ℕ) (all : Pieces) → slice_index text from ≡ ascii.quote
+      → QuotedBytes text (from + 1) last first → length first ≡ n → Skip text (last + 1) next
+      → GoesToEnd text (record { end = last + 1; next = next; length = n }) all
+      → (HasNoEscape text (from + 1) last → last + 1 ≢ all.end)
+      → IsFound text from (record {
+        end = all.end;
+        next = all.next;
+        stands = found.InPieces all.length;
+      })
+  pieces_found n all q h c s g f =
+      let said = first ++ g.later in
+      let j = join text from (last + 1) next all.end first g.later
+      (piece_of text from last first q h) s g.ahead in
+      let never = not_plain text from last all.end first said q h f in
       record {
-        string = words.quoted (subst (λ (l : List ℕ). Joined text from to l) (sym e) j);
+        said = said;
+        shows = (omega (arith, g.sum, c, length-append first g.later), j);
+        string = words.quoted j;
         key = (
-          λ b. absurd (false≢true (sym k ∙ b)),
-          λ b. absurd (never (key_plain text from to (bytes_said said) b).0),
+          λ b. absurd (false≢true b),
+          λ b. absurd (never (key_plain text from all.end said b).0),
         );
-        slice = (λ b. absurd (false≢true (sym l ∙ b)), λ b. absurd (never b));
-        blanks = t;
-        after = omega (arith, inside_order text (from + 1) last first h, low);
-        order = order;
-        fits = fits;
+        slice = (λ b. absurd (false≢true b), λ b. absurd (never b));
+        blanks = g.seen.blanks;
+        after = omega (arith, inside_order text (from + 1) last first h, g.order);
+        order = g.seen.order;
+        fits = g.seen.fits;
       }
 
 -- why one piece is not what was put together
@@ -318,3 +314,135 @@ pub not_one : (text : List ℕ) (from last next to : ℕ)
     → HasNoEscape text (from + 1) last → last + 1 ≢ to
 not_one text from last next to (inl q) f n e = omega (arith, f q, e)
 not_one text from last next to (inr h) f n e = h n
+
+-- what was found says just as many bytes as it is told to
+pub length_shown : (text : List ℕ) (from end : ℕ) (said : List ℕ) (s : Stands)
+    → Shows text from end said s → length said ≡ length_of s
+length_shown text from end said (found.Whole slice) h = ap length (sym h)
+length_shown text from end said (found.InPieces n) h = sym h.0
+
+-- what was found and is made
+pub made_lexeme : (text : List ℕ) (from : ℕ) (f : Found) (s : Said) → IsFound text from f
+    → IsSaid text from f s
+    → IsLexeme text from (record { end = f.end; next = f.next; said = s })
+made_lexeme text from f s is m =
+    let e = sym (m.bytes is) in
+    record {
+      string = subst (λ (u : List ℕ). Text text from f.end u) e is.string;
+      key = (
+        λ b. subst (λ (u : List ℕ). KeyText text from f.end u) e (is.key.0 (sym m.key ∙ b)),
+        λ p. m.key ∙ is.key.1 (subst (λ (u : List ℕ). KeyText text from f.end u) (sym e) p),
+      );
+      slice = (
+        λ b. subst (λ (u : List ℕ). Verbatim text from f.end u) e (is.slice.0 (sym m.whole ∙ b)),
+        λ p. m.whole ∙ is.slice.1 (subst (λ (u : List ℕ). Verbatim text from f.end u) (sym e) p),
+      );
+      blanks = is.blanks;
+      after = is.after;
+      order = is.order;
+      fits = is.fits;
+    }
+
+-- a row of pieces ends behind its first byte
+pub joined_order : (text : List ℕ) (from to : ℕ) (s : List ℕ) → Joined text from to s → from < to
+joined_order text from to s (last_piece _ _ n _ p t h) =
+    omega (arith, inside_order text (from + 1) p.last s p.inside, p.ends)
+joined_order text from to s (one_more _ m n _ us vs p t j) =
+    omega (
+      arith,
+      inside_order text (from + 1) p.last us p.inside,
+      p.ends,
+      blanks_order text m n t.blanks,
+      joined_order text n to vs j,
+    )
+
+-- a row of pieces whose first one ends there is that one, or it and those behind it
+data Row (text : List ℕ) (last to : ℕ) (first : List ℕ) : List ℕ → Type 0 where
+  one_alone : last + 1 ≡ to → Row text last to first first
+  and_others : (next : ℕ) (later : List ℕ) → Skip text (last + 1) next → Joined text next to later
+      → last + 1 < to → Row text last to first (first ++ later)
+
+row : (text : List ℕ) (at last to : ℕ) (first s : List ℕ) → QuotedBytes text (at + 1) last first
+    → Joined text at to s → Row text last to first s
+row text at last to first s h (last_piece _ _ n _ p t q) =
+    let same = Inside-one text (at + 1) p.last last s first p.inside h in
+    subst (λ (u : List ℕ). Row text last to first u) (sym same.1)
+    (one_alone (omega (arith, p.ends, same.0)))
+row text at last to first s h (one_more _ m n _ us vs p t j) =
+    let same = Inside-one text (at + 1) p.last last us first p.inside h in
+    let behind : m ≡ last + 1 = omega (arith, p.ends, same.0) in
+    let low = blanks_order text m n t.blanks in
+    let high = joined_order text n to vs j in
+    subst (λ (u : List ℕ). Row text last to first (u ++ vs)) (sym same.1)
+    (and_others n vs (subst (λ i. Skip text i n) behind t) j (omega (arith, behind, low, high)))
+
+-- what is left to be put together of a row of pieces, and what is there of it
+pub record Left (text : List ℕ) (at end : ℕ) (old value said : List ℕ) : Type 0 where
+  pub rest : List ℕ
+  pub joined : Joined text at end rest
+  pub whole : value ++ rest ≡ old ++ said
+
+-- of a row that goes on behind a piece, its others are left
+pub left_more : (text : List ℕ) (at last end next : ℕ) (first old value now said : List ℕ)
+    → QuotedBytes text (at + 1) last first → last + 1 ≢ end → Skip text (last + 1) next
+    → now ≡ value ++ first → Left text at end old value said
+    → Left text next end old now said
+left_more text at last end next first old value now said h n k e l =
+    by l.rest (row text at last end first l.rest h l.joined) l.whole
+  where
+    by : (rest : List ℕ) → Row text last end first rest → value ++ rest ≡ old ++ said
+        → Left text next end old now said
+    by _ (one_alone same) w = absurd (n same)
+    by _ (and_others other later skip j low) w = record {
+      rest = later;
+      joined = subst (λ i. Joined text i end later) (Skip-one text (last + 1) other next skip k) j;
+      whole = ap (λ u. u ++ later) e ∙ append_assoc value first later ∙ w;
+    }
+
+-- of one that ends with it, nothing is
+pub left_none : (text : List ℕ) (at last end : ℕ) (first old value now said : List ℕ)
+    → QuotedBytes text (at + 1) last first → last + 1 ≡ end → now ≡ value ++ first
+    → Left text at end old value said → now ≡ old ++ said
+left_none text at last end first old value now said h n e l =
+    by l.rest (row text at last end first l.rest h l.joined) l.whole
+  where
+    by : (rest : List ℕ) → Row text last end first rest → value ++ rest ≡ old ++ said
+        → now ≡ old ++ said
+    by _ (one_alone same) w = e ∙ w
+    by _ (and_others other later skip j low) w = absurd (omega (arith, low, n))
+
+-- and it ends no earlier than the row
+pub row_fits : (text : List ℕ) (at last end next : ℕ) (first s : List ℕ)
+    → QuotedBytes text (at + 1) last first → Joined text at end s → last + 1 ≢ end
+    → Skip text (last + 1) next → next < end
+row_fits text at last end next first s h j n k = by s (row text at last end first s h j)
+  where
+    by : (s : List ℕ) → Row text last end first s → next < end
+    by _ (one_alone same) = absurd (n same)
+    by _ (and_others other later skip j low) =
+        omega (
+          arith,
+          joined_order text other end later j,
+          Skip-one text (last + 1) other next skip k,
+        )
+
+-- and there stands the quote of its next piece
+pub row_next : (text : List ℕ) (at last end next : ℕ) (first s : List ℕ)
+    → QuotedBytes text (at + 1) last first → Joined text at end s → last + 1 ≢ end
+    → Skip text (last + 1) next → slice_index text next ≡ ascii.quote
+row_next text at last end next first s h j n k = by s (row text at last end first s h j)
+  where
+    by : (s : List ℕ) → Row text last end first s → slice_index text next ≡ ascii.quote
+    by _ (one_alone same) = absurd (n same)
+    by _ (and_others other later skip j low) =
+        ap (λ i. slice_index text i) (sym (Skip-one text (last + 1) other next skip k))
+        ∙ joined_first text other end later j
+
+-- its first piece ends no later than the row
+pub row_end : (text : List ℕ) (at last end : ℕ) (first s : List ℕ)
+    → QuotedBytes text (at + 1) last first → Joined text at end s → last < end
+row_end text at last end first s h j = by s (row text at last end first s h j)
+  where
+    by : (s : List ℕ) → Row text last end first s → last < end
+    by _ (one_alone same) = omega (arith, same)
+    by _ (and_others other later skip j low) = omega (arith, low)

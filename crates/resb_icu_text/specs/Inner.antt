@@ -2,9 +2,12 @@
 pub mod Ahead
 pub mod Build
 pub mod Escaped
+pub mod Found
 pub mod Kept
 pub mod Leaf
 pub mod Numbers
+pub mod Quota
 pub mod Reading
 pub mod Steps
 pub mod Stops
+pub mod Turns

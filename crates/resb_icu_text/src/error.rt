@@ -1,7 +1,7 @@
 //! Why a text of ICU's form is refused: the place, and what was expected there.
 //! What may be expected is listed in `resb_icu_grammar`.
 ghost use Rattle.std.specs.Prelude.{◌≡◌, Some};
-ghost use Rattle.resb_icu_text.specs.Refusal.{message_of, want_of_memory};
+ghost use Rattle.resb_icu_text.specs.Refusal.{message_of, want_of_memory, limit_message_of};
 
 use resb_icu_grammar::IcuExpected;
 use resb_tree::NoMemory;
@@ -62,6 +62,30 @@ impl fmt::Display for IcuTextError {
 }
 
 impl Error for IcuTextError {}
+
+/// Why a text is refused that is read within a limit of bytes.
+///
+/// It prints as the text's own refusal, or as `text larger than the limit`.
+#[derive(Clone, Copy, Debug, PartialEq, Eq)]
+pub enum IcuLimitError {
+    /// What the text is refused for without a limit.
+    Text(IcuTextError),
+    /// The reading makes more bytes than the limit.
+    Larger,
+}
+
+impl fmt::Display for IcuLimitError {
+    ghost output = { λ e. Some (limit_message_of e) };
+
+    fn fmt<W: fmt::Write>(&self, f: &mut fmt::Formatter<W>) -> fmt::Result {
+        match self {
+            IcuLimitError::Text(error) => write!(f, "{error}"),
+            IcuLimitError::Larger => write!(f, "text larger than the limit"),
+        }
+    }
+}
+
+impl Error for IcuLimitError {}
 
 impl From<NoMemory> for IcuTextError {
     ghost from_gives = { λ _ e. e ≡ want_of_memory };

@@ -11,6 +11,7 @@ mod escapes;
 mod leaf;
 mod open;
 mod pieces;
+mod quota;
 mod reader;
 mod steps;
 mod strings;
@@ -20,7 +21,7 @@ mod types;
 mod words;
 
 pub use blanks::skip;
-pub use error::IcuTextError;
+pub use error::{IcuLimitError, IcuTextError};
 pub use reader::IcuReader;
 pub use resb_draft::DraftBundle;
 pub use strings::{Lexeme, Said, string};

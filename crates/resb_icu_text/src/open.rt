@@ -1,25 +1,22 @@
 //! The groups that are open around the place where a reading stands, and the keys before it.
 //! What one step reads inside them is said in `steps`, what is made of that in `build`.
-ghost use Rattle.std.specs.Prelude.{◌≡◌, ◌⊎◌, ◌&&◌, ◌+◌, ◌*◌, ◌≤◌, Bool, true, [], ◌∷◌, ℕ, List};
-ghost use Rattle.std.specs.Prelude.{length, map, OnOk, IfOk, IfErr};
+ghost use Rattle.std.specs.Prelude.{◌≡◌, ◌⊎◌, ◌&&◌, ◌+◌, ◌*◌, ◌≤◌, Bool, true, [], ◌∷◌};
+ghost use Rattle.std.specs.Prelude.{length, map, OnOk, MatchResult};
 ghost use Rattle.resb_tree.specs.Tree.{Tree};
-ghost use Rattle.resb_icu_grammar.specs.Machine.{Comes};
-ghost use Rattle.resb_icu_grammar.specs.Stuck.{StuckFrom};
 ghost use Rattle.resb_icu_text.specs.Refusal.{want_of_memory};
-ghost use Rattle.resb_icu_text.specs.Inner.Build.{Grows};
-ghost use Rattle.resb_icu_text.specs.Inner.Steps.{shown, with_key, now, read_now, Goes, Ends};
-ghost use Rattle.resb_icu_text.specs.Inner.Steps.{stands_at, progress, spent, spent_reading};
-ghost use Rattle.resb_icu_text.specs.Inner.Steps.{IsTaken, has_leaf};
-ghost use Rattle.resb_icu_text.specs.Inner.Reading.{groups, keys, coming, Advances};
-ghost use Rattle.resb_icu_text.specs.Inner.Reading.{spent_before, StopsAt, HoldsRules, IsDouble};
-ghost use Rattle.resb_icu_text.specs.Inner.Reading.{Makes};
+ghost use Rattle.resb_icu_text.specs.Inner.Steps.{shown, with_key, stands_at, progress, spent};
+ghost use Rattle.resb_icu_text.specs.Inner.Steps.{spent_reading, IsTaken, has_leaf};
+ghost use Rattle.resb_icu_text.specs.Inner.Reading.{groups, keys, stands, spent_before};
+ghost use Rattle.resb_icu_text.specs.Inner.Reading.{IsRead, IsAdvanced, IsMade};
+ghost use Rattle.resb_icu_text.specs.Inner.Reading.{HoldsRules, IsDouble};
 ghost use Rattle.resb_icu_text.specs.Inner.Kept.{Test, anything, IsKept, groups_pass, open_passes};
-ghost use Rattle.resb_icu_text.specs.Inner.Kept.{step_passes, read_passes, next_passes};
+ghost use Rattle.resb_icu_text.specs.Inner.Kept.{step_passes, read_passes};
+ghost use Rattle.resb_icu_text.specs.Inner.Quota.{StopsAt};
 
 use crate::build::Build;
 use crate::error::IcuTextError;
+use crate::quota::Meter;
 use crate::steps::{Last, Read, Step, Waiting, entry, group, member, resume};
-use crate::turns::IcuTurns;
 use resb_icu_grammar::{IcuExpected, is_collation};
 use resb_tree::NoMemory;
 use std::alloc::Global;
@@ -83,8 +80,8 @@ impl<'a, X: Drop, B: Build<'a, Made = X>> OpenGroups<'a, B, X> {
     /// Refuses rules of collation: a table under a key that is for these alone.
     fn check_key(&self, waiting: &Waiting<'a, X>, made: &X) -> Result<(), IcuTextError>
         requires held { B.held self.now.build made.now anything ≡ true }
-        ensures ok { OnOk result (IsTaken waiting.now (B.tree self.now.build made.now)) }
-        ensures err { IfErr result (HoldsRules waiting.now (B.tree self.now.build made.now)) }
+        ensures { let tree = B.tree self.now.build made.now in MatchResult result
+            (λ _. IsTaken waiting.now tree) (HoldsRules waiting.now tree) }
     {
         if let Waiting::Table(_, key, begin) = waiting {
             if is_collation(*key) && self.build.is_table(made) {
@@ -100,40 +97,37 @@ impl<'a, X: Drop, B: Build<'a, Made = X>> OpenGroups<'a, B, X> {
         alloc: Global,
         text: &'a str,
         step: Step<'a, X>,
-        turns: &mut IcuTurns,
+        meter: &mut Meter,
     ) -> Result<Read<'a, X>, IcuTextError>
         requires within { stands_at step ≤ length text.now }
         requires kept { IsKept text.now (λ t. groups_pass self.old (B.held self.old.build) t
             && step_passes step (B.held self.old.build) t) }
-        ensures ok { IfOk result (λ r. let tree = B.tree self.old.build in Comes text.now
-            (now tree (groups tree self.old) (keys self.old) step.entry)
-            (read_now tree (groups tree self.new) (keys self.new) r)) }
-        ensures leaf { IfOk result (λ r. has_leaf r ≡ true) }
-        ensures ends { IfOk result (Ends text.now) }
-        ensures err { IfErr result (let tree = B.tree self.old.build in StopsAt text.now
-            (now tree (groups tree self.old) (keys self.old) step.entry)) }
+        ensures reads { let tree = B.tree self.old.build in
+            let from = stands tree self.old step.entry in MatchResult result
+            (IsRead tree (B.held self.old.build) text.now from (progress step.entry)
+            self.new meter.old.quota meter.new.quota)
+            (StopsAt text.now meter.old.quota meter.new.quota from) }
         ensures build { self.new.build ≡ self.old.build }
-        ensures slices { IfOk result (λ r. IsKept text.now
-            (λ t. groups_pass self.new (B.held self.old.build) t
-            && read_passes r (B.held self.old.build) t)) }
-        ensures goes { IfOk result (Goes text.now (progress step.entry)) }
-        ensures cost { IfOk result (λ r. turns.new.count + 1 + spent text.now step.entry
-            + length (keys self.new)
-            ≤ turns.old.count + spent_reading text.now r + length (keys self.old)) }
-        ensures most { turns.new.count + 1 + spent text.now step.entry
-            ≤ turns.old.count + 8 * length text.now + 8 }
+        ensures cost { MatchResult result
+            (λ r. (meter.new.turns.count + 1 + spent text.now step.entry + length (keys self.new)
+            ≤ meter.old.turns.count + spent_reading text.now r + length (keys self.old))
+            × (meter.new.turns.count + 1 + spent text.now step.entry
+            ≤ meter.old.turns.count + 8 * length text.now + 8))
+            (λ e. meter.new.turns.count + 1 + spent text.now step.entry
+            ≤ meter.old.turns.count + 8 * length text.now + 8) }
     {
         match step {
-            Step::Members(members, last, at) => member(text, members, last, at, turns),
-            Step::Entries(entries, at) => entry(alloc, text, entries, at, turns),
+            Step::Members(members, last, at) => member(text, members, last, at, meter),
+            Step::Entries(entries, at) => entry(text, entries, at, meter),
             Step::Group(waiting, at) => {
                 self.open(waiting)?;
-                group(alloc, text, at, turns)
+                group(alloc, text, at, meter)
             }
             Step::Ended(made, at) => match self.waiting.pop() {
                 Some(waiting) => {
                     self.check_key(&waiting, &made)?;
-                    Ok(Read::Step(resume(text, waiting, made, at, turns)?))
+                    let step = resume(text, waiting, made, at, &mut meter.turns)?;
+                    Ok(Read::Step(step))
                 }
                 None => Ok(Read::Root(made, at)),
             },
@@ -146,29 +140,24 @@ impl<'a, X: Drop, B: Build<'a, Made = X>> OpenGroups<'a, B, X> {
         alloc: Global,
         text: &'a str,
         step: Step<'a, X>,
-        turns: &mut IcuTurns,
+        meter: &mut Meter,
     ) -> Result<Next<'a, X>, IcuTextError>
         requires within { stands_at step ≤ length text.now }
         requires kept { IsKept text.now (λ t. groups_pass self.old (B.held self.old.build) t
             && step_passes step (B.held self.old.build) t) }
-        ensures ok { IfOk result (λ next. Comes text.now
-            (let tree = B.tree self.old.build in
-            now tree (groups tree self.old) (keys self.old) step.entry)
-            (coming (B.tree self.new.build) self.new next)) }
-        ensures err { IfErr result (let tree = B.tree self.old.build in StopsAt text.now
-            (now tree (groups tree self.old) (keys self.old) step.entry)) }
-        ensures slices { IfOk result (λ next. IsKept text.now
-            (λ t. groups_pass self.new (B.held self.new.build) t
-            && next_passes next (B.held self.new.build) t)) }
-        ensures goes { IfOk result (Advances text.now step.entry) }
-        ensures cost { IfOk result (λ next. turns.new.count + spent text.now step.entry
-            + length (keys self.new)
-            ≤ turns.old.count + spent_before text.now next + length (keys self.old)) }
-        ensures most { turns.new.count + spent text.now step.entry
-            ≤ turns.old.count + 8 * length text.now + 8 }
+        ensures reads { let from = stands (B.tree self.old.build) self.old step.entry in
+            MatchResult result
+            (IsAdvanced (B.tree self.new.build) (B.held self.new.build) text.now from step.entry
+            self.new meter.old.quota meter.new.quota)
+            (StopsAt text.now meter.old.quota meter.new.quota from) }
+        ensures cost { MatchResult result
+            (λ next. meter.new.turns.count + spent text.now step.entry + length (keys self.new)
+            ≤ meter.old.turns.count + spent_before text.now next + length (keys self.old))
+            (λ e. meter.new.turns.count + spent text.now step.entry
+            ≤ meter.old.turns.count + 8 * length text.now + 8) }
     {
-        turns.add(1);
-        let read = self.read(alloc, text, step, turns)?;
+        meter.turns.add(1);
+        let read = self.read(alloc, text, step, meter)?;
         make(&mut self.build, alloc, read)
     }
 }
@@ -181,17 +170,8 @@ fn make<'a, B: Build<'a>>(
 ) -> Result<Next<'a, B::Made>, IcuTextError>
     requires leaf { has_leaf read ≡ true }
     requires held { read_passes read (B.held build.old) anything ≡ true }
-    ensures ok { IfOk result (Makes (B.tree build.old) (B.tree build.new) read.entry) }
-    ensures err { IfErr result
+    ensures { MatchResult result (IsMade B.tree B.held build.old build.new read.entry)
         (λ e. (e ≡ want_of_memory) ⊎ IsDouble (B.tree build.old) read.entry e) }
-    ensures grows { IfOk result (λ next. Grows B.tree B.held build.old build.new) }
-    ensures slices { IfOk result (λ next. (t : Test)
-        → read_passes read.entry (B.held build.old) t ≡ true
-        → next_passes next (B.held build.new) t ≡ true) }
-    ensures goes { IfOk result (λ next. (text : List ℕ) (before : Step B.Made)
-        → Goes text (progress before) read.entry → Advances text before next) }
-    ensures cost { IfOk result (λ next. (text : List ℕ)
-        → spent_before text next ≡ spent_reading text read.entry) }
 {
     match read {
         Read::Step(step) => Ok(Next::Step(step)),

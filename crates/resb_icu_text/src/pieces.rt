@@ -2,13 +2,14 @@
 //! Strings of several pieces, and words, are in `strings`.
 ghost use Rattle.std.specs.Prelude.{◌≡◌, ℕ, ◌+◌, ◌-◌, ◌<◌, ◌≤◌, ◌++◌, true, false, List};
 ghost use Rattle.std.specs.Prelude.{length, slice_index, slice_range, IfSome, IfNone, IfOk, IfErr};
-ghost use Rattle.std.specs.Prelude.{OnOk};
+ghost use Rattle.std.specs.Prelude.{OnOk, MatchResult};
 ghost use Rattle.std.specs.String.{string_bytes};
 ghost use Rattle.resb_grammar.specs.Ascii as ascii;
 ghost use Rattle.resb_icu_grammar.specs.Faults.{PieceFault};
 ghost use Rattle.resb_icu_grammar.specs.Pieces.{QuotedBytes};
 ghost use Rattle.resb_icu_grammar.specs.Words.{HasNoEscape};
-ghost use Rattle.resb_icu_text.specs.Inner.Stops.{FirstStop, HasNoStop};
+ghost use Rattle.resb_icu_text.specs.Inner.Escaped.{bytes_of};
+ghost use Rattle.resb_icu_text.specs.Inner.Stops.{FirstStop, HasNoStop, IsPiece};
 
 use crate::blanks::byte;
 use crate::error::IcuTextError;
@@ -30,42 +31,65 @@ fn first_stop(text: &str, from: usize) -> Option<usize>
     }
 }
 
-/// The place of the closing quote of a piece, given the place behind its first quote, and whether
-/// no escape stands in it; or the fault of the piece. Counts a turn for each byte up to there, and
-/// one for that place.
+/// Where a piece ends: the place of its closing quote, whether no escape stands in it, and how many
+/// bytes it says.
+#[derive(Clone, Copy)]
+pub(crate) struct Piece {
+    pub(crate) last: usize,
+    pub(crate) is_plain: bool,
+    pub(crate) length: usize,
+}
+
+/// Where the piece ends whose first quote stands right before this place; or its fault. Counts a
+/// turn for each byte up to the closing quote, and one for that.
 pub(crate) fn piece_end(
     text: &str,
     from: usize,
     turns: &mut IcuTurns,
-) -> Result<(usize, bool), IcuTextError>
+) -> Result<Piece, IcuTextError>
     requires within { (0 < from) × (from ≤ length text.now) }
-    ensures found { IfOk result (λ r. (bytes : List ℕ) × QuotedBytes text.now from r.0 bytes) }
-    ensures plain { IfOk result (λ r. r.1 ≡ true → HasNoEscape text.now from r.0) }
-    ensures escaped { IfOk result (λ r. r.1 ≡ false → HasNoEscape text.now from r.0 → ⊥) }
-    ensures within { IfOk result (λ r. (from ≤ r.0) × (r.0 < length text.now)) }
-    ensures err { IfErr result (λ e. PieceFault text.now (from - 1) from e.position e.expected) }
-    ensures cost { IfOk result (λ r. turns.new.count + from ≤ turns.old.count + r.0 + 1) }
-    ensures most { turns.new.count + from ≤ turns.old.count + length text.now }
+    ensures reads { MatchResult result (IsPiece text.now from)
+        (λ e. PieceFault text.now (from - 1) from e.position e.expected) }
+    ensures cost { MatchResult result
+        (λ p. turns.new.count + from ≤ turns.old.count + p.last + 1)
+        (λ e. turns.new.count + from ≤ turns.old.count + length text.now) }
 {
     let mut at = from;
-    let mut plain = true;
+    let mut is_plain = true;
+    let mut length = 0;
     'piece: loop {
         let Some(stop) = first_stop(text, at) else {
             turns.add(text.len() - at);
             return Err(IcuTextError::new(from - 1, IcuExpected::ClosingQuote));
         };
+        length += stop - at;
         if byte(text, stop) == b'"' {
             turns.add(stop - at);
             turns.add(1);
-            return Ok((stop, plain));
+            return Ok(Piece {
+                last: stop,
+                is_plain,
+                length,
+            });
         }
-        let Some((to, _)) = escape(text, stop + 1) else {
+        let Some((to, c)) = escape(text, stop + 1) else {
             turns.add(text.len() - at);
             return Err(IcuTextError::new(stop, IcuExpected::Escape));
         };
         turns.add(to - at);
+        length += escaped_length(c);
         at = to;
-        plain = false;
+        is_plain = false;
+    }
+}
+
+/// How many bytes an escape stands for: those of the character, or the one that stands for itself.
+fn escaped_length(c: Option<char>) -> usize
+    ensures { (b : ℕ) → result ≡ length (bytes_of b c) }
+{
+    match c {
+        Some(c) => c.len_utf8(),
+        None => 1,
     }
 }
 

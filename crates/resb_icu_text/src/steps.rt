@@ -1,30 +1,32 @@
 //! One step of a reading: from where it stands to behind the next member, entry, brace or group.
 //! What is open around that place is kept in `open`, and what a step has read is made there. Groups
 //! without items are read in `leaf`.
-ghost use Rattle.std.specs.Prelude.{◌≡◌, ◌≢◌, ℕ, ◌+◌, ◌*◌, ◌<◌, ◌≤◌, ◌&&◌, Bool, true, length};
-ghost use Rattle.std.specs.Prelude.{IfOk, IfErr, slice_index};
+ghost use Rattle.std.specs.Prelude.{◌≡◌, ◌≢◌, ℕ, ◌+◌, ◌*◌, ◌<◌, ◌≤◌, Bool, true, length};
+ghost use Rattle.std.specs.Prelude.{slice_index, IfOk, MatchResult};
 ghost use Rattle.resb_grammar.specs.Ascii as ascii;
+ghost use Rattle.resb_grammar.specs.Inner.Reach.{reach};
 ghost use Rattle.resb_icu_grammar.specs.Groups as spec;
+ghost use Rattle.resb_icu_grammar.specs.Limit.{next_key_bytes, opening_bytes};
 ghost use Rattle.resb_icu_grammar.specs.Stuck.{member_behind};
 ghost use Rattle.resb_icu_grammar.specs.Kinds.{kind_of};
-ghost use Rattle.resb_icu_text.specs.Inner.Steps.{last_of, Steps, StepFails, Goes, Resumes};
-ghost use Rattle.resb_icu_text.specs.Inner.Steps.{MembersThere, EntriesThere, GroupThere};
-ghost use Rattle.resb_icu_text.specs.Inner.Steps.{UntypedThere, TypedThere};
-ghost use Rattle.resb_icu_text.specs.Inner.Steps.{KeyAhead, stands_at, progress, spent};
-ghost use Rattle.resb_icu_text.specs.Inner.Steps.{spent_reading};
+ghost use Rattle.resb_tree.specs.Tree.{Tree};
 ghost use Rattle.resb_icu_text.specs.Inner.Ahead.{KeyFails};
-ghost use Rattle.resb_icu_text.specs.Inner.Kept.{Keeps, step_passes, read_passes, members_pass};
-ghost use Rattle.resb_icu_text.specs.Inner.Kept.{Test, entries_pass, open_passes, nothing_before};
-ghost use Rattle.resb_grammar.specs.Inner.Reach.{reach};
+ghost use Rattle.resb_icu_text.specs.Inner.Build.{pairs_by};
+ghost use Rattle.resb_icu_text.specs.Inner.Steps.{last_of, members_place, entries_place};
+ghost use Rattle.resb_icu_text.specs.Inner.Steps.{group_place, untyped_place, typed_place};
+ghost use Rattle.resb_icu_text.specs.Inner.Steps.{StepsTo, StepFails, Proceeds, KeyAhead};
+ghost use Rattle.resb_icu_text.specs.Inner.Steps.{Resumes, spent};
+ghost use Rattle.resb_icu_text.specs.Inner.Turns.{Halts};
 
 use crate::blanks::{byte, skip};
 use crate::error::IcuTextError;
-use crate::leaf::{leaf, text_of};
-use crate::strings::string_or;
+use crate::leaf::leaf;
+use crate::quota::{Meter, key_bytes, string_bytes, text_bytes};
+use crate::strings::found_or;
 use crate::turns::IcuTurns;
 use crate::types::group_type;
 use resb_icu_grammar::{IcuExpected, IcuKind};
-use resb_tree::{NoMemory, Resource};
+use resb_tree::{NoMemory, Resource, weights};
 use std::alloc::Global;
 
 /// What stands last among the members of an array so far.
@@ -112,30 +114,27 @@ pub(crate) fn member<'a, X: Drop>(
     members: Vec<X>,
     last: Last,
     at: usize,
-    turns: &mut IcuTurns,
+    meter: &mut Meter,
 ) -> Result<Read<'a, X>, IcuTextError>
     requires within { at ≤ length text.now }
-    ensures ok { IfOk result (Steps text.now (MembersThere members.items last at)) }
-    ensures err { IfErr result (StepFails text.now (MembersThere members.items last at)) }
-    ensures slices { IfOk result
-        (λ r. Keeps text.now (members_pass members.items) (read_passes r)) }
-    ensures goes { IfOk result (Goes text.now (3 * at + 1)) }
-    ensures cost { IfOk result (λ r. turns.new.count + 8 * reach text.now at + 3
-        ≤ turns.old.count + spent_reading text.now r) }
-    ensures most { turns.new.count + 8 * reach text.now at
-        ≤ turns.old.count + 8 * length text.now + 4 }
+    ensures reads { MatchResult result
+        (StepsTo text.now (members_place members.items last at) meter.old.quota meter.new.quota)
+        (StepFails text.now (members_place members.items last at) meter.old.quota meter.new.quota) }
+    ensures cost { MatchResult result
+        (Proceeds text.now 3 at meter.old.turns meter.new.turns)
+        (λ e. Halts text.now 4 at meter.old.turns meter.new.turns) }
 {
     let b = byte(text, at);
     if b == b'}' {
         return Ok(Read::Array(members, at + 1));
     }
     if b == b',' {
-        return comma(text, members, last, at, turns);
+        return comma(text, members, last, at, meter);
     }
     if b == b'{' || b == b':' {
         return Ok(Read::Step(Step::Group(Waiting::Array(members), at)));
     }
-    string_member(text, members, last, at, turns)
+    string_member(text, members, last, at, meter)
 }
 
 /// From a comma to behind it and the blanks there.
@@ -144,22 +143,19 @@ fn comma<'a, X: Drop>(
     members: Vec<X>,
     last: Last,
     at: usize,
-    turns: &mut IcuTurns,
+    meter: &mut Meter,
 ) -> Result<Read<'a, X>, IcuTextError>
     requires within { at < length text.now }
     requires comma { slice_index text.now at ≡ ascii.comma }
-    ensures ok { IfOk result (Steps text.now (MembersThere members.items last at)) }
-    ensures err { IfErr result (StepFails text.now (MembersThere members.items last at)) }
-    ensures slices { IfOk result
-        (λ r. Keeps text.now (members_pass members.items) (read_passes r)) }
-    ensures goes { IfOk result (Goes text.now (3 * at + 1)) }
-    ensures cost { IfOk result (λ r. turns.new.count + 8 * reach text.now at + 3
-        ≤ turns.old.count + spent_reading text.now r) }
-    ensures most { turns.new.count + 8 * reach text.now at
-        ≤ turns.old.count + 8 * length text.now + 4 }
+    ensures reads { MatchResult result
+        (StepsTo text.now (members_place members.items last at) meter.old.quota meter.new.quota)
+        (StepFails text.now (members_place members.items last at) meter.old.quota meter.new.quota) }
+    ensures cost { MatchResult result
+        (Proceeds text.now 3 at meter.old.turns meter.new.turns)
+        (λ e. Halts text.now 4 at meter.old.turns meter.new.turns) }
 {
     if last.is_member() {
-        let next = skip(text, at + 1, turns);
+        let next = skip(text, at + 1, &mut meter.turns);
         Ok(Read::Step(Step::Members(members, Last::Comma, next)))
     } else {
         Err(IcuTextError::new(at, IcuExpected::Member))
@@ -172,80 +168,86 @@ fn string_member<'a, X: Drop>(
     members: Vec<X>,
     last: Last,
     at: usize,
-    turns: &mut IcuTurns,
+    meter: &mut Meter,
 ) -> Result<Read<'a, X>, IcuTextError>
     requires within { at ≤ length text.now }
     requires no_brace { slice_index text.now at ≢ ascii.right_brace }
     requires no_comma { slice_index text.now at ≢ ascii.comma }
     requires no_group { slice_index text.now at ≢ ascii.left_brace }
     requires no_type { slice_index text.now at ≢ ascii.colon }
-    ensures ok { IfOk result (Steps text.now (MembersThere members.items last at)) }
-    ensures err { IfErr result (StepFails text.now (MembersThere members.items last at)) }
-    ensures slices { IfOk result
-        (λ r. Keeps text.now (members_pass members.items) (read_passes r)) }
-    ensures goes { IfOk result (Goes text.now (3 * at + 1)) }
-    ensures cost { IfOk result (λ r. turns.new.count + 8 * reach text.now at + 3
-        ≤ turns.old.count + spent_reading text.now r) }
-    ensures most { turns.new.count + 8 * reach text.now at
-        ≤ turns.old.count + 8 * length text.now + 4 }
+    ensures reads { MatchResult result
+        (StepsTo text.now (members_place members.items last at) meter.old.quota meter.new.quota)
+        (StepFails text.now (members_place members.items last at) meter.old.quota meter.new.quota) }
+    ensures cost { MatchResult result
+        (Proceeds text.now 3 at meter.old.turns meter.new.turns)
+        (λ e. Halts text.now 4 at meter.old.turns meter.new.turns) }
 {
     let alloc = *members.allocator();
-    let lexeme = string_or(alloc, text, at, last.member_behind(), turns)?;
+    let found = found_or(text, at, last.member_behind(), &mut meter.turns)?;
     if last.is_string() {
         return Err(IcuTextError::new(at, IcuExpected::Comma));
     }
-    let string = Resource::String(text_of(lexeme.said));
-    Ok(Read::Member(members, string, lexeme.next))
+    meter.quota.take(string_bytes(found.length()))?;
+    let said = found.text(alloc, text, at, &mut meter.turns)?;
+    Ok(Read::Member(members, Resource::String(said), found.next))
 }
 
 /// The key that stands here and the place behind the blanks that follow it; or, where none does,
 /// what is told in its place: the fault of a quoted string, or else that this was expected.
 pub(crate) fn key_at<'a>(
-    alloc: Global,
     text: &'a str,
     at: usize,
     expected: IcuExpected,
     turns: &mut IcuTurns,
 ) -> Result<(usize, &'a str), IcuTextError>
     requires within { at ≤ length text.now }
-    ensures found { IfOk result (λ r. KeyAhead text.now at r.0 r.1.now) }
-    ensures err { IfErr result (KeyFails text.now at expected) }
-    ensures within { IfOk result (λ r. (at < r.0) × (r.0 ≤ length text.now)) }
-    ensures cost { IfOk result (λ r. turns.new.count + 7 * reach text.now at + 3
-        ≤ turns.old.count + 7 * reach text.now r.0) }
-    ensures most { turns.new.count + 8 * reach text.now at
-        ≤ turns.old.count + 8 * length text.now + 4 }
+    ensures reads { MatchResult result
+        (λ r. KeyAhead text.now at r.0 r.1.now) (KeyFails text.now at expected) }
+    ensures cost { MatchResult result
+        (λ r. turns.new.count + 7 * reach text.now at + 3
+        ≤ turns.old.count + 7 * reach text.now r.0)
+        (λ e. Halts text.now 4 at turns.old turns.new) }
 {
-    let lexeme = string_or(alloc, text, at, expected, turns)?;
-    match lexeme.said.key(turns) {
-        Some(key) => Ok((lexeme.next, key)),
+    let found = found_or(text, at, expected, turns)?;
+    match found.key(turns) {
+        Some(key) => Ok((found.next, key)),
         None => Err(IcuTextError::new(at, expected)),
+    }
+}
+
+/// What the key of an entry makes behind these entries: where there are none, the table as well.
+fn next_key_bytes<'a, X: Drop>(entries: &[Entry<'a, X>], key: &str) -> u128
+    ensures { (tree : X → Tree)
+        → result ≡ next_key_bytes (pairs_by tree entries.now) key.now }
+{
+    if entries.is_empty() {
+        weights::TABLE + key_bytes(key)
+    } else {
+        key_bytes(key)
     }
 }
 
 /// From among entries to before the value of the next one, or behind the table.
 pub(crate) fn entry<'a, X: Drop>(
-    alloc: Global,
     text: &'a str,
     entries: Vec<Entry<'a, X>>,
     at: usize,
-    turns: &mut IcuTurns,
+    meter: &mut Meter,
 ) -> Result<Read<'a, X>, IcuTextError>
     requires within { at ≤ length text.now }
-    ensures ok { IfOk result (Steps text.now (EntriesThere entries.entry.items at)) }
-    ensures err { IfErr result (StepFails text.now (EntriesThere entries.entry.items at)) }
-    ensures slices { IfOk result
-        (λ r. Keeps text.now (entries_pass entries.entry.items) (read_passes r)) }
-    ensures goes { IfOk result (Goes text.now (3 * at + 1)) }
-    ensures cost { IfOk result (λ r. turns.new.count + 8 * reach text.now at + 3
-        ≤ turns.old.count + spent_reading text.now r) }
-    ensures most { turns.new.count + 8 * reach text.now at
-        ≤ turns.old.count + 8 * length text.now + 4 }
+    ensures reads { MatchResult result
+        (StepsTo text.now (entries_place entries.entry.items at) meter.old.quota meter.new.quota)
+        (StepFails text.now (entries_place entries.entry.items at) meter.old.quota
+        meter.new.quota) }
+    ensures cost { MatchResult result
+        (Proceeds text.now 3 at meter.old.turns meter.new.turns)
+        (λ e. Halts text.now 4 at meter.old.turns meter.new.turns) }
 {
     if byte(text, at) == b'}' {
         return Ok(Read::Table(entries, at, at + 1));
     }
-    let (next, key) = key_at(alloc, text, at, IcuExpected::Entry, turns)?;
+    let (next, key) = key_at(text, at, IcuExpected::Entry, &mut meter.turns)?;
+    meter.quota.take(next_key_bytes(&entries, key))?;
     let waiting = Waiting::Table(entries, key, next);
     Ok(Read::Step(Step::Group(waiting, next)))
 }
@@ -255,26 +257,24 @@ pub(crate) fn group<'a, X: Drop>(
     alloc: Global,
     text: &'a str,
     at: usize,
-    turns: &mut IcuTurns,
+    meter: &mut Meter,
 ) -> Result<Read<'a, X>, IcuTextError>
     requires within { at ≤ length text.now }
-    ensures ok { IfOk result (Steps text.now (GroupThere X at)) }
-    ensures err { IfErr result (StepFails text.now (GroupThere X at)) }
-    ensures slices { IfOk result
-        (λ r. Keeps text.now nothing_before (read_passes r)) }
-    ensures goes { IfOk result (Goes text.now (3 * at + 2)) }
-    ensures cost { IfOk result (λ r. turns.new.count + 8 * reach text.now at + 5
-        ≤ turns.old.count + spent_reading text.now r) }
-    ensures most { turns.new.count + 8 * reach text.now at
-        ≤ turns.old.count + 8 * length text.now + 4 }
+    ensures reads { MatchResult result
+        (StepsTo text.now (group_place X at) meter.old.quota meter.new.quota)
+        (StepFails text.now (group_place X at) meter.old.quota meter.new.quota) }
+    ensures cost { MatchResult result
+        (Proceeds text.now 5 at meter.old.turns meter.new.turns)
+        (λ e. Halts text.now 4 at meter.old.turns meter.new.turns) }
 {
     let b = byte(text, at);
     if b == b'{' {
-        let next = skip(text, at + 1, turns);
-        return untyped(alloc, text, next, turns);
+        let next = skip(text, at + 1, &mut meter.turns);
+        meter.quota.take(weights::RESOURCE)?;
+        return untyped(alloc, text, next, meter);
     }
     if b == b':' {
-        return typed(alloc, text, at, turns);
+        return typed(alloc, text, at, meter);
     }
     Err(IcuTextError::new(at, IcuExpected::Group))
 }
@@ -284,27 +284,35 @@ fn typed<'a, X: Drop>(
     alloc: Global,
     text: &'a str,
     at: usize,
-    turns: &mut IcuTurns,
+    meter: &mut Meter,
 ) -> Result<Read<'a, X>, IcuTextError>
     requires within { at < length text.now }
     requires colon { slice_index text.now at ≡ ascii.colon }
-    ensures ok { IfOk result (Steps text.now (GroupThere X at)) }
-    ensures err { IfErr result (StepFails text.now (GroupThere X at)) }
-    ensures slices { IfOk result
-        (λ r. Keeps text.now nothing_before (read_passes r)) }
-    ensures goes { IfOk result (Goes text.now (3 * at + 2)) }
-    ensures cost { IfOk result (λ r. turns.new.count + 8 * reach text.now at + 5
-        ≤ turns.old.count + spent_reading text.now r) }
-    ensures most { turns.new.count + 8 * reach text.now at
-        ≤ turns.old.count + 8 * length text.now + 4 }
+    ensures reads { MatchResult result
+        (StepsTo text.now (group_place X at) meter.old.quota meter.new.quota)
+        (StepFails text.now (group_place X at) meter.old.quota meter.new.quota) }
+    ensures cost { MatchResult result
+        (Proceeds text.now 5 at meter.old.turns meter.new.turns)
+        (λ e. Halts text.now 4 at meter.old.turns meter.new.turns) }
 {
-    let (end, kind) = group_type(text, at, turns)?;
-    let brace = skip(text, end, turns);
+    let (end, kind) = group_type(text, at, &mut meter.turns)?;
+    let brace = skip(text, end, &mut meter.turns);
     if byte(text, brace) != b'{' {
         return Err(IcuTextError::new(brace, IcuExpected::LeftBrace));
     }
-    let first = skip(text, brace + 1, turns);
-    content(alloc, text, kind, first, turns)
+    let first = skip(text, brace + 1, &mut meter.turns);
+    meter.quota.take(opening_bytes(kind))?;
+    content(alloc, text, kind, first, meter)
+}
+
+/// What the `{` behind a type makes.
+fn opening_bytes(kind: IcuKind) -> u128
+    ensures { result ≡ opening_bytes (kind_of kind) }
+{
+    match kind {
+        IcuKind::Array | IcuKind::Table => weights::RESOURCE,
+        _ => 0,
+    }
 }
 
 /// From behind the `{` of a group with a type to among its members or entries, or behind it.
@@ -313,24 +321,21 @@ fn content<'a, X: Drop>(
     text: &'a str,
     kind: IcuKind,
     at: usize,
-    turns: &mut IcuTurns,
+    meter: &mut Meter,
 ) -> Result<Read<'a, X>, IcuTextError>
     requires within { at ≤ length text.now }
-    ensures ok { IfOk result (Steps text.now (TypedThere X (kind_of kind) at)) }
-    ensures err { IfErr result (StepFails text.now (TypedThere X (kind_of kind) at)) }
-    ensures slices { IfOk result
-        (λ r. Keeps text.now nothing_before (read_passes r)) }
-    ensures goes { IfOk result (Goes text.now (3 * at)) }
-    ensures cost { IfOk result (λ r. turns.new.count + 8 * reach text.now at
-        ≤ turns.old.count + spent_reading text.now r) }
-    ensures most { turns.new.count + 8 * reach text.now at
-        ≤ turns.old.count + 8 * length text.now + 4 }
+    ensures reads { MatchResult result
+        (StepsTo text.now (typed_place X (kind_of kind) at) meter.old.quota meter.new.quota)
+        (StepFails text.now (typed_place X (kind_of kind) at) meter.old.quota meter.new.quota) }
+    ensures cost { MatchResult result
+        (Proceeds text.now 0 at meter.old.turns meter.new.turns)
+        (λ e. Halts text.now 4 at meter.old.turns meter.new.turns) }
 {
     match kind {
         IcuKind::Array => Ok(Read::Step(Step::Members(Vec::new(alloc), Last::Nothing, at))),
         IcuKind::Table => Ok(Read::Step(Step::Entries(Vec::new(alloc), at))),
         _ => {
-            let (to, resource) = leaf(alloc, text, kind, at, turns)?;
+            let (to, resource) = leaf(alloc, text, kind, at, meter)?;
             Ok(Read::Leaf(resource, to + 1))
         }
     }
@@ -341,18 +346,15 @@ fn untyped<'a, X: Drop>(
     alloc: Global,
     text: &'a str,
     at: usize,
-    turns: &mut IcuTurns,
+    meter: &mut Meter,
 ) -> Result<Read<'a, X>, IcuTextError>
     requires within { at ≤ length text.now }
-    ensures ok { IfOk result (Steps text.now (UntypedThere X at)) }
-    ensures err { IfErr result (StepFails text.now (UntypedThere X at)) }
-    ensures slices { IfOk result
-        (λ r. Keeps text.now nothing_before (read_passes r)) }
-    ensures goes { IfOk result (Goes text.now (3 * at)) }
-    ensures cost { IfOk result (λ r. turns.new.count + 8 * reach text.now at
-        ≤ turns.old.count + spent_reading text.now r) }
-    ensures most { turns.new.count + 8 * reach text.now at
-        ≤ turns.old.count + 8 * length text.now + 4 }
+    ensures reads { MatchResult result
+        (StepsTo text.now (untyped_place X at) meter.old.quota meter.new.quota)
+        (StepFails text.now (untyped_place X at) meter.old.quota meter.new.quota) }
+    ensures cost { MatchResult result
+        (Proceeds text.now 0 at meter.old.turns meter.new.turns)
+        (λ e. Halts text.now 4 at meter.old.turns meter.new.turns) }
 {
     let b = byte(text, at);
     if b == b'}' {
@@ -362,7 +364,7 @@ fn untyped<'a, X: Drop>(
         let members = Vec::new(alloc);
         return Ok(Read::Step(Step::Members(members, Last::Nothing, at)));
     }
-    untyped_string(alloc, text, at, turns)
+    untyped_string(alloc, text, at, meter)
 }
 
 /// From the string that must stand first in a group without a type to what the group is by what
@@ -371,39 +373,39 @@ fn untyped_string<'a, X: Drop>(
     alloc: Global,
     text: &'a str,
     at: usize,
-    turns: &mut IcuTurns,
+    meter: &mut Meter,
 ) -> Result<Read<'a, X>, IcuTextError>
     requires within { at ≤ length text.now }
     requires no_brace { slice_index text.now at ≢ ascii.right_brace }
     requires no_group { slice_index text.now at ≢ ascii.left_brace }
     requires no_type { slice_index text.now at ≢ ascii.colon }
-    ensures ok { IfOk result (Steps text.now (UntypedThere X at)) }
-    ensures err { IfErr result (StepFails text.now (UntypedThere X at)) }
-    ensures slices { IfOk result
-        (λ r. Keeps text.now nothing_before (read_passes r)) }
-    ensures goes { IfOk result (Goes text.now (3 * at)) }
-    ensures cost { IfOk result (λ r. turns.new.count + 8 * reach text.now at
-        ≤ turns.old.count + spent_reading text.now r) }
-    ensures most { turns.new.count + 8 * reach text.now at
-        ≤ turns.old.count + 8 * length text.now + 4 }
+    ensures reads { MatchResult result
+        (StepsTo text.now (untyped_place X at) meter.old.quota meter.new.quota)
+        (StepFails text.now (untyped_place X at) meter.old.quota meter.new.quota) }
+    ensures cost { MatchResult result
+        (Proceeds text.now 0 at meter.old.turns meter.new.turns)
+        (λ e. Halts text.now 4 at meter.old.turns meter.new.turns) }
 {
-    let lexeme = string_or(alloc, text, at, IcuExpected::Member, turns)?;
-    let next = lexeme.next;
+    let found = found_or(text, at, IcuExpected::Member, &mut meter.turns)?;
+    let next = found.next;
     let b = byte(text, next);
     if b == b'}' {
-        let string = Resource::String(text_of(lexeme.said));
-        return Ok(Read::Leaf(string, next + 1));
+        meter.quota.take(text_bytes(found.length()))?;
+        let said = found.text(alloc, text, at, &mut meter.turns)?;
+        return Ok(Read::Leaf(Resource::String(said), next + 1));
     }
     if b == b',' {
-        let string = Resource::String(text_of(lexeme.said));
-        return Ok(Read::Member(Vec::new(alloc), string, next));
+        meter.quota.take(string_bytes(found.length()))?;
+        let said = found.text(alloc, text, at, &mut meter.turns)?;
+        return Ok(Read::Member(Vec::new(alloc), Resource::String(said), next));
     }
     if b != b'{' && b != b':' {
         return Err(IcuTextError::new(next, IcuExpected::AfterString));
     }
-    let Some(key) = lexeme.said.key(turns) else {
+    let Some(key) = found.key(&mut meter.turns) else {
         return Err(IcuTextError::new(at, IcuExpected::Key));
     };
+    meter.quota.take(weights::TABLE + key_bytes(key))?;
     let waiting = Waiting::Table(Vec::new(alloc), key, next);
     Ok(Read::Step(Step::Group(waiting, next)))
 }
@@ -417,15 +419,10 @@ pub(crate) fn resume<'a, X: Drop>(
     turns: &mut IcuTurns,
 ) -> Result<Step<'a, X>, NoMemory>
     requires within { at ≤ length text.now }
-    ensures ok { IfOk result (Resumes text.now waiting.entry made at) }
-    ensures slices { IfOk result (λ s. (pass : X → Test → Bool) (test : Test)
-        → open_passes waiting.entry pass test ≡ true → pass made test ≡ true
-        → step_passes s pass test ≡ true) }
-    ensures goes { IfOk result (λ s. (stands_at s ≤ length text.now)
-        × (3 * at + 1 ≤ progress s)) }
-    ensures cost { IfOk result (λ s. turns.new.count + 8 * at + 1
-        ≤ turns.old.count + spent text.now s) }
-    ensures most { IfErr result (λ e. turns.new.count ≡ turns.old.count) }
+    ensures reads { IfOk result (Resumes text.now waiting.entry made at) }
+    ensures cost { MatchResult result
+        (λ s. turns.new.count + 8 * at + 1 ≤ turns.old.count + spent text.now s)
+        (λ e. turns.new.count ≡ turns.old.count) }
 {
     match waiting {
         Waiting::Array(members) => {

@@ -1,14 +1,20 @@
 //! Strings: a word, or all quoted pieces in a row.
 //! What stands in a piece is said in `pieces`.
-ghost use Rattle.std.specs.Prelude.{◌≡◌, ℕ, ◌+◌, ◌*◌, ◌<◌, ◌≤◌, ◌++◌, true, false, List, length};
-ghost use Rattle.std.specs.Prelude.{slice_index, IfSome, IfNone, IfOk, IfErr};
+ghost use Rattle.std.specs.Prelude.{◌≡◌, ◌+◌, ◌-◌, ◌*◌, ◌<◌, ◌≤◌, ◌++◌, ℕ, true, false, List};
+ghost use Rattle.std.specs.Prelude.{length, slice_index, IfSome, IfNone, IfOk, OnOk};
+ghost use Rattle.std.specs.Prelude.{MatchOption, MatchResult};
+ghost use Rattle.std.specs.Cow.{cow_str_bytes};
 ghost use Rattle.std.specs.String.{string_bytes};
 ghost use Rattle.resb_grammar.specs.Ascii as ascii;
-ghost use Rattle.resb_icu_grammar.specs.Blanks.{Skip};
-ghost use Rattle.resb_icu_grammar.specs.Stuck.{NoStringAt};
-ghost use Rattle.resb_icu_text.specs.Lexemes.{IsLexeme, bytes_said, may_be_key};
-ghost use Rattle.resb_icu_text.specs.Inner.Ahead.{Ahead, HasFault, StringFails};
 ghost use Rattle.resb_grammar.specs.Inner.Reach.{reach};
+ghost use Rattle.resb_icu_grammar.specs.Faults.{StringFault};
+ghost use Rattle.resb_icu_grammar.specs.Pieces.{Joined};
+ghost use Rattle.resb_icu_grammar.specs.Stuck.{NoStringAt};
+ghost use Rattle.resb_tree.specs.Borrowing.{is_slice};
+ghost use Rattle.resb_icu_text.specs.Lexemes.{IsLexeme};
+ghost use Rattle.resb_icu_text.specs.Inner.Ahead.{StringFails, AreSeen, GoesToEnd};
+ghost use Rattle.resb_icu_text.specs.Inner.Found.{IsFound, Shows, length_of, fits_key};
+ghost use Rattle.resb_icu_text.specs.Inner.Found.{IsSaid, is_whole, turns_to_make};
 
 use crate::blanks::{byte, skip};
 use crate::error::IcuTextError;
@@ -18,6 +24,7 @@ use crate::words::word;
 use resb_icu_grammar::{IcuExpected, are_key_bytes};
 use resb_tree::NoMemory;
 use std::alloc::Global;
+use std::borrow::CowStr;
 
 /// What a string says.
 #[derive(Drop)]
@@ -26,28 +33,6 @@ pub enum Said<'a> {
     Slice(&'a str),
     /// It was put together of pieces and escapes.
     Built(String),
-}
-
-impl<'a> Said<'a> {
-    /// What it says as a slice of the text, if it may be a key. Counts a turn for each byte.
-    pub(crate) fn key(&self, turns: &mut IcuTurns) -> Option<&'a str>
-        ensures found { IfSome result
-            (λ k. (k.now ≡ bytes_said self.now) × (may_be_key self.now ≡ true)) }
-        ensures none { IfNone result (may_be_key self.now ≡ false) }
-        ensures cost { turns.new.count ≤ turns.old.count + length (bytes_said self.now) }
-    {
-        match self {
-            Said::Slice(slice) => {
-                turns.add(slice.len());
-                if are_key_bytes(slice.as_bytes()) {
-                    Some(*slice)
-                } else {
-                    None
-                }
-            }
-            Said::Built(_) => None,
-        }
-    }
 }
 
 /// A string, and the places behind it.
@@ -59,6 +44,127 @@ pub struct Lexeme<'a> {
     pub next: usize,
     /// What it says.
     pub said: Said<'a>,
+}
+
+/// What stands in a text as a string.
+#[derive(Clone, Copy)]
+pub(crate) enum Stands<'a> {
+    /// A slice of the text.
+    Whole(&'a str),
+    /// Pieces and escapes that say so many bytes, which have to be put together.
+    InPieces(usize),
+}
+
+/// A string that was found in a text, of which nothing is made yet, and the places behind it.
+#[derive(Clone, Copy)]
+pub(crate) struct Found<'a> {
+    pub(crate) end: usize,
+    pub(crate) next: usize,
+    pub(crate) stands: Stands<'a>,
+}
+
+impl<'a> Found<'a> {
+    /// How many bytes it says.
+    pub(crate) fn length(&self) -> usize
+        ensures { result ≡ length_of self.now.stands }
+    {
+        match &self.stands {
+            Stands::Whole(slice) => slice.len(),
+            Stands::InPieces(length) => *length,
+        }
+    }
+
+    /// What it says as a slice of the text, if it may be a key. Counts a turn for each byte.
+    pub(crate) fn key(&self, turns: &mut IcuTurns) -> Option<&'a str>
+        ensures key { MatchOption result (fits_key self.now.stands ≡ false)
+            (λ k. (fits_key self.now.stands ≡ true)
+            × ((text said : List ℕ) (from : ℕ) → Shows text from self.now.end said self.now.stands
+            → k.now ≡ said)) }
+        ensures cost { turns.new.count ≤ turns.old.count + length_of self.now.stands }
+    {
+        match &self.stands {
+            Stands::Whole(slice) => {
+                turns.add(slice.len());
+                if are_key_bytes(slice.as_bytes()) {
+                    Some(*slice)
+                } else {
+                    None
+                }
+            }
+            Stands::InPieces(_) => None,
+        }
+    }
+
+    /// What it says, where it was found at a place of a text. Counts two turns for each byte of
+    /// quoted pieces that have to be put together, and takes memory for just what they say.
+    fn said(
+        self,
+        alloc: Global,
+        text: &'a str,
+        from: usize,
+        turns: &mut IcuTurns,
+    ) -> Result<Said<'a>, NoMemory>
+        requires found { IsFound text.now from self }
+        ensures says { IfOk result (IsSaid text.now from self.entry) }
+        ensures cost { let bytes = self.entry.end - from in turns.new.count
+            ≤ turns.old.count + turns_to_make bytes self.entry.stands }
+    {
+        match self.stands {
+            Stands::Whole(slice) => Ok(Said::Slice(slice)),
+            Stands::InPieces(length) => {
+                let mut value = String::with_capacity(alloc, length)?;
+                put_together(&mut value, text, from, self.end, turns)?;
+                Ok(Said::Built(value))
+            }
+        }
+    }
+
+    /// The text that it says, where it was found at a place of a text. Counts as many turns.
+    pub(crate) fn text(
+        self,
+        alloc: Global,
+        text: &'a str,
+        from: usize,
+        turns: &mut IcuTurns,
+    ) -> Result<CowStr<'a>, NoMemory>
+        requires found { IsFound text.now from self }
+        ensures says { IfOk result (λ t. (is_slice t ≡ is_whole self.entry.stands)
+            × ((is : IsFound text.now from self.entry) → cow_str_bytes t ≡ is.said)) }
+        ensures cost { let bytes = self.entry.end - from in turns.new.count
+            ≤ turns.old.count + turns_to_make bytes self.entry.stands }
+    {
+        match self.said(alloc, text, from, turns)? {
+            Said::Slice(slice) => Ok(CowStr::Borrowed(slice)),
+            Said::Built(built) => Ok(CowStr::Owned(built)),
+        }
+    }
+}
+
+/// Adds what the quoted pieces say that stand between these places. Counts two turns for each byte.
+fn put_together(
+    value: &mut String,
+    text: &str,
+    from: usize,
+    end: usize,
+    turns: &mut IcuTurns,
+) -> Result<(), NoMemory>
+    requires joined { (said : List ℕ) × Joined text.now from end said }
+    requires within { end ≤ length text.now }
+    ensures value { OnOk result ((said : List ℕ) → Joined text.now from end said
+        → string_bytes value.new ≡ string_bytes value.old ++ said) }
+    ensures cost { turns.new.count + 2 * from ≤ turns.old.count + 2 * end }
+{
+    let mut at = from;
+    'pieces: loop {
+        let Ok(piece) = piece_end(text, at + 1, turns) else {
+            unreachable!()
+        };
+        push_piece(value, text, at + 1, piece.last, turns)?;
+        if piece.last + 1 == end {
+            return Ok(());
+        }
+        at = skip(text, piece.last + 1, turns);
+    }
 }
 
 /// The string that begins at a place of a text: a word, or all quoted pieces that stand in a row
@@ -78,110 +184,119 @@ pub fn string<'a>(
     ensures most { turns.new.count + 8 * reach text.now from
         ≤ turns.old.count + 8 * length text.now + 2 }
 {
-    match string_or(alloc, text, from, IcuExpected::String, turns) {
-        Ok(lexeme) => Ok(Some(lexeme)),
-        Err(e) => match e.expected() {
-            IcuExpected::Memory => Err(NoMemory),
-            _ => Ok(None),
-        },
+    match found_or(text, from, IcuExpected::String, turns) {
+        Ok(found) => {
+            let said = found.said(alloc, text, from, turns)?;
+            Ok(Some(Lexeme {
+                end: found.end,
+                next: found.next,
+                said,
+            }))
+        }
+        Err(_) => Ok(None),
     }
 }
 
-/// The string that begins here; or, where none does, what is told in its place: the fault of a
-/// quoted string, or else that this was expected.
-pub(crate) fn string_or<'a>(
-    alloc: Global,
+/// The string that begins here, of which nothing is made; or, where none does, what is told in its
+/// place: the fault of a quoted string, or else that this was expected. The turns that it takes to
+/// make it are left over.
+pub(crate) fn found_or<'a>(
     text: &'a str,
     from: usize,
     expected: IcuExpected,
     turns: &mut IcuTurns,
-) -> Result<Lexeme<'a>, IcuTextError>
+) -> Result<Found<'a>, IcuTextError>
     requires within { from ≤ length text.now }
-    ensures found { IfOk result (IsLexeme text.now from) }
-    ensures err { IfErr result (StringFails text.now from expected) }
-    ensures cost { IfOk result (λ l. turns.new.count + 6 * reach text.now from + 3
-        ≤ turns.old.count + 6 * reach text.now l.next) }
-    ensures most { turns.new.count + 8 * reach text.now from
-        ≤ turns.old.count + 8 * length text.now + 2 }
+    ensures reads { MatchResult result (IsFound text.now from)
+        (StringFails text.now from expected) }
+    ensures cost { MatchResult result
+        (λ f. let bytes = f.end - from in
+        turns.new.count + 6 * reach text.now from + 3 + turns_to_make bytes f.stands
+        ≤ turns.old.count + 6 * reach text.now f.next)
+        (λ e. turns.new.count + 8 * reach text.now from
+        ≤ turns.old.count + 8 * length text.now + 2) }
 {
     if byte(text, from) == b'"' {
-        return quoted(alloc, text, from, turns);
+        return quoted(text, from, turns);
     }
     let Some((end, word)) = word(text, from, turns) else {
         return Err(IcuTextError::new(from, expected));
     };
-    Ok(Lexeme {
+    Ok(Found {
         end,
         next: skip(text, end, turns),
-        said: Said::Slice(word),
+        stands: Stands::Whole(word),
     })
 }
 
 /// The quoted pieces that begin here, or the fault of one.
-fn quoted<'a>(
-    alloc: Global,
-    text: &'a str,
-    from: usize,
-    turns: &mut IcuTurns,
-) -> Result<Lexeme<'a>, IcuTextError>
+fn quoted<'a>(text: &'a str, from: usize, turns: &mut IcuTurns) -> Result<Found<'a>, IcuTextError>
     requires within { from < length text.now }
     requires opens { slice_index text.now from ≡ ascii.quote }
-    ensures found { IfOk result (IsLexeme text.now from) }
-    ensures err { IfErr result (HasFault text.now from) }
-    ensures cost { IfOk result (λ l. turns.new.count + 6 * reach text.now from + 3
-        ≤ turns.old.count + 6 * reach text.now l.next) }
-    ensures most { turns.new.count + 8 * reach text.now from
-        ≤ turns.old.count + 8 * length text.now + 2 }
+    ensures reads { MatchResult result (IsFound text.now from)
+        (λ e. StringFault text.now from e.position e.expected) }
+    ensures cost { MatchResult result
+        (λ f. let bytes = f.end - from in
+        turns.new.count + 6 * reach text.now from + 3 + turns_to_make bytes f.stands
+        ≤ turns.old.count + 6 * reach text.now f.next)
+        (λ e. turns.new.count + 8 * reach text.now from
+        ≤ turns.old.count + 8 * length text.now + 2) }
 {
-    let (last, plain) = piece_end(text, from + 1, turns)?;
-    let next = skip(text, last + 1, turns);
-    if byte(text, next) != b'"' && plain {
-        return Ok(Lexeme {
-            end: last + 1,
+    let first = piece_end(text, from + 1, turns)?;
+    let end = first.last + 1;
+    let next = skip(text, end, turns);
+    if byte(text, next) != b'"' && first.is_plain {
+        return Ok(Found {
+            end,
             next,
-            said: Said::Slice(&text[from + 1..last]),
+            stands: Stands::Whole(&text[from + 1..first.last]),
         });
     }
-    let mut value = String::new(alloc);
-    push_piece(&mut value, text, from + 1, last, turns)?;
-    let (end, next) = push_pieces(&mut value, text, last + 1, next, turns)?;
-    Ok(Lexeme {
-        end,
-        next,
-        said: Said::Built(value),
+    let all = pieces_end(
+        text,
+        Pieces {
+            end,
+            next,
+            length: first.length,
+        },
+        turns,
+    )?;
+    Ok(Found {
+        end: all.end,
+        next: all.next,
+        stands: Stands::InPieces(all.length),
     })
 }
 
-/// Adds the pieces behind the first one, given the place behind that and the next behind the blanks
-/// there; and gives the places behind the last of them and behind the blanks there, or the fault of
-/// one.
-fn push_pieces(
-    value: &mut String,
-    text: &str,
+/// Some quoted pieces: the place behind the last of them, that behind the blanks there, and how
+/// many bytes they say.
+#[derive(Clone, Copy)]
+pub(crate) struct Pieces {
     end: usize,
     next: usize,
-    turns: &mut IcuTurns,
-) -> Result<(usize, usize), IcuTextError>
-    requires skip { Skip text.now end next }
-    requires within { (end ≤ length text.now) × (end ≤ next) × (next ≤ length text.now) }
-    ensures found { IfOk result (λ r. (later : List ℕ) × Ahead text.now end next r.0 later
-        × (string_bytes value.new ≡ string_bytes value.old ++ later)) }
-    ensures blanks { IfOk result (λ r. Skip text.now r.0 r.1) }
-    ensures err { IfErr result (HasFault text.now next) }
-    ensures within { IfOk result (λ r. (end ≤ r.0) × (r.0 ≤ r.1) × (r.1 ≤ length text.now)) }
-    ensures moves { IfOk result (λ r. slice_index text.now next ≡ ascii.quote → end < r.0) }
-    ensures cost { IfOk result (λ r. turns.new.count + 6 * reach text.now next
-        ≤ turns.old.count + 6 * reach text.now r.1) }
-    ensures most { turns.new.count + 6 * reach text.now next
-        ≤ turns.old.count + 6 * length text.now }
+    length: usize,
+}
+
+/// These pieces and all that follow them; or the fault of one of those.
+fn pieces_end(text: &str, first: Pieces, turns: &mut IcuTurns) -> Result<Pieces, IcuTextError>
+    requires seen { AreSeen text.now first }
+    ensures reads { MatchResult result (GoesToEnd text.now first)
+        (λ e. StringFault text.now first.next e.position e.expected) }
+    ensures cost { MatchResult result
+        (λ p. turns.new.count + 2 * reach text.now first.next
+        ≤ turns.old.count + 2 * reach text.now p.next)
+        (λ e. turns.new.count + 2 * reach text.now first.next
+        ≤ turns.old.count + 2 * length text.now) }
 {
-    let mut at = end;
-    let mut coming = next;
-    'pieces: while byte(text, coming) == b'"' {
-        let (last, _) = piece_end(text, coming + 1, turns)?;
-        push_piece(value, text, coming + 1, last, turns)?;
-        at = last + 1;
-        coming = skip(text, at, turns);
+    let mut seen = first;
+    'pieces: while byte(text, seen.next) == b'"' {
+        let piece = piece_end(text, seen.next + 1, turns)?;
+        let end = piece.last + 1;
+        seen = Pieces {
+            end,
+            next: skip(text, end, turns),
+            length: seen.length + piece.length,
+        };
     }
-    Ok((at, coming))
+    Ok(seen)
 }

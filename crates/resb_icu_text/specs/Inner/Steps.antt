@@ -1,5 +1,5 @@
 -- Where a reading of a text stands, and how it goes on from there.
-use Rattle.std.specs.Prelude.{◌≡◌, ◌⊎◌, ◌≤◌, ◌<◌, ◌+◌, ◌*◌, ℕ, List, [], ◌∷◌, ◌++◌, length, map}
+use Rattle.std.specs.Prelude.{◌≡◌, ◌≤◌, ◌<◌, ◌+◌, ◌*◌, ℕ, List, [], ◌∷◌, ◌++◌, length, map}
 use Rattle.std.specs.Prelude.{Bool, true, false, ◌&&◌, slice_index}
 use Rattle.std.specs.Borrow.{Bor}
 use Rattle.resb_grammar.specs.Ascii as ascii
@@ -10,12 +10,10 @@ use Rattle.resb_draft.specs.Drafts.{is_leaf}
 use Rattle.resb_icu_grammar.specs.Blanks.{Skip}
 use Rattle.resb_icu_grammar.specs.Groups as spec
 use Rattle.resb_icu_grammar.specs.Words.{KeyText}
-use Rattle.resb_icu_grammar.specs.Machine.{Waiting, in_array, in_table, Reading, reading_at, Comes}
+use Rattle.resb_icu_grammar.specs.Machine.{Waiting, in_array, in_table, Reading, reading_at}
 use Rattle.resb_icu_grammar.specs.Machine.{among_members, among_entries, before_group, in_untyped}
 use Rattle.resb_icu_grammar.specs.Machine.{in_typed, behind_group}
-use Rattle.resb_icu_grammar.specs.Stuck.{StuckFrom}
 use Rattle.resb_grammar.specs.Inner.Reach.{reach}
-use Rattle.resb_icu_text.specs.Refusal.{want_of_memory}
 use Rattle.resb_icu_text.specs.declared.error.IcuTextError.{IcuTextError}
 use Rattle.resb_icu_text.specs.declared.steps.Last.{Last}
 use Rattle.resb_icu_text.specs.declared.steps.Last.TheVariants as last
@@ -25,7 +23,12 @@ use Rattle.resb_icu_text.specs.declared.steps.Step.{Step}
 use Rattle.resb_icu_text.specs.declared.steps.Step.TheVariants as step
 use Rattle.resb_icu_text.specs.declared.steps.Read.{Read}
 use Rattle.resb_icu_text.specs.declared.steps.Read.TheVariants as read
+use Rattle.resb_icu_text.specs.declared.turns.IcuTurns.{IcuTurns}
+use Rattle.resb_icu_text.specs.declared.quota.Quota.{Quota}
 use Rattle.resb_icu_text.specs.Inner.Build.{pairs_by}
+use Rattle.resb_icu_text.specs.Inner.Kept.{Test, Passing, Keeps, members_pass, entries_pass}
+use Rattle.resb_icu_text.specs.Inner.Kept.{open_passes, step_passes, read_passes, nothing_before}
+use Rattle.resb_icu_text.specs.Inner.Quota.{GoesOn, StopsAt}
 
 -- what stands last among the members, as the form says it
 abbrev pub last_of : Last → spec.Last
@@ -77,62 +80,6 @@ abbrev pub Ends : {X : Type 0} → List ℕ → Read X → Type 0
 Ends text (read.Table entries at next) =
     (slice_index text at ≡ ascii.right_brace) × (next ≡ at + 1)
 Ends text _ = Unit {0}
-
--- a place of a reading, inside some groups and with some keys before it, where what was made stands
--- for some trees
-abbrev pub There : Type 0 → Type 0
-There X = (X → Tree) → List Waiting → List (List ℕ) → Reading
-
--- a reading comes from one place to another
-abbrev pub ComesBy : {X : Type 0} → List ℕ → There X → There X → Type 0
-ComesBy {X} text there next =
-    (tree : X → Tree) (ws : List Waiting) (ks : List (List ℕ))
-    → Comes text (there tree ws ks) (next tree ws ks)
-
--- a reading comes from a place to where it has read this
-abbrev pub Steps : {X : Type 0} → List ℕ → There X → Read X → Type 0
-Steps text there r =
-    (has_leaf r ≡ true) × Ends text r × ComesBy text there (λ tree ws ks. read_now tree ws ks r)
-
--- memory was wanted, or a reading from there on gets stuck where the error says
-abbrev pub StepFails : {X : Type 0} → List ℕ → There X → IcuTextError → Type 0
-StepFails {X} text there e =
-    (e ≡ want_of_memory)
-    ⊎ ((tree : X → Tree) (ws : List Waiting) (ks : List (List ℕ))
-    → StuckFrom text (there tree ws ks) e.position e.expected)
-
--- among members
-abbrev pub MembersThere : {X : Type 0} → List X → Last → ℕ → There X
-MembersThere members last at tree ws ks =
-    reading_at ws ks (among_members (last_of last) (map tree members)) at
-
--- among entries
-abbrev pub EntriesThere : {X : Type 0} → List (Bor (List ℕ) × X) → ℕ → There X
-EntriesThere entries at tree ws ks = reading_at ws ks (among_entries (pairs_by tree entries)) at
-
--- before a group
-abbrev pub GroupThere : (X : Type 0) → ℕ → There X
-GroupThere X at tree ws ks = reading_at ws ks before_group at
-
--- behind the `{` of a group without a type
-abbrev pub UntypedThere : (X : Type 0) → ℕ → There X
-UntypedThere X at tree ws ks = reading_at ws ks in_untyped at
-
--- behind the `{` of a group of this type
-abbrev pub TypedThere : (X : Type 0) → Kind → ℕ → There X
-TypedThere X kind at tree ws ks = reading_at ws ks (in_typed kind) at
-
--- a group that is this tree may stand in what is open: it holds no rules of collation
-abbrev pub IsTaken : {X : Type 0} → Open X → Tree → Type 0
-IsTaken (waiting.Array members) t = Unit {0}
-IsTaken (waiting.Table entries key at) t =
-    (spec.is_collation key.now && spec.holds_entries t) ≡ false
-
--- a reading comes from behind a group that may stand there to among what was open around it
-abbrev pub Resumes : {X : Type 0} → List ℕ → Open X → X → ℕ → Step X → Type 0
-Resumes {X} text w x at s =
-    (tree : X → Tree) (ws : List Waiting) (ks : List (List ℕ)) → IsTaken w (tree x)
-    → Comes text (reading_at (shown tree w ∷ ws) ks (behind_group (tree x)) at) (now tree ws ks s)
 
 -- how far a reading is: three for each byte before its place, and up to two for what follows there
 abbrev pub progress : {X : Type 0} → Step X → ℕ
@@ -186,8 +133,98 @@ spent_reading text (read.Table entries at next) = 8 * next
 spent_reading text (read.Leaf r at) = 8 * at
 spent_reading text (read.Root x at) = 8 * at + 1
 
+-- a place of a reading, inside some groups and with some keys before it, where what was made stands
+-- for some trees; which strings in what was made before it pass a test; and how far it is
+pub record Place (X : Type 0) : Type 0 where
+  pub there : (X → Tree) → List Waiting → List (List ℕ) → Reading
+  pub passes : Passing X → Test → Bool
+  pub progress : ℕ
+
+-- among members
+abbrev pub members_place : {X : Type 0} → List X → Last → ℕ → Place X
+members_place members last at = record {
+  there = λ tree ws ks. reading_at ws ks (among_members (last_of last) (map tree members)) at;
+  passes = members_pass members;
+  progress = 3 * at + 1;
+}
+
+-- among entries
+abbrev pub entries_place : {X : Type 0} → List (Bor (List ℕ) × X) → ℕ → Place X
+entries_place entries at = record {
+  there = λ tree ws ks. reading_at ws ks (among_entries (pairs_by tree entries)) at;
+  passes = entries_pass entries;
+  progress = 3 * at + 1;
+}
+
+-- before a group
+abbrev pub group_place : (X : Type 0) → ℕ → Place X
+group_place X at = record {
+  there = λ tree ws ks. reading_at ws ks before_group at;
+  passes = nothing_before;
+  progress = 3 * at + 2;
+}
+
+-- behind the `{` of a group without a type
+abbrev pub untyped_place : (X : Type 0) → ℕ → Place X
+untyped_place X at = record {
+  there = λ tree ws ks. reading_at ws ks in_untyped at;
+  passes = nothing_before;
+  progress = 3 * at;
+}
+
+-- behind the `{` of a group of this type
+abbrev pub typed_place : (X : Type 0) → Kind → ℕ → Place X
+typed_place X kind at = record {
+  there = λ tree ws ks. reading_at ws ks (in_typed kind) at;
+  passes = nothing_before;
+  progress = 3 * at;
+}
+
+-- a reading goes on from a place to where it has read this, with nothing inside a string or a group
+-- without items; what was read passes what was before, and stands further on in the text
+pub record StepsTo {X : Type 0} (text : List ℕ) (place : Place X) (p q : Quota) (r : Read X)
+    : Type 0 where
+  pub leaf : has_leaf r ≡ true
+  pub ends : Ends text r
+  pub comes : (tree : X → Tree) (ws : List Waiting) (ks : List (List ℕ))
+      → GoesOn text p q (place.there tree ws ks) (read_now tree ws ks r)
+  pub keeps : Keeps text place.passes (read_passes r)
+  pub goes : Goes text place.progress r
+
+-- a reading stops that stands at a place
+abbrev pub StepFails : {X : Type 0} → List ℕ → Place X → Quota → Quota → IcuTextError → Type 0
+StepFails {X} text place p q e =
+    (tree : X → Tree) (ws : List Waiting) (ks : List (List ℕ))
+    → StopsAt text p q (place.there tree ws ks) e
+
+-- a group that is this tree may stand in what is open: it holds no rules of collation
+abbrev pub IsTaken : {X : Type 0} → Open X → Tree → Type 0
+IsTaken (waiting.Array members) t = Unit {0}
+IsTaken (waiting.Table entries key at) t =
+    (spec.is_collation key.now && spec.holds_entries t) ≡ false
+
+-- a reading comes from behind a group that may stand there to among what was open around it, and
+-- makes nothing; that passes what was open and the group, and stands further on in the text
+pub record Resumes {X : Type 0} (text : List ℕ) (w : Open X) (x : X) (at : ℕ) (s : Step X)
+    : Type 0 where
+  pub comes : (tree : X → Tree) (ws : List Waiting) (ks : List (List ℕ)) (q : Quota)
+      → IsTaken w (tree x)
+      → GoesOn text q q (reading_at (shown tree w ∷ ws) ks (behind_group (tree x)) at)
+      (now tree ws ks s)
+  pub keeps : (pass : Passing X) (test : Test) → open_passes w pass test ≡ true
+      → pass x test ≡ true → step_passes s pass test ≡ true
+  pub within : stands_at s ≤ length text
+  pub goes : 3 * at + 1 ≤ progress s
+
+-- a reading goes on from a place to where it has read this: fewer turns are counted than 8 for each
+-- byte that it has looked at since, by so many at least
+abbrev pub Proceeds : {X : Type 0} → List ℕ → ℕ → ℕ → IcuTurns → IcuTurns → Read X → Type 0
+Proceeds text spare at t u r = u.count + 8 * reach text at + spare ≤ t.count + spent_reading text r
+
 -- a string that may be a key stands there, and blanks up to the next place
 pub record KeyAhead (text : List ℕ) (from next : ℕ) (key : List ℕ) : Type 0 where
   pub to : ℕ
   pub stands : KeyText text from to key
   pub after : Skip text to next
+  pub order : from < next
+  pub fits : next ≤ length text

@@ -1,60 +1,114 @@
-use Rattle.std.proofs.Common.{ap, subst, sym, ◌∙◌, arith}
+use Rattle.std.proofs.Common.{ap, arith, refl, sym, ◌∙◌}
 use Rattle.std.proofs.lemmas.Result.{err_from_is_err_and}
-use Rattle.resb_tree.specs.Tree.{Tree, alias}
+use Rattle.resb_tree.specs.Tree.{alias}
+use Rattle.resb_tree.specs.declared.resource.Resource.{Alias}
 use Rattle.resb_icu_grammar.specs.Kinds.{alias_kind}
-use Rattle.resb_tree.proofs.ViewLemmas.{tree_of_alias}
-use Rattle.resb_icu_text.specs.Inner.Leaf.{Leaf}
-use Rattle.resb_icu_text.proofs.LeafLemmas.{leaf_fails, told_leaf, alias_stands}
-use Rattle.resb_icu_text.proofs.LeafLemmas.{closing_at}
-use Rattle.resb_grammar.proofs.ReachLemmas.{reach_right}
-use Rattle.resb_icu_text.proofs.ReachLemmas.{reach_string}
 use Rattle.resb_icu_grammar.specs.Stuck.{no_path, open_alias}
+use Rattle.resb_tree.proofs.ViewLemmas.{tree_of_alias}
+use Rattle.resb_grammar.proofs.ReachLemmas.{reach_right, reach_high}
 use Rattle.resb_icu_text.proofs.KeptLemmas.{path_kept}
+use Rattle.resb_icu_text.proofs.LeafLemmas.{leaf_fails, told_leaf, leaf_lacks, leaf_over, leaf_read}
+use Rattle.resb_icu_text.proofs.LeafLemmas.{alias_stands, closing_at}
+use Rattle.resb_icu_text.proofs.QuotaLemmas.{none_taken}
+use Rattle.resb_icu_text.proofs.ReachLemmas.{reach_string}
+use Rattle.resb_icu_text.proofs.StepsLemmas.{said_length}
 use Rattle.resb_icu_text.proofs.leaf.alias_leaf.Goals as goal
 
-pub returns-in_err-lexeme-clause-err : goal.returns-in_err-lexeme-clause-err
-returns-in_err-lexeme-clause-err c =
+pub returns-in_err-found-clause-reads : goal.returns-in_err-found-clause-reads
+returns-in_err-found-clause-reads c =
     let p = err_from_is_err_and c.from_residual.result c.from_residual.ensures.1 in
-    rw (p.1, p.2) (told_leaf _ _ _ _ (no_path _ _) c.in_err-lexeme.ensures.err)
+    rw (p.1, p.2) (told_leaf c.args.at alias_kind _ (none_taken _) refl (no_path _ _)
+    c.in_err-found.ensures.reads)
 
-pub returns-in_err-to-clause-err : goal.returns-in_err-to-clause-err
-returns-in_err-to-clause-err c =
+pub returns-in_err-to-clause-reads : goal.returns-in_err-to-clause-reads
+returns-in_err-to-clause-reads c =
+    let found = c.in_ok-found.ensures.reads in
     let p = err_from_is_err_and c.from_residual-in_err-to.result
     c.from_residual-in_err-to.ensures.1 in
-    let found = c.in_ok-lexeme.ensures.found in
-    let e = c.in_err-to.ensures.err in
-    rw (p.1, p.2) (leaf_fails _ _ _ _ _ _ e.1 (open_alias _ _ _ found.string found.blanks e.0))
+    let e = c.in_err-to.ensures in
+    rw (p.1, p.2) (leaf_fails c.args.at alias_kind _ _ _ (none_taken _) refl e.is
+    (open_alias _ _ _ found.string found.blanks e.none))
 
-pub returns-clause-ok : goal.returns-clause-ok
-returns-clause-ok c =
-    let found = c.in_ok-lexeme.ensures.found in
-    subst (λ (t : Tree). Leaf c.args.text.now c.args.at alias_kind c.in_ok-to.to t)
-    (sym (tree_of_alias c.text_of.result ∙ ap alias c.text_of.ensures.bytes))
+pub returns-in_err-take-clause-reads : goal.returns-in_err-take-clause-reads
+returns-in_err-take-clause-reads c =
+    let found = c.in_ok-found.ensures.reads in
+    let p = err_from_is_err_and c.from_residual-in_err-take.result
+    c.from_residual-in_err-take.ensures.1 in
+    rw (p.1, p.2) (leaf_over c.args.at alias_kind c.in_ok-to.to (alias found.said) _
     (alias_stands _ _ _ _ _ found.string
-    (closing_at _ _ _ _ found.blanks c.in_ok-to.ensures.ok))
+    (closing_at _ _ _ _ found.blanks c.in_ok-to.ensures)) c.in_err-take.ensures
+    (omega (arith, c.string_bytes.ensures, c.length.ensures, said_length found)) refl)
 
-pub returns-clause-within : goal.returns-clause-within
-returns-clause-within c =
-    let found = c.in_ok-lexeme.ensures.found in
-    let ok = c.in_ok-to.ensures.ok in
-    (omega (arith, found.after, found.order, ok.0), c.in_ok-to.ensures.within)
+pub returns-in_err-path-clause-reads : goal.returns-in_err-path-clause-reads
+returns-in_err-path-clause-reads c =
+    let p = err_from_is_err_and c.from_residual-in_err-path.result
+    c.from_residual-in_err-path.ensures.1 in
+    rw (p.1, p.2) (leaf_lacks c.args.at alias_kind _ c.in_ok-take.ensures refl)
+
+pub returns-clause-reads : goal.returns-clause-reads
+returns-clause-reads c =
+    let found = c.in_ok-found.ensures.reads in
+    let said = c.in_ok-path.ensures.says in
+    leaf_read c.args.at alias_kind c.in_ok-to.to (Alias c.in_ok-path.path) (alias found.said)
+    (sym (tree_of_alias c.in_ok-path.path ∙ ap alias (said.1 found)))
+    (alias_stands _ _ _ _ _ found.string
+    (closing_at _ _ _ _ found.blanks c.in_ok-to.ensures)) c.in_ok-take.ensures
+    (omega (arith, c.string_bytes.ensures, c.length.ensures, said_length found))
+    (path_kept _ _ _ _ found (said.1 found) said.0)
+    (omega (arith, found.after, found.order, c.in_ok-to.ensures.same))
+    (omega (arith, c.in_ok-to.ensures.same, c.in_ok-to.ensures.fits))
+
+pub returns-in_err-to-clause-cost : goal.returns-in_err-to-clause-cost
+returns-in_err-to-clause-cost c =
+    let found = c.in_ok-found.ensures.reads in
+    let p = err_from_is_err_and c.from_residual-in_err-to.result
+    c.from_residual-in_err-to.ensures.1 in
+    rw p.1 (omega (
+      arith,
+      c.in_ok-found.ensures.cost,
+      c.requires.within,
+      reach_string c.args.text.now c.args.at _ _ found.string,
+      reach_high c.args.text.now _ found.fits,
+    ))
+
+pub returns-in_err-take-clause-cost : goal.returns-in_err-take-clause-cost
+returns-in_err-take-clause-cost c =
+    let found = c.in_ok-found.ensures.reads in
+    let p = err_from_is_err_and c.from_residual-in_err-take.result
+    c.from_residual-in_err-take.ensures.1 in
+    rw p.1 (omega (
+      arith,
+      c.in_ok-found.ensures.cost,
+      c.requires.within,
+      reach_string c.args.text.now c.args.at _ _ found.string,
+      reach_high c.args.text.now _ found.fits,
+    ))
+
+pub returns-in_err-path-clause-cost : goal.returns-in_err-path-clause-cost
+returns-in_err-path-clause-cost c =
+    let found = c.in_ok-found.ensures.reads in
+    let p = err_from_is_err_and c.from_residual-in_err-path.result
+    c.from_residual-in_err-path.ensures.1 in
+    rw p.1 (omega (
+      arith,
+      c.in_ok-found.ensures.cost,
+      c.text.ensures.cost,
+      c.requires.within,
+      reach_string c.args.text.now c.args.at _ _ found.string,
+      reach_high c.args.text.now _ found.fits,
+    ))
 
 pub returns-clause-cost : goal.returns-clause-cost
 returns-clause-cost c =
-    let found = c.in_ok-lexeme.ensures.found in
-    let cost = c.in_ok-lexeme.ensures.cost in
-    let ok = c.in_ok-to.ensures.ok in
+    let found = c.in_ok-found.ensures.reads in
+    let to = c.in_ok-to.ensures in
     omega (
       arith,
-      cost,
-      ok.0,
-      reach_right c.args.text.now _ ok.1,
+      c.in_ok-found.ensures.cost,
+      c.text.ensures.cost,
+      to.same,
+      reach_right c.args.text.now _ to.closes,
       reach_string c.args.text.now c.args.at _ _ found.string,
       found.after,
       found.order,
     )
-
-pub returns-clause-slices : goal.returns-clause-slices
-returns-clause-slices c =
-    path_kept _ _ _ _ (c.in_ok-lexeme.ensures.found) c.text_of.ensures.bytes
-    c.text_of.ensures.slice

@@ -1,48 +1,52 @@
-use Rattle.std.proofs.Common.{ap, subst, sym, ◌∙◌, arith}
+use Rattle.std.proofs.Common.{ap, arith, refl, sym, ◌∙◌}
 use Rattle.std.proofs.lemmas.Result.{err_from_is_err_and}
-use Rattle.resb_tree.specs.Tree.{Tree, integer}
-use Rattle.resb_icu_grammar.specs.Kinds.{integer_kind}
+use Rattle.resb_tree.specs.Tree.{integer}
 use Rattle.resb_tree.proofs.ViewLemmas.{tree_of_integer}
-use Rattle.resb_icu_text.specs.Inner.Leaf.{Leaf}
-use Rattle.resb_icu_text.proofs.LeafLemmas.{leaf_fails, integer_stands}
-use Rattle.resb_icu_text.proofs.LeafLemmas.{closing_at}
-use Rattle.resb_grammar.proofs.ReachLemmas.{reach_right, reach_low, reach_high}
-use Rattle.resb_icu_text.proofs.ReachLemmas.{reach_number}
+use Rattle.resb_icu_grammar.specs.Kinds.{integer_kind}
 use Rattle.resb_icu_grammar.specs.Stuck.{no_integer, open_integer}
+use Rattle.resb_grammar.proofs.ReachLemmas.{reach_right, reach_low, reach_high}
+use Rattle.resb_icu_text.proofs.LeafLemmas.{leaf_fails, leaf_over, leaf_read}
+use Rattle.resb_icu_text.proofs.LeafLemmas.{integer_stands, closing_at}
+use Rattle.resb_icu_text.proofs.KeptLemmas.{number_kept}
+use Rattle.resb_icu_text.proofs.QuotaLemmas.{none_taken}
+use Rattle.resb_icu_text.proofs.ReachLemmas.{reach_number}
 use Rattle.resb_icu_text.proofs.leaf.integer_leaf.Goals as goal
 
-pub returns-in_default-clause-err : goal.returns-in_default-clause-err
-returns-in_default-clause-err c =
-    leaf_fails _ _ _ _ _ _ c.new.ensures (no_integer c.in_default.ensures.none)
+pub returns-in_default-clause-reads : goal.returns-in_default-clause-reads
+returns-in_default-clause-reads c =
+    leaf_fails c.args.at integer_kind _ _ _ (none_taken _) refl c.new.ensures
+    (no_integer c.in_default.ensures.none)
 
-pub returns-in_err-to-clause-err : goal.returns-in_err-to-clause-err
-returns-in_err-to-clause-err c =
+pub returns-in_err-to-clause-reads : goal.returns-in_err-to-clause-reads
+returns-in_err-to-clause-reads c =
     let p = err_from_is_err_and c.from_residual.result c.from_residual.ensures.1 in
-    let e = c.in_err-to.ensures.err in
-    rw (p.1, p.2) (leaf_fails _ _ _ _ _ _ e.1 (open_integer _ _ _ c.in-Some.ensures.found
-    c.skip-next.ensures.skip e.0))
+    let e = c.in_err-to.ensures in
+    rw (p.1, p.2) (leaf_fails c.args.at integer_kind _ _ _ (none_taken _) refl e.is
+    (open_integer _ _ _ c.in-Some.ensures.found c.skip-next.ensures.skip e.none))
 
-pub returns-clause-ok : goal.returns-clause-ok
-returns-clause-ok c =
-    subst (λ (t : Tree). Leaf c.args.text.now c.args.at integer_kind c.in_ok-to.to t)
+pub returns-in_err-take-clause-reads : goal.returns-in_err-take-clause-reads
+returns-in_err-take-clause-reads c =
+    let p = err_from_is_err_and c.from_residual-in_err-take.result
+    c.from_residual-in_err-take.ensures.1 in
+    rw (p.1, p.2) (leaf_over c.args.at integer_kind c.in_ok-to.to _ _
+    (integer_stands _ _ _ _ _ c.in-Some.ensures.found
+    (closing_at _ _ _ _ c.skip-next.ensures.skip c.in_ok-to.ensures))
+    c.in_err-take.ensures refl refl)
+
+pub returns-clause-reads : goal.returns-clause-reads
+returns-clause-reads c =
+    leaf_read c.args.at integer_kind c.in_ok-to.to _ _
     (sym (tree_of_integer _ ∙ ap integer c.from.ensures.0))
     (integer_stands _ _ _ _ _ c.in-Some.ensures.found
-    (closing_at _ _ _ _ c.skip-next.ensures.skip c.in_ok-to.ensures.ok))
+    (closing_at _ _ _ _ c.skip-next.ensures.skip c.in_ok-to.ensures))
+    c.in_ok-take.ensures refl (number_kept _ _)
+    (omega (arith, c.in-Some.ensures.within.0, c.skip-next.ensures.order, c.in_ok-to.ensures.same))
+    (omega (arith, c.in_ok-to.ensures.same, c.in_ok-to.ensures.fits))
 
-pub returns-clause-within : goal.returns-clause-within
-returns-clause-within c = (
-  omega (
-    arith,
-    c.in-Some.ensures.within.0,
-    c.skip-next.ensures.order,
-    c.in_ok-to.ensures.ok.0,
-  ),
-  c.in_ok-to.ensures.within,
-)
-
-pub returns-in_err-to-clause-most : goal.returns-in_err-to-clause-most
-returns-in_err-to-clause-most c =
-    omega (
+pub returns-in_err-to-clause-cost : goal.returns-in_err-to-clause-cost
+returns-in_err-to-clause-cost c =
+    let p = err_from_is_err_and c.from_residual.result c.from_residual.ensures.1 in
+    rw p.1 (omega (
       arith,
       c.in-Some.ensures.cost,
       c.in-Some.ensures.within.0,
@@ -52,10 +56,27 @@ returns-in_err-to-clause-most c =
           c.in-Some.ensures.found,
       reach_low c.args.text.now c.skip-next.result c.skip-next.ensures.fits,
       reach_high c.args.text.now c.skip-next.result c.skip-next.ensures.fits,
-    )
+    ))
+
+pub returns-in_err-take-clause-cost : goal.returns-in_err-take-clause-cost
+returns-in_err-take-clause-cost c =
+    let p = err_from_is_err_and c.from_residual-in_err-take.result
+    c.from_residual-in_err-take.ensures.1 in
+    rw p.1 (omega (
+      arith,
+      c.in-Some.ensures.cost,
+      c.in-Some.ensures.within.0,
+      c.skip-next.ensures.cost,
+      c.skip-next.ensures.order,
+      reach_number c.args.text.now c.args.at _ _ c.in-Some.ensures.within.0
+          c.in-Some.ensures.found,
+      reach_low c.args.text.now c.skip-next.result c.skip-next.ensures.fits,
+      reach_high c.args.text.now c.skip-next.result c.skip-next.ensures.fits,
+    ))
 
 pub returns-clause-cost : goal.returns-clause-cost
 returns-clause-cost c =
+    let to = c.in_ok-to.ensures in
     omega (
       arith,
       c.in-Some.ensures.cost,
@@ -65,20 +86,6 @@ returns-clause-cost c =
       reach_number c.args.text.now c.args.at _ _ c.in-Some.ensures.within.0
           c.in-Some.ensures.found,
       reach_low c.args.text.now c.skip-next.result c.skip-next.ensures.fits,
-      c.in_ok-to.ensures.ok.0,
-      reach_right c.args.text.now _ c.in_ok-to.ensures.ok.1,
-    )
-
-pub returns-clause-most : goal.returns-clause-most
-returns-clause-most c =
-    omega (
-      arith,
-      c.in-Some.ensures.cost,
-      c.in-Some.ensures.within.0,
-      c.skip-next.ensures.cost,
-      c.skip-next.ensures.order,
-      reach_number c.args.text.now c.args.at _ _ c.in-Some.ensures.within.0
-          c.in-Some.ensures.found,
-      reach_low c.args.text.now c.skip-next.result c.skip-next.ensures.fits,
-      reach_high c.args.text.now c.skip-next.result c.skip-next.ensures.fits,
+      to.same,
+      reach_right c.args.text.now _ to.closes,
     )

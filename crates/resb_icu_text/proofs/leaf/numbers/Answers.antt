@@ -1,83 +1,129 @@
-use Rattle.std.proofs.Common.{sym, ◌∙◌, arith}
+use Rattle.std.proofs.Common.{◌+◌, sym, ◌∙◌, arith, refl, length, length-append, ◌∷◌, []}
 use Rattle.std.proofs.lemmas.Result.{err_from_is_err_and}
-use Rattle.resb_icu_text.proofs.LeafLemmas.{leaf_fails, continues_first, continues_end}
-use Rattle.resb_icu_text.proofs.LeafLemmas.{continues_more, counted_more}
-use Rattle.resb_grammar.proofs.ReachLemmas.{reach_low, reach_right}
-use Rattle.resb_icu_text.proofs.ReachLemmas.{reach_number}
+use Rattle.resb_icu_grammar.specs.Kinds.{vector_kind}
 use Rattle.resb_icu_grammar.specs.Stuck.{none_yet, no_number, open_vector}
+use Rattle.resb_icu_grammar.proofs.Blocked.{no_more, a_last}
+use Rattle.resb_grammar.proofs.ReachLemmas.{reach_low, reach_right, reach_high}
+use Rattle.resb_icu_text.proofs.LeafLemmas.{continues_first, continues_end, continues_more}
+use Rattle.resb_icu_text.proofs.LeafLemmas.{counted_more, numbers_stop, number_over, leaf_lacks}
+use Rattle.resb_icu_text.proofs.LeafLemmas.{leaf_says}
+use Rattle.resb_icu_text.proofs.QuotaLemmas.{none_taken, both_taken}
+use Rattle.resb_icu_text.proofs.ReachLemmas.{reach_number}
 use Rattle.resb_icu_text.proofs.leaf.numbers.Goals as goal
 
 pub numbers-init : goal.numbers-init
-numbers-init c = record {
-  order = omega arith;
-  fits = c.requires.within;
-  cost = omega arith;
-  counted = none_yet c.args.at;
-  some = c.requires.some;
-  continues = rw c.new-numbers.ensures.items (continues_first _ _);
-}
+numbers-init c =
+    record {
+      order = omega arith;
+      fits = c.requires.within;
+      cost = omega arith;
+      counted = rw c.new-numbers.ensures.items (none_yet c.args.at, refl);
+      taken = rw c.new-numbers.ensures.items (none_taken _);
+      some = c.requires.some;
+      continues = rw c.new-numbers.ensures.items (continues_first _ _);
+    }
 
-pub returns-in_default-clause-err : goal.returns-in_default-clause-err
-returns-in_default-clause-err c =
-    leaf_fails _ _ _ _ _ _ c.new.ensures (no_number _ c.numbers.invariant.counted
-    c.numbers.invariant.some c.in_default.ensures.none)
+pub returns-in_default-clause-reads : goal.returns-in_default-clause-reads
+returns-in_default-clause-reads c =
+    let counted = c.numbers.invariant.counted in
+    numbers_stop c.args.at c.numbers.here _ 0 _ counted.0 (no_more c.in_default.ensures.none)
+    c.numbers.invariant.taken (omega (arith, counted.1))
+    (leaf_says _ _ _ _ _ _ c.new.ensures (no_number _ counted.0 c.numbers.invariant.some
+    c.in_default.ensures.none))
 
-pub returns-in_err-here-clause-err : goal.returns-in_err-here-clause-err
-returns-in_err-here-clause-err c =
+pub returns-in_err-take-clause-reads : goal.returns-in_err-take-clause-reads
+returns-in_err-take-clause-reads c =
+    let p = err_from_is_err_and c.from_residual.result c.from_residual.ensures.1 in
+    rw (p.1, p.2) (number_over c.args.at c.numbers.here _ _ _ _ c.numbers.invariant.counted.0
+    c.numbers.invariant.counted.1 c.in-Some.ensures.found c.numbers.invariant.taken
+    c.in_err-take.ensures refl)
+
+pub returns-in_err-push-clause-reads : goal.returns-in_err-push-clause-reads
+returns-in_err-push-clause-reads c =
+    let p = err_from_is_err_and c.from_residual-in_err-push.result
+    c.from_residual-in_err-push.ensures.1 in
+    rw (p.1, p.2) (leaf_lacks c.args.at vector_kind _
+    (both_taken c.numbers.invariant.taken c.in_ok-take.ensures refl) refl)
+
+pub returns-in_err-here-clause-reads : goal.returns-in_err-here-clause-reads
+returns-in_err-here-clause-reads c =
     let p = err_from_is_err_and c.from_residual-in_err-here.result
     c.from_residual-in_err-here.ensures.1 in
-    let e = c.in_err-here.ensures.err in
-    rw (p.1, p.2) (leaf_fails _ _ _ _ _ _ e.2 (open_vector _ _ _ _ c.numbers.invariant.counted
-    c.in-Some.ensures.found c.skip-place.ensures.skip e.0 e.1))
+    let e = c.in_err-here.ensures.reads in
+    let counted = c.numbers.invariant.counted in
+    rw (p.1, p.2) (numbers_stop c.args.at c.numbers.here (length c.numbers.numbers.items + 1) 1 _
+    counted.0
+    (a_last _ _ _ c.in-Some.ensures.found c.skip-place.ensures.skip e.no_comma)
+    (both_taken c.numbers.invariant.taken c.in_ok-take.ensures (omega arith))
+    (omega (arith, counted.1))
+    (leaf_says _ _ _ _ _ _ e.is (open_vector _ _ _ _ counted.0 c.in-Some.ensures.found
+    c.skip-place.ensures.skip e.no_comma e.none)))
 
-pub returns-then-byte-eq125-clause-ok : goal.returns-then-byte-eq125-clause-ok
-returns-then-byte-eq125-clause-ok c =
-    rw c.in_ok-push.ensures.items
-    (continues_end _ _ _ _ _ _ _ _ c.in-Some.ensures.found c.skip-place.ensures.skip
-    c.in_ok-here.ensures.ok (sym c.byte.ensures.byte ∙ c.if-byte-eq125.true)
-    c.numbers.invariant.continues)
-
-pub numbers-preserved : goal.numbers-preserved
-numbers-preserved c = record {
-  counted = counted_more _ _ _ _ _ _ _ c.numbers.invariant.counted c.in-Some.ensures.found
-      c.skip-place.ensures.skip c.in_ok-here.ensures.ok
-      (λ e. c.if-byte-eq125.false (c.byte.ensures.byte ∙ e));
-  some = λ e. c.if-byte-eq125.false (c.byte.ensures.byte ∙ e);
-  order =
-      omega (
+pub returns-then-byte-eq125-clause-reads : goal.returns-then-byte-eq125-clause-reads
+returns-then-byte-eq125-clause-reads c =
+    record {
+      vector = rw c.in_ok-push.ensures.items
+          (continues_end _ _ _ _ _ _ _ _ c.in-Some.ensures.found c.skip-place.ensures.skip
+          c.in_ok-here.ensures.reads (sym c.byte.ensures.byte ∙ c.if-byte-eq125.true)
+          c.numbers.invariant.continues);
+      takes = rw c.in_ok-push.ensures.items
+          (both_taken c.numbers.invariant.taken c.in_ok-take.ensures
+          (omega (arith, length-append c.numbers.numbers.items (c.in-Some.value ∷ []))));
+      order = omega (
         arith,
         c.numbers.invariant.order,
         c.in-Some.ensures.within.0,
         c.skip-place.ensures.order,
-        c.in_ok-here.ensures.within.0,
+        c.in_ok-here.ensures.cost.0,
       );
-  fits = c.in_ok-here.ensures.within.1;
-  continues =
-      rw c.in_ok-push.ensures.items
-      (continues_more _ _ _ _ _ _ _ _ c.in-Some.ensures.found c.skip-place.ensures.skip
-      c.in_ok-here.ensures.ok (λ e. c.if-byte-eq125.false (c.byte.ensures.byte ∙ e))
-      c.numbers.invariant.continues);
-  cost = omega (
-    arith,
-    c.numbers.invariant.cost,
-    c.in-Some.ensures.cost,
-    c.in-Some.ensures.within.0,
-    reach_number c.args.text.now c.numbers.here _ _ c.in-Some.ensures.within.0
-        c.in-Some.ensures.found,
-    c.skip-place.ensures.cost,
-    c.skip-place.ensures.order,
-    c.in_ok-here.ensures.cost,
-    c.in_ok-here.ensures.within.0,
-    reach_low c.args.text.now c.in_ok-here.here c.in_ok-here.ensures.within.1,
-  );
-}
+      fits = c.byte.ensures.inside (omega (arith, c.if-byte-eq125.true));
+    }
 
-pub returns-in_default-clause-most : goal.returns-in_default-clause-most
-returns-in_default-clause-most c = omega (arith, c.numbers.invariant.cost, c.number.ensures.most)
+pub numbers-preserved : goal.numbers-preserved
+numbers-preserved c =
+    record {
+      counted = rw c.in_ok-push.ensures.items
+          (counted_more _ _ _ _ _ _ _ _ c.numbers.invariant.counted c.in-Some.ensures.found
+          c.skip-place.ensures.skip c.in_ok-here.ensures.reads
+          (λ e. c.if-byte-eq125.false (c.byte.ensures.byte ∙ e)));
+      taken = rw c.in_ok-push.ensures.items
+          (both_taken c.numbers.invariant.taken c.in_ok-take.ensures
+          (omega (arith, length-append c.numbers.numbers.items (c.in-Some.value ∷ []))));
+      some = λ e. c.if-byte-eq125.false (c.byte.ensures.byte ∙ e);
+      order = omega (
+        arith,
+        c.numbers.invariant.order,
+        c.in-Some.ensures.within.0,
+        c.skip-place.ensures.order,
+        c.in_ok-here.ensures.cost.0,
+      );
+      fits = c.in_ok-here.ensures.cost.1;
+      continues = rw c.in_ok-push.ensures.items
+          (continues_more _ _ _ _ _ _ _ _ c.in-Some.ensures.found c.skip-place.ensures.skip
+          c.in_ok-here.ensures.reads (λ e. c.if-byte-eq125.false (c.byte.ensures.byte ∙ e))
+          c.numbers.invariant.continues);
+      cost = omega (
+        arith,
+        c.numbers.invariant.cost,
+        c.in-Some.ensures.cost,
+        c.in-Some.ensures.within.0,
+        reach_number c.args.text.now c.numbers.here _ _ c.in-Some.ensures.within.0
+            c.in-Some.ensures.found,
+        c.skip-place.ensures.cost,
+        c.skip-place.ensures.order,
+        c.in_ok-here.ensures.cost,
+        reach_low c.args.text.now c.in_ok-here.here c.in_ok-here.ensures.cost.1,
+      );
+    }
 
-pub returns-in_err-push-clause-most : goal.returns-in_err-push-clause-most
-returns-in_err-push-clause-most c =
-    omega (
+pub returns-in_default-clause-cost : goal.returns-in_default-clause-cost
+returns-in_default-clause-cost c =
+    omega (arith, c.numbers.invariant.cost, c.number.ensures.most)
+
+pub returns-in_err-take-clause-cost : goal.returns-in_err-take-clause-cost
+returns-in_err-take-clause-cost c =
+    let p = err_from_is_err_and c.from_residual.result c.from_residual.ensures.1 in
+    rw p.1 (omega (
       arith,
       c.numbers.invariant.cost,
       c.in-Some.ensures.cost,
@@ -85,11 +131,27 @@ returns-in_err-push-clause-most c =
       reach_number c.args.text.now c.numbers.here _ _ c.in-Some.ensures.within.0
           c.in-Some.ensures.found,
       c.in-Some.ensures.within.1,
-    )
+    ))
 
-pub returns-in_err-here-clause-most : goal.returns-in_err-here-clause-most
-returns-in_err-here-clause-most c =
-    omega (
+pub returns-in_err-push-clause-cost : goal.returns-in_err-push-clause-cost
+returns-in_err-push-clause-cost c =
+    let p = err_from_is_err_and c.from_residual-in_err-push.result
+    c.from_residual-in_err-push.ensures.1 in
+    rw p.1 (omega (
+      arith,
+      c.numbers.invariant.cost,
+      c.in-Some.ensures.cost,
+      c.in-Some.ensures.within.0,
+      reach_number c.args.text.now c.numbers.here _ _ c.in-Some.ensures.within.0
+          c.in-Some.ensures.found,
+      c.in-Some.ensures.within.1,
+    ))
+
+pub returns-in_err-here-clause-cost : goal.returns-in_err-here-clause-cost
+returns-in_err-here-clause-cost c =
+    let p = err_from_is_err_and c.from_residual-in_err-here.result
+    c.from_residual-in_err-here.ensures.1 in
+    rw p.1 (omega (
       arith,
       c.numbers.invariant.cost,
       c.in-Some.ensures.cost,
@@ -99,8 +161,9 @@ returns-in_err-here-clause-most c =
       c.skip-place.ensures.cost,
       c.skip-place.ensures.order,
       c.skip-place.ensures.fits,
-      c.behind_number.ensures.most,
-    )
+      reach_high c.args.text.now c.skip-place.result c.skip-place.ensures.fits,
+      c.in_err-here.ensures.cost,
+    ))
 
 pub returns-then-byte-eq125-clause-cost : goal.returns-then-byte-eq125-clause-cost
 returns-then-byte-eq125-clause-cost c =
@@ -114,24 +177,6 @@ returns-then-byte-eq125-clause-cost c =
       c.skip-place.ensures.cost,
       c.skip-place.ensures.order,
       c.in_ok-here.ensures.cost,
-      c.in_ok-here.ensures.within.0,
-      reach_right c.args.text.now c.in_ok-here.here
-          (sym c.byte.ensures.byte ∙ c.if-byte-eq125.true),
-    )
-
-pub returns-then-byte-eq125-clause-most : goal.returns-then-byte-eq125-clause-most
-returns-then-byte-eq125-clause-most c =
-    omega (
-      arith,
-      c.numbers.invariant.cost,
-      c.in-Some.ensures.cost,
-      c.in-Some.ensures.within.0,
-      reach_number c.args.text.now c.numbers.here _ _ c.in-Some.ensures.within.0
-          c.in-Some.ensures.found,
-      c.skip-place.ensures.cost,
-      c.skip-place.ensures.order,
-      c.in_ok-here.ensures.cost,
-      c.in_ok-here.ensures.within,
       reach_right c.args.text.now c.in_ok-here.here
           (sym c.byte.ensures.byte ∙ c.if-byte-eq125.true),
     )

@@ -1,22 +1,50 @@
-use Rattle.std.proofs.Common.{ap, subst, sym, ◌∙◌, arith}
-use Rattle.resb_tree.specs.Tree.{Tree, int_vector}
-use Rattle.resb_icu_grammar.specs.Kinds.{vector_kind}
+use Rattle.std.proofs.Common.{ap, arith, refl, sym, ◌∙◌, []}
+use Rattle.std.proofs.lemmas.Result.{err_from_is_err_and}
+use Rattle.resb_tree.specs.Tree.{int_vector}
 use Rattle.resb_tree.proofs.ViewLemmas.{tree_of_vector}
-use Rattle.resb_icu_text.specs.Inner.Leaf.{Leaf}
-use Rattle.resb_icu_text.proofs.LeafLemmas.{empty_vector, vector_stands}
+use Rattle.resb_icu_grammar.specs.Kinds.{vector_kind}
 use Rattle.resb_grammar.proofs.ReachLemmas.{reach_right, reach_high}
+use Rattle.resb_icu_text.proofs.LeafLemmas.{empty_vector, vector_stands, leaf_over, leaf_read}
+use Rattle.resb_icu_text.proofs.KeptLemmas.{numbers_kept}
+use Rattle.resb_icu_text.proofs.QuotaLemmas.{both_taken, taken_over}
 use Rattle.resb_icu_text.proofs.leaf.vector_leaf.Goals as goal
 
-pub returns-then-byte-eq125-clause-ok : goal.returns-then-byte-eq125-clause-ok
-returns-then-byte-eq125-clause-ok c =
-    subst (λ (t : Tree). Leaf c.args.text.now c.args.at vector_kind c.args.at t)
+pub returns-in_err-take-clause-reads : goal.returns-in_err-take-clause-reads
+returns-in_err-take-clause-reads c =
+    let p = err_from_is_err_and c.from_residual.result c.from_residual.ensures.1 in
+    rw (p.1, p.2) (leaf_over c.args.at vector_kind c.args.at (int_vector []) _
+    (empty_vector _ _ (sym c.byte.ensures.byte ∙ c.if-byte-eq125.true))
+    c.in_err-take.ensures refl refl)
+
+pub returns-then-byte-eq125-clause-reads : goal.returns-then-byte-eq125-clause-reads
+returns-then-byte-eq125-clause-reads c =
+    leaf_read c.args.at vector_kind c.args.at _ (int_vector [])
     (sym (tree_of_vector _ ∙ ap int_vector c.new.ensures.items))
     (empty_vector _ _ (sym c.byte.ensures.byte ∙ c.if-byte-eq125.true))
+    c.in_ok-take.ensures refl (numbers_kept _ _) (omega arith)
+    (c.byte.ensures.inside (omega (arith, c.if-byte-eq125.true)))
 
-pub returns-clause-ok : goal.returns-clause-ok
-returns-clause-ok c =
-    subst (λ (t : Tree). Leaf c.args.text.now c.args.at vector_kind c.in_ok-to.to t)
-    (sym (tree_of_vector _)) (vector_stands _ _ _ _ c.in_ok-to.ensures.ok)
+pub returns-in_err-to-clause-reads : goal.returns-in_err-to-clause-reads
+returns-in_err-to-clause-reads c =
+    let p = err_from_is_err_and c.from_residual-in_err-to.result
+    c.from_residual-in_err-to.ensures.1 in
+    rw (p.1, p.2) c.in_err-to.ensures.reads
+
+pub returns-in_err-take-2-clause-reads : goal.returns-in_err-take-2-clause-reads
+returns-in_err-take-2-clause-reads c =
+    let p = err_from_is_err_and c.from_residual-in_err-take-2.result
+    c.from_residual-in_err-take-2.ensures.1 in
+    let v = c.in_ok-to.ensures.reads in
+    rw (p.1, p.2) (leaf_over c.args.at vector_kind c.in_ok-to.to _ _
+    (vector_stands _ _ _ _ v.vector)
+    (taken_over v.takes c.in_err-take-2.ensures refl) (omega arith) refl)
+
+pub returns-clause-reads : goal.returns-clause-reads
+returns-clause-reads c =
+    let v = c.in_ok-to.ensures.reads in
+    leaf_read c.args.at vector_kind c.in_ok-to.to _ _ (sym (tree_of_vector _))
+    (vector_stands _ _ _ _ v.vector)
+    (both_taken v.takes c.in_ok-take-2.ensures refl) (omega arith) (numbers_kept _ _) v.order v.fits
 
 pub returns-then-byte-eq125-clause-cost : goal.returns-then-byte-eq125-clause-cost
 returns-then-byte-eq125-clause-cost c =
@@ -25,6 +53,14 @@ returns-then-byte-eq125-clause-cost c =
       reach_right c.args.text.now c.args.at (sym c.byte.ensures.byte ∙ c.if-byte-eq125.true),
     )
 
-pub returns-then-byte-eq125-clause-most : goal.returns-then-byte-eq125-clause-most
-returns-then-byte-eq125-clause-most c =
-    omega (arith, reach_high c.args.text.now c.args.at c.requires.within)
+pub returns-in_err-take-clause-cost : goal.returns-in_err-take-clause-cost
+returns-in_err-take-clause-cost c =
+    let p = err_from_is_err_and c.from_residual.result c.from_residual.ensures.1 in
+    rw p.1 (omega (arith, reach_high c.args.text.now c.args.at c.requires.within))
+
+pub returns-in_err-take-2-clause-cost : goal.returns-in_err-take-2-clause-cost
+returns-in_err-take-2-clause-cost c =
+    let p = err_from_is_err_and c.from_residual-in_err-take-2.result
+    c.from_residual-in_err-take-2.ensures.1 in
+    let v = c.in_ok-to.ensures.reads in
+    rw p.1 (omega (arith, c.in_ok-to.ensures.cost, v.fits))

@@ -1,37 +1,44 @@
-use Rattle.std.proofs.Common.{◌≡◌, ◌-◌, arith, rules, refl, sym, ◌∙◌}
+use Rattle.std.proofs.Common.{◌≡◌, ◌+◌, ◌-◌, arith, rules, refl, sym, ◌∙◌}
 use Rattle.std.specs.Prelude.{slice_index}
 use Rattle.resb_icu_grammar.specs.Bytes.{backslash}
 use Rattle.resb_icu_text.proofs.PiecesLemmas.{goes_bytes, fault_bytes, goes_escape}
 use Rattle.resb_icu_text.proofs.PiecesLemmas.{fault_escape, no_escape_fault, no_end_fault}
 use Rattle.resb_icu_text.proofs.PiecesLemmas.{says_fault, piece_closes, no_escape_more}
 use Rattle.resb_icu_text.proofs.StopsLemmas.{is_backslash}
+use Rattle.resb_icu_text.proofs.LengthLemmas.{escape_short}
 use Rattle.resb_icu_text.proofs.pieces.piece_end.Goals as goal
 
-pub returns-in_default-clause-err : goal.returns-in_default-clause-err
-returns-in_default-clause-err c =
+pub returns-in_default-clause-reads : goal.returns-in_default-clause-reads
+returns-in_default-clause-reads c =
     says_fault _ _ _ _ _ _ c.new.ensures
     (no_end_fault c.args.text.now (c.args.from - 1) c.args.from c.piece.at c.piece.invariant.fits
     c.in_default.ensures.none c.piece.invariant.fault)
 
-pub returns-in_default-clause-most : goal.returns-in_default-clause-most
-returns-in_default-clause-most c =
+pub returns-in_default-clause-cost : goal.returns-in_default-clause-cost
+returns-in_default-clause-cost c =
     omega (arith, c.add.ensures.most, c.piece.invariant.cost, c.piece.invariant.fits)
 
-pub returns-then-byte-eq34-clause-found : goal.returns-then-byte-eq34-clause-found
-returns-then-byte-eq34-clause-found c =
+pub returns-then-byte-eq34-clause-reads : goal.returns-then-byte-eq34-clause-reads
+returns-then-byte-eq34-clause-reads c =
     let f = c.in-Some.ensures.found in
-    piece_closes c.args.text.now c.args.from c.in-Some.stop
+    let inside = piece_closes c.args.text.now c.args.from c.in-Some.stop _
     (sym c.byte.ensures.byte ∙ c.if-byte-eq34.true)
-    (goes_bytes c.args.text.now c.args.from c.piece.at c.in-Some.stop f.order
-    (omega (arith, f.fits)) f.before c.piece.invariant.on)
+    (goes_bytes c.args.text.now c.args.from c.piece.at c.in-Some.stop _ f.order
+    (omega (arith, f.fits)) f.before c.piece.invariant.on) in
+    record {
+      said = inside.0;
+      stands = inside.1;
+      counted = inside.2;
+      plain = λ h. no_escape_more c.args.text.now c.args.from c.piece.at c.in-Some.stop
+          f.before (c.piece.invariant.clean h);
+      escaped = λ h n. let k = c.piece.invariant.dirty h in
+          n k.0 k.1 (omega (arith, k.2, f.order)) k.3;
+      order = omega (arith, c.piece.invariant.order, f.order);
+      fits = f.fits;
+    }
 
-pub returns-then-byte-eq34-clause-plain : goal.returns-then-byte-eq34-clause-plain
-returns-then-byte-eq34-clause-plain c = λ h.
-    no_escape_more c.args.text.now c.args.from c.piece.at c.in-Some.stop
-    c.in-Some.ensures.found.before (c.piece.invariant.clean h)
-
-pub returns-in_default-escape-clause-err : goal.returns-in_default-escape-clause-err
-returns-in_default-escape-clause-err c =
+pub returns-in_default-escape-clause-reads : goal.returns-in_default-escape-clause-reads
+returns-in_default-escape-clause-reads c =
     let f = c.in-Some.ensures.found in
     let s : slice_index c.args.text.now c.in-Some.stop ≡ backslash =
     is_backslash _ _ _ f (λ e. c.if-byte-eq34.false (c.byte.ensures.byte ∙ e)) in
@@ -49,14 +56,22 @@ piece-preserved c =
     is_backslash _ _ _ f (λ e. c.if-byte-eq34.false (c.byte.ensures.byte ∙ e)) in
     let x = c.in-Some-escape.ensures.found in
     let w = c.in-Some-escape.ensures.within in
-    let on = goes_bytes text c.args.from c.piece.at c.in-Some.stop f.order (omega (arith, f.fits))
-    f.before c.piece.invariant.on in
+    let on = goes_bytes text c.args.from c.piece.at c.in-Some.stop _ f.order
+    (omega (arith, f.fits)) f.before c.piece.invariant.on in
     let fault = fault_bytes text (c.args.from - 1) c.args.from c.piece.at c.in-Some.stop f.order
     (omega (arith, f.fits)) f.before c.piece.invariant.fault in
     record {
       order = omega (arith, c.piece.invariant.order, f.order, w.0);
       fits = w.1;
-      on = goes_escape text c.args.from c.in-Some.stop c.in-Some-escape.to _ _ refl s x on;
+      on = goes_escape text c.args.from c.in-Some.stop c.in-Some-escape.to _ _ _ _ refl s x
+          (c.escaped_length-length.ensures _) on;
+      short = omega (
+        arith,
+        c.piece.invariant.short,
+        f.order,
+        c.escaped_length-length.ensures (slice_index text (c.in-Some.stop + 1)),
+        escape_short text (c.in-Some.stop + 1) c.in-Some-escape.to _ x,
+      );
       fault = fault_escape text (c.args.from - 1) c.args.from c.in-Some.stop c.in-Some-escape.to _ _
           refl s x fault;
       clean = λ h. absurd (search rules);
@@ -68,3 +83,18 @@ piece-preserved c =
       );
       cost = omega (arith, c.add-in-piece.ensures.most, c.piece.invariant.cost, f.order, w.0);
     }
+
+pub overflow_add-length-in-piece : goal.overflow_add-length-in-piece
+overflow_add-length-in-piece c =
+    let f = c.in-Some.ensures.found in
+    let text = c.args.text.now in
+    omega (
+      arith,
+      c.piece.invariant.short,
+      f.order,
+      f.fits,
+      c.byte.ensures.fits,
+      c.in-Some-escape.ensures.within.1,
+      c.escaped_length-length.ensures (slice_index text (c.in-Some.stop + 1)),
+      escape_short text (c.in-Some.stop + 1) c.in-Some-escape.to _ c.in-Some-escape.ensures.found,
+    )

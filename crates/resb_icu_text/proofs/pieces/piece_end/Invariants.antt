@@ -9,10 +9,11 @@ abbrev pub invariant-piece : goal.invariant-piece
 invariant-piece l = record {
   order : l.from ≤ l.at;
   fits : l.at ≤ length l.text;
-  on : GoesOn l.text l.at l.from;
+  on : GoesOn l.text l.at l.from l.length;
+  short : l.length + l.from ≤ l.at;
   fault : FaultOn l.text (l.from - 1) l.at l.from;
-  clean : l.plain ≡ true → HasNoEscape l.text l.from l.at;
-  dirty : l.plain ≡ false → (k : ℕ) × (l.from ≤ k) × (k < l.at)
+  clean : l.is_plain ≡ true → HasNoEscape l.text l.from l.at;
+  dirty : l.is_plain ≡ false → (k : ℕ) × (l.from ≤ k) × (k < l.at)
       × (slice_index l.text k ≡ backslash);
   cost : l.turns.count + l.from ≤ l.fn.turns.count + l.at;
 }

@@ -1,12 +1,21 @@
 use Rattle.std.proofs.Common.{arith, sym, ◌∙◌}
 use Rattle.resb_icu_text.specs.Inner.Reading.{no_brace}
-use Rattle.resb_grammar.proofs.ReachLemmas.{reach_left}
+use Rattle.resb_grammar.proofs.ReachLemmas.{reach_left, reach_high}
 use Rattle.resb_icu_text.proofs.reader.opening.Goals as goal
 
-pub returns-else-byte-eq123-clause-err : goal.returns-else-byte-eq123-clause-err
-returns-else-byte-eq123-clause-err c =
-    no_brace _ _ c.in_ok-brace.ensures.ok (λ e. c.if-byte-eq123.false (c.byte.ensures.byte ∙ e))
-    c.new.ensures
+pub returns-then-byte-eq123-clause-reads : goal.returns-then-byte-eq123-clause-reads
+returns-then-byte-eq123-clause-reads c = (
+  record {
+    typed = c.in_ok-brace.ensures.reads.0;
+    opens = sym c.byte.ensures.byte ∙ c.if-byte-eq123.true;
+  },
+  c.byte.ensures.inside (omega (arith, c.if-byte-eq123.true)),
+)
+
+pub returns-else-byte-eq123-clause-reads : goal.returns-else-byte-eq123-clause-reads
+returns-else-byte-eq123-clause-reads c =
+    no_brace _ _ c.in_ok-brace.ensures.reads.0
+    (λ e. c.if-byte-eq123.false (c.byte.ensures.byte ∙ e)) c.new.ensures
 
 pub returns-then-byte-eq123-clause-cost : goal.returns-then-byte-eq123-clause-cost
 returns-then-byte-eq123-clause-cost c =
@@ -15,4 +24,12 @@ returns-then-byte-eq123-clause-cost c =
       c.in_ok-brace.ensures.cost,
       reach_left c.args.text.now c.in_ok-brace.brace
           (sym c.byte.ensures.byte ∙ c.if-byte-eq123.true),
+    )
+
+pub returns-else-byte-eq123-clause-cost : goal.returns-else-byte-eq123-clause-cost
+returns-else-byte-eq123-clause-cost c =
+    omega (
+      arith,
+      c.in_ok-brace.ensures.cost,
+      reach_high c.args.text.now c.in_ok-brace.brace c.in_ok-brace.ensures.reads.1,
     )

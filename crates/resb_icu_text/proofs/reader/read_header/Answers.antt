@@ -1,38 +1,59 @@
 use Rattle.std.proofs.Common.{arith}
 use Rattle.std.proofs.lemmas.Result.{err_from_is_err_and}
 use Rattle.resb_icu_text.proofs.ReadingLemmas.{no_header_name, no_header_opening, typing_of}
-use Rattle.resb_grammar.proofs.ReachLemmas.{reach_low, reach_high}
+use Rattle.resb_grammar.proofs.ReachLemmas.{reach_low}
 use Rattle.resb_icu_text.proofs.reader.read_header.Goals as goal
 
-pub returns-in_err-next-clause-err : goal.returns-in_err-next-clause-err
-returns-in_err-next-clause-err c =
+pub returns-in_err-next-clause-reads : goal.returns-in_err-next-clause-reads
+returns-in_err-next-clause-reads c =
     let p = err_from_is_err_and c.from_residual.result c.from_residual.ensures.1 in
     rw (p.1, p.2) (no_header_name _ _ _ _ c.begin.ensures.begins c.skip-start.ensures.skip
-    c.in_err-next.ensures.err)
+    c.in_err-next.ensures.reads)
 
-pub returns-in_err-brace-clause-err : goal.returns-in_err-brace-clause-err
-returns-in_err-brace-clause-err c =
+pub returns-in_err-brace-clause-reads : goal.returns-in_err-brace-clause-reads
+returns-in_err-brace-clause-reads c =
     let p = err_from_is_err_and c.from_residual-in_err-brace.result
     c.from_residual-in_err-brace.ensures.1 in
+    let named = c.in_ok-next.ensures.reads in
     rw (p.1, p.2) (no_header_opening _ _ _ _ _ _ _ c.begin.ensures.begins
-    c.skip-start.ensures.skip c.in_ok-next.ensures.ok.stands c.in_ok-next.ensures.ok.after
-    c.in_err-brace.ensures.err)
+    c.skip-start.ensures.skip named.stands named.after c.in_err-brace.ensures.reads)
 
-pub returns-clause-ok : goal.returns-clause-ok
-returns-clause-ok c = record {
-  begin = c.begin.result;
-  start = c.skip-start.result;
-  ends = c.in_ok-next.ensures.ok.to;
-  place = c.in_ok-next.next;
-  brace = c.in_ok-brace.brace;
-  begins = c.begin.ensures.begins;
-  before = c.skip-start.ensures.skip;
-  named = c.in_ok-next.ensures.ok.stands;
-  between = c.in_ok-next.ensures.ok.after;
-  typed = typing_of _ _ _ _ c.in_ok-brace.ensures.ok.typed;
-  opens = c.in_ok-brace.ensures.ok.opens;
-  after = c.skip-first.ensures.skip;
-}
+pub returns-clause-reads : goal.returns-clause-reads
+returns-clause-reads c =
+    let named = c.in_ok-next.ensures.reads in
+    let opens = c.in_ok-brace.ensures.reads.0 in (
+      record {
+        begin = c.begin.result;
+        start = c.skip-start.result;
+        ends = named.to;
+        place = c.in_ok-next.next;
+        brace = c.in_ok-brace.brace;
+        begins = c.begin.ensures.begins;
+        before = c.skip-start.ensures.skip;
+        named = named.stands;
+        between = named.after;
+        typed = typing_of _ _ _ _ opens.typed;
+        opens = opens.opens;
+        after = c.skip-first.ensures.skip;
+      },
+      c.skip-first.ensures.fits,
+    )
+
+pub returns-in_err-next-clause-cost : goal.returns-in_err-next-clause-cost
+returns-in_err-next-clause-cost c =
+    let p = err_from_is_err_and c.from_residual.result c.from_residual.ensures.1 in
+    rw p.1 (omega (arith, c.skip-start.ensures.cost, c.in_err-next.ensures.cost))
+
+pub returns-in_err-brace-clause-cost : goal.returns-in_err-brace-clause-cost
+returns-in_err-brace-clause-cost c =
+    let p = err_from_is_err_and c.from_residual-in_err-brace.result
+    c.from_residual-in_err-brace.ensures.1 in
+    rw p.1 (omega (
+      arith,
+      c.skip-start.ensures.cost,
+      c.in_ok-next.ensures.cost,
+      c.in_err-brace.ensures.cost,
+    ))
 
 pub returns-clause-cost : goal.returns-clause-cost
 returns-clause-cost c =
@@ -44,17 +65,4 @@ returns-clause-cost c =
       c.skip-first.ensures.cost,
       c.skip-first.ensures.order,
       reach_low c.args.text.now c.skip-first.result c.skip-first.ensures.fits,
-    )
-
-pub returns-clause-most : goal.returns-clause-most
-returns-clause-most c =
-    omega (
-      arith,
-      c.skip-start.ensures.cost,
-      c.in_ok-next.ensures.cost,
-      c.in_ok-brace.ensures.cost,
-      c.skip-first.ensures.cost,
-      c.skip-first.ensures.order,
-      reach_low c.args.text.now c.skip-first.result c.skip-first.ensures.fits,
-      reach_high c.args.text.now c.skip-first.result c.skip-first.ensures.fits,
     )

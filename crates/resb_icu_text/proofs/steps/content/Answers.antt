@@ -1,38 +1,29 @@
 use Rattle.std.proofs.Common.{arith}
 use Rattle.std.proofs.lemmas.Result.{err_from_is_err_and}
+use Rattle.resb_icu_text.proofs.QuotaLemmas.{none_taken}
 use Rattle.resb_icu_text.proofs.StepsLemmas.{array_content, table_content, leaf_content}
-use Rattle.resb_icu_text.proofs.StepsLemmas.{no_leaf_content}
-use Rattle.resb_grammar.proofs.ReachLemmas.{reach_high}
 use Rattle.resb_icu_text.proofs.steps.content.Goals as goal
 
-pub returns-in-Array-clause-ok : goal.returns-in-Array-clause-ok
-returns-in-Array-clause-ok g c = rw c.in-Array.is (array_content _ c.new.result _ c.new.ensures.items)
+pub returns-in-Array-clause-reads : goal.returns-in-Array-clause-reads
+returns-in-Array-clause-reads g c =
+    rw c.in-Array.is (array_content c.new.result c.args.at (none_taken _) c.requires.within
+    c.new.ensures.items)
 
-pub returns-in-Table-clause-ok : goal.returns-in-Table-clause-ok
-returns-in-Table-clause-ok g c =
-    rw c.in-Table.is (table_content _ c.new-in-Table.result _ c.new-in-Table.ensures.items)
+pub returns-in-Table-clause-reads : goal.returns-in-Table-clause-reads
+returns-in-Table-clause-reads g c =
+    rw c.in-Table.is (table_content c.new-in-Table.result c.args.at (none_taken _)
+    c.requires.within c.new-in-Table.ensures.items)
 
-pub returns-in_ok-to-in_default : goal.returns-in_ok-to-in_default
-returns-in_ok-to-in_default g c =
-    let within = c.in_ok-to-in_default.ensures.within in
-    record {
-      ok = leaf_content _ _ _ _ c.in_ok-to-in_default.resource c.in_ok-to-in_default.ensures.ok;
-      err = tt;
-      slices = λ pass test p h. c.in_ok-to-in_default.ensures.slices test p;
-      goes = (omega (arith, within.1), omega (arith, within.0));
-      cost = omega (arith, c.in_ok-to-in_default.ensures.cost);
-      most = c.leaf.ensures.most;
-    }
+pub returns-in_ok-to-in_default-clause-reads : goal.returns-in_ok-to-in_default-clause-reads
+returns-in_ok-to-in_default-clause-reads g c =
+    leaf_content _ c.args.at (c.in_ok-to-in_default.to, c.in_ok-to-in_default.resource)
+    c.in_ok-to-in_default.ensures.reads
 
-pub returns-in-Array-clause-most : goal.returns-in-Array-clause-most
-returns-in-Array-clause-most g c =
-    omega (arith, reach_high c.args.text.now c.args.at c.requires.within)
+pub returns-in_ok-to-in_default-clause-cost : goal.returns-in_ok-to-in_default-clause-cost
+returns-in_ok-to-in_default-clause-cost g c =
+    omega (arith, c.in_ok-to-in_default.ensures.cost)
 
-pub returns-in-Table-clause-most : goal.returns-in-Table-clause-most
-returns-in-Table-clause-most g c =
-    omega (arith, reach_high c.args.text.now c.args.at c.requires.within)
-
-pub returns-in_err-to-in_default-clause-err : goal.returns-in_err-to-in_default-clause-err
-returns-in_err-to-in_default-clause-err g c =
+pub returns-in_err-to-in_default-clause-reads : goal.returns-in_err-to-in_default-clause-reads
+returns-in_err-to-in_default-clause-reads g c =
     let p = err_from_is_err_and c.from_residual.result c.from_residual.ensures.1 in
-    rw (p.1, p.2) (no_leaf_content _ _ _ _ c.in_err-to-in_default.ensures.err)
+    rw (p.1, p.2) (λ tree ws ks. c.in_err-to-in_default.ensures.reads ws ks)

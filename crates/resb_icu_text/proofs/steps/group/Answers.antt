@@ -1,53 +1,79 @@
-use Rattle.std.proofs.Common.{◌+◌, ◌*◌, ◌≤◌, arith, sym, ◌∙◌}
-use Rattle.resb_icu_text.proofs.StepsLemmas.{as_untyped, no_group, steps_by, fails_by}
-use Rattle.resb_grammar.specs.Inner.Reach.{reach}
-use Rattle.resb_icu_text.specs.Inner.Steps.{spent_reading}
+use Rattle.std.proofs.Common.{arith, refl, sym, ◌∙◌}
+use Rattle.std.proofs.lemmas.Result.{err_from_is_err_and}
 use Rattle.resb_grammar.proofs.ReachLemmas.{reach_left, reach_low, reach_high}
-use Rattle.resb_icu_text.proofs.Lists.{ok_by, err_by}
+use Rattle.resb_icu_text.specs.Inner.Steps.{StepsTo, StepFails, untyped_place}
+use Rattle.resb_icu_text.specs.Inner.Steps.{group_place, Proceeds}
+use Rattle.resb_icu_text.specs.Inner.Turns.{Halts}
+use Rattle.resb_icu_text.proofs.QuotaLemmas.{none_taken, match_by}
+use Rattle.resb_icu_text.proofs.StepsLemmas.{as_untyped, untyped_fails, untyped_over, no_group}
 use Rattle.resb_icu_text.proofs.steps.group.Goals as goal
 
-pub returns-then-b-eq123-clause-ok : goal.returns-then-b-eq123-clause-ok
-returns-then-b-eq123-clause-ok g c =
-    ok_by _ _ _ (λ s. steps_by _ _ _ s (as_untyped _ _ _
-    (sym c.byte-b.ensures.byte ∙ c.if-b-eq123.true) c.skip-next.ensures.skip)) c.untyped.ensures.ok
+pub returns-in_err-take-clause-reads : goal.returns-in_err-take-clause-reads
+returns-in_err-take-clause-reads g c =
+    let p = err_from_is_err_and c.from_residual.result c.from_residual.ensures.1 in
+    rw (p.1, p.2) (untyped_over c.args.at c.skip-next.result _
+    (sym c.byte-b.ensures.byte ∙ c.if-b-eq123.true) c.skip-next.ensures.skip
+    c.in_err-take.ensures refl)
 
-pub returns-then-b-eq123-clause-err : goal.returns-then-b-eq123-clause-err
-returns-then-b-eq123-clause-err g c =
-    err_by _ _ _ (λ e. fails_by _ _ _ e (as_untyped _ _ _
-    (sym c.byte-b.ensures.byte ∙ c.if-b-eq123.true) c.skip-next.ensures.skip)) c.untyped.ensures.err
+pub returns-in_err-take-clause-cost : goal.returns-in_err-take-clause-cost
+returns-in_err-take-clause-cost g c =
+    let p = err_from_is_err_and c.from_residual.result c.from_residual.ensures.1 in
+    rw p.1 (omega (
+      arith,
+      c.skip-next.ensures.cost,
+      c.skip-next.ensures.order,
+      c.skip-next.ensures.fits,
+      reach_left c.args.text.now c.args.at (sym c.byte-b.ensures.byte ∙ c.if-b-eq123.true),
+      reach_high c.args.text.now c.skip-next.result c.skip-next.ensures.fits,
+    ))
 
-pub returns-clause-err : goal.returns-clause-err
-returns-clause-err g c =
-    no_group _ _ _ c.new.ensures (λ e. c.if-b-eq123.false (c.byte-b.ensures.byte ∙ e))
-    (λ e. c.if-b-eq58.false (c.byte-b.ensures.byte ∙ e))
+pub returns-then-b-eq123-clause-reads : goal.returns-then-b-eq123-clause-reads
+returns-then-b-eq123-clause-reads g c =
+    let text = c.args.text.now in
+    let next = c.skip-next.result in
+    let was = c.args.meter.now.quota in
+    let mid = c.take.new.self in
+    let then = c.untyped.new.meter.quota in
+    match_by (StepsTo text (untyped_place _ next) mid then)
+    (StepFails text (untyped_place _ next) mid then)
+    (StepsTo text (group_place _ c.args.at) was then)
+    (StepFails text (group_place _ c.args.at) was then) c.untyped.result
+    (λ r. as_untyped c.args.at next r (sym c.byte-b.ensures.byte ∙ c.if-b-eq123.true)
+    c.skip-next.ensures.skip c.skip-next.ensures.order c.in_ok-take.ensures)
+    (λ e. untyped_fails c.args.at next e (sym c.byte-b.ensures.byte ∙ c.if-b-eq123.true)
+    c.skip-next.ensures.skip c.in_ok-take.ensures) c.untyped.ensures.reads
 
 pub returns-then-b-eq123-clause-cost : goal.returns-then-b-eq123-clause-cost
 returns-then-b-eq123-clause-cost g c =
     let text = c.args.text.now in
-    ok_by _ (λ s. c.untyped.new.turns.count + 8 * reach text c.skip-next.result
-    ≤ c.skip-next.new.turns.count + spent_reading text s)
-    (λ s. c.untyped.new.turns.count + 8 * reach text c.args.at + 5
-    ≤ c.args.turns.now.count + spent_reading text s)
-    (λ s h. omega (
+    let next = c.skip-next.result in
+    let last = c.untyped.new.meter.turns in
+    match_by (Proceeds text 0 next c.skip-next.new.turns last)
+    (λ e. Halts text 4 next c.skip-next.new.turns last)
+    (Proceeds text 5 c.args.at c.args.meter.now.turns last)
+    (λ e. Halts text 4 c.args.at c.args.meter.now.turns last) c.untyped.result
+    (λ r h. omega (
       arith,
       h,
       c.skip-next.ensures.cost,
       c.skip-next.ensures.order,
-      reach_left c.args.text.now c.args.at (sym c.byte-b.ensures.byte ∙ c.if-b-eq123.true),
-      reach_low c.args.text.now c.skip-next.result c.skip-next.ensures.fits,
-    )) c.untyped.ensures.cost
-
-pub returns-then-b-eq123-clause-most : goal.returns-then-b-eq123-clause-most
-returns-then-b-eq123-clause-most g c =
-    omega (
+      reach_left text c.args.at (sym c.byte-b.ensures.byte ∙ c.if-b-eq123.true),
+      reach_low text next c.skip-next.ensures.fits,
+    )) (λ e h. omega (
       arith,
-      c.untyped.ensures.most,
+      h,
       c.skip-next.ensures.cost,
       c.skip-next.ensures.order,
-      reach_left c.args.text.now c.args.at (sym c.byte-b.ensures.byte ∙ c.if-b-eq123.true),
-      reach_low c.args.text.now c.skip-next.result c.skip-next.ensures.fits,
-    )
+      reach_left text c.args.at (sym c.byte-b.ensures.byte ∙ c.if-b-eq123.true),
+      reach_low text next c.skip-next.ensures.fits,
+    )) c.untyped.ensures.cost
 
-pub returns-clause-most : goal.returns-clause-most
-returns-clause-most g c =
+pub returns-clause-reads : goal.returns-clause-reads
+returns-clause-reads g c =
+    no_group c.args.at _ (none_taken _) c.new.ensures
+    (λ e. c.if-b-eq123.false (c.byte-b.ensures.byte ∙ e))
+    (λ e. c.if-b-eq58.false (c.byte-b.ensures.byte ∙ e))
+
+pub returns-clause-cost : goal.returns-clause-cost
+returns-clause-cost g c =
     omega (arith, reach_high c.args.text.now c.args.at c.requires.within)

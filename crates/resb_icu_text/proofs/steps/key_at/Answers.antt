@@ -1,63 +1,51 @@
 use Rattle.std.proofs.Common.{arith}
 use Rattle.std.proofs.lemmas.Result.{err_from_is_err_and}
-use Rattle.resb_icu_text.proofs.LengthLemmas.{string_short}
 use Rattle.resb_grammar.proofs.ReachLemmas.{reach_low, reach_high}
+use Rattle.resb_icu_text.proofs.LengthLemmas.{string_short}
 use Rattle.resb_icu_text.proofs.ReachLemmas.{reach_string}
-use Rattle.resb_icu_text.proofs.StepsLemmas.{string_no_key, unfit_key, key_ahead}
+use Rattle.resb_icu_text.proofs.StepsLemmas.{string_no_key, unfit_key, key_ahead, said_length}
 use Rattle.resb_icu_text.proofs.steps.key_at.Goals as goal
 
-pub returns-in_err-lexeme-clause-err : goal.returns-in_err-lexeme-clause-err
-returns-in_err-lexeme-clause-err c =
+pub returns-in_err-found-clause-reads : goal.returns-in_err-found-clause-reads
+returns-in_err-found-clause-reads c =
     let p = err_from_is_err_and c.from_residual.result c.from_residual.ensures.1 in
-    rw (p.1, p.2) (string_no_key _ _ _ _ c.in_err-lexeme.ensures.err)
+    rw (p.1, p.2) (string_no_key _ _ _ _ c.in_err-found.ensures.reads)
 
-pub returns-in-Some-clause-found : goal.returns-in-Some-clause-found
-returns-in-Some-clause-found c =
-    key_ahead _ _ _ _ c.in_ok-lexeme.ensures.found c.in-Some.ensures.found
+pub returns-in-Some-clause-reads : goal.returns-in-Some-clause-reads
+returns-in-Some-clause-reads c =
+    key_ahead _ _ c.in_ok-found.found c.in-Some.key c.in_ok-found.ensures.reads
+    c.in-Some.ensures.key
+
+pub returns-in-None-clause-reads : goal.returns-in-None-clause-reads
+returns-in-None-clause-reads c =
+    unfit_key _ _ _ c.in_ok-found.found _ c.new.ensures c.in_ok-found.ensures.reads
+    c.in-None.ensures.key
 
 pub returns-in-Some-clause-cost : goal.returns-in-Some-clause-cost
 returns-in-Some-clause-cost c =
-    let found = c.in_ok-lexeme.ensures.found in
-    let cost = c.in_ok-lexeme.ensures.cost in
+    let found = c.in_ok-found.ensures.reads in
     omega (
       arith,
-      cost,
+      c.in_ok-found.ensures.cost,
       c.key.ensures.cost,
+      said_length found,
       string_short _ _ _ _ found.string,
       found.order,
       reach_string c.args.text.now c.args.at _ _ found.string,
       reach_low c.args.text.now _ found.fits,
     )
 
-pub returns-clause-err : goal.returns-clause-err
-returns-clause-err c =
-    unfit_key _ _ _ _ _ c.new.ensures c.in_ok-lexeme.ensures.found c.in-None.ensures.none
-
-pub returns-in-Some-clause-most : goal.returns-in-Some-clause-most
-returns-in-Some-clause-most c =
-    let found = c.in_ok-lexeme.ensures.found in
-    let cost = c.in_ok-lexeme.ensures.cost in
+pub returns-in-None-clause-cost : goal.returns-in-None-clause-cost
+returns-in-None-clause-cost c =
+    let found = c.in_ok-found.ensures.reads in
     omega (
       arith,
-      cost,
+      c.in_ok-found.ensures.cost,
       c.key.ensures.cost,
+      said_length found,
       string_short _ _ _ _ found.string,
       found.order,
-      reach_string c.args.text.now c.args.at _ _ found.string,
-      reach_low c.args.text.now _ found.fits,
-      reach_high c.args.text.now _ found.fits,
-    )
-
-pub returns-clause-most : goal.returns-clause-most
-returns-clause-most c =
-    let found = c.in_ok-lexeme.ensures.found in
-    let cost = c.in_ok-lexeme.ensures.cost in
-    omega (
-      arith,
-      cost,
-      c.key.ensures.cost,
-      string_short _ _ _ _ found.string,
-      found.order,
+      c.requires.within,
       reach_string c.args.text.now c.args.at _ _ found.string,
       reach_low c.args.text.now _ found.fits,
       reach_high c.args.text.now _ found.fits,

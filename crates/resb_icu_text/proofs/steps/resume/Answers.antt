@@ -1,28 +1,19 @@
 use Rattle.std.proofs.Common.{arith}
-use Rattle.resb_icu_text.proofs.KeptLemmas.{members_with, entries_with}
-use Rattle.resb_icu_text.proofs.StepsLemmas.{behind_member, behind_value}
 use Rattle.resb_grammar.proofs.ReachLemmas.{reach_low}
+use Rattle.resb_icu_text.proofs.StepsLemmas.{behind_member, behind_value}
 use Rattle.resb_icu_text.proofs.steps.resume.Goals as goal
 
-pub returns-in_ok-push-in-Array-clause-ok : goal.returns-in_ok-push-in-Array-clause-ok
-returns-in_ok-push-in-Array-clause-ok g c =
+pub returns-in_ok-push-in-Array-clause-reads : goal.returns-in_ok-push-in-Array-clause-reads
+returns-in_ok-push-in-Array-clause-reads g c =
     rw c.in-Array.is (behind_member _ c.in-Array.members c.push.new.self c.args.made _ _
-    c.skip.ensures.skip c.in_ok-push-in-Array.ensures.items)
+    c.skip.ensures.skip c.skip.ensures.order c.skip.ensures.fits
+    c.in_ok-push-in-Array.ensures.items)
 
-pub returns-in_ok-push-in-Table-clause-ok : goal.returns-in_ok-push-in-Table-clause-ok
-returns-in_ok-push-in-Table-clause-ok g c =
+pub returns-in_ok-push-in-Table-clause-reads : goal.returns-in_ok-push-in-Table-clause-reads
+returns-in_ok-push-in-Table-clause-reads g c =
     rw c.in-Table.is (behind_value _ c.in-Table.entries c.push-in-Table.new.self c.in-Table.key
-    c.args.made _ _ _ c.skip-in-Table.ensures.skip c.in_ok-push-in-Table.ensures.items)
-
-pub returns-in_ok-push-in-Array-clause-slices : goal.returns-in_ok-push-in-Array-clause-slices
-returns-in_ok-push-in-Array-clause-slices g c = λ pass test h k.
-    members_with pass test _ _ _ c.in_ok-push-in-Array.ensures.items
-    (rw c.in-Array.is at h) k
-
-pub returns-in_ok-push-in-Table-clause-slices : goal.returns-in_ok-push-in-Table-clause-slices
-returns-in_ok-push-in-Table-clause-slices g c = λ pass test h k.
-    entries_with pass test _ _ _ _ c.in_ok-push-in-Table.ensures.items
-    (rw c.in-Table.is at h) k
+    c.args.made _ _ _ c.skip-in-Table.ensures.skip c.skip-in-Table.ensures.order
+    c.skip-in-Table.ensures.fits c.in_ok-push-in-Table.ensures.items)
 
 pub returns-in_ok-push-in-Array-clause-cost : goal.returns-in_ok-push-in-Array-clause-cost
 returns-in_ok-push-in-Array-clause-cost g c =

@@ -1,46 +1,95 @@
-use Rattle.std.proofs.Common.{arith, sym, ◌∙◌}
+use Rattle.std.proofs.Common.{◌+◌, ◌*◌, ap, arith, refl, sym, ◌∙◌}
 use Rattle.std.proofs.lemmas.Result.{err_from_is_err_and}
-use Rattle.resb_icu_text.proofs.StepsLemmas.{member_string, no_member_string, no_member}
-use Rattle.resb_grammar.proofs.ReachLemmas.{reach_low}
+use Rattle.resb_grammar.proofs.ReachLemmas.{reach_low, reach_high}
+use Rattle.resb_icu_text.specs.Inner.Steps.{members_place}
+use Rattle.resb_icu_text.proofs.QuotaLemmas.{none_taken}
 use Rattle.resb_icu_text.proofs.ReachLemmas.{reach_string}
-use Rattle.std.proofs.lemmas.Bool.{and_from}
-use Rattle.resb_icu_text.proofs.KeptLemmas.{said_kept}
+use Rattle.resb_icu_text.proofs.StepsLemmas.{member_string, member_over, no_member_string}
+use Rattle.resb_icu_text.proofs.StepsLemmas.{no_member, lacks, text_made}
 use Rattle.resb_icu_text.proofs.steps.string_member.Goals as goal
 
-pub returns-in_err-lexeme-clause-err : goal.returns-in_err-lexeme-clause-err
-returns-in_err-lexeme-clause-err g c =
+pub returns-in_err-found-clause-reads : goal.returns-in_err-found-clause-reads
+returns-in_err-found-clause-reads g c =
     let p = err_from_is_err_and c.from_residual.result c.from_residual.ensures.1 in
-    rw (p.1, p.2) (no_member _ _ _ _ _ _ c.member_behind.ensures c.requires.no_brace
-    c.requires.no_comma c.requires.no_group c.requires.no_type c.in_err-lexeme.ensures.err)
+    rw (p.1, p.2) (no_member c.args.members.items c.args.last c.args.at _ _ (none_taken _)
+    c.member_behind.ensures c.requires.no_brace c.requires.no_comma c.requires.no_group
+    c.requires.no_type c.in_err-found.ensures.reads)
 
-pub returns-then-is_string-clause-err : goal.returns-then-is_string-clause-err
-returns-then-is_string-clause-err g c =
-    let found = c.in_ok-lexeme.ensures.found in
-    no_member_string _ _ _ _ _ _ _ c.new.ensures
-    (sym c.is_string.ensures ∙ c.if-is_string.true) found.string
+pub returns-then-is_string-clause-reads : goal.returns-then-is_string-clause-reads
+returns-then-is_string-clause-reads g c =
+    no_member_string c.args.members.items c.args.last c.args.at c.in_ok-found.found _
+    (none_taken _) c.new.ensures (sym c.is_string.ensures ∙ c.if-is_string.true)
+    c.in_ok-found.ensures.reads
 
-pub returns-clause-ok : goal.returns-clause-ok
-returns-clause-ok g c =
-    let found = c.in_ok-lexeme.ensures.found in
-    member_string _ c.args.members _ _ _ _ _ c.text_of.result
-    (sym c.is_string.ensures ∙ c.if-is_string.false) found.string found.blanks
-    c.text_of.ensures.bytes
+pub returns-in_err-take-clause-reads : goal.returns-in_err-take-clause-reads
+returns-in_err-take-clause-reads g c =
+    let p = err_from_is_err_and c.from_residual-in_err-take.result
+    c.from_residual-in_err-take.ensures.1 in
+    rw (p.1, p.2) (member_over c.args.members.items c.args.last c.args.at c.in_ok-found.found _
+    c.in_err-take.ensures (c.string_bytes.ensures ∙ ap (λ n. 72 + 3 * n) c.length.ensures)
+    (sym c.is_string.ensures ∙ c.if-is_string.false) c.in_ok-found.ensures.reads refl)
+
+pub returns-in_err-said-clause-reads : goal.returns-in_err-said-clause-reads
+returns-in_err-said-clause-reads g c =
+    let p = err_from_is_err_and c.from_residual-in_err-said.result
+    c.from_residual-in_err-said.ensures.1 in
+    rw (p.1, p.2) (lacks (members_place c.args.members.items c.args.last c.args.at) _
+    c.in_ok-take.ensures refl)
+
+pub returns-clause-reads : goal.returns-clause-reads
+returns-clause-reads g c =
+    member_string c.args.members c.args.last c.args.at c.in_ok-found.found c.in_ok-said.said
+    c.in_ok-take.ensures (c.string_bytes.ensures ∙ ap (λ n. 72 + 3 * n) c.length.ensures)
+    (sym c.is_string.ensures ∙ c.if-is_string.false)
+    (text_made c.in_ok-found.ensures.reads c.in_ok-said.ensures.says)
+
+pub returns-then-is_string-clause-cost : goal.returns-then-is_string-clause-cost
+returns-then-is_string-clause-cost g c =
+    let found = c.in_ok-found.ensures.reads in
+    omega (
+      arith,
+      c.in_ok-found.ensures.cost,
+      c.requires.within,
+      reach_string c.args.text.now c.args.at _ _ found.string,
+      reach_high c.args.text.now _ found.fits,
+    )
+
+pub returns-in_err-take-clause-cost : goal.returns-in_err-take-clause-cost
+returns-in_err-take-clause-cost g c =
+    let found = c.in_ok-found.ensures.reads in
+    let p = err_from_is_err_and c.from_residual-in_err-take.result
+    c.from_residual-in_err-take.ensures.1 in
+    rw p.1 (omega (
+      arith,
+      c.in_ok-found.ensures.cost,
+      c.requires.within,
+      reach_string c.args.text.now c.args.at _ _ found.string,
+      reach_high c.args.text.now _ found.fits,
+    ))
+
+pub returns-in_err-said-clause-cost : goal.returns-in_err-said-clause-cost
+returns-in_err-said-clause-cost g c =
+    let found = c.in_ok-found.ensures.reads in
+    let p = err_from_is_err_and c.from_residual-in_err-said.result
+    c.from_residual-in_err-said.ensures.1 in
+    rw p.1 (omega (
+      arith,
+      c.in_ok-found.ensures.cost,
+      c.text.ensures.cost,
+      c.requires.within,
+      reach_string c.args.text.now c.args.at _ _ found.string,
+      reach_high c.args.text.now _ found.fits,
+    ))
 
 pub returns-clause-cost : goal.returns-clause-cost
 returns-clause-cost g c =
-    let found = c.in_ok-lexeme.ensures.found in
-    let cost = c.in_ok-lexeme.ensures.cost in
+    let found = c.in_ok-found.ensures.reads in
     omega (
       arith,
-      cost,
+      c.in_ok-found.ensures.cost,
+      c.text.ensures.cost,
       found.after,
       found.order,
       reach_string c.args.text.now c.args.at _ _ found.string,
       reach_low c.args.text.now _ found.fits,
     )
-
-pub returns-clause-slices : goal.returns-clause-slices
-returns-clause-slices g c = λ pass test p h.
-    and_from _ _ h
-    (said_kept _ _ _ _ (c.in_ok-lexeme.ensures.found) c.text_of.ensures.bytes
-    c.text_of.ensures.slice test p)

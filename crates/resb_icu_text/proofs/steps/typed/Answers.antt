@@ -1,33 +1,37 @@
-use Rattle.std.proofs.Common.{◌+◌, ◌*◌, ◌≤◌, sym, ◌∙◌, arith}
+use Rattle.std.proofs.Common.{◌+◌, ◌≤◌, arith, refl, sym, ◌∙◌}
 use Rattle.std.proofs.lemmas.Result.{err_from_is_err_and}
-use Rattle.resb_icu_text.proofs.StepsLemmas.{as_typed, no_type, no_group_brace, steps_by}
-use Rattle.resb_icu_text.proofs.StepsLemmas.{fails_by}
-use Rattle.resb_grammar.specs.Inner.Reach.{reach}
-use Rattle.resb_icu_text.specs.Inner.Steps.{spent_reading}
 use Rattle.resb_grammar.proofs.ReachLemmas.{reach_colon, reach_left, reach_low, reach_high}
-use Rattle.resb_icu_text.proofs.Lists.{ok_by, err_by}
+use Rattle.resb_icu_grammar.specs.Kinds.{kind_of}
+use Rattle.resb_icu_text.specs.Inner.Steps.{StepsTo, StepFails, typed_place}
+use Rattle.resb_icu_text.specs.Inner.Steps.{group_place, Proceeds}
+use Rattle.resb_icu_text.specs.Inner.Turns.{Halts}
+use Rattle.resb_icu_text.proofs.QuotaLemmas.{none_taken, match_by}
+use Rattle.resb_icu_text.proofs.StepsLemmas.{as_typed, typed_fails, typed_over, no_type}
+use Rattle.resb_icu_text.proofs.StepsLemmas.{no_group_brace, opening_there}
 use Rattle.resb_icu_text.proofs.steps.typed.Goals as goal
 
-pub returns-then-byte-ne123-clause-err : goal.returns-then-byte-ne123-clause-err
-returns-then-byte-ne123-clause-err g c =
-    no_group_brace _ _ _ _ _ _ c.new.ensures c.in_ok-end.ensures.found
-    c.skip-brace.ensures.skip
-    (λ e. c.if-byte-ne123.true (c.byte.ensures.byte ∙ e))
+pub returns-in_err-end-clause-reads : goal.returns-in_err-end-clause-reads
+returns-in_err-end-clause-reads g c =
+    let p = err_from_is_err_and c.from_residual.result c.from_residual.ensures.1 in
+    rw (p.1, p.2) (no_type c.args.at _ (none_taken _) c.in_err-end.ensures.err c.requires.colon)
 
-pub returns-clause-ok : goal.returns-clause-ok
-returns-clause-ok g c =
-    ok_by _ _ _ (λ s. steps_by _ _ _ s (as_typed _ _ _ _ _ _ c.in_ok-end.ensures.found
-    c.skip-brace.ensures.skip (sym c.byte.ensures.byte ∙ c.if-byte-ne123.false)
-    c.skip-first.ensures.skip)) c.content.ensures.ok
+pub returns-in_err-end-clause-cost : goal.returns-in_err-end-clause-cost
+returns-in_err-end-clause-cost g c =
+    let p = err_from_is_err_and c.from_residual.result c.from_residual.ensures.1 in
+    rw p.1 (omega (
+      arith,
+      c.in_err-end.ensures.most,
+      reach_colon c.args.text.now c.args.at c.requires.colon,
+      c.requires.within,
+    ))
 
-pub returns-clause-err : goal.returns-clause-err
-returns-clause-err g c =
-    err_by _ _ _ (λ e. fails_by _ _ _ e (as_typed _ _ _ _ _ _ c.in_ok-end.ensures.found
-    c.skip-brace.ensures.skip (sym c.byte.ensures.byte ∙ c.if-byte-ne123.false)
-    c.skip-first.ensures.skip)) c.content.ensures.err
+pub returns-then-byte-ne123-clause-reads : goal.returns-then-byte-ne123-clause-reads
+returns-then-byte-ne123-clause-reads g c =
+    no_group_brace c.args.at _ _ _ _ (none_taken _) c.new.ensures c.in_ok-end.ensures.found
+    c.skip-brace.ensures.skip (λ e. c.if-byte-ne123.true (c.byte.ensures.byte ∙ e))
 
-pub returns-then-byte-ne123-clause-most : goal.returns-then-byte-ne123-clause-most
-returns-then-byte-ne123-clause-most g c =
+pub returns-then-byte-ne123-clause-cost : goal.returns-then-byte-ne123-clause-cost
+returns-then-byte-ne123-clause-cost g c =
     omega (
       arith,
       c.in_ok-end.ensures.cost,
@@ -38,14 +42,71 @@ returns-then-byte-ne123-clause-most g c =
       reach_high c.args.text.now c.skip-brace.result c.skip-brace.ensures.fits,
     )
 
+pub returns-in_err-take-clause-reads : goal.returns-in_err-take-clause-reads
+returns-in_err-take-clause-reads g c =
+    let opens = opening_there _ _ _ _ c.skip-first.result _ c.in_ok-end.ensures.found
+    c.skip-brace.ensures.skip (sym c.byte.ensures.byte ∙ c.if-byte-ne123.false)
+    c.skip-first.ensures.skip in
+    let p = err_from_is_err_and c.from_residual-in_err-take.result
+    c.from_residual-in_err-take.ensures.1 in
+    rw (p.1, p.2) (typed_over c.args.at c.skip-first.result (kind_of c.in_ok-end.kind) _ opens
+    c.in_err-take.ensures c.opening_bytes.ensures refl)
+
+pub returns-in_err-take-clause-cost : goal.returns-in_err-take-clause-cost
+returns-in_err-take-clause-cost g c =
+    let p = err_from_is_err_and c.from_residual-in_err-take.result
+    c.from_residual-in_err-take.ensures.1 in
+    rw p.1 (omega (
+      arith,
+      c.in_ok-end.ensures.cost,
+      c.in_ok-end.ensures.within,
+      c.skip-brace.ensures.cost,
+      c.skip-brace.ensures.order,
+      reach_colon c.args.text.now c.args.at c.requires.colon,
+      reach_left c.args.text.now c.skip-brace.result
+          (sym c.byte.ensures.byte ∙ c.if-byte-ne123.false),
+      c.skip-first.ensures.cost,
+      c.skip-first.ensures.order,
+      c.skip-first.ensures.fits,
+      reach_high c.args.text.now c.skip-first.result c.skip-first.ensures.fits,
+    ))
+
+pub returns-clause-reads : goal.returns-clause-reads
+returns-clause-reads g c =
+    let opens = opening_there _ _ _ _ c.skip-first.result _ c.in_ok-end.ensures.found
+    c.skip-brace.ensures.skip (sym c.byte.ensures.byte ∙ c.if-byte-ne123.false)
+    c.skip-first.ensures.skip in
+    let text = c.args.text.now in
+    let first = c.skip-first.result in
+    let kind = kind_of c.in_ok-end.kind in
+    let was = c.args.meter.now.quota in
+    let mid = c.take.new.self in
+    let then = c.content.new.meter.quota in
+    let order : c.args.at + 1 ≤ first = omega (
+      arith,
+      c.in_ok-end.ensures.within,
+      c.skip-brace.ensures.order,
+      c.skip-first.ensures.order,
+    ) in
+    match_by (StepsTo text (typed_place _ kind first) mid then)
+    (StepFails text (typed_place _ kind first) mid then)
+    (StepsTo text (group_place _ c.args.at) was then)
+    (StepFails text (group_place _ c.args.at) was then) c.content.result
+    (λ r. as_typed c.args.at first kind r opens order c.in_ok-take.ensures
+    c.opening_bytes.ensures)
+    (λ e. typed_fails c.args.at first kind e opens c.in_ok-take.ensures c.opening_bytes.ensures)
+    c.content.ensures.reads
+
 pub returns-clause-cost : goal.returns-clause-cost
 returns-clause-cost g c =
     let text = c.args.text.now in
-    ok_by _ (λ s. c.content.new.turns.count + 8 * reach text c.skip-first.result
-    ≤ c.skip-first.new.turns.count + spent_reading text s)
-    (λ s. c.content.new.turns.count + 8 * reach text c.args.at + 5
-    ≤ c.args.turns.now.count + spent_reading text s)
-    (λ s h. omega (
+    let first = c.skip-first.result in
+    let last = c.content.new.meter.turns in
+    match_by (Proceeds text 0 first c.skip-first.new.turns last)
+    (λ e. Halts text 4 first c.skip-first.new.turns last)
+    (Proceeds text 5 c.args.at c.args.meter.now.turns last)
+    (λ e. Halts text 4 c.args.at c.args.meter.now.turns last) c.content.result
+    (λ r h. omega (
       arith,
       h,
       c.in_ok-end.ensures.cost,
@@ -54,41 +115,21 @@ returns-clause-cost g c =
       c.skip-brace.ensures.order,
       reach_colon c.args.text.now c.args.at c.requires.colon,
       reach_left c.args.text.now c.skip-brace.result
-          (sym c.byte.ensures.byte
-          ∙ c.if-byte-ne123.false),
+          (sym c.byte.ensures.byte ∙ c.if-byte-ne123.false),
       c.skip-first.ensures.cost,
       c.skip-first.ensures.order,
-      reach_low c.args.text.now c.skip-first.result c.skip-first.ensures.fits,
-    )) c.content.ensures.cost
-
-pub returns-clause-most : goal.returns-clause-most
-returns-clause-most g c =
-    omega (
+      reach_low text first c.skip-first.ensures.fits,
+    )) (λ e h. omega (
       arith,
-      c.content.ensures.most,
+      h,
       c.in_ok-end.ensures.cost,
       c.in_ok-end.ensures.within,
       c.skip-brace.ensures.cost,
       c.skip-brace.ensures.order,
       reach_colon c.args.text.now c.args.at c.requires.colon,
       reach_left c.args.text.now c.skip-brace.result
-          (sym c.byte.ensures.byte
-          ∙ c.if-byte-ne123.false),
+          (sym c.byte.ensures.byte ∙ c.if-byte-ne123.false),
       c.skip-first.ensures.cost,
       c.skip-first.ensures.order,
-      reach_low c.args.text.now c.skip-first.result c.skip-first.ensures.fits,
-    )
-
-pub returns-in_err-end-clause-err : goal.returns-in_err-end-clause-err
-returns-in_err-end-clause-err g c =
-    let p = err_from_is_err_and c.from_residual.result c.from_residual.ensures.1 in
-    rw (p.1, p.2) (no_type _ _ _ c.in_err-end.ensures.err c.requires.colon)
-
-pub returns-in_err-end-clause-most : goal.returns-in_err-end-clause-most
-returns-in_err-end-clause-most g c =
-    omega (
-      arith,
-      c.in_err-end.ensures.most,
-      reach_colon c.args.text.now c.args.at c.requires.colon,
-      c.requires.within,
-    )
+      reach_low text first c.skip-first.ensures.fits,
+    )) c.content.ensures.cost

@@ -1,75 +1,177 @@
-use Rattle.std.proofs.Common.{arith, sym, ◌∙◌, inl, inr, ap}
+use Rattle.std.proofs.Common.{◌+◌, ◌*◌, ap, arith, refl, sym, ◌∙◌, inl, inr}
 use Rattle.std.proofs.lemmas.Result.{err_from_is_err_and}
-use Rattle.resb_icu_text.proofs.StepsLemmas.{untyped_one, untyped_comma, untyped_key}
-use Rattle.resb_icu_text.proofs.StepsLemmas.{no_untyped, no_untyped_string, no_untyped_key, no_key}
-use Rattle.resb_icu_text.proofs.StepsLemmas.{is_a_key}
-use Rattle.resb_icu_text.proofs.LengthLemmas.{string_short}
 use Rattle.resb_grammar.proofs.ReachLemmas.{reach_right, reach_low, reach_high}
+use Rattle.resb_icu_text.specs.Inner.Steps.{untyped_place}
+use Rattle.resb_icu_text.proofs.LengthLemmas.{string_short}
+use Rattle.resb_icu_text.proofs.QuotaLemmas.{none_taken}
 use Rattle.resb_icu_text.proofs.ReachLemmas.{reach_string}
-use Rattle.resb_icu_text.specs.Inner.Kept.{members_pass}
-use Rattle.std.proofs.lemmas.Bool.{and_from}
-use Rattle.resb_icu_text.proofs.KeptLemmas.{said_kept}
+use Rattle.resb_icu_text.proofs.StepsLemmas.{untyped_one, one_over, untyped_comma, comma_over}
+use Rattle.resb_icu_text.proofs.StepsLemmas.{untyped_key, first_key_over, no_untyped, no_key, lacks}
+use Rattle.resb_icu_text.proofs.StepsLemmas.{no_untyped_string, no_untyped_key, text_made}
+use Rattle.resb_icu_text.proofs.StepsLemmas.{key_ahead, said_length}
 use Rattle.resb_icu_text.proofs.steps.untyped_string.Goals.{else-b-ne123-via-then-b-ne123+else-b-ne58}
 use Rattle.resb_icu_text.proofs.steps.untyped_string.Goals.{else-b-ne123-via-else-b-ne123}
 use Rattle.resb_icu_text.proofs.steps.untyped_string.Goals as goal
 
-pub returns-in_err-lexeme-clause-err : goal.returns-in_err-lexeme-clause-err
-returns-in_err-lexeme-clause-err g c =
+pub returns-in_err-found-clause-reads : goal.returns-in_err-found-clause-reads
+returns-in_err-found-clause-reads g c =
     let p = err_from_is_err_and c.from_residual.result c.from_residual.ensures.1 in
-    rw (p.1, p.2) (no_untyped _ _ _ c.requires.no_brace c.requires.no_group c.requires.no_type
-    c.in_err-lexeme.ensures.err)
+    rw (p.1, p.2) (no_untyped c.args.at _ (none_taken _) c.requires.no_brace
+    c.requires.no_group c.requires.no_type c.in_err-found.ensures.reads)
 
-pub returns-then-b-eq125-clause-ok : goal.returns-then-b-eq125-clause-ok
-returns-then-b-eq125-clause-ok g c =
-    let found = c.in_ok-lexeme.ensures.found in
-    untyped_one _ _ _ _ _ c.text_of.result found.string found.blanks
-    (sym c.byte-b.ensures.byte ∙ c.if-b-eq125.true) c.text_of.ensures.bytes
+pub returns-in_err-take-clause-reads : goal.returns-in_err-take-clause-reads
+returns-in_err-take-clause-reads g c =
+    let p = err_from_is_err_and c.from_residual-in_err-take.result
+    c.from_residual-in_err-take.ensures.1 in
+    rw (p.1, p.2) (one_over c.args.at c.in_ok-found.found _ c.in_err-take.ensures
+    (c.text_bytes.ensures ∙ ap (λ n. 3 * n) c.length.ensures)
+    (sym c.byte-b.ensures.byte ∙ c.if-b-eq125.true)
+    c.in_ok-found.ensures.reads refl)
 
-pub returns-then-b-eq44-clause-ok : goal.returns-then-b-eq44-clause-ok
-returns-then-b-eq44-clause-ok g c =
-    let found = c.in_ok-lexeme.ensures.found in
-    untyped_comma _ c.new.result _ _ _ _ c.text_of-then-b-eq44.result found.string
-    found.blanks (sym c.byte-b.ensures.byte ∙ c.if-b-eq44.true)
-    c.text_of-then-b-eq44.ensures.bytes c.new.ensures.items
+pub returns-in_err-said-clause-reads : goal.returns-in_err-said-clause-reads
+returns-in_err-said-clause-reads g c =
+    let p = err_from_is_err_and c.from_residual-in_err-said.result
+    c.from_residual-in_err-said.ensures.1 in
+    rw (p.1, p.2) (lacks (untyped_place _ c.args.at) _ c.in_ok-take.ensures refl)
 
-pub returns-then-b-ne58-clause-err : goal.returns-then-b-ne58-clause-err
-returns-then-b-ne58-clause-err g c =
-    let found = c.in_ok-lexeme.ensures.found in
-    no_untyped_string _ _ _ _ _ _ c.new-then-b-ne58.ensures found.string found.blanks
+pub returns-then-b-eq125-clause-reads : goal.returns-then-b-eq125-clause-reads
+returns-then-b-eq125-clause-reads g c =
+    untyped_one c.args.at c.in_ok-found.found c.in_ok-said.said
+    c.in_ok-take.ensures (c.text_bytes.ensures ∙ ap (λ n. 3 * n) c.length.ensures)
+    (c.byte-b.ensures.inside (omega (arith, c.if-b-eq125.true)))
+    (sym c.byte-b.ensures.byte ∙ c.if-b-eq125.true)
+    (text_made c.in_ok-found.ensures.reads c.in_ok-said.ensures.says)
+
+pub returns-in_err-take-2-clause-reads : goal.returns-in_err-take-2-clause-reads
+returns-in_err-take-2-clause-reads g c =
+    let p = err_from_is_err_and c.from_residual-in_err-take-2.result
+    c.from_residual-in_err-take-2.ensures.1 in
+    rw (p.1, p.2) (comma_over c.args.at c.in_ok-found.found _ c.in_err-take-2.ensures
+    (c.string_bytes.ensures ∙ ap (λ n. 72 + 3 * n) c.length-then-b-eq44.ensures)
+    (sym c.byte-b.ensures.byte ∙ c.if-b-eq44.true) c.in_ok-found.ensures.reads refl)
+
+pub returns-in_err-said-2-clause-reads : goal.returns-in_err-said-2-clause-reads
+returns-in_err-said-2-clause-reads g c =
+    let p = err_from_is_err_and c.from_residual-in_err-said-2.result
+    c.from_residual-in_err-said-2.ensures.1 in
+    rw (p.1, p.2) (lacks (untyped_place _ c.args.at) _ c.in_ok-take-2.ensures refl)
+
+pub returns-then-b-eq44-clause-reads : goal.returns-then-b-eq44-clause-reads
+returns-then-b-eq44-clause-reads g c =
+    untyped_comma c.new.result c.args.at c.in_ok-found.found c.in_ok-said-2.said
+    c.in_ok-take-2.ensures
+    (c.string_bytes.ensures ∙ ap (λ n. 72 + 3 * n) c.length-then-b-eq44.ensures)
+    (sym c.byte-b.ensures.byte ∙ c.if-b-eq44.true)
+    (text_made c.in_ok-found.ensures.reads c.in_ok-said-2.ensures.says)
+    c.new.ensures.items
+
+pub returns-then-b-ne58-clause-reads : goal.returns-then-b-ne58-clause-reads
+returns-then-b-ne58-clause-reads g c =
+    no_untyped_string c.args.at c.in_ok-found.found _ (none_taken _) c.new-then-b-ne58.ensures
+    c.in_ok-found.ensures.reads
     (λ e. c.if-b-eq125.false (c.byte-b.ensures.byte ∙ e))
     (λ e. c.if-b-eq44.false (c.byte-b.ensures.byte ∙ e))
     (λ e. c.if-b-ne123.true (c.byte-b.ensures.byte ∙ e))
     (λ e. c.if-b-ne58.true (c.byte-b.ensures.byte ∙ e))
 
-pub returns-in_default-clause-err : goal.returns-in_default-clause-err
-returns-in_default-clause-err g c =
-    let found = c.in_ok-lexeme.ensures.found in
-    no_untyped_key _ _ _ _ _ _ c.new-in_default.ensures found.string found.blanks
+pub returns-in_default-clause-reads : goal.returns-in_default-clause-reads
+returns-in_default-clause-reads g c =
+    let found = c.in_ok-found.ensures.reads in
+    no_untyped_key c.args.at c.in_ok-found.found _ (none_taken _) c.new-in_default.ensures found
     (elim c.else-b-ne123.branch [
       | else-b-ne123-via-then-b-ne123+else-b-ne58 w ↦
           inr (sym c.byte-b.ensures.byte ∙ w.if-b-ne58.false)
       | else-b-ne123-via-else-b-ne123 w ↦ inl (sym c.byte-b.ensures.byte ∙ w.if-b-ne123.false)
-    ]) (no_key _ _ _ found c.in_default.ensures.none)
+    ])
+    (no_key _ _ c.in_ok-found.found found c.in_default.ensures.key)
 
-pub returns-clause-ok : goal.returns-clause-ok
-returns-clause-ok g c =
-    let found = c.in_ok-lexeme.ensures.found in
-    untyped_key _ c.new-2.result c.in-Some.key _ _ _
-    (is_a_key _ _ _ _ found c.in-Some.ensures.found)
-    found.blanks
+pub returns-in_err-take-3-clause-reads : goal.returns-in_err-take-3-clause-reads
+returns-in_err-take-3-clause-reads g c =
+    let found = c.in_ok-found.ensures.reads in
+    let p = err_from_is_err_and c.from_residual-in_err-take-3.result
+    c.from_residual-in_err-take-3.ensures.1 in
+    rw (p.1, p.2) (first_key_over c.in-Some.key c.args.at c.in_ok-found.found.next _
+    c.in_err-take-3.ensures (omega (arith, c.key_bytes.ensures))
+    (key_ahead _ _ c.in_ok-found.found c.in-Some.key found c.in-Some.ensures.key)
+    (elim c.else-b-ne123.branch [
+      | else-b-ne123-via-then-b-ne123+else-b-ne58 w ↦
+          inr (sym c.byte-b.ensures.byte ∙ w.if-b-ne58.false)
+      | else-b-ne123-via-else-b-ne123 w ↦ inl (sym c.byte-b.ensures.byte ∙ w.if-b-ne123.false)
+    ]) refl)
+
+pub returns-clause-reads : goal.returns-clause-reads
+returns-clause-reads g c =
+    let found = c.in_ok-found.ensures.reads in
+    untyped_key c.new-2.result c.in-Some.key c.args.at c.in_ok-found.found.next
+    c.in_ok-take-3.ensures (omega (arith, c.key_bytes.ensures))
+    (key_ahead _ _ c.in_ok-found.found c.in-Some.key found c.in-Some.ensures.key)
     (elim c.else-b-ne123.branch [
       | else-b-ne123-via-then-b-ne123+else-b-ne58 w ↦
           inr (sym c.byte-b.ensures.byte ∙ w.if-b-ne58.false)
       | else-b-ne123-via-else-b-ne123 w ↦ inl (sym c.byte-b.ensures.byte ∙ w.if-b-ne123.false)
     ]) c.new-2.ensures.items
 
+pub returns-in_err-take-clause-cost : goal.returns-in_err-take-clause-cost
+returns-in_err-take-clause-cost g c =
+    let found = c.in_ok-found.ensures.reads in
+    let p = err_from_is_err_and c.from_residual-in_err-take.result
+    c.from_residual-in_err-take.ensures.1 in
+    rw p.1 (omega (
+      arith,
+      c.in_ok-found.ensures.cost,
+      c.requires.within,
+      reach_string c.args.text.now c.args.at _ _ found.string,
+      reach_high c.args.text.now _ found.fits,
+    ))
+
+pub returns-in_err-said-clause-cost : goal.returns-in_err-said-clause-cost
+returns-in_err-said-clause-cost g c =
+    let found = c.in_ok-found.ensures.reads in
+    let p = err_from_is_err_and c.from_residual-in_err-said.result
+    c.from_residual-in_err-said.ensures.1 in
+    rw p.1 (omega (
+      arith,
+      c.in_ok-found.ensures.cost,
+      c.text.ensures.cost,
+      c.requires.within,
+      reach_string c.args.text.now c.args.at _ _ found.string,
+      reach_high c.args.text.now _ found.fits,
+    ))
+
+pub returns-in_err-take-2-clause-cost : goal.returns-in_err-take-2-clause-cost
+returns-in_err-take-2-clause-cost g c =
+    let found = c.in_ok-found.ensures.reads in
+    let p = err_from_is_err_and c.from_residual-in_err-take-2.result
+    c.from_residual-in_err-take-2.ensures.1 in
+    rw p.1 (omega (
+      arith,
+      c.in_ok-found.ensures.cost,
+      c.requires.within,
+      reach_string c.args.text.now c.args.at _ _ found.string,
+      reach_high c.args.text.now _ found.fits,
+    ))
+
+pub returns-in_err-said-2-clause-cost : goal.returns-in_err-said-2-clause-cost
+returns-in_err-said-2-clause-cost g c =
+    let found = c.in_ok-found.ensures.reads in
+    let p = err_from_is_err_and c.from_residual-in_err-said-2.result
+    c.from_residual-in_err-said-2.ensures.1 in
+    rw p.1 (omega (
+      arith,
+      c.in_ok-found.ensures.cost,
+      c.text-then-b-eq44.ensures.cost,
+      c.requires.within,
+      reach_string c.args.text.now c.args.at _ _ found.string,
+      reach_high c.args.text.now _ found.fits,
+    ))
+
 pub returns-then-b-eq125-clause-cost : goal.returns-then-b-eq125-clause-cost
 returns-then-b-eq125-clause-cost g c =
-    let found = c.in_ok-lexeme.ensures.found in
-    let cost = c.in_ok-lexeme.ensures.cost in
+    let found = c.in_ok-found.ensures.reads in
     omega (
       arith,
-      cost,
+      c.in_ok-found.ensures.cost,
+      c.text.ensures.cost,
       found.after,
       found.order,
       reach_string c.args.text.now c.args.at _ _ found.string,
@@ -79,71 +181,71 @@ returns-then-b-eq125-clause-cost g c =
 
 pub returns-then-b-eq44-clause-cost : goal.returns-then-b-eq44-clause-cost
 returns-then-b-eq44-clause-cost g c =
-    let found = c.in_ok-lexeme.ensures.found in
-    let cost = c.in_ok-lexeme.ensures.cost in
+    let found = c.in_ok-found.ensures.reads in
     omega (
       arith,
-      cost,
+      c.in_ok-found.ensures.cost,
+      c.text-then-b-eq44.ensures.cost,
       found.after,
       found.order,
       reach_string c.args.text.now c.args.at _ _ found.string,
       reach_low c.args.text.now _ found.fits,
     )
 
-pub returns-in_default-clause-most : goal.returns-in_default-clause-most
-returns-in_default-clause-most g c =
-    let found = c.in_ok-lexeme.ensures.found in
-    let cost = c.in_ok-lexeme.ensures.cost in
+pub returns-then-b-ne58-clause-cost : goal.returns-then-b-ne58-clause-cost
+returns-then-b-ne58-clause-cost g c =
+    let found = c.in_ok-found.ensures.reads in
     omega (
       arith,
-      cost,
-      found.after,
-      found.order,
+      c.in_ok-found.ensures.cost,
+      c.requires.within,
       reach_string c.args.text.now c.args.at _ _ found.string,
-      reach_low c.args.text.now _ found.fits,
-      c.key.ensures.cost,
-      string_short _ _ _ _ found.string,
       reach_high c.args.text.now _ found.fits,
     )
+
+pub returns-in_default-clause-cost : goal.returns-in_default-clause-cost
+returns-in_default-clause-cost g c =
+    let found = c.in_ok-found.ensures.reads in
+    omega (
+      arith,
+      c.in_ok-found.ensures.cost,
+      c.key.ensures.cost,
+      said_length found,
+      string_short _ _ _ _ found.string,
+      found.order,
+      c.requires.within,
+      reach_string c.args.text.now c.args.at _ _ found.string,
+      reach_high c.args.text.now _ found.fits,
+    )
+
+pub returns-in_err-take-3-clause-cost : goal.returns-in_err-take-3-clause-cost
+returns-in_err-take-3-clause-cost g c =
+    let found = c.in_ok-found.ensures.reads in
+    let p = err_from_is_err_and c.from_residual-in_err-take-3.result
+    c.from_residual-in_err-take-3.ensures.1 in
+    rw p.1 (omega (
+      arith,
+      c.in_ok-found.ensures.cost,
+      c.key.ensures.cost,
+      said_length found,
+      string_short _ _ _ _ found.string,
+      found.order,
+      c.requires.within,
+      reach_string c.args.text.now c.args.at _ _ found.string,
+      reach_high c.args.text.now _ found.fits,
+    ))
 
 pub returns-clause-cost : goal.returns-clause-cost
 returns-clause-cost g c =
-    let found = c.in_ok-lexeme.ensures.found in
-    let cost = c.in_ok-lexeme.ensures.cost in
+    let found = c.in_ok-found.ensures.reads in
     omega (
       arith,
-      cost,
+      c.in_ok-found.ensures.cost,
+      c.key.ensures.cost,
+      said_length found,
+      string_short _ _ _ _ found.string,
       found.after,
       found.order,
       reach_string c.args.text.now c.args.at _ _ found.string,
       reach_low c.args.text.now _ found.fits,
-      c.key.ensures.cost,
-      string_short _ _ _ _ found.string,
     )
-
-pub returns-clause-most : goal.returns-clause-most
-returns-clause-most g c =
-    let found = c.in_ok-lexeme.ensures.found in
-    let cost = c.in_ok-lexeme.ensures.cost in
-    omega (
-      arith,
-      cost,
-      found.after,
-      found.order,
-      reach_string c.args.text.now c.args.at _ _ found.string,
-      reach_low c.args.text.now _ found.fits,
-      c.key.ensures.cost,
-      string_short _ _ _ _ found.string,
-      reach_high c.args.text.now _ found.fits,
-    )
-
-pub returns-then-b-eq125-clause-slices : goal.returns-then-b-eq125-clause-slices
-returns-then-b-eq125-clause-slices g c = λ pass test p h.
-    said_kept _ _ _ _ (c.in_ok-lexeme.ensures.found) c.text_of.ensures.bytes
-    c.text_of.ensures.slice test p
-
-pub returns-then-b-eq44-clause-slices : goal.returns-then-b-eq44-clause-slices
-returns-then-b-eq44-clause-slices g c = λ pass test p h.
-    and_from _ _ (ap (λ l. members_pass l pass test) c.new.ensures.items)
-    (said_kept _ _ _ _ (c.in_ok-lexeme.ensures.found)
-    c.text_of-then-b-eq44.ensures.bytes c.text_of-then-b-eq44.ensures.slice test p)

@@ -1,27 +1,22 @@
-use Rattle.std.proofs.Common.{arith, sym, ◌∙◌, ◌∷◌, refl, ap, length, ◌&&◌, ◌+◌, ◌*◌, ◌≤◌}
-use Rattle.std.proofs.Common.{◌≡◌, true}
+use Rattle.std.proofs.Common.{arith, sym, ◌∙◌, refl, ap, length, ◌+◌, ◌*◌, ◌≤◌}
+use Rattle.std.proofs.Common.{◌≡◌, true, rules}
 use Rattle.std.proofs.lemmas.Bool.{and_from, and_parts}
 use Rattle.std.proofs.lemmas.Result.{err_from_is_err_and}
-use Rattle.resb_icu_text.proofs.Lists.{ok_by, err_by}
 use Rattle.resb_icu_text.proofs.MakingLemmas.{anything_said}
-use Rattle.resb_icu_text.proofs.ReadingLemmas.{stops_there, pushed, nothing_open, behind_ended}
+use Rattle.resb_icu_text.proofs.QuotaLemmas.{none_taken, memory_stops, match_by, both_said}
+use Rattle.resb_icu_text.proofs.ReadingLemmas.{pushed, nothing_open, behind_ended, is_read}
 use Rattle.resb_icu_text.proofs.ReadingLemmas.{stops_ended, root_ended, with_key_length}
-use Rattle.resb_icu_text.specs.Inner.Kept.{anything, IsKept, Keeps, entries_pass, groups_pass}
-use Rattle.resb_icu_text.specs.Inner.Kept.{read_passes, step_passes}
-use Rattle.resb_icu_text.specs.Inner.Steps.{shown, with_key, There, Steps, StepFails, EntriesThere}
-use Rattle.resb_icu_text.specs.Inner.Steps.{GroupThere, spent_reading}
-use Rattle.resb_icu_text.specs.Inner.Reading.{groups, keys, StopsAt}
+use Rattle.resb_icu_text.proofs.ReadingLemmas.{in_opened, opened_read, waiting_parts}
+use Rattle.resb_icu_text.specs.Inner.Kept.{anything, groups_pass, step_passes}
+use Rattle.resb_icu_text.specs.Inner.Quota.{StopsAt}
+use Rattle.resb_icu_text.specs.Inner.Turns.{Halts}
+use Rattle.resb_icu_text.specs.Inner.Steps.{StepsTo, StepFails, members_place}
+use Rattle.resb_icu_text.specs.Inner.Steps.{entries_place, group_place, spent_reading, Proceeds}
+use Rattle.resb_icu_text.specs.Inner.Reading.{groups, keys, stands, IsRead}
 use Rattle.resb_grammar.specs.Inner.Reach.{reach}
 use Rattle.resb_grammar.proofs.ReachLemmas.{reach_high}
-use Rattle.resb_icu_text.proofs.ReachLemmas.{spent_most}
+use Rattle.resb_icu_text.proofs.ReachLemmas.{spent_most, reading_most}
 use Rattle.resb_icu_text.proofs.open.OpenGroups.read.Goals as goal
-
-pub returns-in_err-open-in-Group-clause-most : goal.returns-in_err-open-in-Group-clause-most
-returns-in_err-open-in-Group-clause-most g c =
-    rw c.in-Group.is (omega (
-      arith,
-      reach_high c.args.text.now c.in-Group.at (rw c.in-Group.is at c.requires.within),
-    ))
 
 pub check_key-requires : goal.check_key-requires
 check_key-requires g c =
@@ -31,72 +26,186 @@ check_key-requires g c =
     (and_parts (groups_pass c.args.self.now held anything) _ kept).1 in
     λ k. ((refl, tt), rw c.in-Ended.is at inner)
 
-pub returns-in_err-check_key-in-Some-clause-err : goal.returns-in_err-check_key-in-Some-clause-err
-returns-in_err-check_key-in-Some-clause-err g c =
-    let p = err_from_is_err_and c.from_residual-in_err-check_key-in-Some.result
-    c.from_residual-in_err-check_key-in-Some.ensures.1 in
-    rw (p.1, p.2, c.in-Ended.is) (stops_ended _ (g.B.Build.tree c.args.self.now.build)
-    c.in-Some.waiting c.in-Ended.made _ _ _ _ _
-    (pushed _ _ _ _ c.in-Some.ensures.items) c.in_err-check_key-in-Some.ensures.err)
-
-pub returns-in-Entries-clause-ok : goal.returns-in-Entries-clause-ok
-returns-in-Entries-clause-ok g c =
-    let there = EntriesThere c.in-Entries.entries.items c.in-Entries.at in
-    rw c.in-Entries.is (ok_by c.entry.result (Steps c.args.text.now there) _
-    (λ r h. h.2 (g.B.Build.tree c.args.self.now.build) (groups _ c.args.self.now)
-    (keys c.args.self.now)) c.entry.ensures.ok)
-
-pub returns-in-Entries-clause-slices : goal.returns-in-Entries-clause-slices
-returns-in-Entries-clause-slices g c =
-    let text = c.args.text.now in
-    let held = g.B.Build.held c.args.self.now.build in
-    ok_by c.entry.result
-    (λ r. Keeps text (entries_pass c.in-Entries.entries.items) (read_passes r))
-    (λ r. IsKept text (λ t. groups_pass c.args.self.now held t && read_passes r held t))
-    (λ r h t p.
-    let both = and_parts _ _ (c.requires.kept t p) in
-    and_from _ _ both.0 (h held t p (rw c.in-Entries.is at (both.1)))) c.entry.ensures.slices
-
-pub returns-in_ok-open-in-Group-clause-err : goal.returns-in_ok-open-in-Group-clause-err
-returns-in_ok-open-in-Group-clause-err g c =
+pub returns-in-Members-clause-reads : goal.returns-in-Members-clause-reads
+returns-in-Members-clause-reads g c =
     let text = c.args.text.now in
     let tree = g.B.Build.tree c.args.self.now.build in
+    let pass = g.B.Build.held c.args.self.now.build in
+    let was = c.args.meter.now.quota in
+    let place = (members_place c.in-Members.members.items c.in-Members.last c.in-Members.at) in
+    let then = c.member.new.meter.quota in
+    let from = place.there tree (groups tree c.args.self.now) (keys c.args.self.now) in
+    rw c.in-Members.is (match_by (StepsTo text place was then) (StepFails text place was then)
+    (IsRead tree pass text from place.progress c.args.self.now was then)
+    (StopsAt text was then from) c.member.result
+    (λ r s. is_read tree pass text place c.args.self.now was then r s
+    (rw c.in-Members.is at c.requires.kept))
+    (λ e s. s tree (groups tree c.args.self.now) (keys c.args.self.now)) c.member.ensures.reads)
+
+pub returns-in-Members-clause-cost : goal.returns-in-Members-clause-cost
+returns-in-Members-clause-cost g c =
+    let text = c.args.text.now in
+    let at = c.in-Members.at in
+    let was = c.args.meter.now in
+    let then = c.member.new.meter in
+    let place = (members_place c.in-Members.members.items c.in-Members.last c.in-Members.at) in
+    let count = length (keys c.args.self.now) in
+    rw c.in-Members.is (match_by
+    (λ r. Proceeds text 3 at was.turns then.turns r × StepsTo text place was.quota then.quota r)
+    (λ e. Halts text 4 at was.turns then.turns)
+    (λ r. (then.turns.count + 1 + (8 * reach text at + 2) + count
+    ≤ was.turns.count + spent_reading text r + count)
+    × (then.turns.count + 1 + (8 * reach text at + 2) ≤ was.turns.count + 8 * length text + 8))
+    (λ e. then.turns.count + 1 + (8 * reach text at + 2) ≤ was.turns.count + 8 * length text + 8)
+    c.member.result
+    (λ r h. (omega (arith, h.0), omega (arith, h.0, reading_most text r h.1.goes.0)))
+    (λ e h. omega (arith, h))
+    (both_said _ _ _ _ c.member.result c.member.ensures.cost c.member.ensures.reads))
+
+pub returns-in-Entries-clause-reads : goal.returns-in-Entries-clause-reads
+returns-in-Entries-clause-reads g c =
+    let text = c.args.text.now in
+    let tree = g.B.Build.tree c.args.self.now.build in
+    let pass = g.B.Build.held c.args.self.now.build in
+    let was = c.args.meter.now.quota in
+    let place = (entries_place c.in-Entries.entries.items c.in-Entries.at) in
+    let then = c.entry.new.meter.quota in
+    let from = place.there tree (groups tree c.args.self.now) (keys c.args.self.now) in
+    rw c.in-Entries.is (match_by (StepsTo text place was then) (StepFails text place was then)
+    (IsRead tree pass text from place.progress c.args.self.now was then)
+    (StopsAt text was then from) c.entry.result
+    (λ r s. is_read tree pass text place c.args.self.now was then r s
+    (rw c.in-Entries.is at c.requires.kept))
+    (λ e s. s tree (groups tree c.args.self.now) (keys c.args.self.now)) c.entry.ensures.reads)
+
+pub returns-in-Entries-clause-cost : goal.returns-in-Entries-clause-cost
+returns-in-Entries-clause-cost g c =
+    let text = c.args.text.now in
+    let at = c.in-Entries.at in
+    let was = c.args.meter.now in
+    let then = c.entry.new.meter in
+    let place = (entries_place c.in-Entries.entries.items c.in-Entries.at) in
+    let count = length (keys c.args.self.now) in
+    rw c.in-Entries.is (match_by
+    (λ r. Proceeds text 3 at was.turns then.turns r × StepsTo text place was.quota then.quota r)
+    (λ e. Halts text 4 at was.turns then.turns)
+    (λ r. (then.turns.count + 1 + (8 * reach text at + 2) + count
+    ≤ was.turns.count + spent_reading text r + count)
+    × (then.turns.count + 1 + (8 * reach text at + 2) ≤ was.turns.count + 8 * length text + 8))
+    (λ e. then.turns.count + 1 + (8 * reach text at + 2) ≤ was.turns.count + 8 * length text + 8)
+    c.entry.result
+    (λ r h. (omega (arith, h.0), omega (arith, h.0, reading_most text r h.1.goes.0)))
+    (λ e h. omega (arith, h))
+    (both_said _ _ _ _ c.entry.result c.entry.ensures.cost c.entry.ensures.reads))
+
+pub returns-in_err-open-in-Group-clause-reads : goal.returns-in_err-open-in-Group-clause-reads
+returns-in_err-open-in-Group-clause-reads g c =
+    let p = err_from_is_err_and c.from_residual.result c.from_residual.ensures.1 in
+    rw (p.1, p.2) (memory_stops _ _ (none_taken _) refl)
+
+pub returns-in_err-open-in-Group-clause-cost : goal.returns-in_err-open-in-Group-clause-cost
+returns-in_err-open-in-Group-clause-cost g c =
+    let p = err_from_is_err_and c.from_residual.result c.from_residual.ensures.1 in
+    rw (p.1, c.in-Group.is) (omega (
+      arith,
+      reach_high c.args.text.now c.in-Group.at (rw c.in-Group.is at c.requires.within),
+    ))
+
+pub returns-in_ok-open-in-Group-clause-reads : goal.returns-in_ok-open-in-Group-clause-reads
+returns-in_ok-open-in-Group-clause-reads g c =
+    let text = c.args.text.now in
+    let tree = g.B.Build.tree c.args.self.now.build in
+    let pass = g.B.Build.held c.args.self.now.build in
+    let was = c.args.meter.now.quota in
     let w = c.in-Group.waiting in
-    let there : There g.row.X.Denot = GroupThere g.row.X.Denot c.in-Group.at in
-    let ws = shown tree w ∷ groups tree c.args.self.now in
-    let ks = with_key (keys c.args.self.now) w in
-    rw c.in-Group.is (err_by c.group.result (StepFails text there) (StopsAt text (there tree ws ks))
-    (λ e h. stops_there text there e h tree ws ks) c.group.ensures.err)
+    let at = c.in-Group.at in
+    let g' = c.open.new.self in
+    let then = c.group.new.meter.quota in
+    let os = groups tree g' in
+    let ws = groups tree c.args.self.now in
+    let js = keys g' in
+    let ks = keys c.args.self.now in
+    let from = stands tree c.args.self.now c.args.step in
+    let place = group_place g.row.X.Denot at in
+    let opened = c.in_ok-open-in-Group.ensures in
+    match_by (StepsTo text place was then) (StepFails text place was then)
+    (IsRead tree pass text from _ g' was then) (StopsAt text was then from) c.group.result
+    (λ r s. rw c.in-Group.is (opened_read tree pass text at w c.args.self.now g' was then r s
+    (opened.groups tree) opened.keys (λ t h.
+    let both = and_parts _ _ (rw c.in-Group.is at (c.requires.kept t h)) in
+    opened.slices pass t both.0 both.1)))
+    (λ e s. rw c.in-Group.is (in_opened (λ u. StopsAt text was then u e) at tree w os ws js ks
+    (opened.groups tree) opened.keys (s tree os js))) c.group.ensures.reads
 
 pub returns-in_ok-open-in-Group-clause-cost : goal.returns-in_ok-open-in-Group-clause-cost
 returns-in_ok-open-in-Group-clause-cost g c =
     let text = c.args.text.now in
     let at = c.in-Group.at in
+    let was = c.args.meter.now in
+    let then = c.group.new.meter in
+    let place = group_place g.row.X.Denot at in
+    let count = length (keys c.args.self.now) in
     let more = with_key_length (keys c.args.self.now) c.in-Group.waiting in
     let same = ap length c.in_ok-open-in-Group.ensures.keys in
-    rw c.in-Group.is (ok_by c.group.result
-    (λ r. c.group.new.turns.count + 8 * reach text at + 5
-    ≤ c.args.turns.now.count + spent_reading text r)
-    (λ r. c.group.new.turns.count + 1 + (8 * reach text at + 3) + length (keys c.open.new.self)
-    ≤ c.args.turns.now.count + spent_reading text r + length (keys c.args.self.now))
-    (λ r h. omega (arith, h, more, same)) c.group.ensures.cost)
+    rw c.in-Group.is (match_by
+    (λ r. Proceeds text 5 at was.turns then.turns r × StepsTo text place was.quota then.quota r)
+    (λ e. Halts text 4 at was.turns then.turns)
+    (λ r. (then.turns.count + 1 + (8 * reach text at + 3) + length (keys c.open.new.self)
+    ≤ was.turns.count + spent_reading text r + count)
+    × (then.turns.count + 1 + (8 * reach text at + 3) ≤ was.turns.count + 8 * length text + 8))
+    (λ e. then.turns.count + 1 + (8 * reach text at + 3) ≤ was.turns.count + 8 * length text + 8)
+    c.group.result
+    (λ r h. (omega (arith, h.0, more, same), omega (arith, h.0, reading_most text r h.1.goes.0)))
+    (λ e h. omega (arith, h))
+    (both_said _ _ _ _ c.group.result c.group.ensures.cost c.group.ensures.reads))
 
-pub returns-in_ok-resume-in-Some-clause-ok : goal.returns-in_ok-resume-in-Some-clause-ok
-returns-in_ok-resume-in-Some-clause-ok g c =
-    rw c.in-Ended.is (behind_ended _ (g.B.Build.tree c.args.self.now.build) c.in-Some.waiting
-    c.in-Ended.made _ _ _ _ _ (pushed _ _ _ _ c.in-Some.ensures.items)
-    c.in_ok-check_key-in-Some.ensures.ok c.in_ok-resume-in-Some.ensures.ok)
+pub returns-in_err-check_key-in-Some-clause-reads
+    : goal.returns-in_err-check_key-in-Some-clause-reads
+returns-in_err-check_key-in-Some-clause-reads g c =
+    let p = err_from_is_err_and c.from_residual-in_err-check_key-in-Some.result
+    c.from_residual-in_err-check_key-in-Some.ensures.1 in
+    rw (p.1, p.2, c.in-Ended.is) (stops_ended _ _ (g.B.Build.tree c.args.self.now.build)
+    c.in-Some.waiting c.in-Ended.made _ _ _ _ _
+    (pushed _ _ _ _ c.in-Some.ensures.items) c.in_err-check_key-in-Some.ensures)
 
-pub returns-in_ok-resume-in-Some-clause-most : goal.returns-in_ok-resume-in-Some-clause-most
-returns-in_ok-resume-in-Some-clause-most g c =
-    rw c.in-Ended.is (omega (
-      arith,
-      c.in_ok-resume-in-Some.ensures.cost,
-      spent_most c.args.text.now c.in_ok-resume-in-Some.field-0
-          c.in_ok-resume-in-Some.ensures.goes.0,
-    ))
+pub returns-in_err-step-in-Some-clause-reads : goal.returns-in_err-step-in-Some-clause-reads
+returns-in_err-step-in-Some-clause-reads g c =
+    let p = err_from_is_err_and c.from_residual-in_err-step-in-Some.result
+    c.from_residual-in_err-step-in-Some.ensures.1 in
+    rw (p.1, p.2) (memory_stops _ _ (none_taken _) refl)
 
-pub returns-in-None-clause-ok : goal.returns-in-None-clause-ok
-returns-in-None-clause-ok g c =
-    rw c.in-Ended.is (root_ended _ (g.B.Build.tree c.args.self.now.build) c.in-Ended.made _ _ _
-    (nothing_open _ _ (sym c.args.self.now.waiting.ok.0 ∙ c.in-None.ensures.cases.0)))
+pub returns-in_ok-step-in-Some-clause-reads : goal.returns-in_ok-step-in-Some-clause-reads
+returns-in_ok-step-in-Some-clause-reads g c =
+    let resumes = c.in_ok-step-in-Some.ensures.reads in
+    rw c.in-Ended.is (record {
+      leaf = refl;
+      ends = tt;
+      comes = behind_ended _ _ (g.B.Build.tree c.args.self.now.build) c.in-Some.waiting
+          c.in-Ended.made _ _ _ _ _ (pushed _ _ _ _ c.in-Some.ensures.items)
+          c.in_ok-check_key-in-Some.ensures resumes;
+      kept = λ t h. let both = and_parts _ _ (rw c.in-Ended.is at (c.requires.kept t h)) in
+          let parts = waiting_parts _ t _ _ _ c.in-Some.ensures.items both.0 in
+          and_from _ _ parts.0 (resumes.keeps _ t parts.1 both.1);
+      goes = (resumes.within, omega (arith, resumes.goes));
+    })
+
+pub returns-in_ok-step-in-Some-clause-cost : goal.returns-in_ok-step-in-Some-clause-cost
+returns-in_ok-step-in-Some-clause-cost g c =
+    let resumes = c.in_ok-step-in-Some.ensures.reads in
+    let most = spent_most c.args.text.now c.in_ok-step-in-Some.step resumes.within in
+    rw c.in-Ended.is (
+      omega (arith, c.in_ok-step-in-Some.ensures.cost),
+      omega (arith, c.in_ok-step-in-Some.ensures.cost, most),
+    )
+
+pub returns-in-None-clause-reads : goal.returns-in-None-clause-reads
+returns-in-None-clause-reads g c =
+    let none = sym c.args.self.now.waiting.ok.0 ∙ c.in-None.ensures.cases.0 in
+    rw c.in-Ended.is (record {
+      leaf = refl;
+      ends = tt;
+      comes = root_ended _ _ (g.B.Build.tree c.args.self.now.build) c.in-Ended.made _ _ _
+          (nothing_open _ _ none);
+      kept = search rules;
+      goes = (rw c.in-Ended.is at c.requires.within, omega arith);
+    })

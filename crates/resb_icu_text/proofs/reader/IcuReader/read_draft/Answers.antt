@@ -1,7 +1,10 @@
-use Rattle.resb_icu_text.proofs.MakingLemmas.{anything_said}
-use Rattle.resb_icu_text.specs.Inner.Kept.{anything}
+use Rattle.resb_icu_text.proofs.ReadingLemmas.{answer_fails, answer_no_text}
 use Rattle.resb_icu_text.proofs.reader.IcuReader.read_draft.Goals as goal
 
-pub returns-clause-ready : goal.returns-clause-ready
-returns-clause-ready c =
-    c.in_ok-header.ensures.kept anything (anything_said c.args.input.now)
+pub returns-clause-err : goal.returns-clause-err
+returns-clause-err c =
+    answer_fails _ _ _ _ c.draft_limited.result c.draft_limited.ensures.reads
+
+pub returns-clause-no_text : goal.returns-clause-no_text
+returns-clause-no_text c =
+    answer_no_text _ _ _ _ c.draft_limited.result c.draft_limited.ensures.reads

@@ -1,0 +1,55 @@
+-- A string that was found in a text, of which nothing is made yet.
+use Rattle.std.specs.Prelude.{◌≡◌, ◌*◌, ◌<◌, ◌≤◌, ◌↔◌, ℕ, Bool, true, false, List, length}
+use Rattle.std.specs.Prelude.{IsTrue}
+use Rattle.resb_icu_grammar.specs.Bytes.{are_key_bytes}
+use Rattle.resb_icu_grammar.specs.Blanks.{Skip}
+use Rattle.resb_icu_grammar.specs.Pieces.{Joined}
+use Rattle.resb_icu_grammar.specs.Words.{Text, KeyText}
+use Rattle.resb_icu_text.specs.Lexemes.{Verbatim, bytes_said, may_be_key, stands_whole}
+use Rattle.resb_icu_text.specs.declared.strings.Said.{Said}
+use Rattle.resb_icu_text.specs.declared.strings.Found.{Found}
+use Rattle.resb_icu_text.specs.declared.strings.Stands.{Stands}
+use Rattle.resb_icu_text.specs.declared.strings.Stands.TheVariants as the
+
+-- how many bytes it says
+abbrev pub length_of : Stands → ℕ
+length_of (the.Whole s) = length s.now
+length_of (the.InPieces n) = n
+
+-- it may be a key
+abbrev pub fits_key : Stands → Bool
+fits_key (the.Whole s) = are_key_bytes s.now
+fits_key (the.InPieces n) = false
+
+-- it is a slice of the text
+abbrev pub is_whole : Stands → Bool
+is_whole (the.Whole s) = true
+is_whole (the.InPieces n) = false
+
+-- what it says: the slice, or what the quoted pieces between these places say
+abbrev pub Shows : List ℕ → ℕ → ℕ → List ℕ → Stands → Type 0
+Shows text from end said (the.Whole s) = s.now ≡ said
+Shows text from end said (the.InPieces n) = (n ≡ length said) × Joined text from end said
+
+-- a string stands there, whether it may be a key, and blanks behind it
+pub record IsFound (text : List ℕ) (from : ℕ) (f : Found) : Type 0 where
+  pub said : List ℕ
+  pub shows : Shows text from f.end said f.stands
+  pub string : Text text from f.end said
+  pub key : IsTrue (fits_key f.stands) ↔ KeyText text from f.end said
+  pub slice : IsTrue (is_whole f.stands) ↔ Verbatim text from f.end said
+  pub blanks : Skip text f.end f.next
+  pub after : from < f.end
+  pub order : f.end ≤ f.next
+  pub fits : f.next ≤ length text
+
+-- this is what it says, whole or put together
+pub record IsSaid (text : List ℕ) (from : ℕ) (f : Found) (s : Said) : Type 0 where
+  pub bytes : (is : IsFound text from f) → bytes_said s ≡ is.said
+  pub key : may_be_key s ≡ fits_key f.stands
+  pub whole : stands_whole s ≡ is_whole f.stands
+
+-- how many turns it takes to make it, of so many bytes: two for each of quoted pieces
+abbrev pub turns_to_make : ℕ → Stands → ℕ
+turns_to_make bytes (the.Whole s) = 0
+turns_to_make bytes (the.InPieces n) = 2 * bytes

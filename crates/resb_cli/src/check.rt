@@ -6,16 +6,17 @@ use crate::progress::Progress;
 use crate::refusal::{Refusal, refuse};
 use crate::say::{fail, refuse_memory};
 use crate::show::{show, status_of};
-use crate::shown::Shown;
+use crate::shown::{Shown, shown_json};
 use crate::streams::InputError;
 use crate::unread::Unread;
 use crate::words::MARK;
 use resb_head::FormatVersion;
+use resb_json::json_text;
 use resb_pool_bundle::FileHead;
-use resb_program::{JsonError, count_file, json_text};
+use resb_program::count_file;
 use resb_tree::Resource;
 use resb_words::CheckWords;
-use std::alloc::Global;
+use std::alloc::{AllocError, Global};
 use std::borrow::CowStr;
 use std::fmt::{self, Display};
 
@@ -178,7 +179,7 @@ fn spelled(version: FormatVersion) -> &'static str {
 }
 
 /// The line of JSON of a file that is right.
-fn object_of(alloc: Global, name: &str, summary: Summary<'_>) -> Result<String, JsonError> {
+fn object_of(alloc: Global, name: &str, summary: Summary<'_>) -> Result<String, AllocError> {
     let Summary { count, head, .. } = summary;
     let (version, largest) = (spelled(head.version()), head.largest_table());
     let (fallback, is_pool) = (head.has_fallback(), head.is_pool());
@@ -200,9 +201,9 @@ fn object_of(alloc: Global, name: &str, summary: Summary<'_>) -> Result<String, 
 }
 
 /// What the line of JSON of a file begins with, up to the value that says whether it is right.
-fn front_of(alloc: Global, name: &str) -> Result<String, JsonError> {
+fn front_of(alloc: Global, name: &str) -> Result<String, AllocError> {
     let path = json_string(alloc, name.strip_prefix(MARK).unwrap_or(name))?;
-    Ok(format!(in alloc; "{{\"path\":{path},\"ok\":")?)
+    format!(in alloc; "{{\"path\":{path},\"ok\":")
 }
 
 /// Prints the line of JSON of a file that isn't right, and gives the status of that line.
@@ -219,7 +220,7 @@ fn fault_of<C: Display + Drop>(
     name: &str,
     kind: &str,
     cause: C,
-) -> Result<String, JsonError> {
+) -> Result<String, AllocError> {
     let message = format!(in alloc; "{cause}")?;
     let message = json_string(alloc, message.as_str())?;
     let mut line = front_of(alloc, name)?;
@@ -227,7 +228,8 @@ fn fault_of<C: Display + Drop>(
     Ok(line)
 }
 
-/// A text as JSON has it.
-fn json_string(alloc: Global, text: &str) -> Result<String, JsonError> {
-    json_text(alloc, &Resource::String(CowStr::Borrowed(text)))
+/// A text as JSON has it, with nothing hidden.
+fn json_string(alloc: Global, text: &str) -> Result<String, AllocError> {
+    let json = json_text(alloc, &Resource::String(CowStr::Borrowed(text)))?;
+    shown_json(alloc, json)
 }

@@ -1,5 +1,6 @@
 //! The command `compile`: each text to a file of its own.
 //! What a text's file is, and why it has none, is in `resb_program`.
+use crate::encoding::utf8_of;
 use crate::folders::{Named, TEXTS, named_files};
 use crate::place::{Place, place_of};
 use crate::progress::Progress;
@@ -10,8 +11,8 @@ use crate::streams::{made, read_input};
 use crate::taken::Taken;
 use crate::words::{NO_UTF8, is_marked};
 use resb_program::{
-    SourceError, bundle_name, compile_icu_source, compile_source, compile_source_within,
-    icu_bundle_name,
+    SourceError, bundle_name, compile_icu_source, compile_icu_source_within, compile_source,
+    compile_source_within, icu_bundle_name,
 };
 use resb_words::CompileWords;
 use std::alloc::Global;
@@ -146,11 +147,18 @@ impl Target {
     }
 }
 
-/// The bytes of a text, or the status, once it is said why there are none.
+/// The bytes of a text in UTF-8, or the status, once it is said why there are none.
 fn source_of(rt: &HostRuntime, name: &str, wanted: &CompileWords<'_>) -> Result<Vec<u8>, u8> {
-    match read_input(rt, name, wanted.limit) {
+    let source = match read_input(rt, name, wanted.limit) {
+        Ok(source) => source,
+        Err(e) => return Err(fail_input(rt, name, e)),
+    };
+    match utf8_of(rt.alloc(), source) {
         Ok(source) => Ok(source),
-        Err(e) => Err(fail_input(rt, name, e)),
+        Err(cause) => {
+            complain(rt, name, cause);
+            Err(1)
+        }
     }
 }
 
@@ -204,12 +212,11 @@ fn compiled(
     source: &[u8],
     wanted: &CompileWords<'_>,
 ) -> Result<Vec<u8>, SourceError> {
-    if wanted.is_icu {
-        return compile_icu_source(alloc, source);
-    }
-    match wanted.limit {
-        Some(limit) => compile_source_within(alloc, source, limit),
-        None => compile_source(alloc, source),
+    match (wanted.is_icu, wanted.limit) {
+        (true, Some(limit)) => compile_icu_source_within(alloc, source, limit),
+        (true, None) => compile_icu_source(alloc, source),
+        (false, Some(limit)) => compile_source_within(alloc, source, limit),
+        (false, None) => compile_source(alloc, source),
     }
 }
 

@@ -2,11 +2,11 @@
 //! What a difference is, is in `resb_diff`; how files are read is in `show`.
 use crate::input::Input;
 use crate::paths::Name;
-use crate::say::{complain, fail, refuse_memory};
-use crate::show::{TOO_DEEP, bundle_of, refuse_long, show};
-use crate::shown::Shown;
+use crate::say::{fail, refuse_memory};
+use crate::show::{bundle_of, refuse_long, show};
+use crate::shown::{Shown, shown_bytes, shown_json};
 use resb_diff::{Change, ChangeAt, PathStep, differences_between};
-use resb_program::{has_json, json_text_within};
+use resb_json::{json_fits, json_text};
 use resb_tree::Resource;
 use resb_words::DiffWords;
 use std::alloc::{AllocError, Global};
@@ -67,8 +67,6 @@ fn print_differences(
     old: &Resource<'_>,
     new: &Resource<'_>,
 ) -> Result<bool, u8> {
-    refuse_deep(rt, wanted.old, old)?;
-    refuse_deep(rt, wanted.new, new)?;
     let text = match text_of(rt.alloc(), wanted, old, new) {
         Ok(text) => text,
         Err(Unsaid::Long) => {
@@ -92,15 +90,6 @@ fn key_bytes(path: &[PathStep<'_>]) -> u64 {
         }
     }
     bytes
-}
-
-/// Refuses a tree that nests deeper than JSON may, as its values and its paths could then.
-fn refuse_deep(rt: &HostRuntime, name: &str, tree: &Resource<'_>) -> Result<(), u8> {
-    if has_json(tree) {
-        return Ok(());
-    }
-    complain(rt, name, TOO_DEEP);
-    Err(1)
 }
 
 /// The lines of what differs. Neither they nor the keys of their paths take more bytes than the
@@ -197,13 +186,16 @@ fn push_object(
     Ok(())
 }
 
-/// A value as JSON, which takes no more bytes than the limit. The tree that it stands in has JSON.
+/// A value as JSON with nothing hidden, which has no more bytes than the limit.
 fn json_of(alloc: Global, value: &Resource<'_>, limit: u64) -> Result<String, Unsaid> {
-    match json_text_within(alloc, value, limit) {
-        Ok(Some(text)) => Ok(text),
-        Ok(None) => Err(Unsaid::Long),
-        Err(_) => Err(Unsaid::Memory),
+    if !json_fits(alloc, value, limit)? {
+        return Err(Unsaid::Long);
     }
+    let text = json_text(alloc, value)?;
+    if shown_bytes(text.as_str()) > limit {
+        return Err(Unsaid::Long);
+    }
+    Ok(shown_json(alloc, text)?)
 }
 
 /// A path as `get` takes it.

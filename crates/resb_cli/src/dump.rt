@@ -1,17 +1,24 @@
 //! The command `dump`: the text of a file to standard output, or of each file to a folder.
 //! What is made of a file is in `show`, and how bytes come to a place in `save`.
-use crate::input::Input;
+use crate::input::{Beside, Input};
 use crate::place::{Place, place_of};
 use crate::progress::Progress;
 use crate::save::save;
 use crate::say::{fail, or_fail};
-use crate::show::{Made, bundle_name, bundle_of, made_icu, made_json, made_text, settled, show};
+use crate::show::{
+    Made, bundle_name, bundle_of, made_icu, made_json, made_text, opened_of, print_json,
+    print_lines, settled, show,
+};
 use crate::streams::{NO_MEMORY, made};
 use crate::taken::Taken;
 use crate::unread::Unread;
+use resb_json::json_text;
+use resb_lines::{Icu, Plain};
+use resb_opened::Ascending;
+use resb_pool_bundle::FileHead;
 use resb_tree::ResourceBundle;
 use resb_words::DumpWords;
-use std::alloc::Global;
+use std::alloc::{AllocError, Global};
 use std::mem;
 use std::path::{Path, PathBuf};
 
@@ -60,33 +67,90 @@ fn dump_one(
     wanted: &DumpWords<'_>,
     taken: &mut Taken,
 ) -> Result<u8, u8> {
-    let shown = shown_of(rt, name, input, wanted)?;
-    match wanted.folder {
-        Some(folder) => write_to(rt, name, &shown, folder, taken),
-        None => Ok(show(rt, shown.text.as_str())),
+    let opened = input.open(rt, name)?;
+    let beside = opened.pool(rt, name, wanted.pool, wanted.limit)?;
+    if wanted.limit.is_none()
+        && wanted.folder.is_none()
+        && let Some(status) = dump_opened(rt, name, opened.bytes, &beside, wanted)?
+    {
+        return Ok(status);
+    }
+    let bundle = bundle_of(rt, name, opened.bytes, &beside, wanted.limit)?;
+    let done = dump_bundle(rt, name, &bundle, wanted, taken);
+    let_go(bundle, wanted.files.len() == 1);
+    done
+}
+
+/// Shows a file without its tree, if that can be: where its tables ascend, and it has a text or
+/// JSON is wanted.
+fn dump_opened(
+    rt: &HostRuntime,
+    name: &str,
+    bytes: &[u8],
+    beside: &Beside<'_>,
+    wanted: &DumpWords<'_>,
+) -> Result<Option<u8>, u8> {
+    let file = opened_of(rt, name, bytes, beside)?;
+    let Some(root) = Ascending::of(file.root()) else {
+        return Ok(None);
+    };
+    if wanted.is_json {
+        return Ok(Some(print_json(rt, name, root)));
+    }
+    let has_fallback = match FileHead::read(bytes) {
+        Ok(head) => head.has_fallback(),
+        Err(_) => false,
+    };
+    if wanted.is_icu {
+        print_lines(rt, name, Icu, root, has_fallback)
+    } else {
+        print_lines(rt, name, Plain, root, has_fallback)
     }
 }
 
-/// What is made of a file, or the status, once it is said why that is nothing.
-fn shown_of(
+/// Shows a file's bundle.
+fn dump_bundle(
     rt: &HostRuntime,
     name: &str,
-    input: &Input,
+    bundle: &ResourceBundle<'_>,
     wanted: &DumpWords<'_>,
-) -> Result<Made, u8> {
+    taken: &mut Taken,
+) -> Result<u8, u8> {
     let limit = wanted.limit;
-    let opened = input.open(rt, name)?;
-    let beside = opened.pool(rt, name, wanted.pool, limit)?;
-    let bundle = bundle_of(rt, name, opened.bytes, &beside, limit)?;
-    let shown = if wanted.is_json {
-        made_json(rt, name, bundle.root(), limit)
+    let form = if wanted.is_json {
+        made_json(rt, name, bundle.root(), limit)?
     } else if wanted.is_icu {
-        made_icu(rt, name, &bundle, limit)
+        made_icu(rt, name, bundle, limit)?
     } else {
-        made_text(rt, name, &bundle, limit)
+        made_text(rt, name, bundle, limit)?
     };
-    let_go(bundle, wanted.files.len() == 1);
-    shown
+    match (wanted.folder, form) {
+        (None, Made::Text(text)) => Ok(show(rt, text.as_str())),
+        (None, Made::Json) => Ok(print_json(rt, name, bundle.root())),
+        (Some(folder), form) => {
+            let target = target_in(rt, name, form.ending(), folder, taken)?;
+            let text = or_fail(rt, name, made(whole(rt.alloc(), bundle, form)))?;
+            let (output, place) = target;
+            or_fail(
+                rt,
+                output.as_path().as_str(),
+                save(rt, &place, text.as_bytes()),
+            )?;
+            Ok(0)
+        }
+    }
+}
+
+/// What a file is that shows a bundle.
+fn whole(alloc: Global, bundle: &ResourceBundle<'_>, form: Made) -> Result<String, AllocError> {
+    match form {
+        Made::Text(text) => Ok(text),
+        Made::Json => {
+            let mut text = json_text(alloc, bundle.root())?;
+            text.push_str("\n")?;
+            Ok(text)
+        }
+    }
 }
 
 /// Drops a bundle, but for the last one: the program ends then, and the system takes all memory
@@ -97,20 +161,19 @@ fn let_go(bundle: ResourceBundle<'_>, is_last: bool) {
     }
 }
 
-/// Writes what is shown of a file to a folder, under the name of the file's bundle.
-fn write_to(
+/// Where what is shown of a file goes: to a folder, under the name of the file's bundle.
+fn target_in(
     rt: &HostRuntime,
     name: &str,
-    shown: &Made,
+    ending: &str,
     folder: &str,
     taken: &mut Taken,
-) -> Result<u8, u8> {
-    let path = or_fail(rt, name, path_in(rt.alloc(), name, shown.ending, folder))?;
+) -> Result<(PathBuf, Place), u8> {
+    let path = or_fail(rt, name, path_in(rt.alloc(), name, ending, folder))?;
     let output = path.as_path().as_str();
     let place = or_fail(rt, output, place_of(rt, output))?;
     or_fail(rt, name, take(rt, name, &place, taken))?;
-    or_fail(rt, output, save(rt, &place, shown.text.as_bytes()))?;
-    Ok(0)
+    Ok((path, place))
 }
 
 /// The path in a folder of what is shown of a file.

@@ -2,10 +2,11 @@
 //! the order of their names, as `FOLDER/*.txt` does for a shell.
 //! What is done with the files is in the modules of the commands.
 use crate::streams::{NO_MEMORY, cause_of, made};
-use std::alloc::Global;
-use std::fs::{self, DirEntry};
-use std::io::{self, ErrorKind};
+use crate::words::text_of;
+use std::alloc::{AllocError, Global};
+use std::io::{self, Read};
 use std::path::Path;
+use std::rt::Files;
 
 /// A file that is asked for, or a folder of which no file is had, with the cause of that.
 #[derive(Drop)]
@@ -76,7 +77,7 @@ fn add_folder(
 ) -> Result<(), &'static str> {
     let found = match files_in(rt, folder, kind.ending) {
         Ok(found) => found,
-        Err(e) => return add(rt.alloc(), files, folder, Some(cause_of_reading(&e))),
+        Err(e) => return add(rt.alloc(), files, folder, Some(cause_of(&e))),
     };
     if found.is_empty() {
         return add(rt.alloc(), files, folder, Some(kind.none));
@@ -87,29 +88,31 @@ fn add_folder(
     Ok(())
 }
 
-/// The names of the files in a folder that have this ending, sorted.
+/// The names of the files in a folder that have this ending, sorted. One that is no UTF-8 is
+/// marked, so that it can't be opened by its name.
 fn files_in(rt: &HostRuntime, folder: &str, ending: &str) -> io::Result<Vec<String>> {
+    let mut path = String::from_str(rt.alloc(), folder)?;
+    if !folder.ends_with('/') {
+        path.push('/')?;
+    }
+    let mut names = Vec::new(rt.alloc());
+    rt.open_dir(path.as_str())?.read_to_end(&mut names)?;
     let mut found = Vec::new(rt.alloc());
-    for entry in fs::read_dir(rt, folder)? {
-        let entry = entry?;
-        if is_wanted(rt, &entry, ending) {
-            found.push(String::from_str(rt.alloc(), entry.path().as_str())?)?;
+    for name in names.split(|byte| *byte == 0) {
+        if name.ends_with(ending.as_bytes()) && !name.starts_with(b".") {
+            let path = path_of(rt.alloc(), path.as_bytes(), name)?;
+            if !Path::new(path.as_str()).is_dir(rt) {
+                found.push(path)?;
+            }
         }
     }
     found.sort_unstable();
     Ok(found)
 }
 
-/// Whether what stands in a folder is a file with this ending, and isn't hidden by a dot.
-fn is_wanted(rt: &HostRuntime, entry: &DirEntry, ending: &str) -> bool {
-    let name = entry.file_name();
-    name.ends_with(ending) && !name.starts_with('.') && !entry.path().is_dir(rt)
-}
-
-/// What a failed call on a folder is called.
-fn cause_of_reading(e: &io::Error) -> &'static str {
-    match e.kind() {
-        ErrorKind::InvalidFilename => "a name in this folder is no UTF-8",
-        _ => cause_of(e),
-    }
+/// The path of a name in a folder.
+fn path_of(alloc: Global, folder: &[u8], name: &[u8]) -> Result<String, AllocError> {
+    let mut path = Vec::from_slice(alloc, folder)?;
+    path.extend_from_slice(name)?;
+    text_of(alloc, path.as_slice())
 }

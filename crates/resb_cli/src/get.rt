@@ -5,10 +5,11 @@ use crate::input::{Beside, Input, uses_pool};
 use crate::paths::{BETWEEN, names_of};
 use crate::refusal::refuse;
 use crate::say::{fail, refuse_memory};
-use crate::show::{bundle_of, settled, show_json, status_of};
+use crate::show::{bundle_of, opened_of, print_json, settled, show_json, status_of};
 use crate::shown::Shown;
 use crate::words::is_marked;
 use resb_format::{BinaryDeserializerError, ResourceReprType};
+use resb_opened::{Ascending, Found as Seen, Handle, Kind, Opened};
 use resb_path::{Found, find, find_with_pool};
 use resb_program::FileError;
 use resb_read::{Cursor, Walk};
@@ -41,13 +42,16 @@ struct Source<'f> {
     is_checked: bool,
 }
 
-/// The tree of a file, as far as it was asked for.
+/// A file as a whole, as far as it was asked for.
 #[derive(Drop)]
 enum Whole<'f> {
     /// It wasn't read yet.
     Unread,
     /// It isn't had, as was said with this status.
     Refused(u8),
+    /// It was opened, and the keys of its tables ascend.
+    Opened(Opened<'f>),
+    /// Its tree was made.
     Read(ResourceBundle<'f>),
 }
 
@@ -89,9 +93,17 @@ fn get_each(rt: &HostRuntime, source: Source<'_>, paths: &[&str]) -> u8 {
     status
 }
 
-/// The tree of a file, or the status, once it is said why there is none.
+/// A file as a whole, or the status, once it is said why it isn't had. A tree is made where there
+/// is a limit for it, and where the keys of some table don't ascend.
 fn whole_of<'f>(rt: &HostRuntime, source: Source<'f>) -> Whole<'f> {
     let Source { name, bytes, .. } = source;
+    if source.limit.is_none() {
+        match opened_of(rt, name, bytes, source.beside) {
+            Ok(file) if Ascending::of(file.root()).is_some() => return Whole::Opened(file),
+            Ok(_) => {}
+            Err(status) => return Whole::Refused(status),
+        }
+    }
     match bundle_of(rt, name, bytes, source.beside, source.limit) {
         Ok(bundle) => Whole::Read(bundle),
         Err(status) => Whole::Refused(status),
@@ -120,26 +132,20 @@ fn get_one<'f>(
             Along::More => {}
         }
     }
-    match find(root_of(rt, source, whole)?, names.as_slice()) {
-        None => Err(say_nothing(rt, name, path)),
-        Some(found) => Ok(show_found(rt, name, found, source.limit)),
-    }
-}
-
-/// The root of the tree of a file, which is read now if it wasn't yet; or the status of a file that
-/// has none, once it is said why, the first time.
-fn root_of<'w, 'f>(
-    rt: &HostRuntime,
-    source: Source<'f>,
-    whole: &'w mut Whole<'f>,
-) -> Result<&'w Resource<'f>, u8> {
     if let Whole::Unread = whole {
         *whole = whole_of(rt, source);
     }
     match whole {
-        Whole::Read(bundle) => Ok(bundle.root()),
+        Whole::Opened(file) => match file.root().get(names.as_slice()) {
+            None => Err(say_nothing(rt, name, path)),
+            Some(found) => Ok(show_seen(rt, name, found)),
+        },
+        Whole::Read(bundle) => match find(bundle.root(), names.as_slice()) {
+            None => Err(say_nothing(rt, name, path)),
+            Some(found) => Ok(show_found(rt, name, found, source.limit)),
+        },
         Whole::Refused(status) => Err(*status),
-        Whole::Unread => Err(1),
+        Whole::Unread => Err(fail(rt, name, "this was not read")),
     }
 }
 
@@ -188,6 +194,34 @@ fn read_alone<'f>(alloc: Global, at: Cursor<'f>) -> Result<Along<'f>, BinaryDese
         | ResourceReprType::Table16 => Ok(Along::More),
         _ => Ok(Along::Leaf(at.read_resource(alloc, &mut walk)?)),
     }
+}
+
+/// Prints what was found in an opened file.
+fn show_seen(rt: &HostRuntime, name: &str, found: Seen<'_>) -> u8 {
+    let handle = match found {
+        Seen::Number(number) => return show_found(rt, name, Found::Number(number), None),
+        Seen::Resource(handle) => handle,
+    };
+    if let Some(number) = handle.integer() {
+        return show_found(rt, name, Found::Resource(&Resource::Integer(number)), None);
+    }
+    if let Kind::String = handle.kind() {
+        return show_text(rt, name, handle);
+    }
+    match Ascending::of(handle) {
+        Some(shown) => print_json(rt, name, shown),
+        None => fail(rt, name, "the keys of its tables do not ascend"),
+    }
+}
+
+/// Prints a string as it is.
+fn show_text(rt: &HostRuntime, name: &str, handle: Handle<'_>) -> u8 {
+    let mut text = String::new(rt.alloc());
+    if handle.push_text(&mut text).is_err() {
+        return refuse_memory(rt, name);
+    }
+    let text = text.as_str();
+    status_of(rt, println!(rt; "{text}").is_ok())
 }
 
 /// Prints what was found.

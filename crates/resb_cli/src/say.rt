@@ -1,5 +1,6 @@
 //! What is said on standard error: the place, the cause, the line round it, and warnings.
 //! What the causes are called is theirs to print.
+use crate::hints::hint_at;
 use crate::paths::Name;
 use crate::shown::Shown;
 use crate::streams::{InputError, NO_MEMORY};
@@ -8,14 +9,20 @@ use resb_grammar::Expected;
 use resb_icu_grammar::IcuExpected;
 use resb_print::PathStep;
 use resb_program::{
-    Blame, Reason, SourceError, Warning, location_of, pointed_line, text_of, warnings,
-    where_to_look,
+    Blame, Reason, SourceError, Warning, first_icu_outdent, first_outdent, location_of,
+    long_icu_string_before, long_string_before, pointed_line, text_of, warnings, where_to_look,
 };
 use std::alloc::{AllocError, Global};
 use std::fmt::{self, Display};
 
 /// The most warnings that are said of one text.
 const MOST_WARNINGS: usize = 20;
+
+/// What is said of the last string that spans lines before the place of a refusal.
+const LONG_STRING: &str = "the last string before that which spans lines begins here";
+
+/// What is said of a line that a missing `}` may have left in a group.
+const OUTDENT: &str = "this line is indented too little for the group it stands in";
 
 /// Says one line.
 pub(crate) fn complain<R: Eprint, C: Display + Drop>(rt: &R, name: &str, cause: C) {
@@ -150,17 +157,40 @@ pub(crate) fn refuse<R: Eprint + AllocGlobal>(
         Blame::At(place) => {
             say_at(rt, name, source, place, error);
             point(rt, name, source, place);
-            if may_be_icu(source, place, error) {
-                complain(rt, name, "texts of ICU's own form are read with --icu");
+            if let Some(hint) = hint_at(rt.alloc(), source, place, error) {
+                complain(rt, name, hint);
+            }
+            if let Some(quote) = long_string(source, place, error) {
+                say_at(rt, name, source, quote, LONG_STRING);
             }
         }
         Blame::Open(place) => {
             let cause = Unclosed(error);
             say_at(rt, name, source, place, cause);
             point(rt, name, source, place);
+            if let Ok(Some(line)) = outdent(rt.alloc(), source, error) {
+                say_at(rt, name, source, line, OUTDENT);
+            }
         }
     }
     1
+}
+
+/// The last string that spans lines before a place at which a text is refused.
+fn long_string(source: &[u8], place: usize, error: &SourceError) -> Option<usize> {
+    match error {
+        SourceError::Refused(_) => long_string_before(source, place),
+        SourceError::IcuRefused(_) => long_icu_string_before(source, place),
+        _ => None,
+    }
+}
+
+/// The first line that is indented too little for the group it stands in.
+fn outdent(alloc: Global, source: &[u8], error: &SourceError) -> Result<Option<usize>, AllocError> {
+    match error {
+        SourceError::IcuRefused(_) => first_icu_outdent(alloc, source),
+        _ => first_outdent(alloc, source),
+    }
 }
 
 /// A refusal where the text ends too early.
@@ -190,18 +220,6 @@ fn wants_memory(error: &SourceError) -> bool {
         }
         SourceError::Refused(CompileError::Writing(e))
         | SourceError::IcuRefused(IcuCompileError::Writing(e)) => e.is_out_of_memory(),
-        _ => false,
-    }
-}
-
-/// Whether a text that is refused looks like one of ICU's own form: it begins with a byte order
-/// mark, or a character that only ICU's words have stands where it is refused.
-fn may_be_icu(source: &[u8], place: usize, error: &SourceError) -> bool {
-    match error {
-        SourceError::Refused(_) => {
-            source.starts_with(b"\xEF\xBB\xBF")
-                || matches!(source.get(place), Some(b'_' | b'%' | b'.' | b'+'))
-        }
         _ => false,
     }
 }
@@ -276,6 +294,9 @@ impl fmt::Display for Told<'_> {
             Reason::CommaBehindPairs => {
                 f.write_str("warning: pairs with commas are an Array; genrb refuses this")
             }
+            Reason::LoneString => f.write_str(
+                "warning: this string has no group, so that all are an Array; genrb refuses this",
+            ),
             Reason::EmptyGroup => f.write_str(
                 "warning: the empty group that ends here is a Table, and an Array for genrb",
             ),

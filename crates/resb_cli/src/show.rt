@@ -2,17 +2,19 @@
 //! Where that goes is said by the commands, and why a file has no tree in `refusal`.
 use crate::input::Beside;
 use crate::refusal::refuse;
-use crate::say::{NoText, complain, fail, refuse_memory, say_no_text};
+use crate::say::{NoText, fail, refuse_memory, say_no_text};
 use crate::streams::write_stream;
 use resb_icu_print::{IcuPrintError, icu_cause_path, print_icu_text, print_icu_text_within};
+use resb_json::{json_fits, write_json};
+use resb_lines::{Form, ShownBundle, has_text, write_lines};
+use resb_opened::Opened;
 use resb_print::{PrintError, cause_path, print_text, print_text_within};
-use resb_program::{JsonError, json_text, json_text_within, read_bundle};
+use resb_program::{open_file, read_bundle};
+use resb_shown::Shown;
 use resb_tree::{Resource, ResourceBundle};
-use std::alloc::Global;
+use std::alloc::{AllocError, Global};
+use std::io::{self, ErrorKind, Write};
 use std::path::Path;
-
-/// What is said of what has no JSON.
-pub(crate) const TOO_DEEP: &str = "this nests more than 120 levels deep, too deep for JSON";
 
 /// The status of what was written to standard output, or not, once that is said.
 pub(crate) fn status_of(rt: &HostRuntime, is_written: bool) -> u8 {
@@ -22,25 +24,22 @@ pub(crate) fn status_of(rt: &HostRuntime, is_written: bool) -> u8 {
     fail(rt, "resb", "standard output cannot be written")
 }
 
-/// What was made of a file to be shown.
+/// What is shown of a bundle.
 #[derive(Drop)]
-pub(crate) struct Made {
-    pub(crate) text: String,
-    /// What the name of a file of it ends with.
-    pub(crate) ending: &'static str,
+pub(crate) enum Made {
+    /// This text.
+    Text(String),
+    /// The JSON of its root.
+    Json,
 }
 
 impl Made {
-    /// A text of a bundle.
-    fn text(text: String) -> Made {
-        let ending = ".txt";
-        Made { text, ending }
-    }
-
-    /// JSON.
-    fn json(text: String) -> Made {
-        let ending = ".json";
-        Made { text, ending }
+    /// What the name of a file of it ends with.
+    pub(crate) fn ending(&self) -> &'static str {
+        match self {
+            Made::Text(_) => ".txt",
+            Made::Json => ".json",
+        }
     }
 }
 
@@ -68,6 +67,17 @@ pub(crate) fn bundle_of<'f>(
         &e,
         beside.name(),
     ))
+}
+
+/// A file that is opened beside its pool bundle, or the status, once it is said why it isn't.
+pub(crate) fn opened_of<'f>(
+    rt: &HostRuntime,
+    name: &'f str,
+    file: &'f [u8],
+    beside: &'f Beside<'f>,
+) -> Result<Opened<'f>, u8> {
+    let pool = beside.bundle(rt, name)?;
+    open_file(rt.alloc(), file, pool).map_err(|e| refuse(rt, name, file, &e, beside.name()))
 }
 
 /// The status of what was done, or of what kept it from being done.
@@ -101,15 +111,15 @@ fn icu_text_of(
     }
 }
 
-/// The same of a resource's JSON, where making it takes no more bytes than the limit either.
-fn json_of(
+/// Whether a resource's JSON has no more bytes than the limit, if there is one.
+fn has_json(
     alloc: Global,
     resource: &Resource<'_>,
     limit: Option<u64>,
-) -> Result<Option<String>, JsonError> {
+) -> Result<bool, AllocError> {
     match limit {
-        Some(limit) => json_text_within(alloc, resource, limit),
-        None => json_text(alloc, resource).map(Some),
+        Some(limit) => json_fits(alloc, resource, limit),
+        None => Ok(true),
     }
 }
 
@@ -122,15 +132,15 @@ pub(crate) fn made_text(
     limit: Option<u64>,
 ) -> Result<Made, u8> {
     match text_of(rt.alloc(), bundle, limit) {
-        Ok(Some(text)) => Ok(Made::text(text)),
+        Ok(Some(text)) => Ok(Made::Text(text)),
         Ok(None) => Err(refuse_long(rt, name, "text", limit)),
         Err(PrintError::OutOfMemory) => Err(refuse_memory(rt, name)),
         Err(e) => {
-            let json = json_of(rt.alloc(), bundle.root(), limit);
-            let (what, has_json) = ("text", matches!(json, Ok(Some(_))));
+            let fits = has_json(rt.alloc(), bundle.root(), limit);
+            let (what, has_json) = ("text", matches!(fits, Ok(true)));
             let path = cause_path(rt.alloc(), bundle);
             say_no_text(rt, name, NoText { what, has_json }, e, path);
-            made_of(rt, name, json, limit)
+            made_of_json(rt, name, fits, limit)
         }
     }
 }
@@ -144,51 +154,45 @@ pub(crate) fn made_icu(
     limit: Option<u64>,
 ) -> Result<Made, u8> {
     match icu_text_of(rt.alloc(), bundle, limit) {
-        Ok(Some(text)) => Ok(Made::text(text)),
+        Ok(Some(text)) => Ok(Made::Text(text)),
         Ok(None) => Err(refuse_long(rt, name, "text in ICU's form", limit)),
         Err(IcuPrintError::OutOfMemory) => Err(refuse_memory(rt, name)),
         Err(e) => {
-            let json = json_of(rt.alloc(), bundle.root(), limit);
-            let (what, has_json) = ("text in ICU's form", matches!(json, Ok(Some(_))));
+            let fits = has_json(rt.alloc(), bundle.root(), limit);
+            let (what, has_json) = ("text in ICU's form", matches!(fits, Ok(true)));
             let path = icu_cause_path(rt.alloc(), bundle);
             say_no_text(rt, name, NoText { what, has_json }, e, path);
-            made_of(rt, name, json, limit)
+            made_of_json(rt, name, fits, limit)
         }
     }
 }
 
-/// A resource as JSON, with a line feed; or the status, once it is said why there is none.
+/// A resource's JSON, or the status, once it is said why that isn't shown.
 pub(crate) fn made_json(
     rt: &HostRuntime,
     name: &str,
     resource: &Resource<'_>,
     limit: Option<u64>,
 ) -> Result<Made, u8> {
-    made_of(rt, name, json_of(rt.alloc(), resource, limit), limit)
+    made_of_json(rt, name, has_json(rt.alloc(), resource, limit), limit)
 }
 
-/// JSON that was made, with a line feed; or the status, once it is said why there is none.
-fn made_of(
+/// The same, where it is known whether it keeps within the limit.
+fn made_of_json(
     rt: &HostRuntime,
     name: &str,
-    json: Result<Option<String>, JsonError>,
+    fits: Result<bool, AllocError>,
     limit: Option<u64>,
 ) -> Result<Made, u8> {
-    match json {
-        Ok(Some(mut text)) => match text.push_str("\n") {
-            Ok(()) => Ok(Made::json(text)),
-            Err(_) => Err(refuse_memory(rt, name)),
-        },
-        Ok(None) => Err(refuse_long(rt, name, "JSON", limit)),
-        Err(JsonError::OutOfMemory) => Err(refuse_memory(rt, name)),
-        Err(JsonError::TooDeep) => {
-            complain(rt, name, TOO_DEEP);
-            Err(1)
-        }
+    match fits {
+        Ok(true) => Ok(Made::Json),
+        Ok(false) => Err(refuse_long(rt, name, "JSON", limit)),
+        Err(_) => Err(refuse_memory(rt, name)),
     }
 }
 
-/// Prints a resource as JSON, with a line feed.
+/// Prints a resource as JSON, with a line feed: nothing of it where it has more bytes than the
+/// limit.
 pub(crate) fn show_json(
     rt: &HostRuntime,
     name: &str,
@@ -196,9 +200,70 @@ pub(crate) fn show_json(
     limit: Option<u64>,
 ) -> u8 {
     match made_json(rt, name, resource, limit) {
-        Ok(made) => show(rt, made.text.as_str()),
+        Ok(_) => print_json(rt, name, resource),
         Err(status) => status,
     }
+}
+
+/// Prints the lines of a bundle in a form, a block at a time, if it has a text of that; or the
+/// status, once it is said why that can't be told. The root and the flag for fallback are given.
+pub(crate) fn print_lines<'s, F: Form, S: Shown<'s>>(
+    rt: &HostRuntime,
+    name: &'s str,
+    form: F,
+    root: S,
+    is_locale_fallback_enabled: bool,
+) -> Result<Option<u8>, u8> {
+    let looked_at = ShownBundle {
+        name: bundle_name(name),
+        root,
+        is_locale_fallback_enabled,
+    };
+    match has_text(rt.alloc(), form, looked_at) {
+        Ok(true) => {}
+        Ok(false) => return Ok(None),
+        Err(_) => return Err(refuse_memory(rt, name)),
+    }
+    let printed = ShownBundle {
+        name: bundle_name(name),
+        root,
+        is_locale_fallback_enabled,
+    };
+    let mut out = rt.stdout();
+    let written = write_lines(rt.alloc(), &mut out, form, printed);
+    Ok(Some(written_status(rt, name, flushed(written, &mut out))))
+}
+
+/// The same of a stream that is flushed behind what was written.
+fn flushed<W: Write>(written: io::Result<()>, out: &mut W) -> io::Result<()> {
+    written?;
+    out.flush()
+}
+
+/// The status of what was written to standard output, once it is said why it wasn't.
+fn written_status(rt: &HostRuntime, name: &str, written: io::Result<()>) -> u8 {
+    match written {
+        Ok(()) => 0,
+        Err(e) if e.kind() == ErrorKind::OutOfMemory => refuse_memory(rt, name),
+        Err(_) => status_of(rt, false),
+    }
+}
+
+/// Prints what is shown as JSON, with a line feed, a block at a time.
+pub(crate) fn print_json<'s, S: Shown<'s>>(rt: &HostRuntime, name: &str, shown: S) -> u8 {
+    let mut out = rt.stdout();
+    let written = write_json_line(rt.alloc(), &mut out, shown);
+    written_status(rt, name, flushed(written, &mut out))
+}
+
+/// Writes what is shown as JSON, with a line feed.
+fn write_json_line<'s, S: Shown<'s>, W: Write>(
+    alloc: Global,
+    out: &mut W,
+    shown: S,
+) -> io::Result<()> {
+    write_json(alloc, out, shown)?;
+    out.write_all(b"\n")
 }
 
 /// Says that what was to be printed takes more bytes than the limit. Without one nothing does.

@@ -1,7 +1,9 @@
 //! Names, keys and paths as messages show them: nothing of them moves the mark of a terminal or
-//! turns its text, and none fills the screen. Lines of texts are shown by `resb_program`.
+//! turns its text, and none fills the screen; and the same of JSON that says something of files.
+//! Lines of texts are shown by `resb_program`.
 use crate::words::MARK;
 use resb_program::is_hidden;
+use std::alloc::{AllocError, Global};
 use std::fmt;
 
 /// The most characters that are shown at each end of a text that is cut.
@@ -37,4 +39,32 @@ fn write_character<W: fmt::Write>(f: &mut fmt::Formatter<W>, c: char) -> fmt::Re
     } else {
         f.write_char(c)
     }
+}
+
+/// How many bytes JSON has where nothing is hidden in it: six for each hidden character.
+pub(crate) fn shown_bytes(json: &str) -> u64 {
+    let mut bytes = 0u64;
+    for c in json.chars() {
+        let own = if is_hidden(c) { 6 } else { c.len_utf8() as u64 };
+        bytes = bytes.saturating_add(own);
+    }
+    bytes
+}
+
+/// JSON without a line feed, in which what is hidden stands as `\u009b`: that is the same JSON. No
+/// hidden character needs more than four digits.
+pub(crate) fn shown_json(alloc: Global, json: String) -> Result<String, AllocError> {
+    if shown_bytes(json.as_str()) == json.len() as u64 {
+        return Ok(json);
+    }
+    let mut shown = String::new(alloc);
+    for c in json.as_str().chars() {
+        if is_hidden(c) {
+            let code = u32::from(c);
+            write!(shown, "\\u{code:04x}")?;
+        } else {
+            shown.push(c)?;
+        }
+    }
+    Ok(shown)
 }

@@ -40,8 +40,8 @@ fn bytes_of<R: Env + AllocGlobal>(rt: &R, number: usize) -> Result<Option<Vec<u8
     Err(AllocError)
 }
 
-/// A word's text.
-fn text_of(alloc: Global, bytes: &[u8]) -> Result<String, AllocError> {
+/// A word's text, or that of a name.
+pub(crate) fn text_of(alloc: Global, bytes: &[u8]) -> Result<String, AllocError> {
     match str::from_utf8(bytes) {
         Ok(text) => String::from_str(alloc, text),
         Err(_) => marked(alloc, bytes),

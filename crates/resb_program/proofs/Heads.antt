@@ -7,7 +7,8 @@ use Rattle.resb_pool_bundle.specs.Checks.{pool_given_checks}
 use Rattle.resb_pool_bundle.specs.Pool.{Pool}
 use Rattle.resb_pool_bundle.proofs.Steps.{earlier_refusal}
 use Rattle.resb_read.specs.WithPool.{over}
-use Rattle.resb_program.specs.Files.{LacksHead, CountsBeside, MeasuresBeside, RefusesBeside}
+use Rattle.resb_program.specs.Files.{LacksHead, CountsBeside, OpensBeside, MeasuresBeside}
+use Rattle.resb_program.specs.Files.{RefusesBeside}
 use Rattle.resb_program.specs.Files.{RefusesSize, RefusesReading, LacksPool}
 use Rattle.resb_program.specs.declared.errors.FileError.{FileError}
 use Rattle.resb_program.specs.declared.errors.FileError.TheVariants.{UsesPool, Larger, LongKeys}
@@ -38,7 +39,15 @@ uncounted pool bytes (Reading e) h = read_refused pool bytes e h
 uncounted pool bytes (Larger n limit) h = h
 uncounted pool bytes (LongKeys n limit) h = h
 
--- so does measuring
+-- so does opening
+pub unopened : (pool : Option Pool) (bytes : List ℕ) (e : FileError) → LacksHead pool bytes e
+    → OpensBeside pool bytes (Err e)
+unopened pool bytes UsesPool h = h
+unopened pool bytes (Reading e) h = read_refused pool bytes e h
+unopened pool bytes (Larger n limit) h = h
+unopened pool bytes (LongKeys n limit) h = h
+
+-- and measuring
 pub unmeasured : (pool : Option Pool) (bytes : List ℕ) (e : FileError) → LacksHead pool bytes e
     → MeasuresBeside pool bytes (Err e)
 unmeasured pool bytes UsesPool h = h

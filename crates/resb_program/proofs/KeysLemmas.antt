@@ -1,6 +1,6 @@
 -- The keys of a group beside what the code keeps, and the first places of keys.
 use Rattle.std.proofs.Common.{◌≡◌, ℕ, Bool, true, false, cond, List, [], ◌∷◌, ◌++◌, Option, Some}
-use Rattle.std.proofs.Common.{None, refl, sym, ◌∙◌, ap, append_assoc, nat_eq}
+use Rattle.std.proofs.Common.{None, refl, sym, ◌∙◌, ap, append_assoc, nat_eq, true≢false}
 use Rattle.std.specs.Prelude.{map, not, ◌&&◌}
 use Rattle.std.specs.Option.{option_map}
 use Rattle.std.specs.Cmp.Lexicographic.{pointwise, bytes_decides}
@@ -9,11 +9,12 @@ use Rattle.resb_program.specs.Pieces.{PlacedText}
 use Rattle.resb_program.specs.Groups.{GroupItem, string_item, group_item, comma_item, OpenGroup}
 use Rattle.resb_program.specs.Groups.{pair_keys}
 use Rattle.resb_program.specs.Warnings.{first_place, of_key, of_keys, of_some_keys, of_group}
-use Rattle.resb_program.specs.Warnings.{is_array}
+use Rattle.resb_program.specs.Warnings.{is_array, is_nothing, behind_pairs, lone_string}
+use Rattle.resb_program.specs.Warnings.{of_lone, of_some_lone}
 use Rattle.resb_program.specs.Warnings.{of_comma, of_comma_behind, warning_at}
 use Rattle.resb_program.specs.Inner.Looks.{Pairing, pairs, key, other, pairing_of, pairing_behind}
 use Rattle.resb_program.specs.Inner.Looks.{level_of, is_pairs}
-use Rattle.resb_program.specs.Inner.Looks.{code_may_be_table, code_has_pairs, is_nil}
+use Rattle.resb_program.specs.Inner.Looks.{code_may_be_table, code_has_pairs, code_lone, is_nil}
 use Rattle.resb_program.specs.declared.warning.Reason.TheVariants as reason
 use Rattle.resb_program.specs.declared.text_pieces.StringAt.{StringAt}
 use Rattle.resb_program.specs.Inner.Looks.{pairing_in, placed_text_of, level_of_code}
@@ -90,6 +91,74 @@ comma_by_code n c g e =
     by false shape.Pairs (k ∷ ks) = refl
     by false (shape.Key k) ks = refl
     by false shape.Other ks = refl
+
+abbrev lone_if : Pairing → Option PlacedText
+lone_if (key (k ∷ ks) s) = Some s
+lone_if _ = None
+
+lone_after_string : (s : PlacedText) (l : Pairing)
+    → behind_pairs s (keys_if l) ≡ lone_if (pairing_behind (string_item s) l)
+lone_after_string s (pairs []) = refl
+lone_after_string s (pairs (k ∷ ks)) = refl
+lone_after_string s (key ks t) = refl
+lone_after_string s other = refl
+
+lone_after_group : (l : Pairing) → None ≡ lone_if (pairing_behind group_item l)
+lone_after_group (pairs ks) = refl
+lone_after_group (key ks t) = refl
+lone_after_group other = refl
+
+lone_by_pairing : (xs : List GroupItem) → lone_string xs ≡ lone_if (pairing_of xs)
+lone_by_pairing [] = refl
+lone_by_pairing (comma_item ∷ xs) = refl
+lone_by_pairing (group_item ∷ xs) = lone_after_group (pairing_of xs)
+lone_by_pairing (string_item s ∷ xs) =
+    ap (behind_pairs s) (keys_by_pairing xs) ∙ lone_after_string s (pairing_of xs)
+
+pub lone_by_code : (c : CodeGroup) (g : OpenGroup) → level_of_code c ≡ level_of g
+    → code_lone (is_nothing c.named) c.shape c.keys.items ≡ of_lone g
+lone_by_code c g e =
+    by (is_nothing c.named) c.shape c.keys.items
+    ∙ ap (λ l. cond (is_nothing l.named) (of_some_lone (lone_if l.pairing)) []) e
+    ∙ ap (λ s. cond (is_nothing g.named) (of_some_lone s) []) (sym (lone_by_pairing g.items))
+  where
+    by : (b : Bool) (sh : Shape) (ks : List StringAt)
+        → code_lone b sh ks
+        ≡ cond b (of_some_lone (lone_if (pairing_in sh (map placed_text_of ks)))) []
+    by true shape.Pairs ks = refl
+    by true (shape.Key s) [] = refl
+    by true (shape.Key s) (k ∷ ks) = refl
+    by true shape.Other ks = refl
+    by false shape.Pairs ks = refl
+    by false (shape.Key s) ks = refl
+    by false shape.Other ks = refl
+
+-- what the code tells of a string alone
+pub told_lone : (c : CodeGroup) (s : StringAt) → c.shape ≡ shape.Key s
+    → is_nothing c.named ≡ true → is_nil c.keys.items ≡ false
+    → warning_at reason.LoneString s.place ∷ []
+    ≡ code_lone (is_nothing c.named) c.shape c.keys.items
+told_lone c s e b n =
+    sym (ap (λ sh. code_lone (is_nothing c.named) sh c.keys.items) e
+    ∙ ap (λ t. code_lone t (shape.Key s) c.keys.items) b ∙ by c.keys.items n)
+  where
+    by : (ks : List StringAt) → is_nil ks ≡ false
+        → code_lone true (shape.Key s) ks ≡ warning_at reason.LoneString s.place ∷ []
+    by [] h = absurd (true≢false h)
+    by (k ∷ ks) h = refl
+
+pub not_lone : (c : CodeGroup) → ((s : StringAt) → c.shape ≡ shape.Key s → ⊥)
+    → [] ≡ code_lone (is_nothing c.named) c.shape c.keys.items
+not_lone c other_shape = by (is_nothing c.named) c.shape c.keys.items other_shape
+  where
+    by : (b : Bool) (sh : Shape) (ks : List StringAt) → ((s : StringAt) → sh ≡ shape.Key s → ⊥)
+        → [] ≡ code_lone b sh ks
+    by true shape.Pairs ks h = refl
+    by true (shape.Key s) ks h = absurd (h s refl)
+    by true shape.Other ks h = refl
+    by false shape.Pairs ks h = refl
+    by false (shape.Key s) ks h = refl
+    by false shape.Other ks h = refl
 
 abbrev place_if : Bool → ℕ → Option ℕ → Option ℕ
 place_if b n (Some m) = Some m

@@ -1,11 +1,11 @@
 -- Nothing is passed on.
 mod Agreeing
 mod Ascending
+mod CluesLemmas
 mod CommentRuns
 mod FirstBytes
 mod Heads
 mod HexText
-mod JsonLemmas
 mod KeysLemmas
 mod Lists
 mod NamesLemmas

@@ -1,7 +1,7 @@
 -- What is answered of a file, alone or beside the pool bundle that is given.
 --     LacksPool pool bytes    the file uses a pool bundle, and none is given
 --     RefusesReading pool bytes e     the reader refuses the file, which lacks no pool bundle
---     CountsBeside, MeasuresBeside    what counting and measuring a file answer
+--     CountsBeside, OpensBeside, MeasuresBeside   what counting, opening and measuring answer
 --     FitsIn w limit          the file's tree and keys are no larger than they may be
 --     IsBundleBeside pool file name limit b, RefusesBeside pool file limit e   its bundle, and why
 --                             there is none
@@ -22,6 +22,8 @@ use Rattle.resb_pool_bundle.specs.Fields.{uses_pool, attributes_in}
 use Rattle.resb_pool_bundle.specs.Heads.{head_bytes}
 use Rattle.resb_pool_bundle.specs.Pool.{Pool}
 use Rattle.resb_pool_bundle.specs.declared.head.FileHead.{FileHead}
+use Rattle.resb_opened.specs.Opening.{Opens}
+use Rattle.resb_opened.specs.declared.opened.Opened.{Opened}
 use Rattle.resb_read.specs.Roots.{Whole, AnswersTreeOf, AnswersCountOf, RefusesWhole}
 use Rattle.resb_read.specs.Measuring.{HoldsPieces, AnswersMeasureOf, TakesMoreOf}
 use Rattle.resb_read.specs.WithPool.{over}
@@ -55,6 +57,14 @@ CountsBeside pool bytes (Err UsesPool) = LacksPool pool bytes
 CountsBeside pool bytes (Err (Reading e)) = RefusesReading pool bytes e
 CountsBeside pool bytes (Err (Larger n limit)) = ⊥
 CountsBeside pool bytes (Err (LongKeys n limit)) = ⊥
+
+-- the file is opened; the reader's refusal; or a pool bundle is lacking
+abbrev pub OpensBeside : Option Pool → List ℕ → Result Opened FileError → Type 0
+OpensBeside pool bytes (Ok o) = Opens (over pool bytes) (Ok o)
+OpensBeside pool bytes (Err UsesPool) = LacksPool pool bytes
+OpensBeside pool bytes (Err (Reading e)) = RefusesReading pool bytes e
+OpensBeside pool bytes (Err (Larger n limit)) = ⊥
+OpensBeside pool bytes (Err (LongKeys n limit)) = ⊥
 
 -- what the tree adds up to; the reader's refusal; or a pool bundle is lacking
 abbrev pub MeasuresBeside : Option Pool → List ℕ → Result Measured FileError → Type 0

@@ -1,5 +1,5 @@
--- The words of the contracts: a text's file and why there is none, what is had of a file, JSON,
--- and what a person is told of a place of a text; what the program is asked, what it writes,
+-- The words of the contracts: a text's file and why there is none, what is had of a file, and what
+-- a person is told of a place of a text; what the program is asked, what it writes,
 -- and why it fails; and what the crates below say of files and texts.
 -- `Inner` has words of private functions.
 pub use Rattle.hex.specs.Hex
@@ -14,12 +14,12 @@ pub use Rattle.resb_read.specs.Roots
 pub mod Commands
 pub mod Program
 pub mod Sources
-pub mod Json
 pub mod Files
 pub mod Messages
 pub mod Names
 pub mod Location
 pub mod Braces
+pub mod Clues
 pub mod Excerpt
 pub mod Pieces
 pub mod Groups

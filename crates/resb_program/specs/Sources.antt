@@ -13,7 +13,8 @@ use Rattle.resb_icu_grammar.specs.declared.expected.IcuExpected.{IcuExpected}
 use Rattle.resb_icu_grammar.specs.declared.expected.IcuExpected.TheVariants as icu_expect
 use Rattle.resb_icu_text.specs.declared.error.IcuTextError.{IcuTextError}
 use Rattle.resb_compile.specs.Compiling.{IsRefused, IsWithinLimit}
-use Rattle.resb_compile.specs.CompilingIcu.{IsIcuRefused}
+use Rattle.resb_icu_grammar.specs.Limit.{IcuMadeWithin, IcuMakesMore}
+use Rattle.resb_compile.specs.CompilingIcu.{IsIcuRefused, IsIcuWithinLimit}
 use Rattle.resb_compile.specs.declared.compiling_icu.IcuCompileError.TheVariants as icu
 use Rattle.resb_compile.specs.declared.compiling.CompileError.TheVariants.{Reading, Writing}
 use Rattle.resb_program.specs.declared.sources.Blame.{Blame}
@@ -51,6 +52,15 @@ IsNoSourceWithin source limit (Refused e) =
 IsNoSourceWithin source limit (IcuRefused e) = ⊥
 IsNoSourceWithin source limit (Larger n) =
     (n ≡ limit) × IsUtf8 source × MakesMore source limit × (MadeWithin source limit → ⊥)
+
+-- the same of bytes that have to be a text of ICU's form
+abbrev pub IsNoIcuSourceWithin : List ℕ → ℕ → SourceError → Type 0
+IsNoIcuSourceWithin source limit (NotUtf8 place) = IsNoIcuSource source (NotUtf8 place)
+IsNoIcuSourceWithin source limit (Refused e) = ⊥
+IsNoIcuSourceWithin source limit (IcuRefused e) =
+    IsNoIcuSource source (IcuRefused e) × IsIcuWithinLimit source limit e
+IsNoIcuSourceWithin source limit (Larger n) =
+    (n ≡ limit) × IsUtf8 source × IcuMakesMore source limit × (IcuMadeWithin source limit → ⊥)
 
 -- memory was wanted, and nothing of the text
 abbrev pub is_memory : Expected → Bool

@@ -1,5 +1,5 @@
 -- The warnings of a text: of backslashes, of strings in a row, of keys that stand twice, of empty
--- groups, of commas between pairs, and of numbers.
+-- groups, of commas between pairs and strings alone behind them, and of numbers.
 --     warned text n   those of the first n bytes
 -- In a text that is a bundle, a group of pairs that is not `:array` is a table.
 use Rattle.std.specs.Prelude.{ℕ, zero, suc, Bool, true, false, ◌&&◌, ◌||◌, not, ◌==◌, List}
@@ -9,8 +9,8 @@ use Rattle.std.specs.Cmp.Lexicographic.{pointwise}
 use Rattle.resb_program.specs.Braces.{mode_at, backslash}
 use Rattle.resb_program.specs.Pieces.{PlacedText, TextPiece, a_string, closing, a_comma}
 use Rattle.resb_program.specs.Pieces.{piece_at}
-use Rattle.resb_program.specs.Groups.{GroupItem, OpenGroup, Nesting, is_string_piece, pair_keys}
-use Rattle.resb_program.specs.Groups.{groups_at}
+use Rattle.resb_program.specs.Groups.{GroupItem, string_item, OpenGroup, Nesting, is_string_piece}
+use Rattle.resb_program.specs.Groups.{pair_keys, groups_at}
 use Rattle.resb_program.specs.declared.braces.Mode.{Mode}
 use Rattle.resb_program.specs.declared.braces.Mode.TheVariants as mode
 use Rattle.resb_program.specs.declared.warning.Reason.{Reason}
@@ -112,6 +112,25 @@ of_comma_behind n _ = []
 abbrev pub of_comma : ℕ → OpenGroup → List Warning
 of_comma n g = if is_array g.named then [] else of_comma_behind n (pair_keys g.items)
 
+-- a string that stands behind these keys of pairs
+abbrev pub behind_pairs : PlacedText → Option (List PlacedText) → Option PlacedText
+behind_pairs s (Some (k ∷ ks)) = Some s
+behind_pairs s _ = None
+
+-- the string behind pairs of a string and a group with which items end, if they end so
+abbrev pub lone_string : List GroupItem → Option PlacedText
+lone_string (string_item s ∷ xs) = behind_pairs s (pair_keys xs)
+lone_string _ = None
+
+-- the warning of such a string
+abbrev pub of_some_lone : Option PlacedText → List Warning
+of_some_lone None = []
+of_some_lone (Some s) = warning_at reason.LoneString s.place ∷ []
+
+-- the warning of a group whose `}` stands: of a string alone behind pairs, if it names no type
+abbrev pub of_lone : OpenGroup → List Warning
+of_lone g = if is_nothing g.named then of_some_lone (lone_string g.items) else []
+
 -- the warning of a string: right behind another one
 abbrev pub of_string : PlacedText → Option TextPiece → List Warning
 of_string s last =
@@ -122,10 +141,14 @@ abbrev pub unsigned : List ℕ → List ℕ
 unsigned [] = []
 unsigned (b ∷ bs) = if b == dash then bs else b ∷ bs
 
--- digits that begin with a 0, and go on
+-- the number that digits say
+abbrev pub number_of : List ℕ → ℕ
+number_of digits = fold (λ n b. n * 10 + (b - digit_0)) 0 digits
+
+-- digits that begin with a 0 and say more than 7: as octal ones they say another number, or none
 abbrev pub is_octal : List ℕ → Bool
-is_octal (b ∷ c ∷ bs) = b == digit_0
-is_octal _ = false
+is_octal [] = false
+is_octal (b ∷ bs) = b == digit_0 && nat_le 8 (number_of (b ∷ bs))
 
 -- the warning of a number that another reader takes for an octal one
 abbrev pub of_octal : PlacedText → List Warning
@@ -135,10 +158,6 @@ of_octal s = if is_octal (unsigned s.bytes) then warning_at reason.LeadingZero s
 abbrev pub is_negative : List ℕ → Bool
 is_negative [] = false
 is_negative (b ∷ bs) = b == dash
-
--- the number that digits say
-abbrev pub number_of : List ℕ → ℕ
-number_of digits = fold (λ n b. n * 10 + (b - digit_0)) 0 digits
 
 -- what is kept of a number, negative or not, that a text may have, and that 28 bits don't hold: its
 -- lowest 28 bits, with bit 27 as the sign
@@ -167,7 +186,7 @@ of_number s _ = []
 -- `}`, and of a comma
 abbrev pub of_piece : TextPiece → Nesting → List Warning
 of_piece (a_string s) g = of_string s g.last ++ of_number s g.inner.named
-of_piece (closing n) g = of_group g.inner ++ of_empty n g
+of_piece (closing n) g = of_group g.inner ++ (of_lone g.inner ++ of_empty n g)
 of_piece (a_comma n) g = of_comma n g.inner
 of_piece _ g = []
 

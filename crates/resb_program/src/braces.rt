@@ -74,7 +74,7 @@ impl Modes for Mode {
 
 /// What a byte of a text of ICU's form stands in.
 #[derive(Clone, Copy, Debug, PartialEq, Eq)]
-enum IcuMode {
+pub(crate) enum IcuMode {
     /// The same as in a text of the other form.
     As(Mode),
     /// In a string in quotes, behind a backslash.

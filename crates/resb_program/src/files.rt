@@ -1,5 +1,5 @@
 //! What is had of a file, alone or beside its pool bundle: how many resources, their sums, the
-//! bundle. What the file's head says is in `resb_pool_bundle`.
+//! bundle, or the file as it is. What the file's head says is in `resb_pool_bundle`.
 ghost use Rattle.std.specs.Prelude.{◌≡◌, ◌≤◌, ◌↔◌, ℕ, IfOk, IfErr, IfSome, OnOk, IsTrue};
 ghost use Rattle.std.specs.Prelude.{option_map};
 ghost use Rattle.resb_walk.specs.Sums.{fitting};
@@ -9,10 +9,12 @@ ghost use Rattle.resb_read.specs.Roots.{AnswersTree};
 ghost use Rattle.resb_read.specs.WithPool.{over};
 ghost use Rattle.resb_program.specs.Program.{CountsFile, ReadsCounted, Agrees, HasCount};
 ghost use Rattle.resb_program.specs.Program.{IsCounted};
-ghost use Rattle.resb_program.specs.Files.{CountsBeside, MeasuresBeside, LacksHead, LacksPool};
+ghost use Rattle.resb_program.specs.Files.{CountsBeside, OpensBeside, MeasuresBeside};
+ghost use Rattle.resb_program.specs.Files.{LacksHead, LacksPool};
 ghost use Rattle.resb_program.specs.Files.{IsBundleBeside, RefusesBeside, FitsIn, RefusesSize};
 
 use crate::errors::{FileError, ToolError};
+use resb_opened::Opened;
 use resb_pool_bundle::{FileHead, PoolBundle};
 use resb_read::{
     Measured, count_resources, count_resources_with_pool, measure_with_pool,
@@ -67,6 +69,22 @@ pub fn count_file<'a>(
     let head = head_of(file, pool)?;
     match count_resources_with_pool(alloc, file, pool) {
         Ok(count) => Ok((count, head)),
+        Err(e) => Err(FileError::Reading(e)),
+    }
+}
+
+/// A file that is opened beside the pool bundle that it uses: its tree isn't made.
+/// (`resb_opened::Opened::read_with_pool`.)
+pub fn open_file<'a>(
+    alloc: Global,
+    file: &'a [u8],
+    pool: Option<PoolBundle<'a>>,
+) -> Result<Opened<'a>, FileError>
+    ensures { OpensBeside (option_map pool_in pool.entry) file.entry.now result }
+{
+    head_of(file, pool)?;
+    match Opened::read_with_pool(alloc, file, pool) {
+        Ok(opened) => Ok(opened),
         Err(e) => Err(FileError::Reading(e)),
     }
 }

@@ -5,7 +5,7 @@ ghost use Rattle.resb_program.specs.Groups as spec;
 ghost use Rattle.resb_program.specs.Groups.{with_one_more, string_item, group_item, comma_item};
 ghost use Rattle.resb_program.specs.Groups.{behind_piece};
 ghost use Rattle.resb_program.specs.Warnings.{of_keys, of_group, of_comma, of_empty, of_string};
-ghost use Rattle.resb_program.specs.Warnings.{of_piece};
+ghost use Rattle.resb_program.specs.Warnings.{of_piece, of_lone};
 ghost use Rattle.resb_program.specs.Inner.Looks.{placed_text_of, text_piece_of, level_of_code};
 ghost use Rattle.resb_program.specs.Inner.Looks.{level_of, code_may_be_table, code_is_empty};
 ghost use Rattle.resb_program.specs.Inner.Looks.{code_has_pairs};
@@ -120,6 +120,22 @@ impl<'a> Group<'a> {
         Ok(())
     }
 
+    /// Adds the warning of a string alone behind pairs, with which the group, now closed, ends.
+    fn tell_lone(&self, found: &mut Vec<Warning>) -> Result<(), AllocError>
+        ensures { OnOk result ((g : spec.OpenGroup) → level_of_code self.now ≡ level_of g
+            → found.new.items ≡ found.old.items ++ of_lone g) }
+    {
+        if let Shape::Key(string) = self.shape {
+            if self.named.is_nothing() && !self.keys.is_empty() {
+                found.push(Warning {
+                    place: string.place,
+                    reason: Reason::LoneString,
+                })?;
+            }
+        }
+        Ok(())
+    }
+
     /// Adds the warning of a comma that stands at a place, if it stands behind pairs.
     fn tell_comma(&self, at: usize, found: &mut Vec<Warning>) -> Result<(), AllocError>
         ensures { OnOk result ((g : spec.OpenGroup) → level_of_code self.now ≡ level_of g
@@ -206,6 +222,7 @@ impl<'a> Groups<'a> {
         match piece {
             Piece::Close(at) => {
                 self.inner.tell(self.alloc, found)?;
+                self.inner.tell_lone(found)?;
                 self.tell_empty(at, found)
             }
             Piece::Comma(at) => self.inner.tell_comma(at, found),

@@ -22,14 +22,14 @@ fn unsigned(number: &[u8]) -> &[u8]
     }
 }
 
-/// Whether digits begin with a 0, and go on.
+/// Whether digits begin with a 0, and say more than 7.
 fn is_octal(digits: &[u8]) -> bool
     ensures { result ≡ spec.is_octal digits.now }
 {
-    digits.len() > 1 && digits[0] == b'0'
+    !digits.is_empty() && digits[0] == b'0' && value_of(digits) > 7
 }
 
-/// Adds the warning of a number that begins with a 0, if this one does.
+/// Adds the warning of a number that begins with a 0 and is more than 7, if this one is.
 fn tell_octal(number: StringAt<'_>, found: &mut Vec<Warning>) -> Result<(), AllocError>
     ensures { OnOk result
         (found.new.items ≡ found.old.items ++ of_octal (placed_text_of number.entry)) }

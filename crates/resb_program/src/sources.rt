@@ -2,17 +2,19 @@
 //! Lines and columns are in `location`.
 ghost use Rattle.std.specs.Prelude.{◌≡◌, IsUtf8, IfOk, IfErr};
 ghost use Rattle.resb_grammar.specs.Limit.{MadeWithin};
+ghost use Rattle.resb_icu_grammar.specs.Limit.{IcuMadeWithin};
 ghost use Rattle.resb_compile.specs.Compiling.{IsCompiled};
 ghost use Rattle.resb_compile.specs.CompilingIcu.{IsIcuCompiled};
 ghost use Rattle.resb_program.specs.Program.{IsNoInput};
 ghost use Rattle.resb_program.specs.Sources as sources;
 ghost use Rattle.resb_program.specs.Sources.{IsNotUtf8, IsNoSource, IsNoIcuSource};
-ghost use Rattle.resb_program.specs.Sources.{IsNoSourceWithin, blame_of};
+ghost use Rattle.resb_program.specs.Sources.{IsNoSourceWithin, IsNoIcuSourceWithin, blame_of};
 
 use crate::braces::{innermost_icu_open, innermost_open};
 use crate::errors::{SourceError, ToolError};
 use resb_compile::{
-    CompileError, CompileWithinError, IcuCompileError, compile, compile_icu, compile_within,
+    CompileError, CompileWithinError, IcuCompileError, IcuCompileWithinError, compile, compile_icu,
+    compile_icu_within, compile_within,
 };
 use resb_grammar::Expected;
 use resb_icu_grammar::IcuExpected;
@@ -86,6 +88,27 @@ pub fn compile_icu_source(alloc: Global, source: &[u8]) -> Result<Vec<u8>, Sourc
             Err(e) => Err(SourceError::IcuRefused(e)),
         },
         Err(place) => Err(SourceError::NotUtf8(place)),
+    }
+}
+
+/// The same, where reading the text makes no more bytes than the limit.
+pub fn compile_icu_source_within(
+    alloc: Global,
+    source: &[u8],
+    limit: u64,
+) -> Result<Vec<u8>, SourceError>
+    ensures ok { IfOk result (λ file. IsUtf8 source.now × IsIcuCompiled source.now file.items) }
+    ensures within { IfOk result (λ file. IcuMadeWithin source.now limit) }
+    ensures err { IfErr result (IsNoIcuSourceWithin source.now limit) }
+{
+    let text = match text_of(source) {
+        Ok(text) => text,
+        Err(place) => return Err(SourceError::NotUtf8(place)),
+    };
+    match compile_icu_within(alloc, text, limit) {
+        Ok(file) => Ok(file),
+        Err(IcuCompileWithinError::Text(e)) => Err(SourceError::IcuRefused(e)),
+        Err(IcuCompileWithinError::Larger) => Err(SourceError::Larger(limit)),
     }
 }
 

@@ -37,9 +37,12 @@ pub enum Reason {
     /// The comma follows pairs of a string and a group: the group is an Array of all of them, and
     /// `genrb` refuses it.
     CommaBehindPairs,
+    /// The string is the last thing behind pairs of a string and a group: the group is an Array of
+    /// all of them, and `genrb` refuses it.
+    LoneString,
     /// The group is empty and has no type: it is a Table, and an Array for `genrb`.
     EmptyGroup,
-    /// The number begins with a 0: it is decimal here, and octal for `genrb`.
+    /// The number begins with a 0, and is more than 7: it is decimal here, and octal for `genrb`.
     LeadingZero,
     /// The integer has more than 28 bits: these are kept, the highest one as the sign.
     CutNumber(i32),

@@ -64,18 +64,27 @@ const NAMES: &str = r#"de {
     zoneStrings { "meta:Alps" { ld { "Sommerzeit" } ls { "Winterzeit" } ss { "WZ" } } }
 }"#;
 
-/// The pool bundle of a file that uses none.
-fn no_pool<'a>(_file: &'a [u8]) -> Option<PoolBundle<'a>> {
-    None
-}
+/// The pool bundle of its keys, as the words behind its header that ICU's `genrb` writes.
+const POOL_OF_NAMES: [u32; 22] = [
+    0x20000000, 8, 0x15, 0x16, 0x16, 0, 3, 0x16, 0x36bc05c5, 0x676e614c, 0x65676175, 0x65640073,
+    0x6e6500, 0x656e6f7a, 0x69727453, 0x73676e, 0x6174656d, 0x706c413a, 0x646c0073, 0x736c00,
+    0xaa007373, 0xaaaa0000,
+];
 
-/// Whether the names of a language and of a zone are found, and no others.
-fn are_found(alloc: Global) -> Result<bool, Fail> {
-    let file = compile(alloc, NAMES)?;
-    let file = file.as_slice();
-    let found = language_name(alloc, file, no_pool(file), "en")?;
-    let lacks = language_name(alloc, file, no_pool(file), "fr")?;
-    let Some(zone) = zone_names(alloc, file, no_pool(file), "meta:Alps")? else {
+/// The file of that text over it.
+const NAMES_OVER_POOL: [u32; 43] = [
+    0x20000027, 8, 9, 0x2b, 0x2b, 3, 4, 0x25, 0x36bc05c5, 0x570000, 0x5a, 0x650044, 0x740075,
+    0x630073, 0x68, 0x6e0045, 0x6c0067, 0x730069, 0x680063, 0x530000, 0x6d006f, 0x65006d, 0x7a0072,
+    0x690065, 0x74, 0x690057, 0x74006e, 0x720065, 0x65007a, 0x740069, 0x20000, 0xd000a, 0xc0004,
+    0x260003, 0x2c0029, 0x200015, 0xaaaa0001, 0x1c0001, 0x50000030, 2, 0xaaaa0010, 0x5000002b,
+    0x20000025,
+];
+
+/// Whether the names of a language and of a zone are found in a file, and no others.
+fn has_names(alloc: Global, file: &[u8], pool: Option<PoolBundle<'_>>) -> Result<bool, Fail> {
+    let found = language_name(alloc, file, pool, "en")?;
+    let lacks = language_name(alloc, file, pool, "fr")?;
+    let Some(zone) = zone_names(alloc, file, pool, "meta:Alps")? else {
         return Ok(false);
     };
     let ZoneNames {
@@ -86,8 +95,19 @@ fn are_found(alloc: Global) -> Result<bool, Fail> {
     let is_named = found.is_some_and(|it| it.as_str() == "Englisch")
         && daylight.is_some_and(|it| it.as_str() == "Sommerzeit")
         && standard.is_some_and(|it| it.as_str() == "Winterzeit");
-    let other = zone_names(alloc, file, no_pool(file), "meta:Andes")?;
+    let other = zone_names(alloc, file, pool, "meta:Andes")?;
     Ok(is_named && lacks.is_none() && generic.is_none() && other.is_none())
+}
+
+/// Whether they are found in a file without a pool bundle, and in one over its own.
+fn are_found(alloc: Global) -> Result<bool, Fail> {
+    let (pool, file) = (
+        file_of(alloc, &POOL_OF_NAMES)?,
+        file_of(alloc, &NAMES_OVER_POOL)?,
+    );
+    let pool = PoolBundle::read(&pool)?;
+    let alone = compile(alloc, NAMES)?;
+    Ok(has_names(alloc, &file, Some(pool))? && has_names(alloc, &alone, None)?)
 }
 
 /// Whether each zone's base is read, by each way.

@@ -54,8 +54,7 @@ fn compile<'a>(alloc: Global) -> Result<Command<'a>, AllocError> {
         .arg(output(alloc))?;
     let command = with_arg(command, folder(alloc))?;
     let command = with_arg(command, by_name(alloc))?;
-    let command = with_arg(command, icu_texts(alloc))?;
-    let command = command.arg(limit(
+    let command = command.arg(icu_texts(alloc))?.arg(limit(
         alloc,
         "Refuses a text whose reading takes more bytes of memory than this",
     ))?;
@@ -244,12 +243,11 @@ fn paths<'a>(alloc: Global) -> Arg<'a> {
 }
 
 /// Whether texts are in ICU's own form.
-fn icu_texts<'a>(alloc: Global) -> Result<Arg<'a>, AllocError> {
+fn icu_texts<'a>(alloc: Global) -> Arg<'a> {
     Arg::new(alloc, "ICU")
         .long("icu")
         .help("The texts are in ICU's own form, which genrb reads")
         .action(ArgAction::SetTrue)
-        .conflicts_with("BYTES")
 }
 
 /// Whether a text is printed in ICU's own form.

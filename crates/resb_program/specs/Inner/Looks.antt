@@ -6,11 +6,13 @@ use Rattle.resb_program.specs.Pieces.{PlacedText, TextPiece, a_string, a_type, o
 use Rattle.resb_program.specs.Pieces.{a_comma}
 use Rattle.resb_program.specs.Groups.{GroupItem, string_item, group_item, OpenGroup, Nesting}
 use Rattle.resb_program.specs.Groups.{named_behind, with_one_more}
-use Rattle.resb_program.specs.Warnings.{is_array, is_nothing}
+use Rattle.resb_program.specs.Warnings.{is_array, is_nothing, warning_at}
 use Rattle.resb_program.specs.declared.text_pieces.StringAt.{StringAt}
 use Rattle.resb_program.specs.declared.text_pieces.Piece.{Piece as CodePiece}
 use Rattle.resb_program.specs.declared.text_pieces.Piece.TheVariants as piece
 use Rattle.resb_program.specs.declared.named.Named.{Named}
+use Rattle.resb_program.specs.declared.warning.Reason.TheVariants as reason
+use Rattle.resb_program.specs.declared.warning.Warning.{Warning}
 use Rattle.resb_program.specs.declared.groups.Shape.{Shape}
 use Rattle.resb_program.specs.declared.groups.Shape.TheVariants as shape
 use Rattle.resb_program.specs.declared.groups.Group.{Group as CodeGroup}
@@ -74,6 +76,11 @@ code_is_empty g = is_nothing g.named && (is_pairs g.shape && is_nil g.keys.items
 
 abbrev pub code_has_pairs : CodeGroup → Bool
 code_has_pairs g = code_may_be_table g && not (is_nil g.keys.items)
+
+-- the warnings of a string alone behind pairs, in a group that names no type or one
+abbrev pub code_lone : Bool → Shape → List StringAt → List Warning
+code_lone true (shape.Key s) (k ∷ ks) = warning_at reason.LoneString s.place ∷ []
+code_lone _ _ _ = []
 
 -- groups from the inside out, as the code lists them: the innermost last
 abbrev pub levels_of : List OpenGroup → List Level

@@ -252,6 +252,30 @@ ends 2 'bad\xff\xc3\xa9: this name is no UTF-8' dump "$bad"
 ends 2 'bad\xff\xc3\xa9: this path is no UTF-8' get t.res "$bad"
 ends 2 'resb: --limit is a number of bytes' dump t.res --limit "$bad"
 holds 'no other file was made' is "$(ls -A | grep -c bad)" 1
+# in a folder it is named, and the others are done
+mkdir many
+cp t.txt many/a.txt
+cp t.txt "many/$bad.txt"
+cp t.txt many/z.txt
+ends 2 'many/bad\xff\xc3\xa9.txt: this name is no UTF-8' compile many
+holds 'the others have their files' is "$(cmp many/a.res "$want" && cmp many/z.res "$want")" ''
+cp t.res "many/$bad.res"
+resb check many > got 2> .err
+holds 'it is named' is "$? $(cat .err)" '2 many/bad\xff\xc3\xa9.res: this name is no UTF-8'
+holds 'the others are checked' is "$(wc -l < got)" 2
+resb check --json many > got 2> .err
+named='{"path":"many/bad\\xff\\xc3\\xa9.res","ok":false,"kind":"input",'
+holds 'it is named in JSON' is "$(head -n 1 got)" "$named"'"message":"this name is no UTF-8"}'
+holds 'and nothing else is said' is "$(wc -l < got) $(cat .err)" '3 '
+# nothing hidden in JSON that says something of files
+cp t.res $'a\x7f\xc2\x9b\xe2\x80\xae.res'
+resb check --json $'a\x7f\xc2\x9b\xe2\x80\xae.res' > got
+holds 'a name in JSON' is "$(cut -d, -f1 got)" '{"path":"a\u007f\u009b\u202e.res"'
+printf 'b{k{"\xc2\x9b"}}' > hidden.txt
+printf 'b{k{"\x7f"}}' > other.txt
+resb compile hidden.txt other.txt
+resb diff hidden.res other.res > got
+holds 'values in JSON' is "$(cat got)" '~ k "\u009b" -> "\u007f"'
 
 # one file by several names, and texts in the place of others
 fresh
@@ -321,7 +345,7 @@ open("k.res", "wb").write(data.replace(old, new))
 P
 resb dump k.res > .out 2> .err
 holds 'a long path to a key' \
-  grep -q "since a string holds a '\"' at k.u{202e}/k.*\.\..*/a$" .err
+  grep -q "since a string holds a '\"' at k.u{202e}/k.*\.\..*/a; here is its JSON$" .err
 holds 'is cut' [ "$(wc -c < .err)" -lt 8000 ]
 
 # an input is read up to a limit

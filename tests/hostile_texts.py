@@ -1,14 +1,15 @@
 #!/usr/bin/env python3
-"""Hostile texts, whose reading makes much, through `resb compile --limit`.
+"""Hostile texts, whose reading makes much, through `resb compile --limit`, in both forms.
 
     hostile_texts.py [BYTES..]      texts of about so many bytes each, 2,000,000 if none is named
 
 Members of each kind fill a group without a type, an array, and a table that has one key again and
-again; groups of each kind stand inside each other; and there is one long thing of each kind. Each
-text compiles within just as many bytes as docs/GRAMMAR.md ("Within a limit") counts for it, and is
-refused within one byte less, and within a tenth, with status 1 and the one line that says so. No
-run may take more memory than 1.5 times the limit and the text, and 8 MB. The last line is
-'N passed, M failed'.
+again; groups of each kind stand inside each other; and there is one long thing of each kind. In
+ICU's form the keys of that table differ, since it is refused where one stands again, and strings
+are put together of pieces and escapes as well. Each text compiles within just as many bytes as
+docs/GRAMMAR.md or docs/ICU_TEXTS.md ("Within a limit") counts for it, and is refused within one
+byte less, and within a tenth, with status 1 and the one line that says so. No run may take more
+memory than 1.5 times the limit and the text, and 8 MB. The last line is 'N passed, M failed'.
 """
 import os
 import resource
@@ -96,6 +97,90 @@ def shapes(size):
         yield name, front + one * many + behind, once + each * many
 
 
+# ICU's form: a key is told from a member, a table from its first key, and a string from a group
+KEY = STRING
+ICU_ROOT = GROUP + TABLE + KEY + BYTE
+ICU_STRINGS = {'a': GROUP + BYTE, '""': GROUP, '"ab"': GROUP + 2 * BYTE}
+ICU_PIECES = {'"a" "b"': GROUP + 2 * BYTE, '"\\u0061"': GROUP + BYTE}
+ICU_GROUPS = {
+    '{a}': GROUP + BYTE,
+    '{a,}': 2 * GROUP + BYTE,
+    '{}': GROUP,
+    '{{}}': 2 * GROUP,
+    '{k{x}}': 2 * GROUP + TABLE + KEY + 2 * BYTE,
+    ':string{"a"}': GROUP + BYTE,
+    ':string{""}': GROUP,
+    ':alias{"a"}': GROUP + BYTE,
+    ':int{1}': GROUP,
+    ':bin{""}': GROUP + REQUEST,
+    ':bin{00}': GROUP + REQUEST + 1,
+    ':intvector{}': GROUP + REQUEST,
+    ':intvector{1}': GROUP + REQUEST + NUMBER,
+    ':intvector{1,2}': GROUP + REQUEST + 2 * NUMBER,
+    ':array{}': GROUP,
+    ':array{a}': 2 * GROUP + BYTE,
+    ':array{:int{1}}': 2 * GROUP,
+    ':table{}': GROUP,
+    ':table{k{x}}': 2 * GROUP + TABLE + KEY + 2 * BYTE,
+}
+ICU_NESTS = {
+    '{': (GROUP, '{}', GROUP),
+    ':array{': (GROUP, '', 0),
+    '{x,': (2 * GROUP + BYTE, '', 0),
+    ':array{x,': (2 * GROUP + BYTE, '', 0),
+    '{k': (GROUP + TABLE + KEY + BYTE, '{x}', GROUP + BYTE),
+    ':table{k': (GROUP + TABLE + KEY + BYTE, '{x}', GROUP + BYTE),
+}
+ICU_LONG = {
+    'a string': ('b{v{', 'a', '}}', BYTE, ICU_ROOT + GROUP),
+    'a quoted string': ('b{v{"', 'a', '"}}', BYTE, ICU_ROOT + GROUP),
+    'a string of pieces': ('b{v{', '"a" ', '}}', BYTE, ICU_ROOT + GROUP),
+    'a string of long pieces': ('b{v{"a" "', 'a', '"}}', BYTE, ICU_ROOT + GROUP + BYTE),
+    'a string of escapes': ('b{v{"', '\\u0061', '"}}', BYTE, ICU_ROOT + GROUP),
+    'a string of quotes': ('b{v{"', '\\"', '"}}', BYTE, ICU_ROOT + GROUP),
+    'a typed string': ('b{v:string{"', 'a', '"}}', BYTE, ICU_ROOT + GROUP),
+    'a path': ('b{v:alias{"', 'a', '"}}', BYTE, ICU_ROOT + GROUP),
+    'a vector': ('b{v:intvector{', '1,', '}}', NUMBER, ICU_ROOT + GROUP + REQUEST),
+    'a vector of long numbers':
+        ('b{v:intvector{', '4000000000,', '}}', NUMBER, ICU_ROOT + GROUP + REQUEST),
+    'a binary': ('b{v:bin{"', '00', '"}}', 1, ICU_ROOT + GROUP + REQUEST),
+    'a binary of pieces': ('b{v:bin{', '"00" ', '}}', 1, ICU_ROOT + GROUP + REQUEST),
+    'a name': ('b', 'b', '{}', 0, GROUP),
+    'a key': ('b{k', 'k', '{x}}', BYTE, ICU_ROOT + GROUP + BYTE),
+    'blanks': ('b{', ' ', '}', 0, GROUP),
+    'a comment': ('b{/*', '*', '*/}', 0, GROUP),
+    'comments': ('b{', '/* */', '}', 0, GROUP),
+}
+
+
+def keyed(one, size):
+    """Entries that differ in their keys, with one value, of about this size; and the bytes of the
+    keys."""
+    many = max(2, size // (len(one) + 7))
+    keys = [f'k{number:06}' for number in range(many)]
+    return ''.join(key + one for key in keys), many, sum(map(len, keys))
+
+
+def icu_shapes(size):
+    """The same of ICU's form."""
+    for opening in ('{', ':array{'):
+        for one, made in (ICU_STRINGS | ICU_PIECES | ICU_GROUPS).items():
+            many = max(2, size // (len(one) + 1))
+            yield f'{opening} {one}', f'b{{v{opening}{(one + ",") * many}}}}}', \
+                ICU_ROOT + GROUP + made * many
+    for one, made in ICU_GROUPS.items():
+        entries, many, bytes_of_keys = keyed(one, size)
+        yield f':table{{ k{one}', f'b{{v:table{{{entries}}}}}', \
+            ICU_ROOT + GROUP + TABLE + (KEY + made) * many + BYTE * bytes_of_keys
+    for front, (made, inner, innermost) in ICU_NESTS.items():
+        many = max(2, size // (len(front) + 1))
+        yield f'nested {front}', f"b{{v{front * many}{inner}{'}' * many}}}", \
+            ICU_ROOT + innermost + made * many
+    for name, (front, one, behind, each, once) in ICU_LONG.items():
+        many = max(2, size // len(one))
+        yield name, front + one * many + behind, once + each * many
+
+
 def refusal(path, text, limit):
     """The line that is said of a text whose reading makes more than the limit."""
     if len(text) > max(limit, LEAST_READ):
@@ -103,10 +188,10 @@ def refusal(path, text, limit):
     return f'{path}: reading this text takes more than the limit of {limit} bytes\n'
 
 
-def runs(path, name, text, made):
+def runs(path, name, text, made, form):
     """A text within its own limit, within one byte less, and within a tenth."""
     for limit in (made, made - 1, made // 10):
-        words = ['compile', '--limit', str(limit), path, '-o', '/dev/null']
+        words = ['compile', *form, '--limit', str(limit), path, '-o', '/dev/null']
         status, out, said, _, most = ran(words)
         wanted = (0, b'', '')
         if limit < made or len(text) > max(limit, LEAST_READ):
@@ -129,13 +214,16 @@ def main():
     with tempfile.TemporaryDirectory() as folder:
         path = f'{folder}/hostile.txt'
         for size in [int(it) for it in sys.argv[1:]] or [SIZE]:
-            for name, text, made in shapes(size):
-                with open(path, 'w', encoding='utf-8') as out:
-                    out.write(text)
-                runs(path, name, text, made)
+            for all_of, form in ((shapes, []), (icu_shapes, ['--icu'])):
+                for name, text, made in all_of(size):
+                    with open(path, 'w', encoding='utf-8') as out:
+                        out.write(text)
+                    runs(path, ' '.join([*form, name]), text, made, form)
     print(f'{counts[True]} passed, {counts[False]} failed')
     return 1 if counts[False] else 0
 
 
 if __name__ == '__main__':
+    if sys.argv[1:] == ['--help']:
+        sys.exit(print(__doc__))
     sys.exit(main())

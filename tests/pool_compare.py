@@ -98,4 +98,6 @@ def main():
 
 
 if __name__ == '__main__':
+    if sys.argv[1:] == ['--help']:
+        sys.exit(print(__doc__))
     sys.exit(main())

@@ -157,6 +157,31 @@ def check_lines():
     refuses(f'alone/a.res: {NO_POOL}', 'check', 'alone/a.res')
 
 
+def differs(output, *words):
+    """A call of `diff` of files that differ, with this on standard output."""
+    seen((1, output, ''), run('diff', *words), f'diff {" ".join(words)}')
+
+
+def tell_differences():
+    """What differs between files beside their pool bundles, over a named one, and as items."""
+    lines = ('~ alpha "one two three" -> "two three"\n- beta "x"\n'
+             '+ delta ["x","","three"]\n')
+    differs(lines, 'three/a.res', 'three/c.res')
+    differs(lines, 'two/a.res', 'three/c.res')
+    differs(lines, 'alone/a.res', 'alone/c.res', '--pool', 'three/pool.res')
+    differs('{"path":"beta","old":"x"}\n{"path":"gamma","new":"three"}\n',
+            '--json', 'three/a.res', 'three/b.res')
+    says('', 'diff', 'two/a.res', 'three/a.res')
+    refuses(f'alone/a.res: {NO_POOL}', 'diff', 'alone/a.res', 'three/c.res', status=2)
+    items = (('pool', POOL3), ('a', A3), ('c', C3))
+    write('diff.dat', package({f'x/{name}.res': file(words) for name, words in items}))
+    differs(lines, 'diff.dat/x/a.res', 'diff.dat/x/c.res')
+    differs(lines, 'diff.dat/a.res', 'three/c.res')
+    says('', 'diff', 'diff.dat/x/a.res', 'two/a.res')
+    refuses('diff.dat: no item is named x/d.res', 'diff', 'diff.dat/x/d.res', 'three/a.res',
+            status=2)
+
+
 def refuse_pools():
     """Pool bundles that are none, or not the file's."""
     refuses(f'two/a.res: {INVALID}pool bundle has another checksum: three/pool.res',
@@ -368,12 +393,14 @@ def main():
     """All of it, in a folder of its own."""
     with tempfile.TemporaryDirectory() as folder:
         os.chdir(folder)
-        for group in (read_beside, check_lines, refuse_pools, refuse_files, read_attributes,
-                      read_older, read_items, read_far, read_hostile):
+        for group in (read_beside, check_lines, tell_differences, refuse_pools, refuse_files,
+                      read_attributes, read_older, read_items, read_far, read_hostile):
             group()
     print(f'{counts[True]} passed, {counts[False]} failed')
     return counts[False] > 0
 
 
 if __name__ == '__main__':
+    if sys.argv[1:] == ['--help']:
+        sys.exit(print(__doc__))
     sys.exit(main())

@@ -119,7 +119,9 @@ told 1 '' $'open.txt:1:2: expected \'}\' before the text ends inside this\nb{\n 
 printf 'b{a{"x\377"}}' > bytes.txt
 told 1 '' $'bytes.txt:1:7: this is no UTF-8\nb{a{"x?"}}\n      ^' compile bytes.txt
 printf 'b{a:float{"x"}}' > type.txt
-told 1 '' $'type.txt:1:4: expected a type\nb{a:float{"x"}}\n   ^' compile type.txt
+types='the types are array, bin, binary, int, integer, intvector, string, table'
+told 1 '' $'type.txt:1:4: expected a type\nb{a:float{"x"}}\n   ^\n'"type.txt: $types" \
+  compile type.txt
 printf 'b{a:int{x}}' > number.txt
 told 1 '' $'number.txt:1:9: expected a number\nb{a:int{x}}\n        ^' compile number.txt
 printf 'b{a:bin{"0"}}' > digits.txt
@@ -173,23 +175,111 @@ END
 printf 'b{"k\0"{"x"}}' > nul.txt
 told 1 '' 'nul.txt: Unexpected error: key contains U+0000' compile nul.txt
 
+# what is said beside a refusal: what was meant, and where to look
+for word in integre:integer integr:integer strnig:string inte:int INT:int; do
+  printf 'b{a:%s{5}}' "${word%:*}" > type.txt
+  told 1 '' "type.txt:1:4: expected a type
+b{a:${word%:*}{5}}
+   ^
+type.txt: $types; is ${word#*:} meant?" compile type.txt
+done
+printf 'b{a:strin{"x"}}' > type.txt
+told 1 '' "type.txt:1:4: expected a type
+b{a:strin{\"x\"}}
+   ^
+type.txt: the types are alias,${types#the types are}; is string meant?" compile --icu type.txt
+printf 'b:array{}' > root.txt
+told 1 '' 'root.txt:1:2: expected a type
+b:array{}
+ ^
+root.txt: the root is a table: its type is table, if it has one' compile root.txt
+printf 'b{a:int{4294967296}}' > range.txt
+told 1 '' 'range.txt:1:9: expected a number
+b{a:int{4294967296}}
+        ^
+range.txt: a number lies from -2147483648 to 4294967295' compile range.txt
+printf 'b{a:int{3.5}}' > point.txt
+told 1 '' "point.txt:1:10: expected '}'
+b{a:int{3.5}}
+         ^
+point.txt: numbers are whole" compile point.txt
+told 1 '' "point.txt:1:9: expected a number
+b{a:int{3.5}}
+        ^
+point.txt: numbers are whole" compile --icu point.txt
+told 1 '' 'range.txt:1:9: expected a number
+b{a:int{4294967296}}
+        ^
+range.txt: a number lies from -2147483648 to 4294967295' compile --icu range.txt
+printf 'b{a:alias{"/c"}}' > alias.txt
+told 1 '' 'alias.txt:1:4: expected a type
+b{a:alias{"/c"}}
+   ^
+alias.txt: texts of ICU'"'"'s own form are read with --icu' compile alias.txt
+printf 'b{a{"x"} ,c{"y"}}' > comma.txt
+told 1 '' "comma.txt:1:10: expected '}'
+b{a{\"x\"} ,c{\"y\"}}
+         ^
+comma.txt: entries of a table have no commas" compile comma.txt
+told 1 '' "comma.txt:1:10: expected a key or '}'
+b{a{\"x\"} ,c{\"y\"}}
+         ^
+comma.txt: entries of a table have no commas" compile --icu comma.txt
+printf 'b{a{"x\\"y"}}' > escape.txt
+told 1 '' 'escape.txt:1:10: expected a string
+b{a{"x\"y"}}
+         ^
+escape.txt: texts of ICU'"'"'s own form are read with --icu' compile escape.txt
+printf 'b{\n  a{"x}\n  c{"y"}\n}\n' > quote.txt
+told 1 '' 'quote.txt:3:7: expected a string
+  c{"y"}
+      ^
+quote.txt:2:5: the last string before that which spans lines begins here' compile quote.txt
+printf 'b{\n  // }\n  a{\n    x{"{"}\n\n  c{"2"}\n  d{"3"}\n}\n' > outdent.txt
+for form in : '--icu:a key or '; do
+  # shellcheck disable=SC2086
+  told 1 '' "outdent.txt:1:2: expected ${form#*:}'}' before the text ends inside this
+b{
+ ^
+outdent.txt:6:3: this line is indented too little for the group it stands in" \
+    compile ${form%%:*} outdent.txt
+done
+
+# texts in UTF-16, by their mark
+printf 'b{a{"\303\251\360\237\230\200"}}' > eight.txt
+for order in LE BE; do
+  printf '\376\377' > sixteen.txt
+  [ $order = BE ] || printf '\377\376' > sixteen.txt
+  iconv -f UTF-8 -t UTF-16$order eight.txt >> sixteen.txt
+  told 0 '' '' compile eight.txt sixteen.txt
+  same eight.res sixteen.res
+  told 0 '' '' compile --icu sixteen.txt
+  same eight.res sixteen.res
+done
+printf '\377\376b\0{\0}' > odd.txt
+printf '\377\376b\0{\0\0\330}\0' > half.txt
+told 1 '' 'odd.txt: this begins as UTF-16, and is none
+half.txt: this begins as UTF-16, and is none' compile odd.txt half.txt
+
 # warnings change nothing
-printf 'b{a{"x\\y"}a{"z"}l:array{"p" "q"}}' > warned.txt
-told 0 '' "warned.txt:1:7: warning: this backslash is a character here, and an escape for genrb
-warned.txt:1:11: warning: this key stands at 1:3 too; genrb refuses that
-warned.txt:1:29: warning: this string is an item of its own here; genrb joins it to the one before" \
-  compile warned.txt
+printf 'b{a{"x\\y"}a{"z"}l:array{"p" "q"}}' > warn.txt
+told 0 '' "warn.txt:1:7: warning: this backslash is a character here, and an escape for genrb
+warn.txt:1:11: warning: this key stands at 1:3 too; genrb refuses that
+warn.txt:1:29: warning: this string is an item of its own here; genrb joins it to the one before" \
+  compile warn.txt
 # nor do those of what would be lost without a word
-printf 'b{a{}i:int{300000000}o:intvector{010,-07,0}c{x{"1"},y{"2"},}n:int{-200000000}z:table{}}' \
-  > lost.txt
+printf 'b{a{}i:int{300000000}o:intvector{010,-07,0}c{x{"1"},y{"2"},}n:int{-200000000}' > lost.txt
+printf 'q{k{"1"}lone}z:table{}}' >> lost.txt
 told 0 '' "lost.txt:1:5: warning: the empty group that ends here is a Table, and an Array for genrb
 lost.txt:1:12: warning: this number has more than 28 bits; 31564544 is kept
 lost.txt:1:34: warning: this number is decimal here; genrb takes its 0 for that of an octal one
-lost.txt:1:38: warning: this number is decimal here; genrb takes its 0 for that of an octal one
 lost.txt:1:52: warning: pairs with commas are an Array; genrb refuses this
-lost.txt:1:67: warning: this number has more than 28 bits; 68435456 is kept" \
+lost.txt:1:67: warning: this number has more than 28 bits; 68435456 is kept
+lost.txt:1:86: warning: this string has no group, so that all are an Array; genrb refuses this" \
   compile lost.txt
-told 0 '{"a":{},"c":["x","1","y","2"],"i":31564544,"n":68435456,"o":[10,-7,0],"z":{}}' '' \
+lost='{"a":{},"c":["x","1","y","2"],"i":31564544,"n":68435456,"o":[10,-7,0],'
+lost+='"q":["k","1","lone"],"z":{}}'
+told 0 "$lost" '' \
   dump --json lost.res
 
 # one text that fails doesn't stop the others
@@ -219,10 +309,11 @@ told 1 '' 'key.res: its text takes more than the limit of 2016 bytes' dump --lim
 told 1 '' "key.res: its text in ICU's form takes more than the limit of 2016 bytes" \
   dump --icu --limit 2016 key.res
 told 0 "$(printf 'key{\n    %02000d{"x"}\n}' 0)" '' dump --limit 2017 key.res
-told 0 '{"b":{"binary":"00ff"},"hi":"hello","list":["a","c"],"n":-5,"v":[1,-2]}' '' \
-  dump --json --limit 4012 names.res
-told 1 '' 'names.res: its JSON takes more than the limit of 4011 bytes' \
-  dump --json --limit 4011 names.res
+printf 'b{b:bin{"%06000d"}}' 0 > long.txt
+told 0 '' '' compile long.txt
+told 0 "$(printf '{"b":{"binary":"%06000d"}}' 0)" '' dump --json --limit 6019 long.res
+told 1 '' 'long.res: its JSON takes more than the limit of 6018 bytes' \
+  dump --json --limit 6018 long.res
 
 # so may the reading of a text
 printf 'b{k{v}}' > small.txt
@@ -304,23 +395,38 @@ told 1 '' $'half.txt:1:2: expected a key or \'}\' before the text ends inside th
 printf 'b{a{"\\"{"} c{/*/ } */' > inner.txt
 told 1 '' $'inner.txt:1:13: expected a resource or \'}\' before the text ends inside this
 b{a{"\\"{"} c{/*/ } */\n            ^' compile --icu inner.txt
-told 2 '' $'error: the argument \'--icu\' cannot be used with \'--limit <BYTES>\'
-
-Usage: resb compile --icu <FILE>...
-
-For more information, try \'--help\'.' compile --icu icu.txt --limit 1
+# within a limit: 72 for the root's brace, 1219 for k, which begins a table, 72 for its group, 3 for v
+told 0 '' '' compile --icu --limit 1366 small.txt
+told 1 '' 'small.txt: reading this text takes more than the limit of 1365 bytes' \
+  compile --icu --limit 1365 small.txt
+# a string of pieces is weighed before it is put together, and only where it may stand
+printf 'b{k{"v" "\\u0076"}}' > pieces.txt
+told 0 '' '' compile --icu --limit 1369 pieces.txt
+told 0 'vv' '' get pieces.res k
+told 1 '' 'pieces.txt: reading this text takes more than the limit of 1368 bytes' \
+  compile --icu --limit 1368 pieces.txt
+printf 'b{k{"v" "v":' > stuck.txt
+told 1 '' $'stuck.txt:1:5: expected a string that may be a key\nb{k{"v" "v":\n    ^' \
+  compile --icu --limit 1363 stuck.txt
+# and each number of a vector as it comes
+told 1 '' 'vector.txt: reading this text takes more than the limit of 1298 bytes' \
+  compile --icu --limit 1298 vector.txt
+told 1 '' $'vector.txt:1:17: expected a number or \'}\'\nb{v:intvector{1,x\n                ^' \
+  compile --icu --limit 1299 vector.txt
 
 # each refusal of a text in ICU's form, at its column (docs/ICU_TEXTS.md)
 icu_row() {
+  local mark line=$'\n'
+  mark=$(printf '%*s' $(($2 - 1)) '')^
   printf '%s' "$1" > row.txt
-  told 1 '' "row.txt:1:$2: expected $3"$'\n'"$1"$'\n'"$(printf '%*s' $(($2 - 1)) '')^" \
+  told 1 '' "row.txt:1:$2: expected $3$line$1$line$mark${4:+${line}row.txt: $4}" \
     compile --icu row.txt
 }
 icu_row '{' 1 'the name of the bundle'
 icu_row 'b:int{}' 2 "'table' or 'table(nofallback)'"
 icu_row 'b}' 2 "'{'"
 icu_row 'b{a}' 4 "'{' or a type"
-icu_row 'b{a:foo{}}' 4 'a type'
+icu_row 'b{a:foo{}}' 4 'a type' "the types are alias,${types#the types are}"
 icu_row 'b{a:alias{}}' 11 'a string'
 icu_row 'b{a:import{}}' 4 "a type of a tree, and 'import' is none"
 icu_row 'b{a:include{}}' 4 "a type of a tree, and 'include' is none"
@@ -390,14 +496,12 @@ cp names.res kept.res
 [ $? = 2 ] && passed=$((passed + 1)) || { failed=$((failed + 1)); cat err; }
 same names.res kept.res
 
-# JSON as deep as it may be, and one level more
+# JSON of any depth
 deep() { printf 'b{a%s%s}' "$(printf ':array{%.0s' $(seq "$1"))" "$(printf '}%.0s' $(seq "$1"))"; }
-deep 119 > deep.txt
+deep 50000 > deep.txt
 told 0 '' '' compile deep.txt
-told 0 "{\"a\":$(printf '[%.0s' $(seq 119))$(printf ']%.0s' $(seq 119))}" '' dump --json deep.res
-deep 120 > deep.txt
-told 0 '' '' compile deep.txt
-told 1 '' 'deep.res: this nests more than 120 levels deep, too deep for JSON' dump --json deep.res
+told 0 "{\"a\":$(printf '[%.0s' $(seq 50000))$(printf ']%.0s' $(seq 50000))}" '' \
+  dump --json deep.res
 
 # standard input and output are the files that they are
 cp names.txt own.txt
@@ -477,7 +581,7 @@ file('deep.res', 0x80000008, 7, 8, end, end, 0, 0, 8, *deep, 1, 0x70000005)
 "
 told 1 '~ 5 -> 6' '' diff five.res six.res
 told 1 '{"path":null,"old":5,"new":6}' '' diff --json five.res six.res
-told 2 '' 'deep.res: this nests more than 120 levels deep, too deep for JSON' diff deep.res six.res
+told 1 "~ $(printf '[%.0s' $(seq 200))5$(printf ']%.0s' $(seq 200)) -> 6" '' diff deep.res six.res
 printf 'b{"":table{"":int{1} k:int{2}}}' > old/e.txt
 printf 'b{"":table{"":int{3} k:int{4}}}' > e.txt
 told 0 '' '' compile old/e.txt e.txt
@@ -504,24 +608,24 @@ holds() {
 
 # a text with warnings: without them, with a status of their own, and without a file
 mkdir alone
-told 0 '' '' compile --quiet warned.txt -d alone
-holds alone warned.res
-warned="warned.txt:1:7: warning: this backslash is a character here, and an escape for genrb
-warned.txt:1:11: warning: this key stands at 1:3 too; genrb refuses that
-warned.txt:1:29: warning: this string is an item of its own here; genrb joins it to the \
+told 0 '' '' compile --quiet warn.txt -d alone
+holds alone warn.res
+warned="warn.txt:1:7: warning: this backslash is a character here, and an escape for genrb
+warn.txt:1:11: warning: this key stands at 1:3 too; genrb refuses that
+warn.txt:1:29: warning: this string is an item of its own here; genrb joins it to the \
 one before"
-rm alone/warned.res
-told 1 '' "$warned" compile --strict warned.txt -d alone
-holds alone warned.res
-rm alone/warned.res
-told 1 '' '' compile --quiet --strict warned.txt -d alone
-holds alone warned.res
+rm alone/warn.res
+told 1 '' "$warned" compile --strict warn.txt -d alone
+holds alone warn.res
+rm alone/warn.res
+told 1 '' '' compile --quiet --strict warn.txt -d alone
+holds alone warn.res
 told 0 '' '' compile --strict names.txt small.txt -d alone
-holds alone 'names.res small.res warned.res'
+holds alone 'names.res small.res warn.res'
 told 0 '' '' compile --strict --icu icu.txt -d alone
 rm alone/*
-told 0 '' "$warned" compile --check warned.txt -d alone
-told 1 '' "$warned" compile --check --strict warned.txt -d alone
+told 0 '' "$warned" compile --check warn.txt -d alone
+told 1 '' "$warned" compile --check --strict warn.txt -d alone
 told 1 '' $'open.txt:1:2: expected \'}\' before the text ends inside this\nb{\n ^' \
   compile --check --quiet open.txt names.txt -d alone
 told 2 '' 'two/a.txt: another of these texts has its file' \

@@ -76,9 +76,9 @@ def compiled(text, name='b', *words):
 
 
 def json_of(file):
-    """The tree of a file, by `resb dump --json`."""
+    """The JSON of a file's tree, by `resb dump --json`: its bytes, or else the message."""
     status, out, said = ran(RESB, 'dump', '--json', '-', given=file)
-    return json.loads(out) if status == 0 else said.decode()
+    return out if status == 0 else said
 
 
 def is_read_back(file, form=()):
@@ -153,7 +153,7 @@ def bundles():
         if not seen(file, f'compile: {text}: {said}'):
             continue
         found = json_of(file)
-        seen(found == tree_of(words), f'tree of {text}: {found}')
+        seen(json.loads(found) == tree_of(words), f'tree of {text}: {found}')
         seen(is_read_back(file), f'printed: {text}')
         if ran(RESB, 'dump', '--icu', '-', given=file)[2] == b'':
             seen(is_read_back(file, ['--icu']), f"printed in ICU's form: {text}")
@@ -259,4 +259,6 @@ def main():
 
 
 if __name__ == '__main__':
+    if sys.argv[1:] == ['--help']:
+        sys.exit(print(__doc__))
     sys.exit(main())

@@ -227,5 +227,7 @@ def main():
 
 
 if __name__ == "__main__":
+    if sys.argv[1:] == ["--help"]:
+        sys.exit(print(__doc__))
     signal.signal(signal.SIGPIPE, signal.SIG_DFL)
     sys.exit(main())

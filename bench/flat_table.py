@@ -27,4 +27,6 @@ def main(words):
     sys.stdout.write("bench{\n" + "".join(entries(size, distinct)) + "}\n")
 
 
+if sys.argv[1:] == ['--help']:
+    sys.exit(print(__doc__))
 main(sys.argv[1:])

@@ -6,7 +6,7 @@
 ITEMS has the folder, as `icupkg -x '*.res' -d ITEMS icudt72l.dat` makes it, LOOK_UP is the program
 of look_up.c, and PROGRAM that of look_up_times.rattle. A row has the file and what is looked up,
 10,000 times in a random order, and the least nanoseconds of a look-up of nine rounds of each way:
-libicu, and here by `get`, by `find`, and in a sorted table.
+libicu, and here by `get`, by `find`, in a sorted table, and in an opened file.
 """
 import os
 import random
@@ -16,7 +16,8 @@ import sys
 
 FILES = ('en', 'de', 'fr', 'ja')
 COUNT, TURNS, ROUNDS = 10_000, 40, 9
-ROOT, KEPT = ('get', 'find'), ('kept-get', 'kept-find', 'kept-sorted')
+ROOT = ('get', 'find', 'opened')
+KEPT = ('kept-get', 'kept-find', 'kept-sorted', 'kept-opened')
 
 
 def used():

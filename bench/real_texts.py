@@ -163,4 +163,5 @@ def main(words):
                       + (f', status {status}' if status else ''))
 
 
-main(sys.argv[1:])
+if __name__ == '__main__':
+    main(sys.argv[1:])

@@ -94,4 +94,6 @@ def main():
             times(program, kind, sizes, pathlib.Path(work), alone)
 
 
+if sys.argv[1:] == ['--help']:
+    sys.exit(print(__doc__))
 main()

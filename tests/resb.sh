@@ -743,9 +743,9 @@ holds shown 'key.txt small.txt'
 told 0 '' '' compile shown/small.txt
 same small.res shown/small.res
 told 1 '' "path.res: this has no text, since a string holds a '\"' at zones/Pole/list/1; \
-here is its JSON
+its JSON is written
 broken.res: Invalid resource bundle data: input is too short to contain file header
-six.res: this has no text, since the root is no table; here is its JSON" \
+six.res: this has no text, since the root is no table; its JSON is written" \
   dump path.res broken.res six.res -d shown
 holds shown 'key.txt path.json six.json small.res small.txt'
 told 0 '' '' dump --json small.res -d shown

@@ -4,7 +4,7 @@ use crate::encoding::utf8_of;
 use crate::folders::{Named, TEXTS, named_files};
 use crate::place::{Place, place_of};
 use crate::progress::Progress;
-use crate::save::save;
+use crate::save::{Bytes, save};
 use crate::say::{complain, fail, fail_input, or_fail, refuse, warn};
 use crate::show::settled;
 use crate::streams::{made, read_input};
@@ -142,7 +142,7 @@ impl Target {
         or_fail(
             rt,
             self.output.as_path().as_str(),
-            save(rt, &self.place, bytes),
+            save(rt, &self.place, &Bytes(bytes)),
         )
     }
 }

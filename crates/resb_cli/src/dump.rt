@@ -4,23 +4,28 @@ use crate::input::{Beside, Input};
 use crate::place::{Place, place_of};
 use crate::progress::Progress;
 use crate::save::save;
-use crate::say::{fail, or_fail};
-use crate::show::{
-    Made, bundle_name, bundle_of, made_icu, made_json, made_text, opened_of, print_json,
-    print_lines, settled, show,
-};
+use crate::say::{NoText, fail, or_fail, refuse_memory};
+use crate::show::{Form, Showing, bundle_name, bundle_of, opened_of, say_cause, settled};
 use crate::streams::{NO_MEMORY, made};
 use crate::taken::Taken;
 use crate::unread::Unread;
-use resb_json::json_text;
-use resb_lines::{Icu, Plain};
 use resb_opened::Ascending;
 use resb_pool_bundle::FileHead;
+use resb_shown::Shown;
 use resb_tree::ResourceBundle;
 use resb_words::DumpWords;
-use std::alloc::{AllocError, Global};
+use std::alloc::Global;
 use std::mem;
 use std::path::{Path, PathBuf};
+
+/// A file that is shown, with what is wanted of it.
+#[derive(Clone, Copy)]
+struct Source<'f> {
+    name: &'f str,
+    bytes: &'f [u8],
+    beside: &'f Beside<'f>,
+    wanted: &'f DumpWords<'f>,
+}
 
 /// Prints a file's text, or its JSON where it has none; or writes that of each file to a folder.
 /// One that fails doesn't stop the others; the status says whether one did.
@@ -59,7 +64,8 @@ fn dump_each(rt: &HostRuntime, wanted: &DumpWords<'_>, taken: &mut Taken) -> u8 
     status
 }
 
-/// Shows one file: the status, or that of what kept it from being shown.
+/// Shows one file: the status, or that of what kept it from being shown. Its tree is made only where
+/// the keys of some table don't ascend, and where the cause is looked for that it has no text.
 fn dump_one(
     rt: &HostRuntime,
     name: &str,
@@ -69,87 +75,122 @@ fn dump_one(
 ) -> Result<u8, u8> {
     let opened = input.open(rt, name)?;
     let beside = opened.pool(rt, name, wanted.pool, wanted.limit)?;
-    if wanted.limit.is_none()
-        && wanted.folder.is_none()
-        && let Some(status) = dump_opened(rt, name, opened.bytes, &beside, wanted)?
-    {
+    let source = Source {
+        name,
+        bytes: opened.bytes,
+        beside: &beside,
+        wanted,
+    };
+    if let Some(status) = source.dump_opened(rt, taken)? {
         return Ok(status);
     }
-    let bundle = bundle_of(rt, name, opened.bytes, &beside, wanted.limit)?;
-    let done = dump_bundle(rt, name, &bundle, wanted, taken);
-    let_go(bundle, wanted.files.len() == 1);
-    done
+    source.dump_tree(rt, taken)
 }
 
-/// Shows a file without its tree, if that can be: where its tables ascend, and it has a text or
-/// JSON is wanted.
-fn dump_opened(
-    rt: &HostRuntime,
-    name: &str,
-    bytes: &[u8],
-    beside: &Beside<'_>,
-    wanted: &DumpWords<'_>,
-) -> Result<Option<u8>, u8> {
-    let file = opened_of(rt, name, bytes, beside)?;
-    let Some(root) = Ascending::of(file.root()) else {
-        return Ok(None);
-    };
-    if wanted.is_json {
-        return Ok(Some(print_json(rt, name, root)));
-    }
-    let has_fallback = match FileHead::read(bytes) {
-        Ok(head) => head.has_fallback(),
-        Err(_) => false,
-    };
-    if wanted.is_icu {
-        print_lines(rt, name, Icu, root, has_fallback)
-    } else {
-        print_lines(rt, name, Plain, root, has_fallback)
-    }
-}
-
-/// Shows a file's bundle.
-fn dump_bundle(
-    rt: &HostRuntime,
-    name: &str,
-    bundle: &ResourceBundle<'_>,
-    wanted: &DumpWords<'_>,
-    taken: &mut Taken,
-) -> Result<u8, u8> {
-    let limit = wanted.limit;
-    let form = if wanted.is_json {
-        made_json(rt, name, bundle.root(), limit)?
-    } else if wanted.is_icu {
-        made_icu(rt, name, bundle, limit)?
-    } else {
-        made_text(rt, name, bundle, limit)?
-    };
-    match (wanted.folder, form) {
-        (None, Made::Text(text)) => Ok(show(rt, text.as_str())),
-        (None, Made::Json) => Ok(print_json(rt, name, bundle.root())),
-        (Some(folder), form) => {
-            let target = target_in(rt, name, form.ending(), folder, taken)?;
-            let text = or_fail(rt, name, made(whole(rt.alloc(), bundle, form)))?;
-            let (output, place) = target;
-            or_fail(
-                rt,
-                output.as_path().as_str(),
-                save(rt, &place, text.as_bytes()),
-            )?;
-            Ok(0)
+impl Source<'_> {
+    /// The form that is wanted.
+    fn form(self) -> Form {
+        if self.wanted.is_json {
+            Form::Json
+        } else if self.wanted.is_icu {
+            Form::IcuText
+        } else {
+            Form::Text
         }
     }
-}
 
-/// What a file is that shows a bundle.
-fn whole(alloc: Global, bundle: &ResourceBundle<'_>, form: Made) -> Result<String, AllocError> {
-    match form {
-        Made::Text(text) => Ok(text),
-        Made::Json => {
-            let mut text = json_text(alloc, bundle.root())?;
-            text.push_str("\n")?;
-            Ok(text)
+    /// Whether the file's head turns fallback on.
+    fn has_fallback(self) -> bool {
+        match FileHead::read(self.bytes) {
+            Ok(head) => head.has_fallback(),
+            Err(_) => false,
         }
+    }
+
+    /// The form that is wanted, which the file has no text of, and what is said of its JSON, which is
+    /// shown in place of that or not.
+    fn missing(self, has_json: bool) -> NoText {
+        let instead = match (has_json, self.wanted.folder) {
+            (false, _) => "",
+            (true, None) => "; here is its JSON",
+            (true, Some(_)) => "; its JSON is written",
+        };
+        NoText {
+            form: self.form(),
+            instead,
+        }
+    }
+
+    /// Shows the file without its tree, if that can be: where its tables ascend, and it has what is
+    /// wanted.
+    fn dump_opened(self, rt: &HostRuntime, taken: &mut Taken) -> Result<Option<u8>, u8> {
+        let file = opened_of(rt, self.name, self.bytes, self.beside, self.wanted.limit)?;
+        let Some(root) = Ascending::of(file.root()) else {
+            return Ok(None);
+        };
+        let showing = Showing {
+            name: bundle_name(self.name),
+            root,
+            has_fallback: self.has_fallback(),
+            form: self.form(),
+        };
+        match showing.is_had(rt.alloc()) {
+            Ok(true) => Ok(Some(self.put(rt, &showing, taken)?)),
+            Ok(false) => Ok(None),
+            Err(_) => Err(refuse_memory(rt, self.name)),
+        }
+    }
+
+    /// Shows the file by its tree.
+    fn dump_tree(self, rt: &HostRuntime, taken: &mut Taken) -> Result<u8, u8> {
+        let limit = self.wanted.limit;
+        let bundle = bundle_of(rt, self.name, self.bytes, self.beside, limit)?;
+        let done = self.dump_bundle(rt, &bundle, taken);
+        let_go(bundle, self.wanted.files.len() == 1);
+        done
+    }
+
+    /// Shows the file's bundle: as JSON where it has no text of the form that is wanted.
+    fn dump_bundle(
+        self,
+        rt: &HostRuntime,
+        bundle: &ResourceBundle<'_>,
+        taken: &mut Taken,
+    ) -> Result<u8, u8> {
+        let mut showing = Showing {
+            name: bundle_name(self.name),
+            root: bundle.root(),
+            has_fallback: self.has_fallback(),
+            form: self.form(),
+        };
+        match showing.is_had(rt.alloc()) {
+            Ok(true) => {}
+            Ok(false) => {
+                showing.form = Form::Json;
+                let fits = showing.fits(rt.alloc(), self.wanted.limit);
+                let missing = self.missing(matches!(fits, Ok(true)));
+                say_cause(rt, self.name, bundle, missing, self.wanted.limit)?;
+            }
+            Err(_) => return Err(refuse_memory(rt, self.name)),
+        }
+        self.put(rt, &showing, taken)
+    }
+
+    /// Prints what is shown, or writes it to the folder.
+    fn put<'s, S: Shown<'s>>(
+        self,
+        rt: &HostRuntime,
+        showing: &Showing<'s, S>,
+        taken: &mut Taken,
+    ) -> Result<u8, u8> {
+        let name = self.name;
+        showing.check(rt, name, self.wanted.limit)?;
+        let Some(folder) = self.wanted.folder else {
+            return Ok(showing.print(rt, name));
+        };
+        let (output, place) = target_in(rt, name, showing.form.ending(), folder, taken)?;
+        or_fail(rt, output.as_path().as_str(), save(rt, &place, showing))?;
+        Ok(0)
     }
 }
 

@@ -5,7 +5,7 @@ use crate::input::{Beside, Input, uses_pool};
 use crate::paths::{BETWEEN, names_of};
 use crate::refusal::refuse;
 use crate::say::{fail, refuse_memory};
-use crate::show::{bundle_of, opened_of, print_json, settled, show_json, status_of};
+use crate::show::{bundle_of, opened_of, settled, show_json, status_of};
 use crate::shown::Shown;
 use crate::words::is_marked;
 use resb_format::{BinaryDeserializerError, ResourceReprType};
@@ -93,18 +93,22 @@ fn get_each(rt: &HostRuntime, source: Source<'_>, paths: &[&str]) -> u8 {
     status
 }
 
-/// A file as a whole, or the status, once it is said why it isn't had. A tree is made where there
-/// is a limit for it, and where the keys of some table don't ascend.
+/// A file as a whole, or the status, once it is said why it isn't had. A tree is made where the keys
+/// of some table don't ascend.
 fn whole_of<'f>(rt: &HostRuntime, source: Source<'f>) -> Whole<'f> {
-    let Source { name, bytes, .. } = source;
-    if source.limit.is_none() {
-        match opened_of(rt, name, bytes, source.beside) {
-            Ok(file) if Ascending::of(file.root()).is_some() => return Whole::Opened(file),
-            Ok(_) => {}
-            Err(status) => return Whole::Refused(status),
-        }
+    let Source {
+        name,
+        bytes,
+        beside,
+        limit,
+        ..
+    } = source;
+    match opened_of(rt, name, bytes, beside, limit) {
+        Ok(file) if Ascending::of(file.root()).is_some() => return Whole::Opened(file),
+        Ok(_) => {}
+        Err(status) => return Whole::Refused(status),
     }
-    match bundle_of(rt, name, bytes, source.beside, source.limit) {
+    match bundle_of(rt, name, bytes, beside, limit) {
         Ok(bundle) => Whole::Read(bundle),
         Err(status) => Whole::Refused(status),
     }
@@ -138,7 +142,7 @@ fn get_one<'f>(
     match whole {
         Whole::Opened(file) => match file.root().get(names.as_slice()) {
             None => Err(say_nothing(rt, name, path)),
-            Some(found) => Ok(show_seen(rt, name, found)),
+            Some(found) => Ok(show_seen(rt, name, found, source.limit)),
         },
         Whole::Read(bundle) => match find(bundle.root(), names.as_slice()) {
             None => Err(say_nothing(rt, name, path)),
@@ -197,7 +201,7 @@ fn read_alone<'f>(alloc: Global, at: Cursor<'f>) -> Result<Along<'f>, BinaryDese
 }
 
 /// Prints what was found in an opened file.
-fn show_seen(rt: &HostRuntime, name: &str, found: Seen<'_>) -> u8 {
+fn show_seen(rt: &HostRuntime, name: &str, found: Seen<'_>, limit: Option<u64>) -> u8 {
     let handle = match found {
         Seen::Number(number) => return show_found(rt, name, Found::Number(number), None),
         Seen::Resource(handle) => handle,
@@ -209,7 +213,7 @@ fn show_seen(rt: &HostRuntime, name: &str, found: Seen<'_>) -> u8 {
         return show_text(rt, name, handle);
     }
     match Ascending::of(handle) {
-        Some(shown) => print_json(rt, name, shown),
+        Some(shown) => show_json(rt, name, shown, limit),
         None => fail(rt, name, "the keys of its tables do not ascend"),
     }
 }

@@ -1,7 +1,8 @@
-//! How bytes come to a place: a file is written beside it and moved over, so that a write that
+//! How a content comes to a place: a file is written beside it and moved over, so that a write that
 //! fails leaves the old one; all else is written where it is. Where a name leads is in `place`.
 use crate::place::Place;
-use crate::streams::{NO_MEMORY, write_stream};
+use crate::streams::NO_MEMORY;
+use std::alloc::Global;
 use std::fs::{self, File, Metadata, OpenOptions, Permissions};
 use std::io::{self, ErrorKind, Write};
 use std::os::unix::fs::{MetadataExt, OpenOptionsExt, PermissionsExt, fchown};
@@ -11,16 +12,48 @@ use std::process;
 /// The most names that are tried for the file that is written beside.
 const MOST_NAMES: u8 = 100;
 
-/// Writes bytes to a place.
-pub(crate) fn save(rt: &HostRuntime, place: &Place, bytes: &[u8]) -> Result<(), &'static str> {
+/// What is written to a place.
+pub(crate) trait Content {
+    /// Writes all of it. Where that fails, a part of it may have been written.
+    fn write_to<W: Write>(&self, alloc: Global, out: &mut W) -> io::Result<()>;
+}
+
+/// Bytes that are there.
+#[derive(Clone, Copy)]
+pub(crate) struct Bytes<'b>(pub(crate) &'b [u8]);
+
+impl Content for Bytes<'_> {
+    fn write_to<W: Write>(&self, _alloc: Global, out: &mut W) -> io::Result<()> {
+        out.write_all(self.0)
+    }
+}
+
+/// Writes a content to a place.
+pub(crate) fn save<C: Content>(
+    rt: &HostRuntime,
+    place: &Place,
+    content: &C,
+) -> Result<(), &'static str> {
     let saved = match place {
-        Place::Stream => return write_stream(rt, bytes),
-        Place::Inside(path) => write_inside(rt, path.as_path(), bytes),
-        Place::Beside(path) => replace(rt, path.as_path(), bytes),
+        Place::Stream => return print(rt, content).map_err(|e| cause_of_printing(&e)),
+        Place::Inside(path) => write_inside(rt, path.as_path(), content),
+        Place::Beside(path) => replace(rt, path.as_path(), content),
     };
-    match saved {
-        Ok(()) => Ok(()),
-        Err(e) => Err(cause_of_writing(&e)),
+    saved.map_err(|e| cause_of_writing(&e))
+}
+
+/// Writes a content to standard output, and flushes it.
+pub(crate) fn print<C: Content>(rt: &HostRuntime, content: &C) -> io::Result<()> {
+    let mut out = rt.stdout();
+    content.write_to(rt.alloc(), &mut out)?;
+    out.flush()
+}
+
+/// What a failed call on standard output is called.
+pub(crate) fn cause_of_printing(e: &io::Error) -> &'static str {
+    match e.kind() {
+        ErrorKind::OutOfMemory => NO_MEMORY,
+        _ => "standard output cannot be written",
     }
 }
 
@@ -38,20 +71,20 @@ fn cause_of_writing(e: &io::Error) -> &'static str {
     }
 }
 
-/// Writes bytes into what is there. A file that a process has open gets them behind its own.
-fn write_inside(rt: &HostRuntime, path: Path<'_>, bytes: &[u8]) -> io::Result<()> {
+/// Writes a content into what is there. A file that a process has open gets it behind its own.
+fn write_inside<C: Content>(rt: &HostRuntime, path: Path<'_>, content: &C) -> io::Result<()> {
     let is_file = path.is_file(rt);
     let mut options = OpenOptions::new();
     options.write(!is_file).append(is_file);
     let mut file = options.open(rt, path)?;
-    file.write_all(bytes)
+    content.write_to(rt.alloc(), &mut file)
 }
 
-/// Writes bytes to a file beside this path, and moves it there.
-fn replace(rt: &HostRuntime, path: Path<'_>, bytes: &[u8]) -> io::Result<()> {
+/// Writes a content to a file beside this path, and moves it there.
+fn replace<C: Content>(rt: &HostRuntime, path: Path<'_>, content: &C) -> io::Result<()> {
     let old = fs::symlink_metadata(rt, path).ok();
     let (mut file, beside) = new_file(rt, path, old.is_some())?;
-    let filled = fill(&mut file, old.as_ref(), bytes);
+    let filled = fill(rt, &mut file, old.as_ref(), content);
     moved(rt, filled, beside.as_path(), path)
 }
 
@@ -98,12 +131,17 @@ fn name_beside(rt: &HostRuntime, path: Path<'_>, number: u8) -> io::Result<PathB
     Ok(path.with_file_name(rt.alloc(), name.as_str())?)
 }
 
-/// Gives a new file the mode of the old one and these bytes, and has them on the disk.
-fn fill(file: &mut File, old: Option<&Metadata>, bytes: &[u8]) -> io::Result<()> {
+/// Gives a new file the mode of the old one and this content, and has it on the disk.
+fn fill<C: Content>(
+    rt: &HostRuntime,
+    file: &mut File,
+    old: Option<&Metadata>,
+    content: &C,
+) -> io::Result<()> {
     if let Some(old) = old {
         keep_rights(file, old)?;
     }
-    file.write_all(bytes)?;
+    content.write_to(rt.alloc(), file)?;
     match file.sync_all() {
         // some systems of files have no such call
         Err(e) if matches!(e.kind(), ErrorKind::InvalidInput | ErrorKind::Unsupported) => Ok(()),

@@ -2,6 +2,7 @@
 //! What the causes are called is theirs to print.
 use crate::hints::hint_at;
 use crate::paths::Name;
+use crate::show::Form;
 use crate::shown::Shown;
 use crate::streams::{InputError, NO_MEMORY};
 use resb_compile::{CompileError, IcuCompileError};
@@ -77,28 +78,17 @@ pub(crate) fn say_lines<R: Eprint + AllocGlobal, C: Display>(rt: &R, cause: &C) 
 /// A form of text that a bundle has none of.
 #[derive(Clone, Copy)]
 pub(crate) struct NoText {
-    /// What the form is called.
-    pub(crate) what: &'static str,
-    /// Whether the bundle's JSON is shown in its place.
-    pub(crate) has_json: bool,
-}
-
-impl NoText {
-    /// What is said at the end.
-    fn end(self) -> &'static str {
-        if self.has_json {
-            "; here is its JSON"
-        } else {
-            ""
-        }
-    }
+    /// The form.
+    pub(crate) form: Form,
+    /// What is said of the JSON that stands in its place, or nothing.
+    pub(crate) instead: &'static str,
 }
 
 /// Says why a bundle has no text of a form, and the path to the cause, if that is inside it.
 pub(crate) fn say_no_text<R: Eprint + AllocGlobal, C: Display + Drop>(
     rt: &R,
     name: &str,
-    form: NoText,
+    missing: NoText,
     cause: C,
     path: Result<Option<Vec<PathStep<'_>>>, AllocError>,
 ) {
@@ -109,20 +99,21 @@ pub(crate) fn say_no_text<R: Eprint + AllocGlobal, C: Display + Drop>(
     };
     match at {
         Ok(at) if !at.is_empty() => {
-            let (name, at, what, end) = (Shown(name), Shown(at.as_str()), form.what, form.end());
+            let (name, at) = (Shown(name), Shown(at.as_str()));
+            let (what, end) = (missing.form.name(), missing.instead);
             let _ = eprintln!(rt; "{name}: this has no {what}, since {cause} at {at}{end}");
         }
-        Ok(_) => say_no_form(rt, name, form, cause),
+        Ok(_) => say_no_form(rt, name, missing, cause),
         Err(_) => {
             complain(rt, name, NO_MEMORY);
-            say_no_form(rt, name, form, cause);
+            say_no_form(rt, name, missing, cause);
         }
     }
 }
 
 /// Says why a bundle has no text of a form.
-fn say_no_form<R: Eprint, C: Display + Drop>(rt: &R, name: &str, form: NoText, cause: C) {
-    let (name, what, end) = (Shown(name), form.what, form.end());
+fn say_no_form<R: Eprint, C: Display + Drop>(rt: &R, name: &str, missing: NoText, cause: C) {
+    let (name, what, end) = (Shown(name), missing.form.name(), missing.instead);
     let _ = eprintln!(rt; "{name}: this has no {what}, since {cause}{end}");
 }
 

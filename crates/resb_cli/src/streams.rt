@@ -1,11 +1,11 @@
-//! Inputs by their names, and standard output; `-` is standard input.
+//! Inputs by their names; `-` is standard input.
 //! Where the bytes for a name go is in `place`, and how they come there in `save`.
 use crate::words::{NO_UTF8, is_marked};
 use resb_program::{ToolError, read_within};
 use std::alloc::{AllocError, Global};
 use std::fmt;
 use std::fs::{self, File};
-use std::io::{self, ErrorKind, Read, Write};
+use std::io::{self, ErrorKind, Read};
 
 /// The most bytes that are read of an input: those of the largest file that the format has, of 2^28
 /// words.
@@ -111,19 +111,4 @@ pub(crate) fn cause_of(e: &io::Error) -> &'static str {
         ErrorKind::InvalidFilename => "file name too long",
         _ => "cannot be opened",
     }
-}
-
-/// Writes bytes to standard output, and flushes it.
-pub(crate) fn write_stream(rt: &HostRuntime, bytes: &[u8]) -> Result<(), &'static str> {
-    match write_flushed(rt, bytes) {
-        Ok(()) => Ok(()),
-        Err(_) => Err("standard output cannot be written"),
-    }
-}
-
-/// The same, by the calls' own errors.
-fn write_flushed(rt: &HostRuntime, bytes: &[u8]) -> io::Result<()> {
-    let mut out = rt.stdout();
-    out.write_all(bytes)?;
-    out.flush()
 }

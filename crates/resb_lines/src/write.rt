@@ -1,14 +1,14 @@
-//! The call that writes a bundle's text.
+//! The calls that write a bundle's text, and that look how long it is.
 //! What is written, and in which order, is said in `text`.
-ghost use Rattle.std.specs.Prelude.{OnOk, OnErr};
+ghost use Rattle.std.specs.Prelude.{◌<◌, ◌≤◌, OnOk, OnErr, IfOk, MatchBool, length};
 ghost use Rattle.std.specs.Io.KnownBytes.{Appends};
 ghost use Rattle.resb_shown.specs.Sink.{AppendsPart};
 ghost use Rattle.resb_lines.specs.Lines.{lines_of};
 
 use crate::form::Form;
 use crate::text::LinesText;
-use resb_shown::{Node, Shown, write_blocks};
-use std::alloc::Global;
+use resb_shown::{Node, Shown, fits_within, write_blocks};
+use std::alloc::{AllocError, Global};
 use std::io;
 use std::io::Write;
 
@@ -52,4 +52,30 @@ pub fn write_lines<'s, F: Form, S: Shown<'s>, W: Write>(
         entries,
     )?;
     write_blocks(alloc, writer, &mut text)
+}
+
+/// Whether the lines of a bundle in a form have no more bytes than a limit. They are made as far as
+/// that shows, a block at a time, and not kept.
+pub fn lines_fit<'s, F: Form, S: Shown<'s>>(
+    alloc: Global,
+    form: F,
+    bundle: ShownBundle<'s, S>,
+    limit: u64,
+) -> Result<bool, AllocError>
+    ensures { let text = lines_of F.spelling bundle.entry.name.now
+        bundle.entry.is_locale_fallback_enabled (S.tree bundle.entry.root) in
+        IfOk result (λ fits. MatchBool fits (length text ≤ limit) (limit < length text)) }
+{
+    let Node::Table(entries) = bundle.root.node() else {
+        return Ok(true);
+    };
+    let fallback = bundle.is_locale_fallback_enabled;
+    let mut text: LinesText<'s, F, S, S::Members, S::Entries> = LinesText::new(
+        alloc,
+        form,
+        bundle.name,
+        fallback,
+        entries,
+    )?;
+    fits_within(alloc, &mut text, limit)
 }

@@ -1,7 +1,7 @@
 //! What is had of a file, alone or beside its pool bundle: how many resources, their sums, the
 //! bundle, or the file as it is. What the file's head says is in `resb_pool_bundle`.
 ghost use Rattle.std.specs.Prelude.{◌≡◌, ◌≤◌, ◌↔◌, ℕ, IfOk, IfErr, IfSome, OnOk, IsTrue};
-ghost use Rattle.std.specs.Prelude.{option_map};
+ghost use Rattle.std.specs.Prelude.{option_map, Ok, Some};
 ghost use Rattle.resb_walk.specs.Sums.{fitting};
 ghost use Rattle.resb_pool_bundle.specs.Heads.{head_bytes};
 ghost use Rattle.resb_pool_bundle.specs.Pool.{pool_in};
@@ -87,6 +87,26 @@ pub fn open_file<'a>(
         Ok(opened) => Ok(opened),
         Err(e) => Err(FileError::Reading(e)),
     }
+}
+
+/// The same of a file whose tree would take no more bytes than the limit, nor the keys of its
+/// entries: another is refused as `read_bundle` refuses it.
+pub fn open_file_within<'a>(
+    alloc: Global,
+    file: &'a [u8],
+    pool: Option<PoolBundle<'a>>,
+    limit: u64,
+) -> Result<Opened<'a>, FileError>
+    ensures ok { IfOk result
+        (λ opened. OpensBeside (option_map pool_in pool.entry) file.entry.now (Ok opened)) }
+    ensures within { OnOk result
+        (FitsIn (over (option_map pool_in pool.entry) file.entry.now) (Some limit)) }
+    ensures err { IfErr result
+        (RefusesBeside (option_map pool_in pool.entry) file.entry.now (Some limit)) }
+{
+    head_of(file, pool)?;
+    check_size(alloc, file, pool, Some(limit))?;
+    open_file(alloc, file, pool)
 }
 
 /// What a file's tree adds up to, beside the pool bundle that it uses.

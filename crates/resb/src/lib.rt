@@ -16,5 +16,5 @@ pub mod text;
 
 pub use resb_compile::{
     CompileError, CompileWithinError, IcuCompileError, IcuCompileWithinError, compile, compile_icu,
-    compile_icu_within, compile_within,
+    compile_icu_within, compile_within, keys_of,
 };

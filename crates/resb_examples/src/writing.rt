@@ -1,10 +1,9 @@
 //! Writing a tree that a program made, and one that it put together from two texts.
 //! Texts that stand by themselves are written by `resb::compile`.
 use resb::binary::{BinaryDeserializerError, BinarySerializerError, Serializer, from_bytes};
-use resb::bundle::{Int28, Key, Resource, ResourceBundle, Table};
-use resb::text::{Reader, TextParserError};
-use resb::{CompileError, compile};
-use std::alloc::{AllocError, AllocFailed, Global};
+use resb::bundle::{Int28, Key, NoMemory, Resource, ResourceBundle, Table};
+use resb::{CompileError, compile, keys_of};
+use std::alloc::{AllocFailed, Global};
 use std::borrow::CowStr;
 use std::collections::BTreeMap;
 use thiserror::Error;
@@ -15,9 +14,6 @@ pub enum WritingError {
     /// A text is no bundle, or has no file.
     #[error("{0}")]
     Compiling(#[from] CompileError),
-    /// A text is no bundle.
-    #[error("{0}")]
-    Text(#[from] TextParserError),
     /// A file isn't a table of trees.
     #[error("{0}")]
     Reading(#[from] BinaryDeserializerError),
@@ -25,14 +21,14 @@ pub enum WritingError {
     #[error("{0}")]
     Writing(#[from] BinarySerializerError),
     /// Memory was wanted.
-    #[error("out of memory")]
-    Memory(#[from] AllocError),
+    #[error("{0}")]
+    Memory(#[from] NoMemory),
 }
 
 /// A map that can't grow hands back what was put.
 impl<T: Drop> From<AllocFailed<T>> for WritingError {
     fn from(_: AllocFailed<T>) -> WritingError {
-        WritingError::Memory(AllocError)
+        WritingError::Memory(NoMemory)
     }
 }
 
@@ -59,20 +55,6 @@ fn both<'a>(alloc: Global, first: &'a [u8], second: &'a [u8]) -> Result<Table<'a
     Ok(table)
 }
 
-/// The keys of two texts, each once.
-fn keys_of<'a>(
-    alloc: Global,
-    first: &'a str,
-    second: &'a str,
-) -> Result<Vec<Key<'a>>, WritingError> {
-    let (_, mut keys) = Reader::read(alloc, first)?;
-    let (_, more_keys) = Reader::read(alloc, second)?;
-    keys.extend(more_keys)?;
-    keys.sort()?;
-    keys.dedup();
-    Ok(keys)
-}
-
 /// The file of two texts, with locale fallback: the entries of both, and of an equal key those of
 /// the second.
 pub fn merge(alloc: Global, first: &str, second: &str) -> Result<Vec<u8>, WritingError> {
@@ -80,6 +62,6 @@ pub fn merge(alloc: Global, first: &str, second: &str) -> Result<Vec<u8>, Writin
     let second_file = compile(alloc, second)?;
     let table = both(alloc, &first_file, &second_file)?;
     let bundle = ResourceBundle::new(CowStr::Borrowed("merged"), Resource::Table(table), true);
-    let keys = keys_of(alloc, first, second)?;
+    let keys = keys_of(alloc, bundle.root())?;
     Ok(Serializer::to_bytes(alloc, &bundle, &keys)?)
 }

@@ -267,6 +267,22 @@ resb check --json many > got 2> .err
 named='{"path":"many/bad\\xff\\xc3\\xa9.res","ok":false,"kind":"input",'
 holds 'it is named in JSON' is "$(head -n 1 got)" "$named"'"message":"this name is no UTF-8"}'
 holds 'and nothing else is said' is "$(wc -l < got) $(cat .err)" '3 '
+# a folder inside isn't looked at, whatever its name; with the ending its name is said
+mkdir inside "inside/$bad"
+cp t.txt inside/a.txt
+cp t.txt "inside/$bad/a.txt"
+ends 0 '' compile inside
+holds 'the text beside a folder' cmp -s inside/a.res "$want"
+resb check inside > got 2> .err
+holds 'the file beside a folder' is "$? $(wc -l < got) $(cat .err)" '0 1 '
+rm inside/a.res
+mkdir "inside/$bad.txt" "inside/$bad.res"
+ends 2 'inside/bad\xff\xc3\xa9.txt: this name is no UTF-8' compile inside
+holds 'the text beside a folder with the ending' cmp -s inside/a.res "$want"
+resb check inside > got 2> .err
+holds 'the file beside a folder with the ending' is "$? $(wc -l < got) $(cat .err)" \
+  '2 1 inside/bad\xff\xc3\xa9.res: this name is no UTF-8'
+holds 'nothing is written in a folder inside' is "$(ls "inside/$bad")" a.txt
 # nothing hidden in JSON that says something of files
 cp t.res $'a\x7f\xc2\x9b\xe2\x80\xae.res'
 resb check --json $'a\x7f\xc2\x9b\xe2\x80\xae.res' > got
@@ -405,10 +421,65 @@ refuses() {
   done
 }
 
+# reads WORD..: the same of a run that makes no file. Each line is one of the run with ample memory,
+# but for one that says want of memory; where that is said nothing is printed, but by `check` what
+# it says of other files.
+reads() {
+  local name=$* status line number
+  local -A known=()
+  "$program" "$@" > out 2> err
+  status=$?
+  while IFS= read -r line; do known[=$line]=1; done < <(cat out err)
+  for ((number = 1; number <= 400; number++)); do
+    : > mark
+    REFUSED_REQUEST=$number LD_PRELOAD=$work/refuse.so "$program" "$@" > .out 2> .err 9> mark
+    got=$?
+    lines_of "$1"
+    if [ "$wanted" = 0 ]; then
+      holds "request $number of $name" is "$got $(cat .out .err)" "$status $(cat out err)"
+    else
+      holds "request $number of $name" \
+        [ -s mark -a "$wanted $others" = '1 0' -a "$got" -gt 0 -a "$got" -lt 3 ]
+    fi
+    [ -s mark ] || break
+  done
+}
+
+# lines_of COMMAND: how many lines say want of memory, and how many others the run may not have
+lines_of() {
+  wanted=0 others=0
+  while IFS= read -r line; do
+    case $line in
+      *': out of memory' | *'"kind":"out of memory","message":"out of memory"}')
+        wanted=$((wanted + 1)) ;;
+      *) [ "${known[=$line]-}" ] || others=$((others + 1)) ;;
+    esac
+  done < .err
+  while IFS= read -r line; do
+    case $1$line in
+      'check{'*'"kind":"out of memory","message":"out of memory"}') wanted=$((wanted + 1)) ;;
+      check*) [ "${known[=$line]-}" ] || others=$((others + 1)) ;;
+      *) others=$((others + 1)) ;;
+    esac
+  done < .out
+}
+
 printf 'b{a{"x\\y"} a{"z"} "k\xe2\x80\xae"{"q" "r"}}' > w.txt
 printf 'b{a:int{x}}' > refused.txt
 printf old > old
 resb compile w.txt -o whole 2> .err
+printf 'b{a{"x"} c:table{d{"z"} e:int{5}}}' > one.txt
+printf 'b{a{"y"} c:table{d{"z"} f:int{5}}}' > two.txt
+resb compile one.txt two.txt
+mkdir many
+cp one.res many
+printf no > many/no.res
+python3 -B - "$top" << 'P'
+import sys
+sys.path.insert(0, f"{sys.argv[1]}/tests")
+import pools
+open("x.dat", "wb").write(pools.package({"x/a.res": pools.file(pools.A3)}))
+P
 if make_refusing "$work/refuse.so"; then
   refuses compile w.txt -o out.res
   refuses compile refused.txt w.txt -d .
@@ -419,8 +490,17 @@ if make_refusing "$work/refuse.so"; then
   refuses get --check whole a
   refuses help
   refuses unknown
+  reads dump one.res
+  reads dump --json one.res
+  reads dump --icu one.res
+  reads dump --limit 100000 one.res
+  reads get one.res c
+  reads diff one.res two.res
+  reads list x.dat
+  reads check many
+  reads check --json many
 else
-  passed=$((passed + 8))
+  passed=$((passed + 17))
 fi
 
 echo "files: $passed passed, $failed failed"

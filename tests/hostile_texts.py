@@ -1,7 +1,7 @@
 #!/usr/bin/env python3
 """Hostile texts, whose reading makes much, through `resb compile --limit`, in both forms.
 
-    hostile_texts.py [BYTES..]      texts of about so many bytes each, 2,000,000 if none is named
+    hostile_texts.py [BYTES..]      texts of about so many bytes each; three sizes if none is named
 
 Members of each kind fill a group without a type, an array, and a table that has one key again and
 again; groups of each kind stand inside each other; and there is one long thing of each kind. In
@@ -18,7 +18,7 @@ import tempfile
 
 from hostile import RESB, counts, ran, seen
 
-SIZE = 2_000_000
+SIZES = [3_000, 60_000, 2_000_000]
 LEAST_READ = 1 << 20
 GROUP, STRING, BYTE, TABLE, NUMBER, REQUEST = 72, 192, 3, 1024, 8, 32
 A_STRING = STRING + BYTE
@@ -213,7 +213,7 @@ def main():
         return 1
     with tempfile.TemporaryDirectory() as folder:
         path = f'{folder}/hostile.txt'
-        for size in [int(it) for it in sys.argv[1:]] or [SIZE]:
+        for size in [int(it) for it in sys.argv[1:]] or SIZES:
             for all_of, form in ((shapes, []), (icu_shapes, ['--icu'])):
                 for name, text, made in all_of(size):
                     with open(path, 'w', encoding='utf-8') as out:

@@ -81,6 +81,14 @@ def json_of(file):
     return out if status == 0 else said
 
 
+def value_of(answer):
+    """The value of some JSON; none where a program answered a message in its place."""
+    try:
+        return json.loads(answer)
+    except ValueError:
+        return None
+
+
 def is_read_back(file, form=()):
     """Whether a file's text, as it is printed, is compiled to a file of the same tree and text."""
     status, text, _ = ran(RESB, 'dump', *form, '-', given=file)
@@ -153,7 +161,7 @@ def bundles():
         if not seen(file, f'compile: {text}: {said}'):
             continue
         found = json_of(file)
-        seen(json.loads(found) == tree_of(words), f'tree of {text}: {found}')
+        seen(value_of(found) == tree_of(words), f'tree of {text}: {found}')
         seen(is_read_back(file), f'printed: {text}')
         if ran(RESB, 'dump', '--icu', '-', given=file)[2] == b'':
             seen(is_read_back(file, ['--icu']), f"printed in ICU's form: {text}")
@@ -206,7 +214,8 @@ def answers():
         seen(ran(RESB, 'check', 'b.res') == (0, line.encode(), b''), f'check: {asked}')
         kept = ['--limit', limit] if limit.isdigit() and limit != '0' else []
         out = ran(RESB, 'dump', '--json', 'b.res', *kept)[1].decode()[:-1]
-        seen(shown.startswith(out + ' '), f'dump: {asked}: {out}')
+        if not seen(shown.startswith(out + ' '), f'dump: {asked}: {out}'):
+            continue
         found = shown[len(out) + 1:]
         status, out, said = ran(RESB, 'get', 'b.res', path, *kept)
         if found == 'nothing':

@@ -39,9 +39,9 @@ extern "C" {
 #define RESB_NO_FILE 4u
 /* The bytes are no file of a bundle. */
 #define RESB_NOT_A_FILE 5u
-/* The file has version 1.0 of the format, another order of bytes, or EBCDIC. Versions 1.1 to 3.0
- * are read by each call, with their aliases. A version or a format that isn't known at all is
- * RESB_NOT_A_FILE. */
+/* The file has version 1.0 of the format, another order of bytes, characters of another size than 2
+ * bytes, or EBCDIC. Versions 1.1 to 3.0 are read by each call, with their aliases. A version or a
+ * format that isn't known at all is RESB_NOT_A_FILE. */
 #define RESB_UNSUPPORTED 6u
 /* The file's tree has no text: its root is no table, it has an alias, or a name, key or string
  * holds a '"'. */

@@ -1,7 +1,8 @@
 #!/usr/bin/env bash
 # The examples of the library for C, built and run: a bundle's text, a text that is none, bytes that
-# are no UTF-8, a text over the limit; and files beside pool bundles. Where the library isn't built,
-# `rt lib` builds it. A missing compiler is no failure.
+# are no UTF-8, a text over the limit; and files beside pool bundles. Then what each call of the
+# library that takes a file answers to one that is none. Where the library isn't built, `rt lib`
+# builds it. A missing compiler is no failure.
 # RATTLE_C is the folder of the toolchain's liblibc_c.a.
 set -uo pipefail
 top=$(cd "$(dirname "$(readlink -f "$0")")/.." && pwd)
@@ -67,6 +68,49 @@ bundle{
     "$@" "$folder/a.res" "$folder/a.res"
 }
 
+# write_statuses FILE: the program that asks each call that takes a file about the bytes of standard
+# input: check, measure and dump; the same beside no pool bundle; and where these are the pool too
+write_statuses() {
+  cat > "$1" << 'C'
+#include "resb.h"
+
+#include <stdio.h>
+
+static uint8_t bytes[1000], out[1000];
+static const uint8_t name[] = "b";
+
+int main(void) {
+  size_t length = fread(bytes, 1, sizeof bytes, stdin);
+  size_t number, count = 0;
+  resb_measured measured;
+  resb_error error;
+  uint32_t got[9];
+  got[count++] = resb_check(bytes, length, &number, &error);
+  got[count++] = resb_measure(bytes, length, &measured, &error);
+  got[count++] = resb_dump(bytes, length, name, 1, UINT64_MAX, out, sizeof out, &number, &error);
+  for (size_t pools = 0; pools < 2; pools++) {
+    size_t pool = pools * length;
+    got[count++] = resb_check_with_pool(bytes, length, bytes, pool, &number, &error);
+    got[count++] = resb_measure_with_pool(bytes, length, bytes, pool, &measured, &error);
+    got[count++] = resb_dump_with_pool(bytes, length, bytes, pool, name, 1, UINT64_MAX, out,
+                                       sizeof out, &number, &error);
+  }
+  for (size_t call = 0; call < count; call++)
+    printf("%s%u", call > 0 ? " " : "", (unsigned)got[call]);
+  return 0;
+}
+C
+}
+
+# status_rows COMMAND..: the rows of that program, built: a header of 24 bytes, and no body. What the
+# header says is looked at first: characters of 16 bytes are not supported.
+status_rows() {
+  local front='\030\000\332\047\024\000\000\000\000\000'
+  local back='\000ResB\002\000\000\000\001\004\000\000'
+  expect 'C: characters of another size' 0 '6 6 6 6 6 6 11 11 11' "$front\020$back" "$@"
+  expect 'C: no body' 0 '5 5 5 5 5 5 11 11 11' "$front\002$back" "$@"
+}
+
 # built NAME COMMAND..: whether the example is built, which counts only where it fails
 built() {
   local name=$1
@@ -89,6 +133,10 @@ if command -v cc > /dev/null; then
   built 'the C example of pools' cc -std=c99 -Wall -Wextra -Werror -O2 ${CFLAGS:-} \
     -I "$top/include" "$top/examples/c/show.c" "$RESB_LIB/libresb_c.a" "$RATTLE_C/liblibc_c.a" \
     -o "$folder/show" && pool_rows "$folder/show"
+  write_statuses "$folder/statuses.c"
+  built 'the program of statuses' cc -std=c99 -Wall -Wextra -Werror -O2 ${CFLAGS:-} \
+    -I "$top/include" "$folder/statuses.c" "$RESB_LIB/libresb_c.a" "$RATTLE_C/liblibc_c.a" \
+    -o "$folder/statuses" && status_rows "$folder/statuses"
 fi
 if command -v cargo > /dev/null; then
   built 'the Rust example' cargo build --quiet --offline --manifest-path \

@@ -448,14 +448,13 @@ reads() {
 # lines_of COMMAND: how many lines say want of memory, and how many others the run may not have
 lines_of() {
   wanted=0 others=0
-  while IFS= read -r line; do
+  while IFS= read -r line || [ "$line" ]; do
     case $line in
-      *': out of memory' | *'"kind":"out of memory","message":"out of memory"}')
-        wanted=$((wanted + 1)) ;;
+      *': out of memory') wanted=$((wanted + 1)) ;;
       *) [ "${known[=$line]-}" ] || others=$((others + 1)) ;;
     esac
   done < .err
-  while IFS= read -r line; do
+  while IFS= read -r line || [ "$line" ]; do
     case $1$line in
       'check{'*'"kind":"out of memory","message":"out of memory"}') wanted=$((wanted + 1)) ;;
       check*) [ "${known[=$line]-}" ] || others=$((others + 1)) ;;

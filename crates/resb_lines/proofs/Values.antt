@@ -4,10 +4,12 @@ use Rattle.std.specs.Prelude.{Bool, true, false, codes, decimal, nat_lt, Some, N
 use Rattle.std.specs.declared.alloc.Global.{Global}
 use Rattle.std.specs.declared.string.String.{String}
 use Rattle.std.specs.String.{string_bytes}
-use Rattle.std.proofs.Common.{refl, sym, ap, subst, ◌∙◌, arith, suc, zero}
+use Rattle.std.proofs.Common.{refl, sym, ap, subst, ◌∙◌, ◌<◌, ◌/◌, ◌%◌, arith, suc, zero}
+use Rattle.std.proofs.Common.{slice_index}
 use Rattle.std.proofs.lemmas.Bool.Decides.{nat_tests}
 use Rattle.std.proofs.lemmas.Option.{none-some, same_Some}
 use Rattle.std.proofs.Math.Seq.{drop-nil}
+use Rattle.hex.specs.Hex.{encode_lower, encode_with, lower_digits}
 use Rattle.resb_grammar.specs.Ascii as ascii
 use Rattle.resb_print.specs.Inner.Jobs.{Appends}
 use Rattle.resb_print.specs.Printed.{deeper, end_on, more_numbers_on}
@@ -18,7 +20,7 @@ use Rattle.resb_tree.specs.Tree.{Trees, no_trees, more_trees, Entries, no_entrie
 use Rattle.resb_lines.specs.Spelling.{Spelling}
 use Rattle.resb_lines.specs.Lines.{string_on, alias_on, tree_on, end_line_on}
 use Rattle.resb_lines.specs.Inner.Jobs.{Job, entry_job, member_job, value_job}
-use Rattle.resb_lines.specs.Inner.Jobs.{entries_job, members_job, numbers_job}
+use Rattle.resb_lines.specs.Inner.Jobs.{entries_job, members_job, numbers_job, digits_job}
 use Rattle.resb_lines.specs.Inner.Jobs.{comma_on, numbers_left, DoesJob}
 use Rattle.resb_lines.proofs.Jobs.{does, does_all}
 
@@ -42,6 +44,15 @@ one_left : (later : Bool) (n : ℕ) (ns rest : List ℕ)
     → numbers_left later (n ∷ ns) rest ≡ comma_on later (decimal n ++ more_numbers_on ns rest)
 one_left true n ns rest = refl
 one_left false n ns rest = refl
+
+-- hex digits of bytes behind others
+digits_behind : (xs ys rest : List ℕ)
+    → encode_lower (xs ++ ys) ++ rest ≡ encode_lower xs ++ (encode_lower ys ++ rest)
+unfolding encode_with
+digits_behind [] ys rest = refl
+digits_behind (x ∷ xs) ys rest =
+    ap (λ l. slice_index lower_digits (x / 16) ∷ slice_index lower_digits (x % 16) ∷ l)
+    (digits_behind xs ys rest)
 
 module _ (f : Spelling) (old new : String Global) (before after : List Job) (p : Place) (n : ℕ)
   where
@@ -69,11 +80,12 @@ module _ (f : Spelling) (old new : String Global) (before after : List Job) (p :
         (omega arith))
 
     pub value_binary : (t : Tree) (bytes : List ℕ) → t ≡ binary bytes
-        → Appends old new (tree_on f p n (binary bytes)) → after ≡ before
+        → Appends old new (λ rest. codes ":bin{\"" ++ rest)
+        → after ≡ before ++ digits_job p bytes ∷ []
         → DoesJob f old new before after (value_job p n t)
     value_binary t bytes e w a =
         as_tree t (binary bytes) e
-        (does_all f old new (tree_on f p n (binary bytes)) before after
+        (does f old new (λ rest. codes ":bin{\"" ++ rest) before after (digits_job p bytes ∷ [])
         (value_job p n (binary bytes)) w a (λ rest. refl) (omega arith))
 
     pub value_integer : (t : Tree) (v : ℕ) → t ≡ integer v
@@ -192,3 +204,24 @@ module _ (f : Spelling) (old new : String Global) (before after : List Job) (p :
         (λ rest. ap (λ l. numbers_left later l (ascii.right_brace ∷ end_on p rest)) next
         ∙ one_left later m left (ascii.right_brace ∷ end_on p rest))
         (omega (arith, ap length next))
+
+    -- the end of a binary, and the digits of its next bytes
+    pub digits_end : (bytes : List ℕ) → bytes ≡ []
+        → Appends old new (λ rest. codes "\"}" ++ end_on p rest) → after ≡ before
+        → DoesJob f old new before after (digits_job p bytes)
+    unfolding encode_with
+    digits_end bytes e w a =
+        subst (λ x. DoesJob f old new before after (digits_job p x)) (sym e)
+        (does_all f old new (λ rest. codes "\"}" ++ end_on p rest) before after (digits_job p []) w
+        a (λ rest. refl) (omega arith))
+
+    pub digits_next : (bytes next left : List ℕ) → next ++ left ≡ bytes
+        → length left < length bytes
+        → Appends old new (λ rest. encode_lower next ++ rest)
+        → after ≡ before ++ digits_job p left ∷ []
+        → DoesJob f old new before after (digits_job p bytes)
+    digits_next bytes next left e l w a =
+        does f old new (λ rest. encode_lower next ++ rest) before after (digits_job p left ∷ [])
+        (digits_job p bytes) w a
+        (λ rest. let end = ascii.quote ∷ ascii.right_brace ∷ end_on p rest in
+        ap (λ x. encode_lower x ++ end) (sym e) ∙ digits_behind next left end) (omega (arith, l))

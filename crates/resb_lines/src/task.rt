@@ -19,6 +19,8 @@ pub(crate) enum Task<'s, S: Copy, M, E> {
     Members(M, usize, Place),
     /// The numbers of a vector from this one on, and its end.
     Numbers(S, usize, Place),
+    /// The hex digits of the bytes of a binary that are still to come, and its end.
+    Digits(&'s [u8], Place),
     /// The end of the last line.
     LineFeed,
 }

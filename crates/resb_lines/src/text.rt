@@ -2,27 +2,38 @@
 //! last.
 //! What a line is made of is written by `resb_print`, and by the form in `form`.
 ghost use Rattle.std.specs.Prelude.{◌≡◌, ◌++◌, ◌∷◌, [], OnOk, IfOk, drop, nat_lt};
+ghost use Rattle.hex.specs.Hex.{encode_lower};
 ghost use Rattle.resb_print.specs.Inner.Jobs.{Appends};
 ghost use Rattle.resb_shown.specs.Shown.{numbers_in, text_in};
 ghost use Rattle.resb_tree.specs.Tree.{array, table};
 ghost use Rattle.resb_lines.specs.Lines as lines;
 ghost use Rattle.resb_lines.specs.Inner.Jobs.{jobs_in, job_of, all_on, turns_of, DoesJob};
 ghost use Rattle.resb_lines.specs.Inner.Jobs.{value_job, entries_job, members_job, numbers_job};
-ghost use Rattle.resb_lines.specs.Inner.Jobs.{entry_job, member_job, head_job, comma_on};
+ghost use Rattle.resb_lines.specs.Inner.Jobs.{entry_job, member_job, head_job, digits_job};
+ghost use Rattle.resb_lines.specs.Inner.Jobs.{comma_on};
 
 use crate::form::Form;
 use crate::task::Task;
-use resb_print::{
-    Place, deeper, push_bytes, push_end, push_integer, push_line, push_number, push_root_type,
-};
+use resb_print::{Place, deeper, push_end, push_integer, push_line, push_number, push_root_type};
 use resb_shown::{BLOCK_LEN, Blocks, Node, Shown};
 use std::alloc::{AllocError, Global};
+
+/// How many bytes of a binary are written at once.
+const DIGITS_AT_ONCE: usize = 1024;
 
 /// Writes a comma, if something stands before it.
 fn push_comma(out: &mut String, is_behind: bool) -> Result<(), AllocError>
     ensures { OnOk result (Appends out.old out.new (comma_on is_behind)) }
 {
     if is_behind { out.push_str(",") } else { Ok(()) }
+}
+
+/// Writes bytes as hex digits.
+fn push_digits(alloc: Global, out: &mut String, bytes: &[u8]) -> Result<(), AllocError>
+    ensures { OnOk result (Appends out.old out.new (λ rest. encode_lower bytes.now ++ rest)) }
+{
+    let digits = hex::encode(alloc, bytes)?;
+    out.push_str(digits.as_str())
 }
 
 /// A text that is still to be written.
@@ -168,8 +179,8 @@ impl<'s, F: Form, S: Shown<'s>> LinesText<'s, F, S, S::Members, S::Entries> {
             Node::Array(members) => self.begin_array(members, place, level),
             Node::Table(entries) => self.begin_table(entries, place, level),
             Node::Binary(bytes) => {
-                let alloc = *self.pending.allocator();
-                push_bytes(alloc, &mut self.line, place, bytes)
+                self.line.push_str(":bin{\"")?;
+                self.put(Task::Digits(bytes, place))
             }
             Node::Integer(number) => push_integer(&mut self.line, place, u32::from(number)),
             Node::IntVector => {
@@ -234,6 +245,23 @@ impl<'s, F: Form, S: Shown<'s>> LinesText<'s, F, S, S::Members, S::Entries> {
         self.put(Task::Numbers(vector, at + 1, place))
     }
 
+    /// Writes the digits of the next bytes of a binary, or its end.
+    fn step_digits(&mut self, bytes: &'s [u8], place: Place) -> Result<(), AllocError>
+        ensures { OnOk result (DoesJob F.spelling self.old.line self.new.line
+            (jobs_in S.tree S.members S.entries self.old.pending.items)
+            (jobs_in S.tree S.members S.entries self.new.pending.items)
+            (digits_job place bytes.now)) }
+    {
+        if bytes.is_empty() {
+            self.line.push_str("\"}")?;
+            return push_end(&mut self.line, place);
+        }
+        let (next, rest) = bytes.split_at(bytes.len().min(DIGITS_AT_ONCE));
+        let alloc = *self.pending.allocator();
+        push_digits(alloc, &mut self.line, next)?;
+        self.put(Task::Digits(rest, place))
+    }
+
     /// Writes the end of a collection on a line of its own.
     fn push_close(&mut self, level: usize, place: Place) -> Result<(), AllocError>
         ensures written { OnOk result
@@ -294,6 +322,7 @@ impl<'s, F: Form, S: Shown<'s>> LinesText<'s, F, S, S::Members, S::Entries> {
             Task::Entries(ahead, level, place) => self.step_entries(ahead, level, place),
             Task::Members(ahead, level, place) => self.step_members(ahead, level, place),
             Task::Numbers(vector, at, place) => self.step_numbers(vector, at, place),
+            Task::Digits(bytes, place) => self.step_digits(bytes, place),
             Task::LineFeed => self.line.push_str("\n"),
         }
     }

@@ -26,7 +26,6 @@ pub struct ShownBundle<'s, S: Copy> {
 /// Writes the lines of a bundle in a form, in blocks, however deep it nests. These are its text of
 /// the form where it has one; a root that is no table has no lines. Where the writer fails or
 /// memory is wanted, a part of them from their start was written. The writer isn't flushed.
-/// The hex digits of a binary stand in one block.
 pub fn write_lines<'s, F: Form, S: Shown<'s>, W: Write>(
     alloc: Global,
     writer: &mut W,

@@ -4,6 +4,7 @@ use Rattle.std.specs.Prelude.{false, nat_lt}
 use Rattle.std.specs.String.{string_bytes}
 use Rattle.std.specs.declared.alloc.Global.{Global}
 use Rattle.std.specs.declared.string.String.{String}
+use Rattle.hex.specs.Hex.{encode_lower}
 use Rattle.resb_tree.specs.Tree.{Tree, string, alias, array, table, binary, integer, int_vector}
 use Rattle.resb_tree.specs.Tree.{Trees, no_trees, more_trees, Entries as TableEntries}
 use Rattle.resb_tree.specs.Tree.{no_entries, entry}
@@ -17,7 +18,7 @@ use Rattle.resb_lines.specs.Spelling.{Spelling}
 use Rattle.resb_lines.specs.Lines.{tree_on, trees_on, entries_on}
 use Rattle.resb_lines.specs.declared.task.Task.{Task}
 use Rattle.resb_lines.specs.declared.task.Task.TheVariants.{Head, Entry, Member, Entries, Members}
-use Rattle.resb_lines.specs.declared.task.Task.TheVariants.{Numbers, LineFeed}
+use Rattle.resb_lines.specs.declared.task.Task.TheVariants.{Numbers, Digits, LineFeed}
 
 pub data Job : Type 0 where
   head_job : List ℕ → Bool → Job
@@ -27,6 +28,7 @@ pub data Job : Type 0 where
   entries_job : Place → ℕ → TableEntries → Job
   members_job : Place → ℕ → Trees → Job
   numbers_job : Place → Bool → List ℕ → Job
+  digits_job : Place → List ℕ → Job
   line_feed_job : Job
 
 -- the job of a task, by the trees for which handles and ways stand
@@ -38,6 +40,7 @@ job_of t m e (Member s n) = member_job n (t s)
 job_of t m e (Entries ahead n p) = entries_job p n (e ahead)
 job_of t m e (Members ahead n p) = members_job p n (m ahead)
 job_of t m e (Numbers s at p) = numbers_job p (nat_lt 0 at) (drop at (numbers_in (t s)))
+job_of t m e (Digits bytes p) = digits_job p bytes.now
 job_of t m e LineFeed = line_feed_job
 
 abbrev pub jobs_in : {S M E : Type 0} → (S → Tree) → (M → Trees) → (E → TableEntries)
@@ -65,6 +68,8 @@ job_on f (entries_job p n es) rest = entries_on f (deeper n) es (close_on n (end
 job_on f (members_job p n ts) rest = trees_on f (deeper n) ts (close_on n (end_on p rest))
 job_on f (numbers_job p later ns) rest =
     numbers_left later ns (ascii.right_brace ∷ end_on p rest)
+job_on f (digits_job p bytes) rest =
+    encode_lower bytes ++ (ascii.quote ∷ ascii.right_brace ∷ end_on p rest)
 job_on f line_feed_job rest = ascii.line_feed ∷ rest
 
 -- what all jobs write, the last one first
@@ -83,7 +88,7 @@ abbrev mutual
   tree_turns (alias s) = 1
   tree_turns (array ts) = trees_turns ts + 2
   tree_turns (table es) = entries_turns es + 2
-  tree_turns (binary bytes) = 1
+  tree_turns (binary bytes) = length bytes + 2
   tree_turns (integer n) = 1
   tree_turns (int_vector ns) = length ns + 2
 
@@ -103,6 +108,7 @@ job_turns (value_job p n t) = tree_turns t
 job_turns (entries_job p n es) = entries_turns es + 1
 job_turns (members_job p n ts) = trees_turns ts + 1
 job_turns (numbers_job p later ns) = length ns + 1
+job_turns (digits_job p bytes) = length bytes + 1
 job_turns line_feed_job = 1
 
 -- a bound on the turns that are left

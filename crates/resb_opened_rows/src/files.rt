@@ -30,7 +30,8 @@ fn words_of(row: &str) -> &str {
         "CUT" => "50000006 7 9 f f 2 0 f 630061 780000 790000 7a 200002",
         // a table of i = -1 and v = the vector of 1 and -1
         "NUMBERS" => {
-            "2000000d 7 9 11 11 2 0 a 760069 aaaa0000 2 1 ffffffff 200002 aaaa0022 7fffffff e000000a"
+            "2000000d 7 9 11 11 2 0 a 760069 aaaa0000 2 1 ffffffff 200002 aaaa0022 7fffffff \
+            e000000a"
         }
         // a table of a = 5, with key positions of 32 bits
         "WIDE" => "40000009 7 9 c c 1 0 9 aaaa0061 1 20 70000005",

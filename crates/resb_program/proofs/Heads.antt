@@ -71,11 +71,3 @@ too_large pool bytes limit UsesPool given h = absurd h
 too_large pool bytes limit (Reading e) given h = (given, h)
 too_large pool bytes limit (Larger n most) given h = h
 too_large pool bytes limit (LongKeys n most) given h = h
-
--- and why a file that fits isn't opened
-pub unopened_within : (pool : Option Pool) (bytes : List ℕ) (limit : Option ℕ) (e : FileError)
-    → OpensBeside pool bytes (Err e) → RefusesBeside pool bytes limit e
-unopened_within pool bytes limit UsesPool h = h
-unopened_within pool bytes limit (Reading e) h = h
-unopened_within pool bytes limit (Larger n most) h = absurd h
-unopened_within pool bytes limit (LongKeys n most) h = absurd h

@@ -384,7 +384,8 @@ done
 printf 'b={}' > word.txt
 told 1 '' "word.txt:1:2: expected '{'"$'\nb={}\n ^' compile word.txt
 printf 'b{a{x}\n a{y}}' > twice.txt
-told 1 '' $'twice.txt:2:6: expected each key once in the table that ends here\n a{y}}\n     ^' \
+told 1 '' $'twice.txt:2:6: expected each key once in the table that ends here\n a{y}}\n     ^
+twice.txt:2:2: this key stands at 1:3 too' \
   compile --icu twice.txt
 printf 'b{a{"\\q"}}' > escape.txt
 told 1 '' $'escape.txt:1:6: expected a known escape\nb{a{"\\q"}}\n     ^' \
@@ -419,14 +420,14 @@ icu_row() {
   local mark line=$'\n'
   mark=$(printf '%*s' $(($2 - 1)) '')^
   printf '%s' "$1" > row.txt
-  told 1 '' "row.txt:1:$2: expected $3$line$1$line$mark${4:+${line}row.txt: $4}" \
+  told 1 '' "row.txt:1:$2: expected $3$line$1$line$mark${4:+${line}row.txt:$4}" \
     compile --icu row.txt
 }
 icu_row '{' 1 'the name of the bundle'
 icu_row 'b:int{}' 2 "'table' or 'table(nofallback)'"
 icu_row 'b}' 2 "'{'"
 icu_row 'b{a}' 4 "'{' or a type"
-icu_row 'b{a:foo{}}' 4 'a type' "the types are alias,${types#the types are}"
+icu_row 'b{a:foo{}}' 4 'a type' " the types are alias,${types#the types are}"
 icu_row 'b{a:alias{}}' 11 'a string'
 icu_row 'b{a:import{}}' 4 "a type of a tree, and 'import' is none"
 icu_row 'b{a:include{}}' 4 "a type of a tree, and 'include' is none"
@@ -452,7 +453,7 @@ icu_row 'b{a{"x" =}}' 9 "'}', a comma, '{' or a type"
 icu_row 'b{a{"\"" {}}}' 5 'a string that may be a key'
 icu_row 'b{a:array{"x" y}}' 15 'a comma between two strings'
 icu_row 'b{a{x} =}' 8 "a key or '}'"
-icu_row 'b{a{x} a{y}}' 12 'each key once in the table that ends here'
+icu_row 'b{a{x} a{y}}' 12 'each key once in the table that ends here' '1:8: this key stands at 1:3 too'
 icu_row 'b{collations{a{"x"}}}' 13 'no table with rules of collation'
 icu_row 'b{CollationElements :table{}}' 21 'no table with rules of collation'
 icu_row 'b{}x' 4 'the end of the text'

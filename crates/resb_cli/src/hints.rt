@@ -3,7 +3,7 @@
 use resb_compile::{CompileError, IcuCompileError};
 use resb_grammar::Expected;
 use resb_icu_grammar::IcuExpected;
-use resb_program::SourceError;
+use resb_program::{Reason, SourceError, text_of, warnings};
 use std::alloc::Global;
 use std::fmt;
 use strsim::osa_distance;
@@ -101,6 +101,51 @@ pub(crate) fn hint_at(
             _ => None,
         },
         _ => None,
+    }
+}
+
+/// A key that stands in its table before.
+#[derive(Clone, Copy)]
+pub(crate) struct RepeatedKey {
+    /// Where it stands the second time.
+    pub(crate) place: usize,
+    /// Where it stands first.
+    pub(crate) first: usize,
+}
+
+/// The first key that stands in its table before, where a text of ICU's form is refused for that at
+/// the table's end: the groups that end before it have none.
+pub(crate) fn repeated_key(
+    alloc: Global,
+    source: &[u8],
+    end: usize,
+    error: &SourceError,
+) -> Option<RepeatedKey> {
+    if !is_of_keys(error) {
+        return None;
+    }
+    let (table, _) = source.split_at_checked(end.saturating_add(1))?;
+    let text = text_of(table).ok()?;
+    // quotes that are escaped aren't known to warnings
+    if text.contains("\\\"") {
+        return None;
+    }
+    for warning in warnings(alloc, text).ok()?.iter() {
+        if let Reason::RepeatedKey(first) = warning.reason {
+            let place = warning.place;
+            return Some(RepeatedKey { place, first });
+        }
+    }
+    None
+}
+
+/// Whether a text of ICU's form is refused for a key that stands twice in a table.
+fn is_of_keys(error: &SourceError) -> bool {
+    match error {
+        SourceError::IcuRefused(IcuCompileError::Reading(e)) => {
+            e.expected() == IcuExpected::KeysOnce
+        }
+        _ => false,
     }
 }
 

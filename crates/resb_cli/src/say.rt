@@ -1,6 +1,6 @@
 //! What is said on standard error: the place, the cause, the line round it, and warnings.
 //! What the causes are called is theirs to print.
-use crate::hints::hint_at;
+use crate::hints::{hint_at, repeated_key};
 use crate::paths::Name;
 use crate::show::Form;
 use crate::shown::Shown;
@@ -154,6 +154,18 @@ pub(crate) fn refuse<R: Eprint + AllocGlobal>(
             if let Some(quote) = long_string(source, place, error) {
                 say_at(rt, name, source, quote, LONG_STRING);
             }
+            if let Some(key) = repeated_key(rt.alloc(), source, place, error) {
+                say_at(
+                    rt,
+                    name,
+                    source,
+                    key.place,
+                    Repeated {
+                        source,
+                        first: key.first,
+                    },
+                );
+            }
         }
         Blame::Open(place) => {
             let cause = Unclosed(error);
@@ -165,6 +177,21 @@ pub(crate) fn refuse<R: Eprint + AllocGlobal>(
         }
     }
     1
+}
+
+/// Where a key stands that stands a second time.
+#[derive(Clone, Copy)]
+struct Repeated<'t> {
+    source: &'t [u8],
+    first: usize,
+}
+
+impl fmt::Display for Repeated<'_> {
+    fn fmt<W: fmt::Write>(&self, f: &mut fmt::Formatter<W>) -> fmt::Result {
+        let before = location_of(self.source, self.first);
+        let (line, column) = (before.line, before.column);
+        write!(f, "this key stands at {line}:{column} too")
+    }
 }
 
 /// The last string that spans lines before a place at which a text is refused.
@@ -269,12 +296,11 @@ impl fmt::Display for Told<'_> {
     fn fmt<W: fmt::Write>(&self, f: &mut fmt::Formatter<W>) -> fmt::Result {
         match self.warning.reason {
             Reason::RepeatedKey(first) => {
-                let before = location_of(self.source, first);
-                let (line, column) = (before.line, before.column);
-                write!(
-                    f,
-                    "warning: this key stands at {line}:{column} too; genrb refuses that"
-                )
+                let repeated = Repeated {
+                    source: self.source,
+                    first,
+                };
+                write!(f, "warning: {repeated}; genrb refuses that")
             }
             Reason::Backslash => f.write_str(
                 "warning: this backslash is a character here, and an escape for genrb",

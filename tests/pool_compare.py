@@ -5,11 +5,11 @@
 
 RESB is the program `resb`, whose `check` is asked. OTHER is a command as `answers.py` says, which
 is given the number of a pool's bytes in four bytes, these, and those of a file, and answers
-`ok COUNT` or `err MESSAGE`, that of the pool if the file uses it and it is none. With --trees
-`dump --json` is asked, and OTHER answers the JSON of the file's tree, in the form of
-docs/PROGRAM.md, in place of `ok COUNT`. FOLDER has folders of `.res` files with a `pool.res` each,
-such as those that `icupkg` extracts; of each the small files are taken. One file in seven and three
-pools in five stay whole. Differences are printed and end the run with status 1.
+`ok COUNT` or `err MESSAGE`, that of the pool if the file uses it and it is none, also where it has
+no bytes. With --trees `dump --json` is asked, and OTHER answers the JSON of the file's tree, in the
+form of docs/PROGRAM.md, in place of `ok COUNT`. FOLDER has folders of `.res` files with a
+`pool.res` each, such as those that `icupkg` extracts; of each the small files are taken. One file
+in seven and three pools in five stay whole. Differences are printed and end the run with status 1.
 """
 import collections
 import glob

@@ -4,7 +4,7 @@ use crate::encoding::utf8_of;
 use crate::folders::{Named, TEXTS, named_files};
 use crate::place::{Place, place_of};
 use crate::progress::Progress;
-use crate::save::{Bytes, save};
+use crate::save::{Bytes, save, saved};
 use crate::say::{complain, fail, fail_input, or_fail, refuse, warn};
 use crate::show::settled;
 use crate::streams::{made, read_input};
@@ -139,11 +139,8 @@ fn named_target(
 impl Target {
     /// Writes bytes there, or says why they aren't written and gives the status of that.
     fn write(&self, rt: &HostRuntime, bytes: &[u8]) -> Result<(), u8> {
-        or_fail(
-            rt,
-            self.output.as_path().as_str(),
-            save(rt, &self.place, &Bytes(bytes)),
-        )
+        let done = save(rt, &self.place, &Bytes(bytes));
+        or_fail(rt, self.output.as_path().as_str(), saved(&self.place, done))
     }
 }
 

@@ -3,7 +3,7 @@
 use crate::input::{Beside, Input};
 use crate::place::{Place, place_of};
 use crate::progress::Progress;
-use crate::save::save;
+use crate::save::{save, saved};
 use crate::say::{NoText, fail, or_fail, refuse_memory};
 use crate::show::{Form, Showing, bundle_name, bundle_of, opened_of, say_cause, settled};
 use crate::streams::{NO_MEMORY, made};
@@ -189,7 +189,8 @@ impl Source<'_> {
             return Ok(showing.print(rt, name));
         };
         let (output, place) = target_in(rt, name, showing.form.ending(), folder, taken)?;
-        or_fail(rt, output.as_path().as_str(), save(rt, &place, showing))?;
+        let done = save(rt, &place, showing);
+        or_fail(rt, output.as_path().as_str(), saved(&place, done))?;
         Ok(0)
     }
 }

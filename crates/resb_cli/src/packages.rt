@@ -2,7 +2,7 @@
 //! What a package is, is in `resb_package`.
 use crate::input::bytes_of;
 use crate::place::{Place, place_of};
-use crate::save::{Bytes, save};
+use crate::save::{Bytes, save, saved};
 use crate::say::{complain, or_fail, refuse_memory};
 use crate::show::{settled, show};
 use crate::shown::Shown;
@@ -86,7 +86,8 @@ fn extract_item(rt: &HostRuntime, wanted: &ExtractWords<'_>) -> Result<u8, u8> {
     let package = package_of(rt, name, file.as_slice())?;
     let bytes = item_of(rt, &package, name, wanted.item)?;
     let place = or_fail(rt, output, free_place(rt, name, output))?;
-    or_fail(rt, output, save(rt, &place, &Bytes(bytes)))?;
+    let done = save(rt, &place, &Bytes(bytes));
+    or_fail(rt, output, saved(&place, done))?;
     Ok(0)
 }
 

@@ -29,17 +29,21 @@ impl Content for Bytes<'_> {
 }
 
 /// Writes a content to a place.
-pub(crate) fn save<C: Content>(
-    rt: &HostRuntime,
-    place: &Place,
-    content: &C,
-) -> Result<(), &'static str> {
-    let saved = match place {
-        Place::Stream => return print(rt, content).map_err(|e| cause_of_printing(&e)),
+pub(crate) fn save<C: Content>(rt: &HostRuntime, place: &Place, content: &C) -> io::Result<()> {
+    match place {
+        Place::Stream => print(rt, content),
         Place::Inside(path) => write_inside(rt, path.as_path(), content),
         Place::Beside(path) => replace(rt, path.as_path(), content),
-    };
-    saved.map_err(|e| cause_of_writing(&e))
+    }
+}
+
+/// What a call of `save` did, by what a failure is called.
+pub(crate) fn saved(place: &Place, done: io::Result<()>) -> Result<(), &'static str> {
+    match (place, done) {
+        (_, Ok(())) => Ok(()),
+        (Place::Stream, Err(e)) => Err(cause_of_printing(&e)),
+        (_, Err(e)) => Err(cause_of_writing(&e)),
+    }
 }
 
 /// Writes a content to standard output, and flushes it.

@@ -84,37 +84,31 @@ pub(crate) struct NoText {
     pub(crate) instead: &'static str,
 }
 
-/// Says why a bundle has no text of a form, and the path to the cause, if that is inside it.
+/// Says why a bundle has no text of a form, and the path to the cause, if that is inside it; or the
+/// status, once it is said that memory for the path was wanted.
 pub(crate) fn say_no_text<R: Eprint + AllocGlobal, C: Display + Drop>(
     rt: &R,
     name: &str,
     missing: NoText,
     cause: C,
     path: Result<Option<Vec<PathStep<'_>>>, AllocError>,
-) {
+) -> Result<(), u8> {
     let at = match path {
         Ok(Some(path)) => path_text(rt.alloc(), path.as_slice()),
         Ok(None) => Ok(String::new(rt.alloc())),
         Err(e) => Err(e),
     };
-    match at {
-        Ok(at) if !at.is_empty() => {
-            let (name, at) = (Shown(name), Shown(at.as_str()));
-            let (what, end) = (missing.form.name(), missing.instead);
-            let _ = eprintln!(rt; "{name}: this has no {what}, since {cause} at {at}{end}");
-        }
-        Ok(_) => say_no_form(rt, name, missing, cause),
-        Err(_) => {
-            complain(rt, name, NO_MEMORY);
-            say_no_form(rt, name, missing, cause);
-        }
-    }
-}
-
-/// Says why a bundle has no text of a form.
-fn say_no_form<R: Eprint, C: Display + Drop>(rt: &R, name: &str, missing: NoText, cause: C) {
+    let Ok(at) = at else {
+        return Err(refuse_memory(rt, name));
+    };
     let (name, what, end) = (Shown(name), missing.form.name(), missing.instead);
-    let _ = eprintln!(rt; "{name}: this has no {what}, since {cause}{end}");
+    if at.is_empty() {
+        let _ = eprintln!(rt; "{name}: this has no {what}, since {cause}{end}");
+    } else {
+        let at = Shown(at.as_str());
+        let _ = eprintln!(rt; "{name}: this has no {what}, since {cause} at {at}{end}");
+    }
+    Ok(())
 }
 
 /// The keys and numbers of a path, as `get` takes it.

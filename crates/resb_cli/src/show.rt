@@ -192,18 +192,17 @@ pub(crate) fn say_cause(
     let (alloc, most) = (rt.alloc(), limit.unwrap_or(u64::MAX));
     if let Form::IcuText = missing.form {
         match print_icu_text_within(alloc, bundle, most) {
-            Err(IcuPrintError::OutOfMemory) => return Err(refuse_memory(rt, name)),
+            Err(IcuPrintError::OutOfMemory) => Err(refuse_memory(rt, name)),
             Err(e) => say_no_text(rt, name, missing, e, icu_cause_path(alloc, bundle)),
-            Ok(_) => return Err(refuse_long(rt, name, missing.form.name(), limit)),
+            Ok(_) => Err(refuse_long(rt, name, missing.form.name(), limit)),
         }
     } else {
         match print_text_within(alloc, bundle, most) {
-            Err(PrintError::OutOfMemory) => return Err(refuse_memory(rt, name)),
+            Err(PrintError::OutOfMemory) => Err(refuse_memory(rt, name)),
             Err(e) => say_no_text(rt, name, missing, e, cause_path(alloc, bundle)),
-            Ok(_) => return Err(refuse_long(rt, name, missing.form.name(), limit)),
+            Ok(_) => Err(refuse_long(rt, name, missing.form.name(), limit)),
         }
     }
-    Ok(())
 }
 
 /// Prints a resource as JSON, with a line feed: nothing of it where it has more bytes than the

@@ -283,6 +283,15 @@ resb check inside > got 2> .err
 holds 'the file beside a folder with the ending' is "$? $(wc -l < got) $(cat .err)" \
   '2 1 inside/bad\xff\xc3\xa9.res: this name is no UTF-8'
 holds 'nothing is written in a folder inside' is "$(ls "inside/$bad")" a.txt
+# what is no file isn't waited for
+mkdir pipes
+cp t.txt pipes/z.txt
+mkfifo pipes/m.txt pipes/m.res
+ends 2 'pipes/m.txt: this is a device or a pipe' compile pipes
+holds 'the text beside a pipe' cmp -s pipes/z.res "$want"
+resb check pipes > got 2> .err
+holds 'the file beside a pipe' is "$? $(wc -l < got) $(cat .err)" \
+  '2 1 pipes/m.res: this is a device or a pipe'
 # nothing hidden in JSON that says something of files
 cp t.res $'a\x7f\xc2\x9b\xe2\x80\xae.res'
 resb check --json $'a\x7f\xc2\x9b\xe2\x80\xae.res' > got

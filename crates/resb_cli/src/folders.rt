@@ -4,6 +4,7 @@
 use crate::streams::{NO_MEMORY, cause_of, made};
 use crate::words::text_of;
 use std::alloc::{AllocError, Global};
+use std::fs;
 use std::io::{self, Read};
 use std::path::Path;
 use std::rt::Files;
@@ -83,9 +84,17 @@ fn add_folder(
         return add(rt.alloc(), files, folder, Some(kind.none));
     }
     for name in found.iter() {
-        add(rt.alloc(), files, name.as_str(), None)?;
+        add(rt.alloc(), files, name.as_str(), fault_of(rt, name.as_str()))?;
     }
     Ok(())
+}
+
+/// Why what has a name in a folder isn't read, if it is there and no file: a pipe may never end.
+fn fault_of(rt: &HostRuntime, name: &str) -> Option<&'static str> {
+    match fs::metadata(rt, name) {
+        Ok(found) if !found.is_file() => Some("this is a device or a pipe"),
+        _ => None,
+    }
 }
 
 /// The names of the files in a folder that have this ending, sorted. One that is no UTF-8 is

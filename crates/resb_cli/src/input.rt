@@ -13,6 +13,9 @@ use std::path::Path;
 /// What a pool bundle's file is called.
 const POOL: &str = "pool.res";
 
+/// What is read of a package whatever limit is said, in bytes: ICU's own has some 30 MB.
+const LEAST_PACKAGE: u64 = 1 << 26;
+
 /// The bytes of a file; or those of a package, its name, and that of an item of it.
 #[derive(Drop)]
 pub(crate) struct Input {
@@ -60,8 +63,8 @@ pub(crate) fn split_package<'n>(rt: &HostRuntime, name: &'n str) -> Option<(&'n 
 }
 
 impl Input {
-    /// Reads the file that has a name, or the package that has the name's front: that one as a
-    /// whole, whatever the limit. The status is answered once it is said why there is none.
+    /// Reads the file that has a name, or the package that has the name's front, as a whole. The
+    /// status is answered once it is said why there is none.
     pub(crate) fn read(rt: &HostRuntime, name: &str, limit: Option<u64>) -> Result<Input, u8> {
         match Input::take(rt, name, limit) {
             Ok(input) => Ok(input),
@@ -80,7 +83,11 @@ impl Input {
                 item: None,
             });
         };
-        let bytes = read_input(rt, package, None).map_err(Unread::Input)?;
+        let most = match limit {
+            Some(limit) => Some(limit.max(LEAST_PACKAGE)),
+            None => None,
+        };
+        let bytes = read_input(rt, package, most).map_err(Unread::Input)?;
         Input::of_item(rt.alloc(), bytes, package, item)
     }
 

@@ -195,7 +195,7 @@ said_long text at n h e f =
     no_long text at h (λ x y z. f (omega (arith, e, y)) (omega (arith, e, z)))
 
 -- a hex digit is ASCII
-hex_ascii : (b : ℕ) → is_hex b ≡ true → (0 < b) × (b < 128)
+pub hex_ascii : (b : ℕ) → is_hex b ≡ true → (0 < b) × (b < 128)
 hex_ascii b h = (hex_some b h, grind (arith, nat_tests, h))
 
 ascii_moved : (text : List ℕ) (a b : ℕ) → a ≡ b → is_hex (slice_index text a) ≡ true

@@ -14,6 +14,7 @@ mod KeptLemmas
 mod QuotaLemmas
 mod MakingLemmas
 mod DraftLemmas
+mod DigitsLemmas
 mod LeafLemmas
 mod ReadingLemmas
 mod StepsLemmas

@@ -197,7 +197,7 @@ adds_byte text from last start at old value bytes o l f s a =
     }
 
 -- behind a backslash an escape stands for what it says
-rest_escape : (text : List ℕ) (at next last : ℕ) (first rest : List ℕ)
+pub rest_escape : (text : List ℕ) (at next last : ℕ) (first rest : List ℕ)
     → slice_index text at ≡ backslash → Escape text (at + 1) next first
     → QuotedBytes text at last rest
     → (more : List ℕ) × (rest ≡ first ++ more) × QuotedBytes text next last more

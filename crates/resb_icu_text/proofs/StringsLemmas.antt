@@ -357,12 +357,12 @@ joined_order text from to s (one_more _ m n _ us vs p t j) =
     )
 
 -- a row of pieces whose first one ends there is that one, or it and those behind it
-data Row (text : List ℕ) (last to : ℕ) (first : List ℕ) : List ℕ → Type 0 where
+pub data Row (text : List ℕ) (last to : ℕ) (first : List ℕ) : List ℕ → Type 0 where
   one_alone : last + 1 ≡ to → Row text last to first first
   and_others : (next : ℕ) (later : List ℕ) → Skip text (last + 1) next → Joined text next to later
       → last + 1 < to → Row text last to first (first ++ later)
 
-row : (text : List ℕ) (at last to : ℕ) (first s : List ℕ) → QuotedBytes text (at + 1) last first
+pub row : (text : List ℕ) (at last to : ℕ) (first s : List ℕ) → QuotedBytes text (at + 1) last first
     → Joined text at to s → Row text last to first s
 row text at last to first s h (last_piece _ _ n _ p t q) =
     let same = Inside-one text (at + 1) p.last last s first p.inside h in

@@ -1,6 +1,7 @@
 -- Words of private functions.
 pub mod Ahead
 pub mod Build
+pub mod Digits
 pub mod Escaped
 pub mod Found
 pub mod Kept

@@ -1,24 +1,27 @@
 //! Groups that hold no items: one string, a path, hex digits, one number, or numbers.
 //! Each is read from behind its `{` on, up to its `}`. Which type a group names is read in `types`.
 ghost use Rattle.std.specs.Prelude.{◌≡◌, ◌≢◌, ◌+◌, ◌*◌, ◌<◌, ◌≤◌, length, MatchResult};
-ghost use Rattle.std.specs.Prelude.{slice_index};
+ghost use Rattle.std.specs.Prelude.{◌-◌, None, Some, IfOk, slice_index};
 ghost use Rattle.resb_grammar.specs.Ascii as ascii;
+ghost use Rattle.resb_grammar.specs.Group.{hex_bytes};
 ghost use Rattle.resb_icu_grammar.specs.Kinds.{kind_of, string_kind, alias_kind, binary_kind};
 ghost use Rattle.resb_icu_grammar.specs.Kinds.{integer_kind, vector_kind, array_kind, table_kind};
+ghost use Rattle.resb_icu_text.specs.Inner.Found.{IsFound, turns_to_make};
 ghost use Rattle.resb_icu_text.specs.Inner.Leaf.{IsReadLeaf, LeafStops, IsVector, IsBrace};
 ghost use Rattle.resb_icu_text.specs.Inner.Leaf.{IsBehindNumber, WantsBrace, WantsCommaOrBrace};
 ghost use Rattle.resb_icu_text.specs.Inner.Turns.{Halts};
 ghost use Rattle.resb_grammar.specs.Inner.Reach.{reach};
 
 use crate::blanks::{byte, skip};
+use crate::digits::hex_length;
 use crate::error::IcuTextError;
 use crate::quota::{BLOCK, Meter, NUMBER, string_bytes};
-use crate::strings::found_or;
+use crate::strings::{Found, found_or};
 use crate::turns::IcuTurns;
 use crate::words::number;
 use resb_grammar::bytes_of_hex;
 use resb_icu_grammar::{IcuExpected, IcuKind};
-use resb_tree::{Int28, Resource, weights};
+use resb_tree::{Int28, NoMemory, Resource, weights};
 use std::alloc::Global;
 use std::borrow::CowSlice;
 
@@ -78,7 +81,8 @@ fn alias_leaf<'a>(
     Ok((to, Resource::Alias(path)))
 }
 
-/// The place of the `}` of a `:bin` group, and its bytes.
+/// The place of the `}` of a `:bin` group, and its bytes, which are taken from the quota before
+/// digits are put together.
 fn binary_leaf<'a>(
     alloc: Global,
     text: &'a str,
@@ -94,14 +98,36 @@ fn binary_leaf<'a>(
         (λ e. Halts text.now 4 at meter.old.turns meter.new.turns) }
 {
     let found = found_or(text, at, IcuExpected::String, &mut meter.turns)?;
-    let digits = found.text(alloc, text, at, &mut meter.turns)?;
-    meter.turns.add(digits.len());
-    let Some(bytes) = bytes_of_hex(alloc, &digits)? else {
+    let Some(count) = hex_length(found, text, at, &mut meter.turns) else {
         return Err(IcuTextError::new(at, IcuExpected::HexPairs));
     };
     let to = closing(text, found.next)?;
-    meter.quota.take(BLOCK + bytes.len() as u128)?;
+    meter.quota.take(BLOCK + count as u128)?;
+    let bytes = decoded(alloc, found, text, at, &mut meter.turns)?;
     Ok((to, Resource::Binary(CowSlice::Owned(bytes))))
+}
+
+/// The bytes that the pairs of hex digits say that a string is. Counts as many turns as it takes to
+/// put it together.
+fn decoded(
+    alloc: Global,
+    found: Found<'_>,
+    text: &str,
+    from: usize,
+    turns: &mut IcuTurns,
+) -> Result<Vec<u8>, NoMemory>
+    requires found { IsFound text.now from found }
+    requires pairs { (is : IsFound text.now from found) → hex_bytes is.said ≢ None }
+    ensures bytes { IfOk result (λ v. (is : IsFound text.now from found.entry)
+        → hex_bytes is.said ≡ Some v.items) }
+    ensures cost { let bytes = found.entry.end - from in turns.new.count
+        ≤ turns.old.count + turns_to_make bytes found.entry.stands }
+{
+    let digits = found.text(alloc, text, from, turns)?;
+    match bytes_of_hex(alloc, &digits)? {
+        Some(bytes) => Ok(bytes),
+        None => unreachable!(),
+    }
 }
 
 /// The place of the `}` of an `:int` group, and its number, which the bundle holds modulo 2^28.

@@ -5,6 +5,7 @@
 
 mod blanks;
 mod build;
+mod digits;
 mod drafts;
 mod error;
 mod escapes;

@@ -1,18 +1,21 @@
-use Rattle.std.proofs.Common.{ap, arith, refl, sym, ◌∙◌, length}
+use Rattle.std.proofs.Common.{◌≡◌, ap, arith, refl, sym, length}
 use Rattle.std.proofs.lemmas.Result.{err_from_is_err_and}
 use Rattle.resb_tree.proofs.ViewLemmas.{tree_of_binary}
-use Rattle.resb_grammar.specs.Group.{hex_bytes}
 use Rattle.resb_icu_grammar.specs.Kinds.{binary_kind}
 use Rattle.resb_icu_grammar.specs.Stuck.{no_digits, odd_digits, open_binary}
-use Rattle.resb_grammar.proofs.ReachLemmas.{reach_right, reach_low, reach_high}
+use Rattle.resb_grammar.proofs.ReachLemmas.{reach_right, reach_high}
 use Rattle.resb_icu_text.proofs.LeafLemmas.{leaf_fails, told_leaf, leaf_lacks, leaf_over, leaf_read}
 use Rattle.resb_icu_text.proofs.LeafLemmas.{binary_stands, closing_at}
 use Rattle.resb_icu_text.proofs.KeptLemmas.{bytes_kept}
-use Rattle.resb_icu_text.proofs.LengthLemmas.{string_short}
 use Rattle.resb_icu_text.proofs.Lists.{some_not_none}
 use Rattle.resb_icu_text.proofs.QuotaLemmas.{none_taken}
 use Rattle.resb_icu_text.proofs.ReachLemmas.{reach_string}
 use Rattle.resb_icu_text.proofs.leaf.binary_leaf.Goals as goal
+
+pub decoded-requires-clause-pairs : goal.decoded-requires-clause-pairs
+decoded-requires-clause-pairs c = λ is.
+    let pairs = rw c.in-Some.is at c.hex_length.ensures.pairs in
+    some_not_none _ _ (pairs is).1
 
 pub returns-in_err-found-clause-reads : goal.returns-in_err-found-clause-reads
 returns-in_err-found-clause-reads c =
@@ -20,179 +23,88 @@ returns-in_err-found-clause-reads c =
     rw (p.1, p.2) (told_leaf c.args.at binary_kind _ (none_taken _) refl (no_digits _ _)
     c.in_err-found.ensures.reads)
 
-pub returns-in_err-digits-clause-reads : goal.returns-in_err-digits-clause-reads
-returns-in_err-digits-clause-reads c =
-    let p = err_from_is_err_and c.from_residual-in_err-digits.result
-    c.from_residual-in_err-digits.ensures.1 in
-    rw (p.1, p.2) (leaf_lacks c.args.at binary_kind _ (none_taken _) refl)
+pub returns-in_default-clause-reads : goal.returns-in_default-clause-reads
+returns-in_default-clause-reads c =
+    let found = c.in_ok-found.ensures.reads in
+    let none = rw c.in_default.is at c.hex_length.ensures.pairs in
+    leaf_fails c.args.at binary_kind _ _ _ (none_taken _) refl c.new.ensures
+    (odd_digits _ _ found.string (none found))
+
+pub returns-in_err-to-clause-reads : goal.returns-in_err-to-clause-reads
+returns-in_err-to-clause-reads c =
+    let found = c.in_ok-found.ensures.reads in
+    let pairs = rw c.in-Some.is at c.hex_length.ensures.pairs in
+    let p = err_from_is_err_and c.from_residual-in_err-to.result
+    c.from_residual-in_err-to.ensures.1 in
+    let e = c.in_err-to.ensures in
+    rw (p.1, p.2) (leaf_fails c.args.at binary_kind _ _ _ (none_taken _) refl e.is
+    (open_binary _ _ _ found.string (some_not_none _ _ (pairs found).1) found.blanks e.none))
+
+pub returns-in_err-take-clause-reads : goal.returns-in_err-take-clause-reads
+returns-in_err-take-clause-reads c =
+    let found = c.in_ok-found.ensures.reads in
+    let pairs = rw c.in-Some.is at c.hex_length.ensures.pairs in
+    let says = pairs found in
+    let p = err_from_is_err_and c.from_residual-in_err-take.result
+    c.from_residual-in_err-take.ensures.1 in
+    rw (p.1, p.2) (leaf_over c.args.at binary_kind c.in_ok-to.to _ _
+    (binary_stands _ _ _ _ _ _ found.string says.1
+    (closing_at _ _ _ _ found.blanks c.in_ok-to.ensures))
+    c.in_err-take.ensures (omega (arith, says.2)) refl)
 
 pub returns-in_err-bytes-clause-reads : goal.returns-in_err-bytes-clause-reads
 returns-in_err-bytes-clause-reads c =
     let p = err_from_is_err_and c.from_residual-in_err-bytes.result
     c.from_residual-in_err-bytes.ensures.1 in
-    rw (p.1, p.2) (leaf_lacks c.args.at binary_kind _ (none_taken _) refl)
-
-pub returns-in_default-clause-reads : goal.returns-in_default-clause-reads
-returns-in_default-clause-reads c =
-    let found = c.in_ok-found.ensures.reads in
-    let same = c.deref.ensures.value ∙ c.in_ok-digits.ensures.says.1 found in
-    let none = rw c.in_default.is at c.in_ok-bytes.ensures.none in
-    leaf_fails c.args.at binary_kind _ _ _ (none_taken _) refl c.new.ensures
-    (odd_digits _ _ found.string (sym (ap hex_bytes same) ∙ none))
-
-pub returns-in_err-to-clause-reads : goal.returns-in_err-to-clause-reads
-returns-in_err-to-clause-reads c =
-    let found = c.in_ok-found.ensures.reads in
-    let same = c.deref.ensures.value ∙ c.in_ok-digits.ensures.says.1 found in
-    let bytes = rw c.in-Some.is at c.in_ok-bytes.ensures.found in
-    let p = err_from_is_err_and c.from_residual-in_err-to.result
-    c.from_residual-in_err-to.ensures.1 in
-    let e = c.in_err-to.ensures in
-    rw (p.1, p.2) (leaf_fails c.args.at binary_kind _ _ _ (none_taken _) refl e.is
-    (open_binary _ _ _ found.string (some_not_none _ _ (sym (ap hex_bytes same) ∙ bytes))
-    found.blanks e.none))
-
-pub returns-in_err-take-clause-reads : goal.returns-in_err-take-clause-reads
-returns-in_err-take-clause-reads c =
-    let found = c.in_ok-found.ensures.reads in
-    let same = c.deref.ensures.value ∙ c.in_ok-digits.ensures.says.1 found in
-    let bytes = rw c.in-Some.is at c.in_ok-bytes.ensures.found in
-    let p = err_from_is_err_and c.from_residual-in_err-take.result
-    c.from_residual-in_err-take.ensures.1 in
-    rw (p.1, p.2) (leaf_over c.args.at binary_kind c.in_ok-to.to _ _
-    (binary_stands _ _ _ _ _ _ found.string
-    (sym (ap hex_bytes same) ∙ bytes) (closing_at _ _ _ _ found.blanks c.in_ok-to.ensures))
-    c.in_err-take.ensures (omega (arith, c.len-2.ensures)) refl)
+    rw (p.1, p.2) (leaf_lacks c.args.at binary_kind _ c.in_ok-take.ensures refl)
 
 pub returns-clause-reads : goal.returns-clause-reads
 returns-clause-reads c =
     let found = c.in_ok-found.ensures.reads in
-    let same = c.deref.ensures.value ∙ c.in_ok-digits.ensures.says.1 found in
-    let bytes = rw c.in-Some.is at c.in_ok-bytes.ensures.found in
+    let pairs = rw c.in-Some.is at c.hex_length.ensures.pairs in
+    let says = pairs found in
+    let bytes = c.in_ok-bytes.ensures.bytes found in
+    let one : says.0 ≡ c.in_ok-bytes.bytes.items = cc (bytes, says.1) in
     leaf_read c.args.at binary_kind c.in_ok-to.to _ _ (sym (tree_of_binary _))
-    (binary_stands _ _ _ _ _ _ found.string
-    (sym (ap hex_bytes same) ∙ bytes) (closing_at _ _ _ _ found.blanks c.in_ok-to.ensures))
-    c.in_ok-take.ensures (omega (arith, c.len-2.ensures)) (bytes_kept _ _ refl)
+    (binary_stands _ _ _ _ _ _ found.string bytes
+    (closing_at _ _ _ _ found.blanks c.in_ok-to.ensures))
+    c.in_ok-take.ensures (omega (arith, says.2, ap length one)) (bytes_kept _ _ refl)
     (omega (arith, found.after, found.order, c.in_ok-to.ensures.same))
     (omega (arith, c.in_ok-to.ensures.same, c.in_ok-to.ensures.fits))
-
-pub returns-in_err-digits-clause-cost : goal.returns-in_err-digits-clause-cost
-returns-in_err-digits-clause-cost c =
-    let found = c.in_ok-found.ensures.reads in
-    let p = err_from_is_err_and c.from_residual-in_err-digits.result
-    c.from_residual-in_err-digits.ensures.1 in
-    rw p.1 (omega (
-      arith,
-      c.in_ok-found.ensures.cost,
-      c.text.ensures.cost,
-      c.requires.within,
-      reach_string c.args.text.now c.args.at _ _ found.string,
-      reach_high c.args.text.now _ found.fits,
-    ))
-
-pub returns-in_err-bytes-clause-cost : goal.returns-in_err-bytes-clause-cost
-returns-in_err-bytes-clause-cost c =
-    let found = c.in_ok-found.ensures.reads in
-    let same = c.deref.ensures.value ∙ c.in_ok-digits.ensures.says.1 found in
-    let short = string_short _ _ _ _ found.string in
-    let equal = ap length same in
-    let p = err_from_is_err_and c.from_residual-in_err-bytes.result
-    c.from_residual-in_err-bytes.ensures.1 in
-    rw p.1 (omega (
-      arith,
-      c.in_ok-found.ensures.cost,
-      c.text.ensures.cost,
-      short,
-      equal,
-      c.add.ensures.most,
-      found.order,
-      reach_low c.args.text.now _ found.fits,
-      c.requires.within,
-      reach_string c.args.text.now c.args.at _ _ found.string,
-      reach_high c.args.text.now _ found.fits,
-    ))
-
-pub returns-in_err-to-clause-cost : goal.returns-in_err-to-clause-cost
-returns-in_err-to-clause-cost c =
-    let found = c.in_ok-found.ensures.reads in
-    let same = c.deref.ensures.value ∙ c.in_ok-digits.ensures.says.1 found in
-    let short = string_short _ _ _ _ found.string in
-    let equal = ap length same in
-    let p = err_from_is_err_and c.from_residual-in_err-to.result
-    c.from_residual-in_err-to.ensures.1 in
-    rw p.1 (omega (
-      arith,
-      c.in_ok-found.ensures.cost,
-      c.text.ensures.cost,
-      short,
-      equal,
-      c.add.ensures.most,
-      found.order,
-      reach_low c.args.text.now _ found.fits,
-      c.requires.within,
-      reach_string c.args.text.now c.args.at _ _ found.string,
-      reach_high c.args.text.now _ found.fits,
-    ))
-
-pub returns-in_err-take-clause-cost : goal.returns-in_err-take-clause-cost
-returns-in_err-take-clause-cost c =
-    let found = c.in_ok-found.ensures.reads in
-    let same = c.deref.ensures.value ∙ c.in_ok-digits.ensures.says.1 found in
-    let short = string_short _ _ _ _ found.string in
-    let equal = ap length same in
-    let p = err_from_is_err_and c.from_residual-in_err-take.result
-    c.from_residual-in_err-take.ensures.1 in
-    rw p.1 (omega (
-      arith,
-      c.in_ok-found.ensures.cost,
-      c.text.ensures.cost,
-      short,
-      equal,
-      c.add.ensures.most,
-      found.order,
-      reach_low c.args.text.now _ found.fits,
-      c.requires.within,
-      reach_string c.args.text.now c.args.at _ _ found.string,
-      reach_high c.args.text.now _ found.fits,
-    ))
 
 pub returns-in_default-clause-cost : goal.returns-in_default-clause-cost
 returns-in_default-clause-cost c =
     let found = c.in_ok-found.ensures.reads in
-    let same = c.deref.ensures.value ∙ c.in_ok-digits.ensures.says.1 found in
-    let short = string_short _ _ _ _ found.string in
-    let equal = ap length same in
-    omega (
-      arith,
-      c.in_ok-found.ensures.cost,
-      c.text.ensures.cost,
-      short,
-      equal,
-      c.add.ensures.most,
-      found.order,
-      reach_low c.args.text.now _ found.fits,
-      c.requires.within,
-      reach_string c.args.text.now c.args.at _ _ found.string,
-      reach_high c.args.text.now _ found.fits,
-    )
+    let there = reach_string c.args.text.now c.args.at _ _ found.string in
+    omega (arith, c.in_ok-found.ensures.cost, reach_high c.args.text.now _ found.fits)
+
+pub returns-in_err-to-clause-cost : goal.returns-in_err-to-clause-cost
+returns-in_err-to-clause-cost c =
+    let found = c.in_ok-found.ensures.reads in
+    let p = err_from_is_err_and c.from_residual-in_err-to.result
+    c.from_residual-in_err-to.ensures.1 in
+    let there = reach_string c.args.text.now c.args.at _ _ found.string in
+    rw p.1 (omega (arith, c.in_ok-found.ensures.cost, reach_high c.args.text.now _ found.fits))
+
+pub returns-in_err-take-clause-cost : goal.returns-in_err-take-clause-cost
+returns-in_err-take-clause-cost c =
+    let found = c.in_ok-found.ensures.reads in
+    let p = err_from_is_err_and c.from_residual-in_err-take.result
+    c.from_residual-in_err-take.ensures.1 in
+    let there = reach_string c.args.text.now c.args.at _ _ found.string in
+    rw p.1 (omega (arith, c.in_ok-found.ensures.cost, reach_high c.args.text.now _ found.fits))
+
+pub returns-in_err-bytes-clause-cost : goal.returns-in_err-bytes-clause-cost
+returns-in_err-bytes-clause-cost c =
+    let found = c.in_ok-found.ensures.reads in
+    let p = err_from_is_err_and c.from_residual-in_err-bytes.result
+    c.from_residual-in_err-bytes.ensures.1 in
+    let there = reach_string c.args.text.now c.args.at _ _ found.string in
+    rw p.1 (omega (arith, c.in_ok-found.ensures.cost, reach_high c.args.text.now _ found.fits))
 
 pub returns-clause-cost : goal.returns-clause-cost
 returns-clause-cost c =
     let found = c.in_ok-found.ensures.reads in
-    let same = c.deref.ensures.value ∙ c.in_ok-digits.ensures.says.1 found in
-    let short = string_short _ _ _ _ found.string in
-    let equal = ap length same in
     let to = c.in_ok-to.ensures in
-    omega (
-      arith,
-      c.in_ok-found.ensures.cost,
-      c.text.ensures.cost,
-      short,
-      equal,
-      c.add.ensures.most,
-      found.order,
-      reach_low c.args.text.now _ found.fits,
-      to.same,
-      reach_right c.args.text.now _ to.closes,
-      reach_string c.args.text.now c.args.at _ _ found.string,
-    )
+    let there = reach_string c.args.text.now c.args.at _ _ found.string in
+    omega (arith, c.in_ok-found.ensures.cost, reach_right c.args.text.now _ to.closes)

@@ -1,0 +1,30 @@
+-- The hex digits that a string says.
+use Rattle.std.specs.Prelude.{◌≡◌, ℕ, Bool, true, List, ◌∷◌, length, Some, None}
+use Rattle.std.specs.List.{list_all}
+use Rattle.resb_grammar.specs.Group.{is_hex, hex_bytes}
+use Rattle.resb_icu_grammar.specs.Pieces.{QuotedBytes}
+use Rattle.resb_icu_text.specs.Inner.Found.{IsFound}
+use Rattle.resb_icu_text.specs.declared.strings.Found.{Found}
+
+-- each of these bytes is a hex digit
+abbrev pub are_digits : List ℕ → Bool
+are_digits s = list_all is_hex s
+
+-- of what a piece says up to its closing quote a hex digit is the first, and the rest goes on at
+-- this place
+pub record DigitAt (text : List ℕ) (last : ℕ) (bytes : List ℕ) (to : ℕ) : Type 0 where
+  pub digit : ℕ
+  pub rest : List ℕ
+  pub whole : bytes ≡ digit ∷ rest
+  pub is_digit : is_hex digit ≡ true
+  pub on : QuotedBytes text to last rest
+
+-- a string that stands there says pairs of hex digits, for so many bytes
+abbrev pub SaysPairs : List ℕ → ℕ → Found → ℕ → Type 0
+SaysPairs text from f n =
+    (is : IsFound text from f)
+    → (bytes : List ℕ) × (hex_bytes is.said ≡ Some bytes) × (length bytes ≡ n)
+
+-- it says no such pairs
+abbrev pub SaysNone : List ℕ → ℕ → Found → Type 0
+SaysNone text from f = (is : IsFound text from f) → hex_bytes is.said ≡ None

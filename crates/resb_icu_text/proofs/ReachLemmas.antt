@@ -12,11 +12,17 @@ use Rattle.resb_icu_grammar.proofs.Lexical.{word_first, joined_first}
 use Rattle.resb_icu_text.specs.declared.steps.Step.{Step}
 use Rattle.resb_icu_text.specs.declared.steps.Step.TheVariants as step
 use Rattle.resb_grammar.specs.Inner.Reach.{reach}
-use Rattle.resb_grammar.proofs.ReachLemmas.{reach_high, reach_here, reach_slash, reach_quote}
+use Rattle.resb_grammar.proofs.ReachLemmas.{reach_low, reach_high, reach_here, reach_slash}
+use Rattle.resb_grammar.proofs.ReachLemmas.{reach_quote, reach_right, reach_left, reach_comma}
+use Rattle.resb_grammar.proofs.ReachLemmas.{reach_colon}
 use Rattle.resb_icu_text.specs.declared.steps.Read.{Read}
 use Rattle.resb_icu_text.specs.declared.steps.Read.TheVariants as read
 use Rattle.resb_icu_text.specs.Inner.Steps.{read_to, spent_reading}
 use Rattle.resb_icu_text.specs.Inner.Steps.{stands_at, spent}
+
+-- how far a reading has looked that stands at a place, at any and by the byte there
+pub ruleset reached =
+    (reach_low, reach_high, reach_quote, reach_right, reach_left, reach_comma, reach_colon)
 
 slash_no_word : (b : ℕ) → b ≡ ascii.slash → is_word b ≡ true → ⊥
 slash_no_word b e h = grind (arith, nat_tests, e, h)

@@ -24,7 +24,7 @@ use Rattle.resb_icu_grammar.specs.Groups.{nothing, a_string, a_group, is_member,
 use Rattle.resb_icu_grammar.specs.Groups.{TypedOpening}
 use Rattle.resb_icu_grammar.specs.Groups.{LeafContent, string_content, alias_content}
 use Rattle.resb_icu_grammar.specs.Groups.{binary_content, integer_content, no_numbers, numbers}
-use Rattle.resb_icu_grammar.specs.Machine.{Waiting, Standing, Reading, reading_at}
+use Rattle.resb_icu_grammar.specs.Machine.{Waiting, Standing, Reading, reading_at, BeginsGroup}
 use Rattle.resb_icu_grammar.specs.Machine.{Move, StepOut, among_members, among_entries}
 use Rattle.resb_icu_grammar.specs.Machine.{behind_group, in_untyped, in_typed, before_group}
 use Rattle.resb_icu_grammar.specs.Machine as move
@@ -82,6 +82,8 @@ key_ahead text at f k is e = record {
   after = is.blanks;
   order = omega (arith, is.after, is.order);
   fits = is.fits;
+  short = omega (arith, ap length (e.1 text is.said at is.shows), is.short, is.order);
+  here = is.here;
 }
 
 -- where a string may be no key, no key stands
@@ -281,14 +283,13 @@ module _ {X : Type 0} {text : List ℕ} {p q : Quota} where
   pub no_member : (es : List X) (l : Last) (at : ℕ) (x : IcuExpected) (e : IcuTextError)
       → TakesBytes p q 0
       → x ≡ member_behind (last_of l) → slice_index text at ≢ ascii.right_brace
-      → slice_index text at ≢ ascii.comma → slice_index text at ≢ ascii.left_brace
-      → slice_index text at ≢ ascii.colon → StringFails text at x e
+      → slice_index text at ≢ ascii.comma → (BeginsGroup text at → ⊥) → StringFails text at x e
       → StepFails text (members_place es l at) p q e
-  no_member es l at x e t h a b d f =
+  no_member es l at x e t h a b f =
       told_at (λ tree. among_members (last_of l) (map tree es)) at x e (NoStringAt text at) t
       (λ tree. refl)
       (λ tree g u. stuck.no_member (last_of l) (map tree es) at e.position e.expected a b
-      (⊎_elim d f) g (subst (λ y. Told text at y e.position e.expected) h u))
+      f g (subst (λ y. Told text at y e.position e.expected) h u))
 
   -- a `}` ends a table, if each key stands once in it
   pub entries_end : (v : Vec (Bor (List ℕ) × X) Global) (at : ℕ) → p ≡ q
@@ -535,11 +536,10 @@ module _ {X : Type 0} {text : List ℕ} {p q : Quota} where
   pub no_untyped_string : (at : ℕ) (f : Found) (e : IcuTextError) → TakesBytes p q 0
       → Says f.next expect.AfterString e → IsFound text at f
       → slice_index text f.next ≢ ascii.right_brace → slice_index text f.next ≢ ascii.comma
-      → slice_index text f.next ≢ ascii.left_brace → slice_index text f.next ≢ ascii.colon
-      → StepFails text (untyped_place X at) p q e
-  no_untyped_string at f e t h is a b d c =
+      → (BeginsGroup text f.next → ⊥) → StepFails text (untyped_place X at) p q e
+  no_untyped_string at f e t h is a b c =
       fails_at (λ tree. in_untyped) at f.next _ e t h (λ tree. refl)
-      (λ tree. stuck.no_further at f.end f.next is.said is.string is.blanks a b (⊎_elim d c))
+      (λ tree. stuck.no_further at f.end f.next is.said is.string is.blanks a b c)
 
   -- a string that may be no key, with a group behind it
   pub no_untyped_key : (at : ℕ) (f : Found) (e : IcuTextError) → TakesBytes p q 0
@@ -552,12 +552,11 @@ module _ {X : Type 0} {text : List ℕ} {p q : Quota} where
 
   -- nothing that may stand in a group without a type
   pub no_untyped : (at : ℕ) (e : IcuTextError) → TakesBytes p q 0
-      → slice_index text at ≢ ascii.right_brace
-      → slice_index text at ≢ ascii.left_brace → slice_index text at ≢ ascii.colon
+      → slice_index text at ≢ ascii.right_brace → (BeginsGroup text at → ⊥)
       → StringFails text at expect.Member e → StepFails text (untyped_place X at) p q e
-  no_untyped at e t a b d =
+  no_untyped at e t a b =
       told_at (λ tree. in_untyped) at expect.Member e (NoStringAt text at) t (λ tree. refl)
-      (λ tree. stuck.no_content at e.position e.expected a (⊎_elim b d))
+      (λ tree. stuck.no_content at e.position e.expected a b)
 
 module _ {X : Type 0} {text : List ℕ} {p o q : Quota} where
   -- a step from where a reading comes to

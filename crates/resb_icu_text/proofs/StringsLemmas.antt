@@ -20,7 +20,9 @@ use Rattle.resb_icu_grammar.specs.Words as words
 use Rattle.resb_icu_grammar.proofs.Lexical.{Piece-one, word_first, joined_first, Inside-one}
 use Rattle.resb_icu_grammar.proofs.Lexical.{Skip-one}
 use Rattle.std.proofs.lemmas.List.{length-append}
-use Rattle.resb_icu_text.proofs.LengthLemmas.{blanks_order}
+use Rattle.resb_icu_text.proofs.LengthLemmas.{blanks_order, string_short}
+use Rattle.resb_icu_text.proofs.ReachLemmas.{reach_string}
+use Rattle.resb_grammar.proofs.ReachLemmas.{reach_low, reach_high, reach_quote}
 use Rattle.resb_icu_text.specs.declared.strings.Said.{Said}
 use Rattle.resb_icu_grammar.specs.Stuck.{NoStringAt}
 use Rattle.resb_icu_text.specs.Lexemes.{IsLexeme, Verbatim, a_word, a_piece}
@@ -253,6 +255,11 @@ plain_found text from end next slice p s low order fits = record {
   after = low;
   order = order;
   fits = fits;
+  counted = refl;
+  short = string_short text from end slice.now (plain_is_string text from end slice.now p);
+  here = reach_string text from end slice.now (plain_is_string text from end slice.now p);
+  low = reach_low text next fits;
+  high = reach_high text next fits;
 }
 
 -- a word
@@ -292,9 +299,11 @@ module _ (text : List ℕ) (from last next : ℕ) (first : List ℕ) where
       let j = join text from (last + 1) next all.end first g.later
       (piece_of text from last first q h) s g.ahead in
       let never = not_plain text from last all.end first said q h f in
+      let same : length said ≡ all.length =
+      omega (arith, g.sum, c, length-append first g.later) in
       record {
         said = said;
-        shows = (omega (arith, g.sum, c, length-append first g.later), j);
+        shows = (sym same, j);
         string = words.quoted j;
         key = (
           λ b. absurd (false≢true b),
@@ -305,6 +314,11 @@ module _ (text : List ℕ) (from last next : ℕ) (first : List ℕ) where
         after = omega (arith, inside_order text (from + 1) last first h, g.order);
         order = g.seen.order;
         fits = g.seen.fits;
+        counted = same;
+        short = string_short text from all.end said (words.quoted j);
+        here = reach_quote text from q;
+        low = reach_low text all.next g.seen.fits;
+        high = reach_high text all.next g.seen.fits;
       }
 
 -- why one piece is not what was put together

@@ -26,6 +26,7 @@ use std::alloc::Global;
 use std::borrow::CowSlice;
 
 /// The place of the `}` that must stand here.
+#[tactic(auto, using(crate::proofs::ReachLemmas::reached))]
 fn closing(text: &str, at: usize) -> Result<usize, IcuTextError>
     requires within { at ≤ length text.now }
     ensures { MatchResult result (IsBrace text.now at) (WantsBrace text.now at) }
@@ -131,6 +132,13 @@ fn decoded(
 }
 
 /// The place of the `}` of an `:int` group, and its number, which the bundle holds modulo 2^28.
+#[tactic(
+    auto,
+    using(
+        crate::proofs::ReachLemmas::reached,
+        crate::proofs::ReachLemmas::reach_number,
+    )
+)]
 fn integer_leaf<'a>(
     text: &'a str,
     at: usize,
@@ -172,6 +180,13 @@ fn behind_number(text: &str, at: usize, turns: &mut IcuTurns) -> Result<usize, I
 
 /// The place of the `}` behind numbers, and these: at least one, with a comma between two. Each is
 /// taken from the quota before there is room for it.
+#[tactic(
+    auto,
+    using(
+        crate::proofs::ReachLemmas::reached,
+        crate::proofs::ReachLemmas::reach_number,
+    )
+)]
 fn numbers(
     alloc: Global,
     text: &str,
@@ -204,6 +219,7 @@ fn numbers(
 }
 
 /// The place of the `}` of an `:intvector` group, and its numbers.
+#[tactic(auto, using(crate::proofs::ReachLemmas::reached))]
 fn vector_leaf<'a>(
     alloc: Global,
     text: &'a str,

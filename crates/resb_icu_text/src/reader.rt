@@ -203,6 +203,7 @@ struct Root<B, X> {
 
 /// What stands before the root, what is made of that, and the keys, where no more bytes are made
 /// than the meter's quota has.
+#[tactic(auto, using(crate::proofs::ReachLemmas::reached))]
 fn read_into<'a, B: Build<'a>>(
     alloc: Global,
     input: &'a str,
@@ -246,6 +247,7 @@ fn begin(text: &str) -> usize
 }
 
 /// The bundle's name that must begin here, and the place behind the blanks that follow it.
+#[tactic(auto, using(crate::proofs::ReachLemmas::reached))]
 fn name<'a>(
     text: &'a str,
     at: usize,
@@ -273,6 +275,7 @@ fn name<'a>(
 
 /// The place behind the root's type and the blanks there, if it has one, and whether fallback stays
 /// on.
+#[tactic(auto, using(crate::proofs::ReachLemmas::reached))]
 fn typing(text: &str, at: usize, turns: &mut IcuTurns) -> Result<(usize, bool), IcuTextError>
     requires within { at ≤ length text.now }
     ensures reads { MatchResult result
@@ -293,6 +296,7 @@ fn typing(text: &str, at: usize, turns: &mut IcuTurns) -> Result<(usize, bool), 
 }
 
 /// The place of the root's `{` behind its type, if it has one, and whether fallback stays on.
+#[tactic(auto, using(crate::proofs::ReachLemmas::reached))]
 fn opening(text: &str, at: usize, turns: &mut IcuTurns) -> Result<(usize, bool), IcuTextError>
     requires within { at ≤ length text.now }
     ensures reads { MatchResult result
@@ -311,6 +315,7 @@ fn opening(text: &str, at: usize, turns: &mut IcuTurns) -> Result<(usize, bool),
 }
 
 /// What stands before the root's entries.
+#[tactic(auto, using(crate::proofs::ReachLemmas::reached))]
 fn read_header<'a>(text: &'a str, turns: &mut IcuTurns) -> Result<Header<'a>, IcuTextError>
     ensures reads { MatchResult result
         (λ h. bundle.Header text.now h.name.now h.fallback h.first × (h.first ≤ length text.now))
@@ -331,6 +336,7 @@ fn read_header<'a>(text: &'a str, turns: &mut IcuTurns) -> Result<Header<'a>, Ic
 }
 
 /// What is made of the root whose entries begin here, and the keys of its tables in order of place.
+#[tactic(auto, using(crate::proofs::ReachLemmas::reached))]
 fn read_root<'a, B: Build<'a>>(
     alloc: Global,
     text: &'a str,

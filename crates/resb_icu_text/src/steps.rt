@@ -2,11 +2,12 @@
 //! What is open around that place is kept in `open`, and what a step has read is made there. Groups
 //! without items are read in `leaf`.
 ghost use Rattle.std.specs.Prelude.{◌≡◌, ◌≢◌, ℕ, ◌+◌, ◌*◌, ◌<◌, ◌≤◌, Bool, true, length};
-ghost use Rattle.std.specs.Prelude.{slice_index, IfOk, MatchResult};
+ghost use Rattle.std.specs.Prelude.{slice_index, IfOk, MatchResult, IsTrue, false};
 ghost use Rattle.resb_grammar.specs.Ascii as ascii;
 ghost use Rattle.resb_grammar.specs.Inner.Reach.{reach};
 ghost use Rattle.resb_icu_grammar.specs.Groups as spec;
 ghost use Rattle.resb_icu_grammar.specs.Limit.{next_key_bytes, opening_bytes};
+ghost use Rattle.resb_icu_grammar.specs.Machine.{BeginsGroup};
 ghost use Rattle.resb_icu_grammar.specs.Stuck.{member_behind};
 ghost use Rattle.resb_icu_grammar.specs.Kinds.{kind_of};
 ghost use Rattle.resb_tree.specs.Tree.{Tree};
@@ -108,7 +109,17 @@ pub(crate) enum Read<'a, X> {
     Root(X, usize),
 }
 
+/// Whether a group begins here: with `{`, or with the `:` before its type.
+fn begins_group(text: &str, at: usize) -> bool
+    ensures yes { IsTrue result → BeginsGroup text.now at }
+    ensures no { result ≡ false → BeginsGroup text.now at → ⊥ }
+{
+    let b = byte(text, at);
+    b == b'{' || b == b':'
+}
+
 /// From among members to behind the next one, before the next group, or behind the array.
+#[tactic(auto, using(crate::proofs::ReachLemmas::reached))]
 pub(crate) fn member<'a, X: Drop>(
     text: &'a str,
     members: Vec<X>,
@@ -131,13 +142,14 @@ pub(crate) fn member<'a, X: Drop>(
     if b == b',' {
         return comma(text, members, last, at, meter);
     }
-    if b == b'{' || b == b':' {
+    if begins_group(text, at) {
         return Ok(Read::Step(Step::Group(Waiting::Array(members), at)));
     }
     string_member(text, members, last, at, meter)
 }
 
 /// From a comma to behind it and the blanks there.
+#[tactic(auto, using(crate::proofs::ReachLemmas::reached))]
 fn comma<'a, X: Drop>(
     text: &'a str,
     members: Vec<X>,
@@ -173,8 +185,7 @@ fn string_member<'a, X: Drop>(
     requires within { at ≤ length text.now }
     requires no_brace { slice_index text.now at ≢ ascii.right_brace }
     requires no_comma { slice_index text.now at ≢ ascii.comma }
-    requires no_group { slice_index text.now at ≢ ascii.left_brace }
-    requires no_type { slice_index text.now at ≢ ascii.colon }
+    requires no_group { BeginsGroup text.now at → ⊥ }
     ensures reads { MatchResult result
         (StepsTo text.now (members_place members.items last at) meter.old.quota meter.new.quota)
         (StepFails text.now (members_place members.items last at) meter.old.quota meter.new.quota) }
@@ -228,6 +239,7 @@ fn next_key_bytes<'a, X: Drop>(entries: &[Entry<'a, X>], key: &str) -> u128
 }
 
 /// From among entries to before the value of the next one, or behind the table.
+#[tactic(auto, using(crate::proofs::ReachLemmas::reached))]
 pub(crate) fn entry<'a, X: Drop>(
     text: &'a str,
     entries: Vec<Entry<'a, X>>,
@@ -253,6 +265,7 @@ pub(crate) fn entry<'a, X: Drop>(
 }
 
 /// From before a group to among its members or entries, or behind it.
+#[tactic(auto, using(crate::proofs::ReachLemmas::reached))]
 pub(crate) fn group<'a, X: Drop>(
     alloc: Global,
     text: &'a str,
@@ -280,6 +293,7 @@ pub(crate) fn group<'a, X: Drop>(
 }
 
 /// From a type to among the members or entries of its group, or behind that.
+#[tactic(auto, using(crate::proofs::ReachLemmas::reached))]
 fn typed<'a, X: Drop>(
     alloc: Global,
     text: &'a str,
@@ -342,6 +356,7 @@ fn content<'a, X: Drop>(
 }
 
 /// From behind the `{` of a group without a type to among its members or entries, or behind it.
+#[tactic(auto, using(crate::proofs::ReachLemmas::reached))]
 fn untyped<'a, X: Drop>(
     alloc: Global,
     text: &'a str,
@@ -356,11 +371,10 @@ fn untyped<'a, X: Drop>(
         (Proceeds text.now 0 at meter.old.turns meter.new.turns)
         (λ e. Halts text.now 4 at meter.old.turns meter.new.turns) }
 {
-    let b = byte(text, at);
-    if b == b'}' {
+    if byte(text, at) == b'}' {
         return Ok(Read::Array(Vec::new(alloc), at + 1));
     }
-    if b == b'{' || b == b':' {
+    if begins_group(text, at) {
         let members = Vec::new(alloc);
         return Ok(Read::Step(Step::Members(members, Last::Nothing, at)));
     }
@@ -369,6 +383,7 @@ fn untyped<'a, X: Drop>(
 
 /// From the string that must stand first in a group without a type to what the group is by what
 /// follows: a string, an array, or a table.
+#[tactic(auto, using(crate::proofs::ReachLemmas::reached))]
 fn untyped_string<'a, X: Drop>(
     alloc: Global,
     text: &'a str,
@@ -377,8 +392,7 @@ fn untyped_string<'a, X: Drop>(
 ) -> Result<Read<'a, X>, IcuTextError>
     requires within { at ≤ length text.now }
     requires no_brace { slice_index text.now at ≢ ascii.right_brace }
-    requires no_group { slice_index text.now at ≢ ascii.left_brace }
-    requires no_type { slice_index text.now at ≢ ascii.colon }
+    requires no_group { BeginsGroup text.now at → ⊥ }
     ensures reads { MatchResult result
         (StepsTo text.now (untyped_place X at) meter.old.quota meter.new.quota)
         (StepFails text.now (untyped_place X at) meter.old.quota meter.new.quota) }
@@ -399,7 +413,7 @@ fn untyped_string<'a, X: Drop>(
         let said = found.text(alloc, text, at, &mut meter.turns)?;
         return Ok(Read::Member(Vec::new(alloc), Resource::String(said), next));
     }
-    if b != b'{' && b != b':' {
+    if !begins_group(text, next) {
         return Err(IcuTextError::new(next, IcuExpected::AfterString));
     }
     let Some(key) = found.key(&mut meter.turns) else {
@@ -411,6 +425,7 @@ fn untyped_string<'a, X: Drop>(
 }
 
 /// From behind a group of which this was made to behind the blanks there, among what it stands in.
+#[tactic(auto, using(crate::proofs::ReachLemmas::reached))]
 pub(crate) fn resume<'a, X: Drop>(
     text: &'a str,
     waiting: Waiting<'a, X>,

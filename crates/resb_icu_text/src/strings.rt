@@ -200,6 +200,7 @@ pub fn string<'a>(
 /// The string that begins here, of which nothing is made; or, where none does, what is told in its
 /// place: the fault of a quoted string, or else that this was expected. The turns that it takes to
 /// make it are left over.
+#[tactic(auto, using(crate::proofs::ReachLemmas::reached))]
 pub(crate) fn found_or<'a>(
     text: &'a str,
     from: usize,
@@ -230,6 +231,7 @@ pub(crate) fn found_or<'a>(
 }
 
 /// The quoted pieces that begin here, or the fault of one.
+#[tactic(auto, using(crate::proofs::ReachLemmas::reached))]
 fn quoted<'a>(text: &'a str, from: usize, turns: &mut IcuTurns) -> Result<Found<'a>, IcuTextError>
     requires within { from < length text.now }
     requires opens { slice_index text.now from ≡ ascii.quote }
@@ -278,6 +280,7 @@ pub(crate) struct Pieces {
 }
 
 /// These pieces and all that follow them; or the fault of one of those.
+#[tactic(auto, using(crate::proofs::ReachLemmas::reached))]
 fn pieces_end(text: &str, first: Pieces, turns: &mut IcuTurns) -> Result<Pieces, IcuTextError>
     requires seen { AreSeen text.now first }
     ensures reads { MatchResult result (GoesToEnd text.now first)

@@ -88,6 +88,7 @@ fn signed_digits(text: &str, from: usize) -> Option<(usize, u32)>
 
 /// The number that begins here, and where it ends. No word goes on behind it. Counts two turns for
 /// each byte of the word, and two for the byte behind it.
+#[tactic(auto, using(crate::proofs::ReachLemmas::reach_word))]
 pub fn number(text: &str, from: usize, turns: &mut IcuTurns) -> Option<(usize, u32)>
     requires within { from ≤ length text.now }
     ensures found { IfSome result (λ r. Number text.now from r.0 r.1) }

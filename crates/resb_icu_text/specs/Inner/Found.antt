@@ -1,6 +1,7 @@
 -- A string that was found in a text, of which nothing is made yet.
-use Rattle.std.specs.Prelude.{◌≡◌, ◌*◌, ◌<◌, ◌≤◌, ◌↔◌, ℕ, Bool, true, false, List, length}
+use Rattle.std.specs.Prelude.{◌≡◌, ◌+◌, ◌*◌, ◌<◌, ◌≤◌, ◌↔◌, ℕ, Bool, true, false, List, length}
 use Rattle.std.specs.Prelude.{IsTrue}
+use Rattle.resb_grammar.specs.Inner.Reach.{reach}
 use Rattle.resb_icu_grammar.specs.Bytes.{are_key_bytes}
 use Rattle.resb_icu_grammar.specs.Blanks.{Skip}
 use Rattle.resb_icu_grammar.specs.Pieces.{Joined}
@@ -31,7 +32,8 @@ abbrev pub Shows : List ℕ → ℕ → ℕ → List ℕ → Stands → Type 0
 Shows text from end said (the.Whole s) = s.now ≡ said
 Shows text from end said (the.InPieces n) = (n ≡ length said) × Joined text from end said
 
--- a string stands there, whether it may be a key, and blanks behind it
+-- a string stands there, whether it may be a key, and blanks behind it; it says no more bytes than
+-- it has, and a reading that looked at it has looked up to its place, and then behind the blanks
 pub record IsFound (text : List ℕ) (from : ℕ) (f : Found) : Type 0 where
   pub said : List ℕ
   pub shows : Shows text from f.end said f.stands
@@ -42,6 +44,11 @@ pub record IsFound (text : List ℕ) (from : ℕ) (f : Found) : Type 0 where
   pub after : from < f.end
   pub order : f.end ≤ f.next
   pub fits : f.next ≤ length text
+  pub counted : length said ≡ length_of f.stands
+  pub short : length said + from ≤ f.end
+  pub here : reach text from ≡ from
+  pub low : f.next ≤ reach text f.next
+  pub high : reach text f.next ≤ length text
 
 -- this is what it says, whole or put together
 pub record IsSaid (text : List ℕ) (from : ℕ) (f : Found) (s : Said) : Type 0 where

@@ -3,6 +3,7 @@ use Rattle.std.specs.Prelude.{◌≡◌, ◌≢◌, ◌+◌, ◌*◌, ◌<◌, �
 use Rattle.std.specs.declared.alloc.Global.{Global}
 use Rattle.std.specs.declared.vec.Vec.{Vec}
 use Rattle.resb_grammar.specs.Ascii as ascii
+use Rattle.resb_grammar.specs.Inner.Reach.{reach}
 use Rattle.resb_icu_grammar.specs.Kinds.{Kind}
 use Rattle.resb_tree.specs.Tree.{Tree}
 use Rattle.resb_icu_grammar.specs.Blanks.{Skip}
@@ -18,11 +19,12 @@ use Rattle.resb_icu_text.specs.Inner.Quota.{TakesBytes, StopsAt}
 use Rattle.resb_icu_text.specs.declared.quota.Quota.{Quota}
 use Rattle.resb_icu_text.specs.declared.error.IcuTextError.{IcuTextError}
 
--- a `}` stands at this place
+-- a `}` stands at this place, up to which a reading has looked
 pub record IsBrace (text : List ℕ) (at to : ℕ) : Type 0 where
   pub same : to ≡ at
   pub closes : slice_index text at ≡ ascii.right_brace
   pub fits : at < length text
+  pub here : reach text at ≡ at
 
 -- no `}` stands there, and the error says that one was expected
 pub record WantsBrace (text : List ℕ) (at : ℕ) (e : IcuTextError) : Type 0 where

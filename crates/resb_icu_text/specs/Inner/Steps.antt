@@ -221,10 +221,13 @@ pub record Resumes {X : Type 0} (text : List ℕ) (w : Open X) (x : X) (at : ℕ
 abbrev pub Proceeds : {X : Type 0} → List ℕ → ℕ → ℕ → IcuTurns → IcuTurns → Read X → Type 0
 Proceeds text spare at t u r = u.count + 8 * reach text at + spare ≤ t.count + spent_reading text r
 
--- a string that may be a key stands there, and blanks up to the next place
+-- a string that may be a key stands there, up to whose place a reading has looked, and blanks up to
+-- the next place; it says no more bytes than it has
 pub record KeyAhead (text : List ℕ) (from next : ℕ) (key : List ℕ) : Type 0 where
   pub to : ℕ
   pub stands : KeyText text from to key
   pub after : Skip text to next
   pub order : from < next
   pub fits : next ≤ length text
+  pub short : length key + from ≤ next
+  pub here : reach text from ≡ from

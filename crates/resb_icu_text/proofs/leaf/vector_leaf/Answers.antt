@@ -45,22 +45,3 @@ returns-clause-reads c =
     leaf_read c.args.at vector_kind c.in_ok-to.to _ _ (sym (tree_of_vector _))
     (vector_stands _ _ _ _ v.vector)
     (both_taken v.takes c.in_ok-take-2.ensures refl) (omega arith) (numbers_kept _ _) v.order v.fits
-
-pub returns-then-byte-eq125-clause-cost : goal.returns-then-byte-eq125-clause-cost
-returns-then-byte-eq125-clause-cost c =
-    omega (
-      arith,
-      reach_right c.args.text.now c.args.at (sym c.byte.ensures.byte ∙ c.if-byte-eq125.true),
-    )
-
-pub returns-in_err-take-clause-cost : goal.returns-in_err-take-clause-cost
-returns-in_err-take-clause-cost c =
-    let p = err_from_is_err_and c.from_residual.result c.from_residual.ensures.1 in
-    rw p.1 (omega (arith, reach_high c.args.text.now c.args.at c.requires.within))
-
-pub returns-in_err-take-2-clause-cost : goal.returns-in_err-take-2-clause-cost
-returns-in_err-take-2-clause-cost c =
-    let p = err_from_is_err_and c.from_residual-in_err-take-2.result
-    c.from_residual-in_err-take-2.ensures.1 in
-    let v = c.in_ok-to.ensures.reads in
-    rw p.1 (omega (arith, c.in_ok-to.ensures.cost, v.fits))

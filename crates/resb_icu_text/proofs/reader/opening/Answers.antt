@@ -16,20 +16,3 @@ pub returns-else-byte-eq123-clause-reads : goal.returns-else-byte-eq123-clause-r
 returns-else-byte-eq123-clause-reads c =
     no_brace _ _ c.in_ok-brace.ensures.reads.0
     (λ e. c.if-byte-eq123.false (c.byte.ensures.byte ∙ e)) c.new.ensures
-
-pub returns-then-byte-eq123-clause-cost : goal.returns-then-byte-eq123-clause-cost
-returns-then-byte-eq123-clause-cost c =
-    omega (
-      arith,
-      c.in_ok-brace.ensures.cost,
-      reach_left c.args.text.now c.in_ok-brace.brace
-          (sym c.byte.ensures.byte ∙ c.if-byte-eq123.true),
-    )
-
-pub returns-else-byte-eq123-clause-cost : goal.returns-else-byte-eq123-clause-cost
-returns-else-byte-eq123-clause-cost c =
-    omega (
-      arith,
-      c.in_ok-brace.ensures.cost,
-      reach_high c.args.text.now c.in_ok-brace.brace c.in_ok-brace.ensures.reads.1,
-    )

@@ -38,31 +38,3 @@ returns-clause-reads c =
       },
       c.skip-first.ensures.fits,
     )
-
-pub returns-in_err-next-clause-cost : goal.returns-in_err-next-clause-cost
-returns-in_err-next-clause-cost c =
-    let p = err_from_is_err_and c.from_residual.result c.from_residual.ensures.1 in
-    rw p.1 (omega (arith, c.skip-start.ensures.cost, c.in_err-next.ensures.cost))
-
-pub returns-in_err-brace-clause-cost : goal.returns-in_err-brace-clause-cost
-returns-in_err-brace-clause-cost c =
-    let p = err_from_is_err_and c.from_residual-in_err-brace.result
-    c.from_residual-in_err-brace.ensures.1 in
-    rw p.1 (omega (
-      arith,
-      c.skip-start.ensures.cost,
-      c.in_ok-next.ensures.cost,
-      c.in_err-brace.ensures.cost,
-    ))
-
-pub returns-clause-cost : goal.returns-clause-cost
-returns-clause-cost c =
-    omega (
-      arith,
-      c.skip-start.ensures.cost,
-      c.in_ok-next.ensures.cost,
-      c.in_ok-brace.ensures.cost,
-      c.skip-first.ensures.cost,
-      c.skip-first.ensures.order,
-      reach_low c.args.text.now c.skip-first.result c.skip-first.ensures.fits,
-    )

@@ -43,8 +43,3 @@ returns-clause-reads g c =
       c.in_ok-root.ensures.reads.1,
       made_within _ _ _ _ _ whole,
     )
-
-pub returns-in_err-take-clause-cost : goal.returns-in_err-take-clause-cost
-returns-in_err-take-clause-cost g c =
-    let header = c.in_ok-header.ensures.reads in
-    omega (arith, c.in_ok-header.ensures.cost, reach_high _ _ header.1)

@@ -42,11 +42,6 @@ returns-in_err-next-clause-reads g c =
     rw (p.1, p.2) (λ limit a.
     c.in_err-next.ensures.reads limit (c.steps.invariant.comes limit a))
 
-pub returns-in_err-next-clause-cost : goal.returns-in_err-next-clause-cost
-returns-in_err-next-clause-cost g c =
-    let p = err_from_is_err_and c.from_residual.result c.from_residual.ensures.1 in
-    rw p.1 (omega (arith, c.steps.invariant.cost, c.in_err-next.ensures.cost))
-
 pub returns-then-end-text-clause-reads : goal.returns-then-end-text-clause-reads
 returns-then-end-text-clause-reads g c =
     let next = rw c.in-Root.is at c.in_ok-next.ensures.reads in
@@ -63,27 +58,8 @@ returns-in-Root-clause-reads g c =
       λ t p. (and_parts _ _ (next.kept t p)).1,
     )
 
-pub returns-then-end-text-clause-cost : goal.returns-then-end-text-clause-cost
-returns-then-end-text-clause-cost g c =
-    omega (
-      arith,
-      c.steps.invariant.cost,
-      rw c.in-Root.is at c.in_ok-next.ensures.cost,
-      c.skip-end.ensures.cost,
-      c.skip-end.ensures.order,
-      c.skip-end.ensures.fits,
-      reach_high c.args.text.now c.skip-end.result c.skip-end.ensures.fits,
-    )
-
 pub returns-in-Root-clause-cost : goal.returns-in-Root-clause-cost
 returns-in-Root-clause-cost g c =
-    omega (
-      arith,
-      c.steps.invariant.cost,
-      rw c.in-Root.is at c.in_ok-next.ensures.cost,
-      c.skip-end.ensures.cost,
-      c.skip-end.ensures.order,
-      c.skip-end.ensures.fits,
-      length-map c.advance.new.self.keys.items (λ k. k.now),
-      reach_high c.args.text.now c.skip-end.result c.skip-end.ensures.fits,
-    )
+    let cost = rw c.in-Root.is at c.in_ok-next.ensures.cost in
+    let high = reach_high c.args.text.now c.skip-end.result c.skip-end.ensures.fits in
+    omega (arith, length-map c.advance.new.self.keys.items (λ k. k.now))

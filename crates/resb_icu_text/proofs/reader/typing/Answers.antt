@@ -14,24 +14,3 @@ returns-in-Some-clause-reads c =
 pub returns-in-None-clause-reads : goal.returns-in-None-clause-reads
 returns-in-None-clause-reads c =
     no_type (sym c.byte.ensures.byte ∙ c.if-byte-ne58.false) c.in-None.ensures.none c.new.ensures
-
-pub returns-in-Some-clause-cost : goal.returns-in-Some-clause-cost
-returns-in-Some-clause-cost c =
-    omega (
-      arith,
-      c.in-Some.ensures.cost,
-      c.in-Some.ensures.within.0,
-      c.skip.ensures.cost,
-      c.skip.ensures.order,
-      reach_low c.args.text.now c.skip.result c.skip.ensures.fits,
-      reach_colon c.args.text.now c.args.at (sym c.byte.ensures.byte ∙ c.if-byte-ne58.false),
-    )
-
-pub returns-in-None-clause-cost : goal.returns-in-None-clause-cost
-returns-in-None-clause-cost c =
-    omega (
-      arith,
-      c.in-None.ensures.most,
-      c.requires.within,
-      reach_colon c.args.text.now c.args.at (sym c.byte.ensures.byte ∙ c.if-byte-ne58.false),
-    )

@@ -14,17 +14,3 @@ pub returns-else-is_member-clause-reads : goal.returns-else-is_member-clause-rea
 returns-else-is_member-clause-reads g c =
     no_member_comma c.args.members.items c.args.last c.args.at c.new.result (none_taken _)
     c.new.ensures (sym c.is_member.ensures ∙ c.if-is_member.false) c.requires.comma
-
-pub returns-then-is_member-clause-cost : goal.returns-then-is_member-clause-cost
-returns-then-is_member-clause-cost g c =
-    omega (
-      arith,
-      c.skip-next.ensures.cost,
-      c.skip-next.ensures.order,
-      reach_comma c.args.text.now c.args.at c.requires.comma,
-      reach_low c.args.text.now c.skip-next.result c.skip-next.ensures.fits,
-    )
-
-pub returns-else-is_member-clause-cost : goal.returns-else-is_member-clause-cost
-returns-else-is_member-clause-cost g c =
-    omega (arith, reach_comma c.args.text.now c.args.at c.requires.comma, c.requires.within)

@@ -19,10 +19,6 @@ returns-in_ok-to-in_default-clause-reads g c =
     leaf_content _ c.args.at (c.in_ok-to-in_default.to, c.in_ok-to-in_default.resource)
     c.in_ok-to-in_default.ensures.reads
 
-pub returns-in_ok-to-in_default-clause-cost : goal.returns-in_ok-to-in_default-clause-cost
-returns-in_ok-to-in_default-clause-cost g c =
-    omega (arith, c.in_ok-to-in_default.ensures.cost)
-
 pub returns-in_err-to-in_default-clause-reads : goal.returns-in_err-to-in_default-clause-reads
 returns-in_err-to-in_default-clause-reads g c =
     let p = err_from_is_err_and c.from_residual.result c.from_residual.ensures.1 in

@@ -31,35 +31,3 @@ pub returns-clause-reads : goal.returns-clause-reads
 returns-clause-reads g c =
     entry_key c.args.entries c.in_ok-next.key c.args.at c.in_ok-next.next c.in_ok-take.ensures
     (rw c.deref.ensures.value at c.next_key_bytes.ensures) c.in_ok-next.ensures.reads
-
-pub returns-then-byte-eq125-clause-cost : goal.returns-then-byte-eq125-clause-cost
-returns-then-byte-eq125-clause-cost g c =
-    omega (
-      arith,
-      reach_right c.args.text.now c.args.at (sym c.byte.ensures.byte ∙ c.if-byte-eq125.true),
-    )
-
-pub returns-in_err-take-clause-cost : goal.returns-in_err-take-clause-cost
-returns-in_err-take-clause-cost g c =
-    let found = c.in_ok-next.ensures.reads in
-    let p = err_from_is_err_and c.from_residual-in_err-take.result
-    c.from_residual-in_err-take.ensures.1 in
-    rw p.1 (omega (
-      arith,
-      c.in_ok-next.ensures.cost,
-      found.order,
-      reach_string c.args.text.now c.args.at _ _ (key_string _ _ _ _ found.stands),
-      reach_high c.args.text.now _ found.fits,
-      c.requires.within,
-    ))
-
-pub returns-clause-cost : goal.returns-clause-cost
-returns-clause-cost g c =
-    let found = c.in_ok-next.ensures.reads in
-    omega (
-      arith,
-      c.in_ok-next.ensures.cost,
-      found.order,
-      reach_string c.args.text.now c.args.at _ _ (key_string _ _ _ _ found.stands),
-      reach_low c.args.text.now _ found.fits,
-    )

@@ -15,18 +15,6 @@ returns-in_err-take-clause-reads g c =
     (sym c.byte-b.ensures.byte ∙ c.if-b-eq123.true) c.skip-next.ensures.skip
     c.in_err-take.ensures refl)
 
-pub returns-in_err-take-clause-cost : goal.returns-in_err-take-clause-cost
-returns-in_err-take-clause-cost g c =
-    let p = err_from_is_err_and c.from_residual.result c.from_residual.ensures.1 in
-    rw p.1 (omega (
-      arith,
-      c.skip-next.ensures.cost,
-      c.skip-next.ensures.order,
-      c.skip-next.ensures.fits,
-      reach_left c.args.text.now c.args.at (sym c.byte-b.ensures.byte ∙ c.if-b-eq123.true),
-      reach_high c.args.text.now c.skip-next.result c.skip-next.ensures.fits,
-    ))
-
 pub returns-then-b-eq123-clause-reads : goal.returns-then-b-eq123-clause-reads
 returns-then-b-eq123-clause-reads g c =
     let text = c.args.text.now in
@@ -43,37 +31,8 @@ returns-then-b-eq123-clause-reads g c =
     (λ e. untyped_fails c.args.at next e (sym c.byte-b.ensures.byte ∙ c.if-b-eq123.true)
     c.skip-next.ensures.skip c.in_ok-take.ensures) c.untyped.ensures.reads
 
-pub returns-then-b-eq123-clause-cost : goal.returns-then-b-eq123-clause-cost
-returns-then-b-eq123-clause-cost g c =
-    let text = c.args.text.now in
-    let next = c.skip-next.result in
-    let last = c.untyped.new.meter.turns in
-    match_by (Proceeds text 0 next c.skip-next.new.turns last)
-    (λ e. Halts text 4 next c.skip-next.new.turns last)
-    (Proceeds text 5 c.args.at c.args.meter.now.turns last)
-    (λ e. Halts text 4 c.args.at c.args.meter.now.turns last) c.untyped.result
-    (λ r h. omega (
-      arith,
-      h,
-      c.skip-next.ensures.cost,
-      c.skip-next.ensures.order,
-      reach_left text c.args.at (sym c.byte-b.ensures.byte ∙ c.if-b-eq123.true),
-      reach_low text next c.skip-next.ensures.fits,
-    )) (λ e h. omega (
-      arith,
-      h,
-      c.skip-next.ensures.cost,
-      c.skip-next.ensures.order,
-      reach_left text c.args.at (sym c.byte-b.ensures.byte ∙ c.if-b-eq123.true),
-      reach_low text next c.skip-next.ensures.fits,
-    )) c.untyped.ensures.cost
-
 pub returns-clause-reads : goal.returns-clause-reads
 returns-clause-reads g c =
     no_group c.args.at _ (none_taken _) c.new.ensures
     (λ e. c.if-b-eq123.false (c.byte-b.ensures.byte ∙ e))
     (λ e. c.if-b-eq58.false (c.byte-b.ensures.byte ∙ e))
-
-pub returns-clause-cost : goal.returns-clause-cost
-returns-clause-cost g c =
-    omega (arith, reach_high c.args.text.now c.args.at c.requires.within)

@@ -20,33 +20,3 @@ pub returns-in-None-clause-reads : goal.returns-in-None-clause-reads
 returns-in-None-clause-reads c =
     unfit_key _ _ _ c.in_ok-found.found _ c.new.ensures c.in_ok-found.ensures.reads
     c.in-None.ensures.key
-
-pub returns-in-Some-clause-cost : goal.returns-in-Some-clause-cost
-returns-in-Some-clause-cost c =
-    let found = c.in_ok-found.ensures.reads in
-    omega (
-      arith,
-      c.in_ok-found.ensures.cost,
-      c.key.ensures.cost,
-      said_length found,
-      string_short _ _ _ _ found.string,
-      found.order,
-      reach_string c.args.text.now c.args.at _ _ found.string,
-      reach_low c.args.text.now _ found.fits,
-    )
-
-pub returns-in-None-clause-cost : goal.returns-in-None-clause-cost
-returns-in-None-clause-cost c =
-    let found = c.in_ok-found.ensures.reads in
-    omega (
-      arith,
-      c.in_ok-found.ensures.cost,
-      c.key.ensures.cost,
-      said_length found,
-      string_short _ _ _ _ found.string,
-      found.order,
-      c.requires.within,
-      reach_string c.args.text.now c.args.at _ _ found.string,
-      reach_low c.args.text.now _ found.fits,
-      reach_high c.args.text.now _ found.fits,
-    )

@@ -2,8 +2,6 @@ use Rattle.std.proofs.Common.{arith, sym, ◌∙◌, inl, inr}
 use Rattle.resb_icu_text.proofs.QuotaLemmas.{none_taken}
 use Rattle.resb_icu_text.proofs.StepsLemmas.{members_end, member_group}
 use Rattle.resb_grammar.proofs.ReachLemmas.{reach_right}
-use Rattle.resb_icu_text.proofs.steps.member.Goals.{then-b-eq123-via-then-b-eq123}
-use Rattle.resb_icu_text.proofs.steps.member.Goals.{then-b-eq123-via-else-b-eq123+then-b-eq58}
 use Rattle.resb_icu_text.proofs.steps.member.Goals as goal
 
 pub returns-then-b-eq125-clause-reads : goal.returns-then-b-eq125-clause-reads
@@ -12,18 +10,7 @@ returns-then-b-eq125-clause-reads g c =
     (c.byte-b.ensures.inside (omega (arith, c.if-b-eq125.true)))
     (sym c.byte-b.ensures.byte ∙ c.if-b-eq125.true)
 
-pub returns-then-b-eq123-clause-reads : goal.returns-then-b-eq123-clause-reads
-returns-then-b-eq123-clause-reads g c =
+pub returns-then-begins_group-clause-reads : goal.returns-then-begins_group-clause-reads
+returns-then-begins_group-clause-reads g c =
     member_group c.args.members c.args.last c.args.at (none_taken _) c.requires.within
-    (elim c.then-b-eq123.branch [
-      | then-b-eq123-via-then-b-eq123 w ↦ inl (sym c.byte-b.ensures.byte ∙ w.if-b-eq123.true)
-      | then-b-eq123-via-else-b-eq123+then-b-eq58 w ↦
-          inr (sym c.byte-b.ensures.byte ∙ w.if-b-eq58.true)
-    ])
-
-pub returns-then-b-eq125-clause-cost : goal.returns-then-b-eq125-clause-cost
-returns-then-b-eq125-clause-cost g c =
-    omega (
-      arith,
-      reach_right c.args.text.now c.args.at (sym c.byte-b.ensures.byte ∙ c.if-b-eq125.true),
-    )
+    (c.begins_group.ensures.yes c.if-begins_group.true)

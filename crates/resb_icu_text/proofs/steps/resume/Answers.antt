@@ -14,21 +14,3 @@ returns-in_ok-push-in-Table-clause-reads g c =
     rw c.in-Table.is (behind_value _ c.in-Table.entries c.push-in-Table.new.self c.in-Table.key
     c.args.made _ _ _ c.skip-in-Table.ensures.skip c.skip-in-Table.ensures.order
     c.skip-in-Table.ensures.fits c.in_ok-push-in-Table.ensures.items)
-
-pub returns-in_ok-push-in-Array-clause-cost : goal.returns-in_ok-push-in-Array-clause-cost
-returns-in_ok-push-in-Array-clause-cost g c =
-    omega (
-      arith,
-      c.skip.ensures.cost,
-      c.skip.ensures.order,
-      reach_low c.args.text.now c.skip.result c.skip.ensures.fits,
-    )
-
-pub returns-in_ok-push-in-Table-clause-cost : goal.returns-in_ok-push-in-Table-clause-cost
-returns-in_ok-push-in-Table-clause-cost g c =
-    omega (
-      arith,
-      c.skip-in-Table.ensures.cost,
-      c.skip-in-Table.ensures.order,
-      reach_low c.args.text.now c.skip-in-Table.result c.skip-in-Table.ensures.fits,
-    )

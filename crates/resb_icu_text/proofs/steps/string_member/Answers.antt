@@ -13,7 +13,7 @@ returns-in_err-found-clause-reads g c =
     let p = err_from_is_err_and c.from_residual.result c.from_residual.ensures.1 in
     rw (p.1, p.2) (no_member c.args.members.items c.args.last c.args.at _ _ (none_taken _)
     c.member_behind.ensures c.requires.no_brace c.requires.no_comma c.requires.no_group
-    c.requires.no_type c.in_err-found.ensures.reads)
+    c.in_err-found.ensures.reads)
 
 pub returns-then-is_string-clause-reads : goal.returns-then-is_string-clause-reads
 returns-then-is_string-clause-reads g c =
@@ -42,54 +42,3 @@ returns-clause-reads g c =
     c.in_ok-take.ensures (c.string_bytes.ensures ∙ ap (λ n. 72 + 3 * n) c.length.ensures)
     (sym c.is_string.ensures ∙ c.if-is_string.false)
     (text_made c.in_ok-found.ensures.reads c.in_ok-said.ensures.says)
-
-pub returns-then-is_string-clause-cost : goal.returns-then-is_string-clause-cost
-returns-then-is_string-clause-cost g c =
-    let found = c.in_ok-found.ensures.reads in
-    omega (
-      arith,
-      c.in_ok-found.ensures.cost,
-      c.requires.within,
-      reach_string c.args.text.now c.args.at _ _ found.string,
-      reach_high c.args.text.now _ found.fits,
-    )
-
-pub returns-in_err-take-clause-cost : goal.returns-in_err-take-clause-cost
-returns-in_err-take-clause-cost g c =
-    let found = c.in_ok-found.ensures.reads in
-    let p = err_from_is_err_and c.from_residual-in_err-take.result
-    c.from_residual-in_err-take.ensures.1 in
-    rw p.1 (omega (
-      arith,
-      c.in_ok-found.ensures.cost,
-      c.requires.within,
-      reach_string c.args.text.now c.args.at _ _ found.string,
-      reach_high c.args.text.now _ found.fits,
-    ))
-
-pub returns-in_err-said-clause-cost : goal.returns-in_err-said-clause-cost
-returns-in_err-said-clause-cost g c =
-    let found = c.in_ok-found.ensures.reads in
-    let p = err_from_is_err_and c.from_residual-in_err-said.result
-    c.from_residual-in_err-said.ensures.1 in
-    rw p.1 (omega (
-      arith,
-      c.in_ok-found.ensures.cost,
-      c.text.ensures.cost,
-      c.requires.within,
-      reach_string c.args.text.now c.args.at _ _ found.string,
-      reach_high c.args.text.now _ found.fits,
-    ))
-
-pub returns-clause-cost : goal.returns-clause-cost
-returns-clause-cost g c =
-    let found = c.in_ok-found.ensures.reads in
-    omega (
-      arith,
-      c.in_ok-found.ensures.cost,
-      c.text.ensures.cost,
-      found.after,
-      found.order,
-      reach_string c.args.text.now c.args.at _ _ found.string,
-      reach_low c.args.text.now _ found.fits,
-    )

@@ -15,32 +15,10 @@ returns-in_err-end-clause-reads g c =
     let p = err_from_is_err_and c.from_residual.result c.from_residual.ensures.1 in
     rw (p.1, p.2) (no_type c.args.at _ (none_taken _) c.in_err-end.ensures.err c.requires.colon)
 
-pub returns-in_err-end-clause-cost : goal.returns-in_err-end-clause-cost
-returns-in_err-end-clause-cost g c =
-    let p = err_from_is_err_and c.from_residual.result c.from_residual.ensures.1 in
-    rw p.1 (omega (
-      arith,
-      c.in_err-end.ensures.most,
-      reach_colon c.args.text.now c.args.at c.requires.colon,
-      c.requires.within,
-    ))
-
 pub returns-then-byte-ne123-clause-reads : goal.returns-then-byte-ne123-clause-reads
 returns-then-byte-ne123-clause-reads g c =
     no_group_brace c.args.at _ _ _ _ (none_taken _) c.new.ensures c.in_ok-end.ensures.found
     c.skip-brace.ensures.skip (λ e. c.if-byte-ne123.true (c.byte.ensures.byte ∙ e))
-
-pub returns-then-byte-ne123-clause-cost : goal.returns-then-byte-ne123-clause-cost
-returns-then-byte-ne123-clause-cost g c =
-    omega (
-      arith,
-      c.in_ok-end.ensures.cost,
-      c.in_ok-end.ensures.within,
-      c.skip-brace.ensures.cost,
-      c.skip-brace.ensures.order,
-      reach_colon c.args.text.now c.args.at c.requires.colon,
-      reach_high c.args.text.now c.skip-brace.result c.skip-brace.ensures.fits,
-    )
 
 pub returns-in_err-take-clause-reads : goal.returns-in_err-take-clause-reads
 returns-in_err-take-clause-reads g c =
@@ -51,25 +29,6 @@ returns-in_err-take-clause-reads g c =
     c.from_residual-in_err-take.ensures.1 in
     rw (p.1, p.2) (typed_over c.args.at c.skip-first.result (kind_of c.in_ok-end.kind) _ opens
     c.in_err-take.ensures c.opening_bytes.ensures refl)
-
-pub returns-in_err-take-clause-cost : goal.returns-in_err-take-clause-cost
-returns-in_err-take-clause-cost g c =
-    let p = err_from_is_err_and c.from_residual-in_err-take.result
-    c.from_residual-in_err-take.ensures.1 in
-    rw p.1 (omega (
-      arith,
-      c.in_ok-end.ensures.cost,
-      c.in_ok-end.ensures.within,
-      c.skip-brace.ensures.cost,
-      c.skip-brace.ensures.order,
-      reach_colon c.args.text.now c.args.at c.requires.colon,
-      reach_left c.args.text.now c.skip-brace.result
-          (sym c.byte.ensures.byte ∙ c.if-byte-ne123.false),
-      c.skip-first.ensures.cost,
-      c.skip-first.ensures.order,
-      c.skip-first.ensures.fits,
-      reach_high c.args.text.now c.skip-first.result c.skip-first.ensures.fits,
-    ))
 
 pub returns-clause-reads : goal.returns-clause-reads
 returns-clause-reads g c =
@@ -96,40 +55,3 @@ returns-clause-reads g c =
     c.opening_bytes.ensures)
     (λ e. typed_fails c.args.at first kind e opens c.in_ok-take.ensures c.opening_bytes.ensures)
     c.content.ensures.reads
-
-pub returns-clause-cost : goal.returns-clause-cost
-returns-clause-cost g c =
-    let text = c.args.text.now in
-    let first = c.skip-first.result in
-    let last = c.content.new.meter.turns in
-    match_by (Proceeds text 0 first c.skip-first.new.turns last)
-    (λ e. Halts text 4 first c.skip-first.new.turns last)
-    (Proceeds text 5 c.args.at c.args.meter.now.turns last)
-    (λ e. Halts text 4 c.args.at c.args.meter.now.turns last) c.content.result
-    (λ r h. omega (
-      arith,
-      h,
-      c.in_ok-end.ensures.cost,
-      c.in_ok-end.ensures.within,
-      c.skip-brace.ensures.cost,
-      c.skip-brace.ensures.order,
-      reach_colon c.args.text.now c.args.at c.requires.colon,
-      reach_left c.args.text.now c.skip-brace.result
-          (sym c.byte.ensures.byte ∙ c.if-byte-ne123.false),
-      c.skip-first.ensures.cost,
-      c.skip-first.ensures.order,
-      reach_low text first c.skip-first.ensures.fits,
-    )) (λ e h. omega (
-      arith,
-      h,
-      c.in_ok-end.ensures.cost,
-      c.in_ok-end.ensures.within,
-      c.skip-brace.ensures.cost,
-      c.skip-brace.ensures.order,
-      reach_colon c.args.text.now c.args.at c.requires.colon,
-      reach_left c.args.text.now c.skip-brace.result
-          (sym c.byte.ensures.byte ∙ c.if-byte-ne123.false),
-      c.skip-first.ensures.cost,
-      c.skip-first.ensures.order,
-      reach_low text first c.skip-first.ensures.fits,
-    )) c.content.ensures.cost

@@ -9,15 +9,13 @@ use Rattle.resb_icu_text.proofs.StepsLemmas.{untyped_one, one_over, untyped_comm
 use Rattle.resb_icu_text.proofs.StepsLemmas.{untyped_key, first_key_over, no_untyped, no_key, lacks}
 use Rattle.resb_icu_text.proofs.StepsLemmas.{no_untyped_string, no_untyped_key, text_made}
 use Rattle.resb_icu_text.proofs.StepsLemmas.{key_ahead, said_length}
-use Rattle.resb_icu_text.proofs.steps.untyped_string.Goals.{else-b-ne123-via-then-b-ne123+else-b-ne58}
-use Rattle.resb_icu_text.proofs.steps.untyped_string.Goals.{else-b-ne123-via-else-b-ne123}
 use Rattle.resb_icu_text.proofs.steps.untyped_string.Goals as goal
 
 pub returns-in_err-found-clause-reads : goal.returns-in_err-found-clause-reads
 returns-in_err-found-clause-reads g c =
     let p = err_from_is_err_and c.from_residual.result c.from_residual.ensures.1 in
     rw (p.1, p.2) (no_untyped c.args.at _ (none_taken _) c.requires.no_brace
-    c.requires.no_group c.requires.no_type c.in_err-found.ensures.reads)
+    c.requires.no_group c.in_err-found.ensures.reads)
 
 pub returns-in_err-take-clause-reads : goal.returns-in_err-take-clause-reads
 returns-in_err-take-clause-reads g c =
@@ -65,24 +63,19 @@ returns-then-b-eq44-clause-reads g c =
     (text_made c.in_ok-found.ensures.reads c.in_ok-said-2.ensures.says)
     c.new.ensures.items
 
-pub returns-then-b-ne58-clause-reads : goal.returns-then-b-ne58-clause-reads
-returns-then-b-ne58-clause-reads g c =
-    no_untyped_string c.args.at c.in_ok-found.found _ (none_taken _) c.new-then-b-ne58.ensures
+pub returns-then-not-begins_group-clause-reads : goal.returns-then-not-begins_group-clause-reads
+returns-then-not-begins_group-clause-reads g c =
+    no_untyped_string c.args.at c.in_ok-found.found _ (none_taken _) c.new-then-not-begins_group.ensures
     c.in_ok-found.ensures.reads
     (λ e. c.if-b-eq125.false (c.byte-b.ensures.byte ∙ e))
     (λ e. c.if-b-eq44.false (c.byte-b.ensures.byte ∙ e))
-    (λ e. c.if-b-ne123.true (c.byte-b.ensures.byte ∙ e))
-    (λ e. c.if-b-ne58.true (c.byte-b.ensures.byte ∙ e))
+    (c.begins_group.ensures.no c.if-not-begins_group.true)
 
 pub returns-in_default-clause-reads : goal.returns-in_default-clause-reads
 returns-in_default-clause-reads g c =
     let found = c.in_ok-found.ensures.reads in
     no_untyped_key c.args.at c.in_ok-found.found _ (none_taken _) c.new-in_default.ensures found
-    (elim c.else-b-ne123.branch [
-      | else-b-ne123-via-then-b-ne123+else-b-ne58 w ↦
-          inr (sym c.byte-b.ensures.byte ∙ w.if-b-ne58.false)
-      | else-b-ne123-via-else-b-ne123 w ↦ inl (sym c.byte-b.ensures.byte ∙ w.if-b-ne123.false)
-    ])
+    (c.begins_group.ensures.yes c.if-not-begins_group.false)
     (no_key _ _ c.in_ok-found.found found c.in_default.ensures.key)
 
 pub returns-in_err-take-3-clause-reads : goal.returns-in_err-take-3-clause-reads
@@ -93,11 +86,7 @@ returns-in_err-take-3-clause-reads g c =
     rw (p.1, p.2) (first_key_over c.in-Some.key c.args.at c.in_ok-found.found.next _
     c.in_err-take-3.ensures (omega (arith, c.key_bytes.ensures))
     (key_ahead _ _ c.in_ok-found.found c.in-Some.key found c.in-Some.ensures.key)
-    (elim c.else-b-ne123.branch [
-      | else-b-ne123-via-then-b-ne123+else-b-ne58 w ↦
-          inr (sym c.byte-b.ensures.byte ∙ w.if-b-ne58.false)
-      | else-b-ne123-via-else-b-ne123 w ↦ inl (sym c.byte-b.ensures.byte ∙ w.if-b-ne123.false)
-    ]) refl)
+    (c.begins_group.ensures.yes c.if-not-begins_group.false) refl)
 
 pub returns-clause-reads : goal.returns-clause-reads
 returns-clause-reads g c =
@@ -105,147 +94,4 @@ returns-clause-reads g c =
     untyped_key c.new-2.result c.in-Some.key c.args.at c.in_ok-found.found.next
     c.in_ok-take-3.ensures (omega (arith, c.key_bytes.ensures))
     (key_ahead _ _ c.in_ok-found.found c.in-Some.key found c.in-Some.ensures.key)
-    (elim c.else-b-ne123.branch [
-      | else-b-ne123-via-then-b-ne123+else-b-ne58 w ↦
-          inr (sym c.byte-b.ensures.byte ∙ w.if-b-ne58.false)
-      | else-b-ne123-via-else-b-ne123 w ↦ inl (sym c.byte-b.ensures.byte ∙ w.if-b-ne123.false)
-    ]) c.new-2.ensures.items
-
-pub returns-in_err-take-clause-cost : goal.returns-in_err-take-clause-cost
-returns-in_err-take-clause-cost g c =
-    let found = c.in_ok-found.ensures.reads in
-    let p = err_from_is_err_and c.from_residual-in_err-take.result
-    c.from_residual-in_err-take.ensures.1 in
-    rw p.1 (omega (
-      arith,
-      c.in_ok-found.ensures.cost,
-      c.requires.within,
-      reach_string c.args.text.now c.args.at _ _ found.string,
-      reach_high c.args.text.now _ found.fits,
-    ))
-
-pub returns-in_err-said-clause-cost : goal.returns-in_err-said-clause-cost
-returns-in_err-said-clause-cost g c =
-    let found = c.in_ok-found.ensures.reads in
-    let p = err_from_is_err_and c.from_residual-in_err-said.result
-    c.from_residual-in_err-said.ensures.1 in
-    rw p.1 (omega (
-      arith,
-      c.in_ok-found.ensures.cost,
-      c.text.ensures.cost,
-      c.requires.within,
-      reach_string c.args.text.now c.args.at _ _ found.string,
-      reach_high c.args.text.now _ found.fits,
-    ))
-
-pub returns-in_err-take-2-clause-cost : goal.returns-in_err-take-2-clause-cost
-returns-in_err-take-2-clause-cost g c =
-    let found = c.in_ok-found.ensures.reads in
-    let p = err_from_is_err_and c.from_residual-in_err-take-2.result
-    c.from_residual-in_err-take-2.ensures.1 in
-    rw p.1 (omega (
-      arith,
-      c.in_ok-found.ensures.cost,
-      c.requires.within,
-      reach_string c.args.text.now c.args.at _ _ found.string,
-      reach_high c.args.text.now _ found.fits,
-    ))
-
-pub returns-in_err-said-2-clause-cost : goal.returns-in_err-said-2-clause-cost
-returns-in_err-said-2-clause-cost g c =
-    let found = c.in_ok-found.ensures.reads in
-    let p = err_from_is_err_and c.from_residual-in_err-said-2.result
-    c.from_residual-in_err-said-2.ensures.1 in
-    rw p.1 (omega (
-      arith,
-      c.in_ok-found.ensures.cost,
-      c.text-then-b-eq44.ensures.cost,
-      c.requires.within,
-      reach_string c.args.text.now c.args.at _ _ found.string,
-      reach_high c.args.text.now _ found.fits,
-    ))
-
-pub returns-then-b-eq125-clause-cost : goal.returns-then-b-eq125-clause-cost
-returns-then-b-eq125-clause-cost g c =
-    let found = c.in_ok-found.ensures.reads in
-    omega (
-      arith,
-      c.in_ok-found.ensures.cost,
-      c.text.ensures.cost,
-      found.after,
-      found.order,
-      reach_string c.args.text.now c.args.at _ _ found.string,
-      reach_low c.args.text.now _ found.fits,
-      reach_right c.args.text.now _ (sym c.byte-b.ensures.byte ∙ c.if-b-eq125.true),
-    )
-
-pub returns-then-b-eq44-clause-cost : goal.returns-then-b-eq44-clause-cost
-returns-then-b-eq44-clause-cost g c =
-    let found = c.in_ok-found.ensures.reads in
-    omega (
-      arith,
-      c.in_ok-found.ensures.cost,
-      c.text-then-b-eq44.ensures.cost,
-      found.after,
-      found.order,
-      reach_string c.args.text.now c.args.at _ _ found.string,
-      reach_low c.args.text.now _ found.fits,
-    )
-
-pub returns-then-b-ne58-clause-cost : goal.returns-then-b-ne58-clause-cost
-returns-then-b-ne58-clause-cost g c =
-    let found = c.in_ok-found.ensures.reads in
-    omega (
-      arith,
-      c.in_ok-found.ensures.cost,
-      c.requires.within,
-      reach_string c.args.text.now c.args.at _ _ found.string,
-      reach_high c.args.text.now _ found.fits,
-    )
-
-pub returns-in_default-clause-cost : goal.returns-in_default-clause-cost
-returns-in_default-clause-cost g c =
-    let found = c.in_ok-found.ensures.reads in
-    omega (
-      arith,
-      c.in_ok-found.ensures.cost,
-      c.key.ensures.cost,
-      said_length found,
-      string_short _ _ _ _ found.string,
-      found.order,
-      c.requires.within,
-      reach_string c.args.text.now c.args.at _ _ found.string,
-      reach_high c.args.text.now _ found.fits,
-    )
-
-pub returns-in_err-take-3-clause-cost : goal.returns-in_err-take-3-clause-cost
-returns-in_err-take-3-clause-cost g c =
-    let found = c.in_ok-found.ensures.reads in
-    let p = err_from_is_err_and c.from_residual-in_err-take-3.result
-    c.from_residual-in_err-take-3.ensures.1 in
-    rw p.1 (omega (
-      arith,
-      c.in_ok-found.ensures.cost,
-      c.key.ensures.cost,
-      said_length found,
-      string_short _ _ _ _ found.string,
-      found.order,
-      c.requires.within,
-      reach_string c.args.text.now c.args.at _ _ found.string,
-      reach_high c.args.text.now _ found.fits,
-    ))
-
-pub returns-clause-cost : goal.returns-clause-cost
-returns-clause-cost g c =
-    let found = c.in_ok-found.ensures.reads in
-    omega (
-      arith,
-      c.in_ok-found.ensures.cost,
-      c.key.ensures.cost,
-      said_length found,
-      string_short _ _ _ _ found.string,
-      found.after,
-      found.order,
-      reach_string c.args.text.now c.args.at _ _ found.string,
-      reach_low c.args.text.now _ found.fits,
-    )
+    (c.begins_group.ensures.yes c.if-not-begins_group.false) c.new-2.ensures.items

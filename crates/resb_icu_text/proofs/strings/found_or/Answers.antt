@@ -20,14 +20,6 @@ returns-then-byte-eq34-clause-reads c =
     (IsFound text c.args.from) (StringFails text c.args.from c.args.expected) c.quoted.result
     (λ f is. is) (λ e h. fault_fails text c.args.from c.args.expected e h) c.quoted.ensures.reads
 
-pub returns-in_default-clause-cost : goal.returns-in_default-clause-cost
-returns-in_default-clause-cost c =
-    omega (
-      arith,
-      c.in_default.ensures.one,
-      reach_high c.args.text.now c.args.from c.requires.within,
-    )
-
 pub returns-clause-reads : goal.returns-clause-reads
 returns-clause-reads c =
     word_found c.args.text.now c.args.from c.in-Some.end c.skip.result _ c.in-Some.ensures.found
@@ -35,12 +27,7 @@ returns-clause-reads c =
 
 pub returns-clause-cost : goal.returns-clause-cost
 returns-clause-cost c =
-    omega (
-      arith,
-      c.in-Some.ensures.cost,
-      c.in-Some.ensures.found.some,
-      c.skip.ensures.cost,
-      reach_here c.args.text.now c.args.from (word_no_slash _ _ _ _ c.in-Some.ensures.found),
-      reach_low c.args.text.now c.skip.result c.skip.ensures.fits,
-      c.skip.ensures.order,
-    )
+    let word = c.in-Some.ensures.found in
+    let here = reach_here c.args.text.now c.args.from (word_no_slash _ _ _ _ word) in
+    let low = reach_low c.args.text.now c.skip.result c.skip.ensures.fits in
+    omega (arith, c.in-Some.ensures.cost, word.some)

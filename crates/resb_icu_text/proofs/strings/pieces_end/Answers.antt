@@ -62,18 +62,6 @@ returns-in_err-piece-clause-reads c =
     (piece_fault _ _ _ _ (sym c.byte.ensures.byte ∙ c.pieces-test.true)
     c.in_err-piece.ensures.reads))
 
-pub returns-in_err-piece-clause-cost : goal.returns-in_err-piece-clause-cost
-returns-in_err-piece-clause-cost c =
-    let p = err_from_is_err_and c.from_residual.result c.from_residual.ensures.1 in
-    rw p.1 (omega (
-      arith,
-      c.pieces.invariant.cost,
-      c.in_err-piece.ensures.cost,
-      c.pieces.invariant.seen.fits,
-      reach_quote c.args.text.now c.pieces.seen.next
-          (sym c.byte.ensures.byte ∙ c.pieces-test.true),
-    ))
-
 pub overflow_add-seen-in-pieces : goal.overflow_add-seen-in-pieces
 overflow_add-seen-in-pieces c =
     let was = c.pieces.invariant.seen in

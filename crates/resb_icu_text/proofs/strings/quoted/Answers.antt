@@ -41,16 +41,6 @@ returns-in_err-first-clause-reads c =
     let p = err_from_is_err_and c.from_residual.result c.from_residual.ensures.1 in
     rw (p.1, p.2) (piece_fault _ _ _ _ c.requires.opens c.in_err-first.ensures.reads)
 
-pub returns-in_err-first-clause-cost : goal.returns-in_err-first-clause-cost
-returns-in_err-first-clause-cost c =
-    let p = err_from_is_err_and c.from_residual.result c.from_residual.ensures.1 in
-    rw p.1 (omega (
-      arith,
-      c.in_err-first.ensures.cost,
-      reach_quote c.args.text.now c.args.from c.requires.opens,
-      c.requires.within,
-    ))
-
 pub returns-then-first-clause-reads : goal.returns-then-first-clause-reads
 returns-then-first-clause-reads c =
     let h = c.in_ok-first.ensures.reads in
@@ -60,19 +50,6 @@ returns-then-first-clause-reads c =
     (h.plain c.if-first.true) c.range.ensures.value c.skip-next.ensures.order
     c.skip-next.ensures.fits
 
-pub returns-then-first-clause-cost : goal.returns-then-first-clause-cost
-returns-then-first-clause-cost c =
-    let h = c.in_ok-first.ensures.reads in
-    omega (
-      arith,
-      c.in_ok-first.ensures.cost,
-      c.skip-next.ensures.cost,
-      h.order,
-      c.skip-next.ensures.order,
-      reach_quote c.args.text.now c.args.from c.requires.opens,
-      reach_low c.args.text.now c.skip-next.result c.skip-next.ensures.fits,
-    )
-
 pub returns-in_err-all-clause-reads : goal.returns-in_err-all-clause-reads
 returns-in_err-all-clause-reads c =
     let h = c.in_ok-first.ensures.reads in
@@ -80,23 +57,6 @@ returns-in_err-all-clause-reads c =
     c.from_residual-in_err-all.ensures.1 in
     rw (p.1, p.2) (later_fault _ _ _ _ _ _ _ c.requires.opens h.stands c.skip-next.ensures.skip
     c.in_err-all.ensures.reads)
-
-pub returns-in_err-all-clause-cost : goal.returns-in_err-all-clause-cost
-returns-in_err-all-clause-cost c =
-    let h = c.in_ok-first.ensures.reads in
-    let p = err_from_is_err_and c.from_residual-in_err-all.result
-    c.from_residual-in_err-all.ensures.1 in
-    rw p.1 (omega (
-      arith,
-      c.in_ok-first.ensures.cost,
-      c.skip-next.ensures.cost,
-      h.order,
-      c.in_err-all.ensures.cost,
-      c.skip-next.ensures.order,
-      reach_quote c.args.text.now c.args.from c.requires.opens,
-      reach_low c.args.text.now c.skip-next.result c.skip-next.ensures.fits,
-      c.skip-next.ensures.fits,
-    ))
 
 pub returns-clause-reads : goal.returns-clause-reads
 returns-clause-reads c =
@@ -113,21 +73,3 @@ returns-clause-reads c =
     pieces_found text c.args.from last c.skip-next.result h.said c.in_ok-first.first.length
     c.in_ok-all.all c.requires.opens h.stands h.counted c.skip-next.ensures.skip a
     (not_one text c.args.from last c.skip-next.result c.in_ok-all.all.end either a.moves)
-
-pub returns-clause-cost : goal.returns-clause-cost
-returns-clause-cost c =
-    let h = c.in_ok-first.ensures.reads in
-    let a = c.in_ok-all.ensures.reads in
-    omega (
-      arith,
-      c.in_ok-first.ensures.cost,
-      c.skip-next.ensures.cost,
-      h.order,
-      c.in_ok-all.ensures.cost,
-      c.skip-next.ensures.order,
-      a.order,
-      a.seen.order,
-      reach_quote c.args.text.now c.args.from c.requires.opens,
-      reach_low c.args.text.now c.skip-next.result c.skip-next.ensures.fits,
-      reach_low c.args.text.now c.in_ok-all.all.next a.seen.fits,
-    )

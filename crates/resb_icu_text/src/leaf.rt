@@ -162,6 +162,7 @@ fn integer_leaf<'a>(
 }
 
 /// Where the next number stands, or the `}`: behind one comma, or right here where no comma stands.
+#[tactic(auto, using(crate::proofs::ReachLemmas::reached))]
 fn behind_number(text: &str, at: usize, turns: &mut IcuTurns) -> Result<usize, IcuTextError>
     requires within { at ≤ length text.now }
     ensures reads { MatchResult result (IsBehindNumber text.now at)

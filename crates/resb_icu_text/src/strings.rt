@@ -141,6 +141,7 @@ impl<'a> Found<'a> {
 }
 
 /// Adds what the quoted pieces say that stand between these places. Counts two turns for each byte.
+#[tactic(auto, using(crate::proofs::ReachLemmas::reached))]
 fn put_together(
     value: &mut String,
     text: &str,

@@ -28,6 +28,13 @@ returns-in-None-clause-skip c =
     let run = rw c.as_bytes.ensures.value at c.blanks_end-white.ensures in
     skip_ends _ _ _ _ run c.in-None.ensures.none c.skip.invariant.so_far
 
+pub returns-then-byte-ne47-clause-skip : goal.returns-then-byte-ne47-clause-skip
+returns-then-byte-ne47-clause-skip c =
+    let run = rw c.as_bytes.ensures.value at c.blanks_end-white.ensures in
+    skip_ends _ _ _ _ run
+    (no_comment_at _ _ (λ e. c.if-byte-ne47.true (c.byte.ensures.byte ∙ e)))
+    c.skip.invariant.so_far
+
 pub returns-in-None-clause-cost : goal.returns-in-None-clause-cost
 returns-in-None-clause-cost c =
     let run = rw c.as_bytes.ensures.value at c.blanks_end-white.ensures in
@@ -42,13 +49,6 @@ returns-in-None-clause-cost c =
       reach_slash c.args.text.now c.blanks_end-white.result
           (sym c.byte.ensures.byte ∙ c.if-byte-ne47.false),
     )
-
-pub returns-then-byte-ne47-clause-skip : goal.returns-then-byte-ne47-clause-skip
-returns-then-byte-ne47-clause-skip c =
-    let run = rw c.as_bytes.ensures.value at c.blanks_end-white.ensures in
-    skip_ends _ _ _ _ run
-    (no_comment_at _ _ (λ e. c.if-byte-ne47.true (c.byte.ensures.byte ∙ e)))
-    c.skip.invariant.so_far
 
 pub returns-then-byte-ne47-clause-cost : goal.returns-then-byte-ne47-clause-cost
 returns-then-byte-ne47-clause-cost c =

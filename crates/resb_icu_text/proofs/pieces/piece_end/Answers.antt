@@ -14,10 +14,6 @@ returns-in_default-clause-reads c =
     (no_end_fault c.args.text.now (c.args.from - 1) c.args.from c.piece.at c.piece.invariant.fits
     c.in_default.ensures.none c.piece.invariant.fault)
 
-pub returns-in_default-clause-cost : goal.returns-in_default-clause-cost
-returns-in_default-clause-cost c =
-    omega (arith, c.add.ensures.most, c.piece.invariant.cost, c.piece.invariant.fits)
-
 pub returns-then-byte-eq34-clause-reads : goal.returns-then-byte-eq34-clause-reads
 returns-then-byte-eq34-clause-reads c =
     let f = c.in-Some.ensures.found in

@@ -15,11 +15,6 @@ returns-in_err-read-clause-reads g c =
     let p = err_from_is_err_and c.from_residual.result c.from_residual.ensures.1 in
     rw (p.1, p.2) c.in_err-read.ensures.reads
 
-pub returns-in_err-read-clause-cost : goal.returns-in_err-read-clause-cost
-returns-in_err-read-clause-cost g c =
-    let p = err_from_is_err_and c.from_residual.result c.from_residual.ensures.1 in
-    rw p.1 (omega (arith, c.in_err-read.ensures.cost, c.add.ensures.most))
-
 pub returns-clause-reads : goal.returns-clause-reads
 returns-clause-reads g c =
     let text = c.args.text.now in
@@ -53,29 +48,3 @@ returns-clause-reads g c =
     (λ e h limit a. stops_made text then (tree first.build) r e _ _ read.ends
     (subst (λ b. (e ≡ want_of_memory) ⊎ IsDouble (tree b) r e) build h) limit
     (read.comes limit a)) c.make.ensures
-
-pub returns-clause-cost : goal.returns-clause-cost
-returns-clause-cost g c =
-    let text = c.args.text.now in
-    let tree = g.B.Build.tree in
-    let held = g.B.Build.held in
-    let first = c.args.self.now in
-    let mid = c.read.new.self in
-    let d = c.make.new.build in
-    let last : OpenGroups g.row.B.Denot g.row.X.Denot = record {
-      waiting = mid.waiting;
-      keys = mid.keys;
-      build = d;
-    } in
-    let r = c.in_ok-read.read in
-    let read = c.in_ok-read.ensures.reads in
-    let build = c.in_ok-read.ensures.build in
-    let was = c.args.meter.now.turns in
-    let then = c.read.new.meter.turns in
-    match_by (IsMade tree held mid.build d r)
-    (λ e. (e ≡ want_of_memory) ⊎ IsDouble (tree mid.build) r e)
-    (λ n. then.count + spent text c.args.step + length (keys mid)
-    ≤ was.count + spent_before text n + length (keys first))
-    (λ e. then.count + spent text c.args.step ≤ was.count + 8 * length text + 8) c.make.result
-    (λ n h. omega (arith, h.spent text, c.in_ok-read.ensures.cost.0, c.add.ensures.most))
-    (λ e h. omega (arith, c.in_ok-read.ensures.cost.1, c.add.ensures.most)) c.make.ensures

@@ -42,26 +42,6 @@ returns-in-Members-clause-reads g c =
     (rw c.in-Members.is at c.requires.kept))
     (λ e s. s tree (groups tree c.args.self.now) (keys c.args.self.now)) c.member.ensures.reads)
 
-pub returns-in-Members-clause-cost : goal.returns-in-Members-clause-cost
-returns-in-Members-clause-cost g c =
-    let text = c.args.text.now in
-    let at = c.in-Members.at in
-    let was = c.args.meter.now in
-    let then = c.member.new.meter in
-    let place = (members_place c.in-Members.members.items c.in-Members.last c.in-Members.at) in
-    let count = length (keys c.args.self.now) in
-    rw c.in-Members.is (match_by
-    (λ r. Proceeds text 3 at was.turns then.turns r × StepsTo text place was.quota then.quota r)
-    (λ e. Halts text 4 at was.turns then.turns)
-    (λ r. (then.turns.count + 1 + (8 * reach text at + 2) + count
-    ≤ was.turns.count + spent_reading text r + count)
-    × (then.turns.count + 1 + (8 * reach text at + 2) ≤ was.turns.count + 8 * length text + 8))
-    (λ e. then.turns.count + 1 + (8 * reach text at + 2) ≤ was.turns.count + 8 * length text + 8)
-    c.member.result
-    (λ r h. (omega (arith, h.0), omega (arith, h.0, reading_most text r h.1.goes.0)))
-    (λ e h. omega (arith, h))
-    (both_said _ _ _ _ c.member.result c.member.ensures.cost c.member.ensures.reads))
-
 pub returns-in-Entries-clause-reads : goal.returns-in-Entries-clause-reads
 returns-in-Entries-clause-reads g c =
     let text = c.args.text.now in
@@ -78,38 +58,10 @@ returns-in-Entries-clause-reads g c =
     (rw c.in-Entries.is at c.requires.kept))
     (λ e s. s tree (groups tree c.args.self.now) (keys c.args.self.now)) c.entry.ensures.reads)
 
-pub returns-in-Entries-clause-cost : goal.returns-in-Entries-clause-cost
-returns-in-Entries-clause-cost g c =
-    let text = c.args.text.now in
-    let at = c.in-Entries.at in
-    let was = c.args.meter.now in
-    let then = c.entry.new.meter in
-    let place = (entries_place c.in-Entries.entries.items c.in-Entries.at) in
-    let count = length (keys c.args.self.now) in
-    rw c.in-Entries.is (match_by
-    (λ r. Proceeds text 3 at was.turns then.turns r × StepsTo text place was.quota then.quota r)
-    (λ e. Halts text 4 at was.turns then.turns)
-    (λ r. (then.turns.count + 1 + (8 * reach text at + 2) + count
-    ≤ was.turns.count + spent_reading text r + count)
-    × (then.turns.count + 1 + (8 * reach text at + 2) ≤ was.turns.count + 8 * length text + 8))
-    (λ e. then.turns.count + 1 + (8 * reach text at + 2) ≤ was.turns.count + 8 * length text + 8)
-    c.entry.result
-    (λ r h. (omega (arith, h.0), omega (arith, h.0, reading_most text r h.1.goes.0)))
-    (λ e h. omega (arith, h))
-    (both_said _ _ _ _ c.entry.result c.entry.ensures.cost c.entry.ensures.reads))
-
 pub returns-in_err-open-in-Group-clause-reads : goal.returns-in_err-open-in-Group-clause-reads
 returns-in_err-open-in-Group-clause-reads g c =
     let p = err_from_is_err_and c.from_residual.result c.from_residual.ensures.1 in
     rw (p.1, p.2) (memory_stops _ _ (none_taken _) refl)
-
-pub returns-in_err-open-in-Group-clause-cost : goal.returns-in_err-open-in-Group-clause-cost
-returns-in_err-open-in-Group-clause-cost g c =
-    let p = err_from_is_err_and c.from_residual.result c.from_residual.ensures.1 in
-    rw (p.1, c.in-Group.is) (omega (
-      arith,
-      reach_high c.args.text.now c.in-Group.at (rw c.in-Group.is at c.requires.within),
-    ))
 
 pub returns-in_ok-open-in-Group-clause-reads : goal.returns-in_ok-open-in-Group-clause-reads
 returns-in_ok-open-in-Group-clause-reads g c =
@@ -136,28 +88,6 @@ returns-in_ok-open-in-Group-clause-reads g c =
     opened.slices pass t both.0 both.1)))
     (λ e s. rw c.in-Group.is (in_opened (λ u. StopsAt text was then u e) at tree w os ws js ks
     (opened.groups tree) opened.keys (s tree os js))) c.group.ensures.reads
-
-pub returns-in_ok-open-in-Group-clause-cost : goal.returns-in_ok-open-in-Group-clause-cost
-returns-in_ok-open-in-Group-clause-cost g c =
-    let text = c.args.text.now in
-    let at = c.in-Group.at in
-    let was = c.args.meter.now in
-    let then = c.group.new.meter in
-    let place = group_place g.row.X.Denot at in
-    let count = length (keys c.args.self.now) in
-    let more = with_key_length (keys c.args.self.now) c.in-Group.waiting in
-    let same = ap length c.in_ok-open-in-Group.ensures.keys in
-    rw c.in-Group.is (match_by
-    (λ r. Proceeds text 5 at was.turns then.turns r × StepsTo text place was.quota then.quota r)
-    (λ e. Halts text 4 at was.turns then.turns)
-    (λ r. (then.turns.count + 1 + (8 * reach text at + 3) + length (keys c.open.new.self)
-    ≤ was.turns.count + spent_reading text r + count)
-    × (then.turns.count + 1 + (8 * reach text at + 3) ≤ was.turns.count + 8 * length text + 8))
-    (λ e. then.turns.count + 1 + (8 * reach text at + 3) ≤ was.turns.count + 8 * length text + 8)
-    c.group.result
-    (λ r h. (omega (arith, h.0, more, same), omega (arith, h.0, reading_most text r h.1.goes.0)))
-    (λ e h. omega (arith, h))
-    (both_said _ _ _ _ c.group.result c.group.ensures.cost c.group.ensures.reads))
 
 pub returns-in_err-check_key-in-Some-clause-reads
     : goal.returns-in_err-check_key-in-Some-clause-reads
@@ -189,15 +119,6 @@ returns-in_ok-step-in-Some-clause-reads g c =
       goes = (resumes.within, omega (arith, resumes.goes));
     })
 
-pub returns-in_ok-step-in-Some-clause-cost : goal.returns-in_ok-step-in-Some-clause-cost
-returns-in_ok-step-in-Some-clause-cost g c =
-    let resumes = c.in_ok-step-in-Some.ensures.reads in
-    let most = spent_most c.args.text.now c.in_ok-step-in-Some.step resumes.within in
-    rw c.in-Ended.is (
-      omega (arith, c.in_ok-step-in-Some.ensures.cost),
-      omega (arith, c.in_ok-step-in-Some.ensures.cost, most),
-    )
-
 pub returns-in-None-clause-reads : goal.returns-in-None-clause-reads
 returns-in-None-clause-reads g c =
     let none = sym c.args.self.now.waiting.ok.0 ∙ c.in-None.ensures.cases.0 in
@@ -209,3 +130,25 @@ returns-in-None-clause-reads g c =
       kept = search rules;
       goes = (rw c.in-Ended.is at c.requires.within, omega arith);
     })
+
+pub returns-in_ok-open-in-Group-clause-cost : goal.returns-in_ok-open-in-Group-clause-cost
+returns-in_ok-open-in-Group-clause-cost g c =
+    let text = c.args.text.now in
+    let at = c.in-Group.at in
+    let was = c.args.meter.now in
+    let then = c.group.new.meter in
+    let place = group_place g.row.X.Denot at in
+    let count = length (keys c.args.self.now) in
+    let more = with_key_length (keys c.args.self.now) c.in-Group.waiting in
+    let same = ap length c.in_ok-open-in-Group.ensures.keys in
+    rw c.in-Group.is (match_by
+    (λ r. Proceeds text 5 at was.turns then.turns r × StepsTo text place was.quota then.quota r)
+    (λ e. Halts text 4 at was.turns then.turns)
+    (λ r. (then.turns.count + 1 + (8 * reach text at + 3) + length (keys c.open.new.self)
+    ≤ was.turns.count + spent_reading text r + count)
+    × (then.turns.count + 1 + (8 * reach text at + 3) ≤ was.turns.count + 8 * length text + 8))
+    (λ e. then.turns.count + 1 + (8 * reach text at + 3) ≤ was.turns.count + 8 * length text + 8)
+    c.group.result
+    (λ r h. (omega (arith, h.0, more, same), omega (arith, h.0, reading_most text r h.1.goes.0)))
+    (λ e h. omega (arith, h))
+    (both_said _ _ _ _ c.group.result c.group.ensures.cost c.group.ensures.reads))

@@ -22,6 +22,12 @@ pub match_err : {T E : Type 0} {Q : E → Type 0} (P : T → Type 0) (G : E → 
 match_err P G (Ok x) h f = absurd h
 match_err P G (Err e) h f = f e h
 
+-- what is answered for an error that is this one
+pub match_fails : {T E : Type 0} {x : E} (P : T → Type 0) (G : E → Type 0) (r : Result T E)
+    → IsErrAnd r (λ e. e ≡ x) → G x → MatchResult r P G
+match_fails P G (Ok y) h g = absurd h
+match_fails P G (Err e) h g = subst G (sym h) g
+
 -- what is said of an answer, said by other words
 pub match_by : {T E : Type 0} (P : T → Type 0) (G : E → Type 0) (Q : T → Type 0) (H : E → Type 0)
     (r : Result T E) → ((x : T) → P x → Q x) → ((e : E) → G e → H e) → MatchResult r P G

@@ -91,3 +91,9 @@ reading_most text (read.Array members at) l = omega (arith, l)
 reading_most text (read.Table entries at next) l = omega (arith, l)
 reading_most text (read.Leaf r at) l = omega (arith, l)
 reading_most text (read.Root x at) l = omega (arith, l)
+
+-- and where a number begins
+pub ruleset reached_by_numbers = (reach_low, reach_high, reach_right, reach_comma, reach_number)
+
+-- and by what a step has read
+pub ruleset reached_by_steps = (reach_low, reach_high, reading_most, spent_most)

@@ -132,13 +132,7 @@ fn decoded(
 }
 
 /// The place of the `}` of an `:int` group, and its number, which the bundle holds modulo 2^28.
-#[tactic(
-    auto,
-    using(
-        crate::proofs::ReachLemmas::reached,
-        crate::proofs::ReachLemmas::reach_number,
-    )
-)]
+#[tactic(auto, using(crate::proofs::ReachLemmas::reached_by_numbers))]
 fn integer_leaf<'a>(
     text: &'a str,
     at: usize,
@@ -181,13 +175,7 @@ fn behind_number(text: &str, at: usize, turns: &mut IcuTurns) -> Result<usize, I
 
 /// The place of the `}` behind numbers, and these: at least one, with a comma between two. Each is
 /// taken from the quota before there is room for it.
-#[tactic(
-    auto,
-    using(
-        crate::proofs::ReachLemmas::reached,
-        crate::proofs::ReachLemmas::reach_number,
-    )
-)]
+#[tactic(auto, using(crate::proofs::ReachLemmas::reached_by_numbers))]
 fn numbers(
     alloc: Global,
     text: &str,

@@ -92,14 +92,7 @@ impl<'a, X: Drop, B: Build<'a, Made = X>> OpenGroups<'a, B, X> {
     }
 
     /// What one step reads.
-    #[tactic(
-        auto,
-        using(
-            crate::proofs::ReachLemmas::reached,
-            crate::proofs::ReachLemmas::reading_most,
-            crate::proofs::ReachLemmas::spent_most,
-        )
-    )]
+    #[tactic(auto, using(crate::proofs::ReachLemmas::reached_by_steps))]
     fn read(
         &mut self,
         alloc: Global,

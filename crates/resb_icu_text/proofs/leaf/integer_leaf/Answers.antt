@@ -1,15 +1,12 @@
 use Rattle.std.proofs.Common.{ap, arith, refl, sym, ◌∙◌}
-use Rattle.std.proofs.lemmas.Result.{err_from_is_err_and}
 use Rattle.resb_tree.specs.Tree.{integer}
 use Rattle.resb_tree.proofs.ViewLemmas.{tree_of_integer}
 use Rattle.resb_icu_grammar.specs.Kinds.{integer_kind}
 use Rattle.resb_icu_grammar.specs.Stuck.{no_integer, open_integer}
-use Rattle.resb_grammar.proofs.ReachLemmas.{reach_right, reach_low, reach_high}
 use Rattle.resb_icu_text.proofs.LeafLemmas.{leaf_fails, leaf_over, leaf_read}
 use Rattle.resb_icu_text.proofs.LeafLemmas.{integer_stands, closing_at}
 use Rattle.resb_icu_text.proofs.KeptLemmas.{number_kept}
-use Rattle.resb_icu_text.proofs.QuotaLemmas.{none_taken}
-use Rattle.resb_icu_text.proofs.ReachLemmas.{reach_number}
+use Rattle.resb_icu_text.proofs.QuotaLemmas.{none_taken, match_fails}
 use Rattle.resb_icu_text.proofs.leaf.integer_leaf.Goals as goal
 
 pub returns-in_default-clause-reads : goal.returns-in_default-clause-reads
@@ -19,16 +16,15 @@ returns-in_default-clause-reads c =
 
 pub returns-in_err-to-clause-reads : goal.returns-in_err-to-clause-reads
 returns-in_err-to-clause-reads c =
-    let p = err_from_is_err_and c.from_residual.result c.from_residual.ensures.1 in
     let e = c.in_err-to.ensures in
-    rw (p.1, p.2) (leaf_fails c.args.at integer_kind _ _ _ (none_taken _) refl e.is
+    match_fails _ _ _ c.from_residual.ensures.1
+    (leaf_fails c.args.at integer_kind _ _ _ (none_taken _) refl e.is
     (open_integer _ _ _ c.in-Some.ensures.found c.skip-next.ensures.skip e.none))
 
 pub returns-in_err-take-clause-reads : goal.returns-in_err-take-clause-reads
 returns-in_err-take-clause-reads c =
-    let p = err_from_is_err_and c.from_residual-in_err-take.result
-    c.from_residual-in_err-take.ensures.1 in
-    rw (p.1, p.2) (leaf_over c.args.at integer_kind c.in_ok-to.to _ _
+    match_fails _ _ _ c.from_residual-in_err-take.ensures.1
+    (leaf_over c.args.at integer_kind c.in_ok-to.to _ _
     (integer_stands _ _ _ _ _ c.in-Some.ensures.found
     (closing_at _ _ _ _ c.skip-next.ensures.skip c.in_ok-to.ensures))
     c.in_err-take.ensures refl refl)

@@ -1,13 +1,12 @@
 use Rattle.std.proofs.Common.{◌+◌, sym, ◌∙◌, arith, refl, length, length-append, ◌∷◌, []}
-use Rattle.std.proofs.lemmas.Result.{err_from_is_err_and}
 use Rattle.resb_icu_grammar.specs.Kinds.{vector_kind}
 use Rattle.resb_icu_grammar.specs.Stuck.{none_yet, no_number, open_vector}
 use Rattle.resb_icu_grammar.proofs.Blocked.{no_more, a_last}
-use Rattle.resb_grammar.proofs.ReachLemmas.{reach_low, reach_right, reach_high}
+use Rattle.resb_grammar.proofs.ReachLemmas.{reach_low}
 use Rattle.resb_icu_text.proofs.LeafLemmas.{continues_first, continues_end, continues_more}
 use Rattle.resb_icu_text.proofs.LeafLemmas.{counted_more, numbers_stop, number_over, leaf_lacks}
 use Rattle.resb_icu_text.proofs.LeafLemmas.{leaf_says}
-use Rattle.resb_icu_text.proofs.QuotaLemmas.{none_taken, both_taken}
+use Rattle.resb_icu_text.proofs.QuotaLemmas.{none_taken, both_taken, match_fails}
 use Rattle.resb_icu_text.proofs.ReachLemmas.{reach_number}
 use Rattle.resb_icu_text.proofs.leaf.numbers.Goals as goal
 
@@ -33,25 +32,22 @@ returns-in_default-clause-reads c =
 
 pub returns-in_err-take-clause-reads : goal.returns-in_err-take-clause-reads
 returns-in_err-take-clause-reads c =
-    let p = err_from_is_err_and c.from_residual.result c.from_residual.ensures.1 in
-    rw (p.1, p.2) (number_over c.args.at c.numbers.here _ _ _ _ c.numbers.invariant.counted.0
+    match_fails _ _ _ c.from_residual.ensures.1
+    (number_over c.args.at c.numbers.here _ _ _ _ c.numbers.invariant.counted.0
     c.numbers.invariant.counted.1 c.in-Some.ensures.found c.numbers.invariant.taken
     c.in_err-take.ensures refl)
 
 pub returns-in_err-push-clause-reads : goal.returns-in_err-push-clause-reads
 returns-in_err-push-clause-reads c =
-    let p = err_from_is_err_and c.from_residual-in_err-push.result
-    c.from_residual-in_err-push.ensures.1 in
-    rw (p.1, p.2) (leaf_lacks c.args.at vector_kind _
+    match_fails _ _ _ c.from_residual-in_err-push.ensures.1 (leaf_lacks c.args.at vector_kind _
     (both_taken c.numbers.invariant.taken c.in_ok-take.ensures refl) refl)
 
 pub returns-in_err-here-clause-reads : goal.returns-in_err-here-clause-reads
 returns-in_err-here-clause-reads c =
-    let p = err_from_is_err_and c.from_residual-in_err-here.result
-    c.from_residual-in_err-here.ensures.1 in
     let e = c.in_err-here.ensures.reads in
     let counted = c.numbers.invariant.counted in
-    rw (p.1, p.2) (numbers_stop c.args.at c.numbers.here (length c.numbers.numbers.items + 1) 1 _
+    match_fails _ _ _ c.from_residual-in_err-here.ensures.1
+    (numbers_stop c.args.at c.numbers.here (length c.numbers.numbers.items + 1) 1 _
     counted.0
     (a_last _ _ _ c.in-Some.ensures.found c.skip-place.ensures.skip e.no_comma)
     (both_taken c.numbers.invariant.taken c.in_ok-take.ensures (omega arith))

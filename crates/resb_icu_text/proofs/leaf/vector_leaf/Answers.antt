@@ -1,18 +1,16 @@
 use Rattle.std.proofs.Common.{ap, arith, refl, sym, ◌∙◌, []}
-use Rattle.std.proofs.lemmas.Result.{err_from_is_err_and}
 use Rattle.resb_tree.specs.Tree.{int_vector}
 use Rattle.resb_tree.proofs.ViewLemmas.{tree_of_vector}
 use Rattle.resb_icu_grammar.specs.Kinds.{vector_kind}
-use Rattle.resb_grammar.proofs.ReachLemmas.{reach_right, reach_high}
 use Rattle.resb_icu_text.proofs.LeafLemmas.{empty_vector, vector_stands, leaf_over, leaf_read}
 use Rattle.resb_icu_text.proofs.KeptLemmas.{numbers_kept}
-use Rattle.resb_icu_text.proofs.QuotaLemmas.{both_taken, taken_over}
+use Rattle.resb_icu_text.proofs.QuotaLemmas.{both_taken, taken_over, match_fails}
 use Rattle.resb_icu_text.proofs.leaf.vector_leaf.Goals as goal
 
 pub returns-in_err-take-clause-reads : goal.returns-in_err-take-clause-reads
 returns-in_err-take-clause-reads c =
-    let p = err_from_is_err_and c.from_residual.result c.from_residual.ensures.1 in
-    rw (p.1, p.2) (leaf_over c.args.at vector_kind c.args.at (int_vector []) _
+    match_fails _ _ _ c.from_residual.ensures.1
+    (leaf_over c.args.at vector_kind c.args.at (int_vector []) _
     (empty_vector _ _ (sym c.byte.ensures.byte ∙ c.if-byte-eq125.true))
     c.in_err-take.ensures refl refl)
 
@@ -26,16 +24,13 @@ returns-then-byte-eq125-clause-reads c =
 
 pub returns-in_err-to-clause-reads : goal.returns-in_err-to-clause-reads
 returns-in_err-to-clause-reads c =
-    let p = err_from_is_err_and c.from_residual-in_err-to.result
-    c.from_residual-in_err-to.ensures.1 in
-    rw (p.1, p.2) c.in_err-to.ensures.reads
+    match_fails _ _ _ c.from_residual-in_err-to.ensures.1 c.in_err-to.ensures.reads
 
 pub returns-in_err-take-2-clause-reads : goal.returns-in_err-take-2-clause-reads
 returns-in_err-take-2-clause-reads c =
-    let p = err_from_is_err_and c.from_residual-in_err-take-2.result
-    c.from_residual-in_err-take-2.ensures.1 in
     let v = c.in_ok-to.ensures.reads in
-    rw (p.1, p.2) (leaf_over c.args.at vector_kind c.in_ok-to.to _ _
+    match_fails _ _ _ c.from_residual-in_err-take-2.ensures.1
+    (leaf_over c.args.at vector_kind c.in_ok-to.to _ _
     (vector_stands _ _ _ _ v.vector)
     (taken_over v.takes c.in_err-take-2.ensures refl) (omega arith) refl)
 

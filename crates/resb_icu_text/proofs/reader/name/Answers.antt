@@ -1,17 +1,12 @@
-use Rattle.std.proofs.Common.{sym, ◌∙◌, arith}
-use Rattle.std.proofs.lemmas.Result.{err_from_is_err_and}
+use Rattle.std.proofs.Common.{sym, ◌∙◌}
 use Rattle.resb_icu_text.proofs.ReadingLemmas.{no_name, unfit_name, empty_name, broken_name}
 use Rattle.resb_icu_text.proofs.ReadingLemmas.{whole_name}
-use Rattle.resb_icu_grammar.proofs.Lexical.{key_string}
-use Rattle.resb_icu_text.proofs.LengthLemmas.{string_short, blanks_order}
-use Rattle.resb_grammar.proofs.ReachLemmas.{reach_low, reach_high}
-use Rattle.resb_icu_text.proofs.ReachLemmas.{reach_string}
+use Rattle.resb_icu_text.proofs.QuotaLemmas.{match_fails}
 use Rattle.resb_icu_text.proofs.reader.name.Goals as goal
 
 pub returns-in_err-next-clause-reads : goal.returns-in_err-next-clause-reads
 returns-in_err-next-clause-reads c =
-    let p = err_from_is_err_and c.from_residual.result c.from_residual.ensures.1 in
-    rw (p.1, p.2) (no_name _ _ _ c.in_err-next.ensures.reads)
+    match_fails _ _ _ c.from_residual.ensures.1 (no_name _ _ _ c.in_err-next.ensures.reads)
 
 pub returns-then-is_empty-clause-reads : goal.returns-then-is_empty-clause-reads
 returns-then-is_empty-clause-reads c =

@@ -1,6 +1,5 @@
 use Rattle.std.proofs.Common.{arith, sym, ◌∙◌}
 use Rattle.resb_icu_text.specs.Inner.Reading.{no_brace}
-use Rattle.resb_grammar.proofs.ReachLemmas.{reach_left, reach_high}
 use Rattle.resb_icu_text.proofs.reader.opening.Goals as goal
 
 pub returns-then-byte-eq123-clause-reads : goal.returns-then-byte-eq123-clause-reads

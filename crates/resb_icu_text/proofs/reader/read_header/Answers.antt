@@ -1,21 +1,18 @@
-use Rattle.std.proofs.Common.{arith}
-use Rattle.std.proofs.lemmas.Result.{err_from_is_err_and}
 use Rattle.resb_icu_text.proofs.ReadingLemmas.{no_header_name, no_header_opening, typing_of}
-use Rattle.resb_grammar.proofs.ReachLemmas.{reach_low}
+use Rattle.resb_icu_text.proofs.QuotaLemmas.{match_fails}
 use Rattle.resb_icu_text.proofs.reader.read_header.Goals as goal
 
 pub returns-in_err-next-clause-reads : goal.returns-in_err-next-clause-reads
 returns-in_err-next-clause-reads c =
-    let p = err_from_is_err_and c.from_residual.result c.from_residual.ensures.1 in
-    rw (p.1, p.2) (no_header_name _ _ _ _ c.begin.ensures.begins c.skip-start.ensures.skip
+    match_fails _ _ _ c.from_residual.ensures.1
+    (no_header_name _ _ _ _ c.begin.ensures.begins c.skip-start.ensures.skip
     c.in_err-next.ensures.reads)
 
 pub returns-in_err-brace-clause-reads : goal.returns-in_err-brace-clause-reads
 returns-in_err-brace-clause-reads c =
-    let p = err_from_is_err_and c.from_residual-in_err-brace.result
-    c.from_residual-in_err-brace.ensures.1 in
     let named = c.in_ok-next.ensures.reads in
-    rw (p.1, p.2) (no_header_opening _ _ _ _ _ _ _ c.begin.ensures.begins
+    match_fails _ _ _ c.from_residual-in_err-brace.ensures.1
+    (no_header_opening _ _ _ _ _ _ _ c.begin.ensures.begins
     c.skip-start.ensures.skip named.stands named.after c.in_err-brace.ensures.reads)
 
 pub returns-clause-reads : goal.returns-clause-reads

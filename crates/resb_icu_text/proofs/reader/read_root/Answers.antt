@@ -1,10 +1,10 @@
 use Rattle.std.proofs.Common.{arith, ap}
 use Rattle.std.proofs.lemmas.List.{length-map}
 use Rattle.std.proofs.lemmas.Bool.{and_from, and_parts}
-use Rattle.std.proofs.lemmas.Result.{err_from_is_err_and}
 use Rattle.resb_icu_text.proofs.ReadingLemmas.{text_goes_on, text_ends}
 use Rattle.resb_icu_text.specs.Inner.Kept.{entries_pass}
 use Rattle.resb_grammar.proofs.ReachLemmas.{reach_high}
+use Rattle.resb_icu_text.proofs.QuotaLemmas.{match_fails}
 use Rattle.resb_icu_text.proofs.reader.read_root.Goals as goal
 
 pub steps-init : goal.steps-init
@@ -38,8 +38,7 @@ steps-preserved g c =
 
 pub returns-in_err-next-clause-reads : goal.returns-in_err-next-clause-reads
 returns-in_err-next-clause-reads g c =
-    let p = err_from_is_err_and c.from_residual.result c.from_residual.ensures.1 in
-    rw (p.1, p.2) (λ limit a.
+    match_fails _ _ _ c.from_residual.ensures.1 (λ limit a.
     c.in_err-next.ensures.reads limit (c.steps.invariant.comes limit a))
 
 pub returns-then-end-text-clause-reads : goal.returns-then-end-text-clause-reads

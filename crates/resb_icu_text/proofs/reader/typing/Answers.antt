@@ -1,6 +1,5 @@
-use Rattle.std.proofs.Common.{arith, sym, ◌∙◌, refl}
+use Rattle.std.proofs.Common.{sym, ◌∙◌, refl}
 use Rattle.resb_icu_text.specs.Inner.Reading.{no_colon, a_type, no_type}
-use Rattle.resb_grammar.proofs.ReachLemmas.{reach_colon, reach_low}
 use Rattle.resb_icu_text.proofs.reader.typing.Goals as goal
 
 pub returns-then-byte-ne58-clause-reads : goal.returns-then-byte-ne58-clause-reads

@@ -1,7 +1,6 @@
-use Rattle.std.proofs.Common.{arith, sym, ◌∙◌}
+use Rattle.std.proofs.Common.{sym, ◌∙◌}
 use Rattle.resb_icu_text.proofs.QuotaLemmas.{none_taken}
 use Rattle.resb_icu_text.proofs.StepsLemmas.{member_comma, no_member_comma}
-use Rattle.resb_grammar.proofs.ReachLemmas.{reach_comma, reach_low}
 use Rattle.resb_icu_text.proofs.steps.comma.Goals as goal
 
 pub returns-then-is_member-clause-reads : goal.returns-then-is_member-clause-reads

@@ -1,6 +1,4 @@
-use Rattle.std.proofs.Common.{arith}
-use Rattle.std.proofs.lemmas.Result.{err_from_is_err_and}
-use Rattle.resb_icu_text.proofs.QuotaLemmas.{none_taken}
+use Rattle.resb_icu_text.proofs.QuotaLemmas.{none_taken, match_fails}
 use Rattle.resb_icu_text.proofs.StepsLemmas.{array_content, table_content, leaf_content}
 use Rattle.resb_icu_text.proofs.steps.content.Goals as goal
 
@@ -21,5 +19,5 @@ returns-in_ok-to-in_default-clause-reads g c =
 
 pub returns-in_err-to-in_default-clause-reads : goal.returns-in_err-to-in_default-clause-reads
 returns-in_err-to-in_default-clause-reads g c =
-    let p = err_from_is_err_and c.from_residual.result c.from_residual.ensures.1 in
-    rw (p.1, p.2) (λ tree ws ks. c.in_err-to-in_default.ensures.reads ws ks)
+    match_fails _ _ _ c.from_residual.ensures.1
+    (λ tree ws ks. c.in_err-to-in_default.ensures.reads ws ks)

@@ -1,9 +1,5 @@
 use Rattle.std.proofs.Common.{arith, refl, sym, ◌∙◌}
-use Rattle.std.proofs.lemmas.Result.{err_from_is_err_and}
-use Rattle.resb_grammar.proofs.ReachLemmas.{reach_right, reach_low, reach_high}
-use Rattle.resb_icu_grammar.proofs.Lexical.{key_string}
-use Rattle.resb_icu_text.proofs.QuotaLemmas.{none_taken}
-use Rattle.resb_icu_text.proofs.ReachLemmas.{reach_string}
+use Rattle.resb_icu_text.proofs.QuotaLemmas.{none_taken, match_fails}
 use Rattle.resb_icu_text.proofs.StepsLemmas.{entries_end, entry_key, key_over, no_entry}
 use Rattle.resb_icu_text.proofs.steps.entry.Goals as goal
 
@@ -15,15 +11,14 @@ returns-then-byte-eq125-clause-reads g c =
 
 pub returns-in_err-next-clause-reads : goal.returns-in_err-next-clause-reads
 returns-in_err-next-clause-reads g c =
-    let p = err_from_is_err_and c.from_residual.result c.from_residual.ensures.1 in
-    rw (p.1, p.2) (no_entry c.args.entries.items c.args.at _ (none_taken _)
+    match_fails _ _ _ c.from_residual.ensures.1
+    (no_entry c.args.entries.items c.args.at _ (none_taken _)
     (λ e. c.if-byte-eq125.false (c.byte.ensures.byte ∙ e)) c.in_err-next.ensures.reads)
 
 pub returns-in_err-take-clause-reads : goal.returns-in_err-take-clause-reads
 returns-in_err-take-clause-reads g c =
-    let p = err_from_is_err_and c.from_residual-in_err-take.result
-    c.from_residual-in_err-take.ensures.1 in
-    rw (p.1, p.2) (key_over c.args.entries.items c.in_ok-next.key c.args.at c.in_ok-next.next _
+    match_fails _ _ _ c.from_residual-in_err-take.ensures.1
+    (key_over c.args.entries.items c.in_ok-next.key c.args.at c.in_ok-next.next _
     c.in_err-take.ensures (rw c.deref.ensures.value at c.next_key_bytes.ensures)
     c.in_ok-next.ensures.reads refl)
 

@@ -1,17 +1,13 @@
-use Rattle.std.proofs.Common.{arith, refl, sym, ◌∙◌}
-use Rattle.std.proofs.lemmas.Result.{err_from_is_err_and}
-use Rattle.resb_grammar.proofs.ReachLemmas.{reach_left, reach_low, reach_high}
+use Rattle.std.proofs.Common.{refl, sym, ◌∙◌}
 use Rattle.resb_icu_text.specs.Inner.Steps.{StepsTo, StepFails, untyped_place}
-use Rattle.resb_icu_text.specs.Inner.Steps.{group_place, Proceeds}
-use Rattle.resb_icu_text.specs.Inner.Turns.{Halts}
-use Rattle.resb_icu_text.proofs.QuotaLemmas.{none_taken, match_by}
+use Rattle.resb_icu_text.specs.Inner.Steps.{group_place}
+use Rattle.resb_icu_text.proofs.QuotaLemmas.{none_taken, match_by, match_fails}
 use Rattle.resb_icu_text.proofs.StepsLemmas.{as_untyped, untyped_fails, untyped_over, no_group}
 use Rattle.resb_icu_text.proofs.steps.group.Goals as goal
 
 pub returns-in_err-take-clause-reads : goal.returns-in_err-take-clause-reads
 returns-in_err-take-clause-reads g c =
-    let p = err_from_is_err_and c.from_residual.result c.from_residual.ensures.1 in
-    rw (p.1, p.2) (untyped_over c.args.at c.skip-next.result _
+    match_fails _ _ _ c.from_residual.ensures.1 (untyped_over c.args.at c.skip-next.result _
     (sym c.byte-b.ensures.byte ∙ c.if-b-eq123.true) c.skip-next.ensures.skip
     c.in_err-take.ensures refl)
 

@@ -1,7 +1,6 @@
-use Rattle.std.proofs.Common.{arith, sym, ◌∙◌, inl, inr}
+use Rattle.std.proofs.Common.{arith, sym, ◌∙◌}
 use Rattle.resb_icu_text.proofs.QuotaLemmas.{none_taken}
 use Rattle.resb_icu_text.proofs.StepsLemmas.{members_end, member_group}
-use Rattle.resb_grammar.proofs.ReachLemmas.{reach_right}
 use Rattle.resb_icu_text.proofs.steps.member.Goals as goal
 
 pub returns-then-b-eq125-clause-reads : goal.returns-then-b-eq125-clause-reads

@@ -1,5 +1,3 @@
-use Rattle.std.proofs.Common.{arith}
-use Rattle.resb_grammar.proofs.ReachLemmas.{reach_low}
 use Rattle.resb_icu_text.proofs.StepsLemmas.{behind_member, behind_value}
 use Rattle.resb_icu_text.proofs.steps.resume.Goals as goal
 

@@ -1,17 +1,14 @@
-use Rattle.std.proofs.Common.{◌+◌, ◌*◌, ap, arith, refl, sym, ◌∙◌}
-use Rattle.std.proofs.lemmas.Result.{err_from_is_err_and}
-use Rattle.resb_grammar.proofs.ReachLemmas.{reach_low, reach_high}
+use Rattle.std.proofs.Common.{◌+◌, ◌*◌, ap, refl, sym, ◌∙◌}
 use Rattle.resb_icu_text.specs.Inner.Steps.{members_place}
-use Rattle.resb_icu_text.proofs.QuotaLemmas.{none_taken}
-use Rattle.resb_icu_text.proofs.ReachLemmas.{reach_string}
+use Rattle.resb_icu_text.proofs.QuotaLemmas.{none_taken, match_fails}
 use Rattle.resb_icu_text.proofs.StepsLemmas.{member_string, member_over, no_member_string}
 use Rattle.resb_icu_text.proofs.StepsLemmas.{no_member, lacks, text_made}
 use Rattle.resb_icu_text.proofs.steps.string_member.Goals as goal
 
 pub returns-in_err-found-clause-reads : goal.returns-in_err-found-clause-reads
 returns-in_err-found-clause-reads g c =
-    let p = err_from_is_err_and c.from_residual.result c.from_residual.ensures.1 in
-    rw (p.1, p.2) (no_member c.args.members.items c.args.last c.args.at _ _ (none_taken _)
+    match_fails _ _ _ c.from_residual.ensures.1
+    (no_member c.args.members.items c.args.last c.args.at _ _ (none_taken _)
     c.member_behind.ensures c.requires.no_brace c.requires.no_comma c.requires.no_group
     c.in_err-found.ensures.reads)
 
@@ -23,17 +20,15 @@ returns-then-is_string-clause-reads g c =
 
 pub returns-in_err-take-clause-reads : goal.returns-in_err-take-clause-reads
 returns-in_err-take-clause-reads g c =
-    let p = err_from_is_err_and c.from_residual-in_err-take.result
-    c.from_residual-in_err-take.ensures.1 in
-    rw (p.1, p.2) (member_over c.args.members.items c.args.last c.args.at c.in_ok-found.found _
+    match_fails _ _ _ c.from_residual-in_err-take.ensures.1
+    (member_over c.args.members.items c.args.last c.args.at c.in_ok-found.found _
     c.in_err-take.ensures (c.string_bytes.ensures ∙ ap (λ n. 72 + 3 * n) c.length.ensures)
     (sym c.is_string.ensures ∙ c.if-is_string.false) c.in_ok-found.ensures.reads refl)
 
 pub returns-in_err-said-clause-reads : goal.returns-in_err-said-clause-reads
 returns-in_err-said-clause-reads g c =
-    let p = err_from_is_err_and c.from_residual-in_err-said.result
-    c.from_residual-in_err-said.ensures.1 in
-    rw (p.1, p.2) (lacks (members_place c.args.members.items c.args.last c.args.at) _
+    match_fails _ _ _ c.from_residual-in_err-said.ensures.1
+    (lacks (members_place c.args.members.items c.args.last c.args.at) _
     c.in_ok-take.ensures refl)
 
 pub returns-clause-reads : goal.returns-clause-reads

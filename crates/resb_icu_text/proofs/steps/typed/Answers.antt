@@ -1,19 +1,16 @@
 use Rattle.std.proofs.Common.{◌+◌, ◌≤◌, arith, refl, sym, ◌∙◌}
-use Rattle.std.proofs.lemmas.Result.{err_from_is_err_and}
-use Rattle.resb_grammar.proofs.ReachLemmas.{reach_colon, reach_left, reach_low, reach_high}
 use Rattle.resb_icu_grammar.specs.Kinds.{kind_of}
 use Rattle.resb_icu_text.specs.Inner.Steps.{StepsTo, StepFails, typed_place}
-use Rattle.resb_icu_text.specs.Inner.Steps.{group_place, Proceeds}
-use Rattle.resb_icu_text.specs.Inner.Turns.{Halts}
-use Rattle.resb_icu_text.proofs.QuotaLemmas.{none_taken, match_by}
+use Rattle.resb_icu_text.specs.Inner.Steps.{group_place}
+use Rattle.resb_icu_text.proofs.QuotaLemmas.{none_taken, match_by, match_fails}
 use Rattle.resb_icu_text.proofs.StepsLemmas.{as_typed, typed_fails, typed_over, no_type}
 use Rattle.resb_icu_text.proofs.StepsLemmas.{no_group_brace, opening_there}
 use Rattle.resb_icu_text.proofs.steps.typed.Goals as goal
 
 pub returns-in_err-end-clause-reads : goal.returns-in_err-end-clause-reads
 returns-in_err-end-clause-reads g c =
-    let p = err_from_is_err_and c.from_residual.result c.from_residual.ensures.1 in
-    rw (p.1, p.2) (no_type c.args.at _ (none_taken _) c.in_err-end.ensures.err c.requires.colon)
+    match_fails _ _ _ c.from_residual.ensures.1
+    (no_type c.args.at _ (none_taken _) c.in_err-end.ensures.err c.requires.colon)
 
 pub returns-then-byte-ne123-clause-reads : goal.returns-then-byte-ne123-clause-reads
 returns-then-byte-ne123-clause-reads g c =
@@ -25,9 +22,8 @@ returns-in_err-take-clause-reads g c =
     let opens = opening_there _ _ _ _ c.skip-first.result _ c.in_ok-end.ensures.found
     c.skip-brace.ensures.skip (sym c.byte.ensures.byte ∙ c.if-byte-ne123.false)
     c.skip-first.ensures.skip in
-    let p = err_from_is_err_and c.from_residual-in_err-take.result
-    c.from_residual-in_err-take.ensures.1 in
-    rw (p.1, p.2) (typed_over c.args.at c.skip-first.result (kind_of c.in_ok-end.kind) _ opens
+    match_fails _ _ _ c.from_residual-in_err-take.ensures.1
+    (typed_over c.args.at c.skip-first.result (kind_of c.in_ok-end.kind) _ opens
     c.in_err-take.ensures c.opening_bytes.ensures refl)
 
 pub returns-clause-reads : goal.returns-clause-reads

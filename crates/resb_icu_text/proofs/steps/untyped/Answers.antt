@@ -1,5 +1,4 @@
-use Rattle.std.proofs.Common.{arith, sym, ◌∙◌, inl, inr}
-use Rattle.resb_grammar.proofs.ReachLemmas.{reach_right}
+use Rattle.std.proofs.Common.{arith, sym, ◌∙◌}
 use Rattle.resb_icu_text.proofs.QuotaLemmas.{none_taken}
 use Rattle.resb_icu_text.proofs.StepsLemmas.{untyped_empty, untyped_group}
 use Rattle.resb_icu_text.proofs.steps.untyped.Goals as goal

@@ -1,36 +1,30 @@
-use Rattle.std.proofs.Common.{◌+◌, ◌*◌, ap, arith, refl, sym, ◌∙◌, inl, inr}
-use Rattle.std.proofs.lemmas.Result.{err_from_is_err_and}
-use Rattle.resb_grammar.proofs.ReachLemmas.{reach_right, reach_low, reach_high}
+use Rattle.std.proofs.Common.{◌+◌, ◌*◌, ap, arith, refl, sym, ◌∙◌}
 use Rattle.resb_icu_text.specs.Inner.Steps.{untyped_place}
-use Rattle.resb_icu_text.proofs.LengthLemmas.{string_short}
-use Rattle.resb_icu_text.proofs.QuotaLemmas.{none_taken}
-use Rattle.resb_icu_text.proofs.ReachLemmas.{reach_string}
+use Rattle.resb_icu_text.proofs.QuotaLemmas.{none_taken, match_fails}
 use Rattle.resb_icu_text.proofs.StepsLemmas.{untyped_one, one_over, untyped_comma, comma_over}
 use Rattle.resb_icu_text.proofs.StepsLemmas.{untyped_key, first_key_over, no_untyped, no_key, lacks}
 use Rattle.resb_icu_text.proofs.StepsLemmas.{no_untyped_string, no_untyped_key, text_made}
-use Rattle.resb_icu_text.proofs.StepsLemmas.{key_ahead, said_length}
+use Rattle.resb_icu_text.proofs.StepsLemmas.{key_ahead}
 use Rattle.resb_icu_text.proofs.steps.untyped_string.Goals as goal
 
 pub returns-in_err-found-clause-reads : goal.returns-in_err-found-clause-reads
 returns-in_err-found-clause-reads g c =
-    let p = err_from_is_err_and c.from_residual.result c.from_residual.ensures.1 in
-    rw (p.1, p.2) (no_untyped c.args.at _ (none_taken _) c.requires.no_brace
+    match_fails _ _ _ c.from_residual.ensures.1
+    (no_untyped c.args.at _ (none_taken _) c.requires.no_brace
     c.requires.no_group c.in_err-found.ensures.reads)
 
 pub returns-in_err-take-clause-reads : goal.returns-in_err-take-clause-reads
 returns-in_err-take-clause-reads g c =
-    let p = err_from_is_err_and c.from_residual-in_err-take.result
-    c.from_residual-in_err-take.ensures.1 in
-    rw (p.1, p.2) (one_over c.args.at c.in_ok-found.found _ c.in_err-take.ensures
+    match_fails _ _ _ c.from_residual-in_err-take.ensures.1
+    (one_over c.args.at c.in_ok-found.found _ c.in_err-take.ensures
     (c.text_bytes.ensures ∙ ap (λ n. 3 * n) c.length.ensures)
     (sym c.byte-b.ensures.byte ∙ c.if-b-eq125.true)
     c.in_ok-found.ensures.reads refl)
 
 pub returns-in_err-said-clause-reads : goal.returns-in_err-said-clause-reads
 returns-in_err-said-clause-reads g c =
-    let p = err_from_is_err_and c.from_residual-in_err-said.result
-    c.from_residual-in_err-said.ensures.1 in
-    rw (p.1, p.2) (lacks (untyped_place _ c.args.at) _ c.in_ok-take.ensures refl)
+    match_fails _ _ _ c.from_residual-in_err-said.ensures.1
+    (lacks (untyped_place _ c.args.at) _ c.in_ok-take.ensures refl)
 
 pub returns-then-b-eq125-clause-reads : goal.returns-then-b-eq125-clause-reads
 returns-then-b-eq125-clause-reads g c =
@@ -42,17 +36,15 @@ returns-then-b-eq125-clause-reads g c =
 
 pub returns-in_err-take-2-clause-reads : goal.returns-in_err-take-2-clause-reads
 returns-in_err-take-2-clause-reads g c =
-    let p = err_from_is_err_and c.from_residual-in_err-take-2.result
-    c.from_residual-in_err-take-2.ensures.1 in
-    rw (p.1, p.2) (comma_over c.args.at c.in_ok-found.found _ c.in_err-take-2.ensures
+    match_fails _ _ _ c.from_residual-in_err-take-2.ensures.1
+    (comma_over c.args.at c.in_ok-found.found _ c.in_err-take-2.ensures
     (c.string_bytes.ensures ∙ ap (λ n. 72 + 3 * n) c.length-then-b-eq44.ensures)
     (sym c.byte-b.ensures.byte ∙ c.if-b-eq44.true) c.in_ok-found.ensures.reads refl)
 
 pub returns-in_err-said-2-clause-reads : goal.returns-in_err-said-2-clause-reads
 returns-in_err-said-2-clause-reads g c =
-    let p = err_from_is_err_and c.from_residual-in_err-said-2.result
-    c.from_residual-in_err-said-2.ensures.1 in
-    rw (p.1, p.2) (lacks (untyped_place _ c.args.at) _ c.in_ok-take-2.ensures refl)
+    match_fails _ _ _ c.from_residual-in_err-said-2.ensures.1
+    (lacks (untyped_place _ c.args.at) _ c.in_ok-take-2.ensures refl)
 
 pub returns-then-b-eq44-clause-reads : goal.returns-then-b-eq44-clause-reads
 returns-then-b-eq44-clause-reads g c =
@@ -65,8 +57,8 @@ returns-then-b-eq44-clause-reads g c =
 
 pub returns-then-not-begins_group-clause-reads : goal.returns-then-not-begins_group-clause-reads
 returns-then-not-begins_group-clause-reads g c =
-    no_untyped_string c.args.at c.in_ok-found.found _ (none_taken _) c.new-then-not-begins_group.ensures
-    c.in_ok-found.ensures.reads
+    no_untyped_string c.args.at c.in_ok-found.found _ (none_taken _)
+    c.new-then-not-begins_group.ensures c.in_ok-found.ensures.reads
     (λ e. c.if-b-eq125.false (c.byte-b.ensures.byte ∙ e))
     (λ e. c.if-b-eq44.false (c.byte-b.ensures.byte ∙ e))
     (c.begins_group.ensures.no c.if-not-begins_group.true)
@@ -81,9 +73,8 @@ returns-in_default-clause-reads g c =
 pub returns-in_err-take-3-clause-reads : goal.returns-in_err-take-3-clause-reads
 returns-in_err-take-3-clause-reads g c =
     let found = c.in_ok-found.ensures.reads in
-    let p = err_from_is_err_and c.from_residual-in_err-take-3.result
-    c.from_residual-in_err-take-3.ensures.1 in
-    rw (p.1, p.2) (first_key_over c.in-Some.key c.args.at c.in_ok-found.found.next _
+    match_fails _ _ _ c.from_residual-in_err-take-3.ensures.1
+    (first_key_over c.in-Some.key c.args.at c.in_ok-found.found.next _
     c.in_err-take-3.ensures (omega (arith, c.key_bytes.ensures))
     (key_ahead _ _ c.in_ok-found.found c.in-Some.key found c.in-Some.ensures.key)
     (c.begins_group.ensures.yes c.if-not-begins_group.false) refl)

@@ -1,5 +1,5 @@
 use Rattle.std.proofs.Common.{◌∙◌, arith}
-use Rattle.resb_grammar.proofs.ReachLemmas.{reach_low, reach_high, reach_here}
+use Rattle.resb_grammar.proofs.ReachLemmas.{reach_low, reach_here}
 use Rattle.resb_icu_text.proofs.ReachLemmas.{word_no_slash}
 use Rattle.resb_icu_grammar.specs.Faults.{StringFault}
 use Rattle.resb_icu_text.specs.Inner.Ahead.{StringFails}

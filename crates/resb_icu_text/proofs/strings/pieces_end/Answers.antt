@@ -3,8 +3,8 @@ use Rattle.std.specs.Prelude.{slice_index}
 use Rattle.resb_grammar.specs.Ascii as ascii
 use Rattle.resb_grammar.proofs.ReachLemmas.{reach_quote, reach_low}
 use Rattle.resb_icu_text.proofs.LengthLemmas.{inside_short}
-use Rattle.std.proofs.lemmas.Result.{err_from_is_err_and}
 use Rattle.resb_icu_text.proofs.StringsLemmas.{added_none, added_piece, added_all, piece_fault}
+use Rattle.resb_icu_text.proofs.QuotaLemmas.{match_fails}
 use Rattle.resb_icu_text.proofs.strings.pieces_end.Goals as goal
 
 pub pieces-init : goal.pieces-init
@@ -57,8 +57,7 @@ returns-clause-reads c =
 
 pub returns-in_err-piece-clause-reads : goal.returns-in_err-piece-clause-reads
 returns-in_err-piece-clause-reads c =
-    let p = err_from_is_err_and c.from_residual.result c.from_residual.ensures.1 in
-    rw (p.1, p.2) (c.pieces.invariant.added.fault _ _
+    match_fails _ _ _ c.from_residual.ensures.1 (c.pieces.invariant.added.fault _ _
     (piece_fault _ _ _ _ (sym c.byte.ensures.byte ∙ c.pieces-test.true)
     c.in_err-piece.ensures.reads))
 

@@ -3,12 +3,11 @@ use Rattle.std.specs.Prelude.{slice_index}
 use Rattle.std.proofs.lemmas.Str.{IsCharBoundary-before_ascii, IsCharBoundary-after_ascii}
 use Rattle.resb_grammar.specs.Ascii as ascii
 use Rattle.resb_icu_grammar.specs.Words.{HasNoEscape}
-use Rattle.resb_grammar.proofs.ReachLemmas.{reach_low, reach_quote}
 use Rattle.resb_icu_text.proofs.LengthLemmas.{inside_short}
 use Rattle.resb_icu_text.proofs.PiecesLemmas.{inside_closes}
-use Rattle.std.proofs.lemmas.Result.{err_from_is_err_and}
 use Rattle.resb_icu_text.proofs.StringsLemmas.{piece_found, pieces_found, not_one}
 use Rattle.resb_icu_text.proofs.StringsLemmas.{piece_fault, later_fault}
+use Rattle.resb_icu_text.proofs.QuotaLemmas.{match_fails}
 use Rattle.resb_icu_text.proofs.strings.quoted.Goals.{else-byte-ne34-via-then-byte-ne34+else-first}
 use Rattle.resb_icu_text.proofs.strings.quoted.Goals.{else-byte-ne34-via-else-byte-ne34}
 use Rattle.resb_icu_text.proofs.strings.quoted.Goals as goal
@@ -38,8 +37,8 @@ pieces_end-requires c =
 
 pub returns-in_err-first-clause-reads : goal.returns-in_err-first-clause-reads
 returns-in_err-first-clause-reads c =
-    let p = err_from_is_err_and c.from_residual.result c.from_residual.ensures.1 in
-    rw (p.1, p.2) (piece_fault _ _ _ _ c.requires.opens c.in_err-first.ensures.reads)
+    match_fails _ _ _ c.from_residual.ensures.1
+    (piece_fault _ _ _ _ c.requires.opens c.in_err-first.ensures.reads)
 
 pub returns-then-first-clause-reads : goal.returns-then-first-clause-reads
 returns-then-first-clause-reads c =
@@ -53,9 +52,8 @@ returns-then-first-clause-reads c =
 pub returns-in_err-all-clause-reads : goal.returns-in_err-all-clause-reads
 returns-in_err-all-clause-reads c =
     let h = c.in_ok-first.ensures.reads in
-    let p = err_from_is_err_and c.from_residual-in_err-all.result
-    c.from_residual-in_err-all.ensures.1 in
-    rw (p.1, p.2) (later_fault _ _ _ _ _ _ _ c.requires.opens h.stands c.skip-next.ensures.skip
+    match_fails _ _ _ c.from_residual-in_err-all.ensures.1
+    (later_fault _ _ _ _ _ _ _ c.requires.opens h.stands c.skip-next.ensures.skip
     c.in_err-all.ensures.reads)
 
 pub returns-clause-reads : goal.returns-clause-reads

@@ -1,6 +1,3 @@
-use Rattle.std.proofs.Common.{arith}
-use Rattle.resb_grammar.proofs.ReachLemmas.{reach_high}
-use Rattle.resb_icu_text.proofs.ReachLemmas.{reach_string}
 use Rattle.resb_icu_text.proofs.StringsLemmas.{made_lexeme}
 use Rattle.resb_icu_text.proofs.strings.string.Goals as goal
 

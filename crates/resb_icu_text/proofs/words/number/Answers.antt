@@ -1,5 +1,4 @@
-use Rattle.std.proofs.Common.{◌≡◌, subst, rules, arith}
-use Rattle.resb_icu_text.proofs.ReachLemmas.{reach_word}
+use Rattle.std.proofs.Common.{◌≡◌, subst, rules}
 use Rattle.resb_grammar.specs.ByteRuns.{Run}
 use Rattle.resb_icu_grammar.specs.Bytes.{is_word}
 use Rattle.resb_icu_text.proofs.WordsLemmas.{no_number, signed_number, no_whole_number}

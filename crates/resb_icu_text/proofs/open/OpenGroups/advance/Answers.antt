@@ -1,19 +1,15 @@
-use Rattle.std.proofs.Common.{◌≡◌, ◌⊎◌, ◌+◌, ◌*◌, ◌≤◌, length, arith, subst}
-use Rattle.std.proofs.lemmas.Result.{err_from_is_err_and}
+use Rattle.std.proofs.Common.{◌≡◌, ◌⊎◌, subst}
 use Rattle.resb_icu_text.proofs.MakingLemmas.{advanced, advanced_kept, stops_made}
-use Rattle.resb_icu_text.proofs.QuotaLemmas.{match_by}
+use Rattle.resb_icu_text.proofs.QuotaLemmas.{match_by, match_fails}
 use Rattle.resb_icu_text.specs.Refusal.{want_of_memory}
 use Rattle.resb_icu_text.specs.declared.open.OpenGroups.{OpenGroups}
 use Rattle.resb_icu_text.specs.Inner.Quota.{StopsAt}
 use Rattle.resb_icu_text.specs.Inner.Reading.{keys, stands, IsMade, IsAdvanced, IsDouble}
-use Rattle.resb_icu_text.specs.Inner.Reading.{spent_before}
-use Rattle.resb_icu_text.specs.Inner.Steps.{spent}
 use Rattle.resb_icu_text.proofs.open.OpenGroups.advance.Goals as goal
 
 pub returns-in_err-read-clause-reads : goal.returns-in_err-read-clause-reads
 returns-in_err-read-clause-reads g c =
-    let p = err_from_is_err_and c.from_residual.result c.from_residual.ensures.1 in
-    rw (p.1, p.2) c.in_err-read.ensures.reads
+    match_fails _ _ _ c.from_residual.ensures.1 c.in_err-read.ensures.reads
 
 pub returns-clause-reads : goal.returns-clause-reads
 returns-clause-reads g c =

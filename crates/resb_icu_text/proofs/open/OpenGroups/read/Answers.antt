@@ -4,6 +4,7 @@ use Rattle.std.proofs.lemmas.Bool.{and_from, and_parts}
 use Rattle.std.proofs.lemmas.Result.{err_from_is_err_and}
 use Rattle.resb_icu_text.proofs.MakingLemmas.{anything_said}
 use Rattle.resb_icu_text.proofs.QuotaLemmas.{none_taken, memory_stops, match_by, both_said}
+use Rattle.resb_icu_text.proofs.QuotaLemmas.{match_fails}
 use Rattle.resb_icu_text.proofs.ReadingLemmas.{pushed, nothing_open, behind_ended, is_read}
 use Rattle.resb_icu_text.proofs.ReadingLemmas.{stops_ended, root_ended, with_key_length}
 use Rattle.resb_icu_text.proofs.ReadingLemmas.{in_opened, opened_read, waiting_parts}
@@ -14,8 +15,7 @@ use Rattle.resb_icu_text.specs.Inner.Steps.{StepsTo, StepFails, members_place}
 use Rattle.resb_icu_text.specs.Inner.Steps.{entries_place, group_place, spent_reading, Proceeds}
 use Rattle.resb_icu_text.specs.Inner.Reading.{groups, keys, stands, IsRead}
 use Rattle.resb_grammar.specs.Inner.Reach.{reach}
-use Rattle.resb_grammar.proofs.ReachLemmas.{reach_high}
-use Rattle.resb_icu_text.proofs.ReachLemmas.{spent_most, reading_most}
+use Rattle.resb_icu_text.proofs.ReachLemmas.{reading_most}
 use Rattle.resb_icu_text.proofs.open.OpenGroups.read.Goals as goal
 
 pub check_key-requires : goal.check_key-requires
@@ -60,8 +60,7 @@ returns-in-Entries-clause-reads g c =
 
 pub returns-in_err-open-in-Group-clause-reads : goal.returns-in_err-open-in-Group-clause-reads
 returns-in_err-open-in-Group-clause-reads g c =
-    let p = err_from_is_err_and c.from_residual.result c.from_residual.ensures.1 in
-    rw (p.1, p.2) (memory_stops _ _ (none_taken _) refl)
+    match_fails _ _ _ c.from_residual.ensures.1 (memory_stops _ _ (none_taken _) refl)
 
 pub returns-in_ok-open-in-Group-clause-reads : goal.returns-in_ok-open-in-Group-clause-reads
 returns-in_ok-open-in-Group-clause-reads g c =
@@ -100,9 +99,8 @@ returns-in_err-check_key-in-Some-clause-reads g c =
 
 pub returns-in_err-step-in-Some-clause-reads : goal.returns-in_err-step-in-Some-clause-reads
 returns-in_err-step-in-Some-clause-reads g c =
-    let p = err_from_is_err_and c.from_residual-in_err-step-in-Some.result
-    c.from_residual-in_err-step-in-Some.ensures.1 in
-    rw (p.1, p.2) (memory_stops _ _ (none_taken _) refl)
+    match_fails _ _ _ c.from_residual-in_err-step-in-Some.ensures.1
+    (memory_stops _ _ (none_taken _) refl)
 
 pub returns-in_ok-step-in-Some-clause-reads : goal.returns-in_ok-step-in-Some-clause-reads
 returns-in_ok-step-in-Some-clause-reads g c =

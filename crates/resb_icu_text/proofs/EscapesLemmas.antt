@@ -132,16 +132,6 @@ no_escape text at b e a n r t u l to s (tab h) = t (e ∙ h)
 no_escape text at b e a n r t u l to s (four_digits c h x i y z) = u (e ∙ h)
 no_escape text at b e a n r t u l to s (eight_digits c h x i y z) = l (e ∙ h)
 
--- behind the text's end stands no escape
-pub none_behind : (text : List ℕ) (at : ℕ) → length text ≤ at → slice_index text at ≡ 0
-    → (to : ℕ) (s : List ℕ) → Escape text at to s → ⊥
-none_behind text at l z to s (itself g h) = omega arith
-none_behind text at l z to s (line_feed h) = omega arith
-none_behind text at l z to s (carriage_return h) = omega arith
-none_behind text at l z to s (tab h) = omega arith
-none_behind text at l z to s (four_digits c h x i y v) = omega arith
-none_behind text at l z to s (eight_digits c h x i y v) = omega arith
-
 -- the bytes of the three characters that have a letter
 feed_bytes : encode_utf8 10 ≡ 10 ∷ []
 feed_bytes = encode_ascii 10 (lit≤ tt)

@@ -57,7 +57,6 @@ joined_short text from to s (one_more _ m n _ us vs p t j) =
     omega (
       arith,
       inside_short text (from + 1) p.last us p.inside,
-      p.ends,
       blanks_order text m n t.blanks,
       joined_short text n to vs j,
       length-append us vs,
@@ -68,7 +67,6 @@ word_short : (text : List ℕ) (from to : ℕ) (s : List ℕ) → Word text from
 word_short text from to s w =
     omega (
       arith,
-      w.some,
       ap length w.means ∙ length-take-le (to - from) _
           (omega (arith, length-drop from text, w.run.fits)),
     )

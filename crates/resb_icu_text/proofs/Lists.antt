@@ -35,24 +35,6 @@ pub IfNone_from : {A : Type 0} (o : Option A) (P : Type 0) → P → IfNone o P
 IfNone_from None P p = p
 IfNone_from (Some x) P p = tt
 
--- what holds of an answer holds by another word
-pub ok_by : {A E : Type 0} (r : Result A E) (P Q : A → Type 0) → ((a : A) → P a → Q a) → IfOk r P
-    → IfOk r Q
-ok_by (Ok a) P Q f h = f a h
-ok_by (Err e) P Q f h = tt
-
--- and what two words say of it
-pub ok_by_two : {A E : Type 0} (r : Result A E) (P Q R : A → Type 0)
-    → ((a : A) → P a → Q a → R a) → IfOk r P → IfOk r Q → IfOk r R
-ok_by_two (Ok a) P Q R f h k = f a h k
-ok_by_two (Err e) P Q R f h k = tt
-
--- and of a refusal
-pub err_by : {A E : Type 0} (r : Result A E) (P Q : E → Type 0) → ((e : E) → P e → Q e)
-    → IfErr r P → IfErr r Q
-err_by (Ok a) P Q f h = tt
-err_by (Err e) P Q f h = f e h
-
 -- behind the text's end stands no byte
 pub past_end : (text : List ℕ) (here b : ℕ) → length text ≤ here → slice_get text here ≡ Some b → ⊥
 past_end text here b l e =

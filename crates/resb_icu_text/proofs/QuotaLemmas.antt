@@ -16,12 +16,6 @@ use Rattle.resb_icu_text.specs.Refusal.{want_of_memory}
 use Rattle.resb_icu_text.specs.declared.quota.Quota.{Quota}
 use Rattle.resb_icu_text.specs.declared.error.IcuTextError.{IcuTextError}
 
--- what is answered for an error that a call gave
-pub match_err : {T E : Type 0} {Q : E → Type 0} (P : T → Type 0) (G : E → Type 0) (r : Result T E)
-    → IsErrAnd r Q → ((e : E) → Q e → G e) → MatchResult r P G
-match_err P G (Ok x) h f = absurd h
-match_err P G (Err e) h f = f e h
-
 -- what is answered for an error that is this one
 pub match_fails : {T E : Type 0} {x : E} (P : T → Type 0) (G : E → Type 0) (r : Result T E)
     → IsErrAnd r (λ e. e ≡ x) → G x → MatchResult r P G

@@ -155,11 +155,6 @@ tree_made : {text : List ℕ} {at : ℕ} {f : Found} {x : CowStr Global} → (h 
     → string h.found.said ≡ tree_of (String x)
 tree_made {x = x} h = sym (tree_of_string x ∙ ap string h.bytes)
 
--- how much it says
-pub said_length : {text : List ℕ} {at : ℕ} {f : Found} → (is : IsFound text at f)
-    → length is.said ≡ length_of f.stands
-said_length {text} {at} {f} is = length_shown text at f.end is.said f.stands is.shows
-
 module _ {X : Type 0} {text : List ℕ} {p q : Quota} where
   -- where a reading is stuck that has taken nothing
   pub fails_at : (s : (X → Tree) → Standing) (at to : ℕ) (x : IcuExpected) (e : IcuTextError)
@@ -255,7 +250,7 @@ module _ {X : Type 0} {text : List ℕ} {p q : Quota} where
         (tree_made h)
         (by_move ws ks _ at _
         (move.string_member (last_of l) (map tree v.items) at f.end f.next h.found.said e
-        h.found.string h.found.blanks) (omega (arith, sum, said_length h.found)) t);
+        h.found.string h.found.blanks) (omega (arith, sum, h.found.counted)) t);
     keeps = λ pass test p k. and_from _ _ k
         (said_kept text at f x h.found h.bytes h.slice test p);
     goes = (h.found.fits, omega (arith, h.found.after, h.found.order));
@@ -269,7 +264,7 @@ module _ {X : Type 0} {text : List ℕ} {p q : Quota} where
   member_over es l at f e o sum g is h tree ws ks =
       over_stops ws ks _ at _ e
       (move.string_member (last_of l) (map tree es) at f.end f.next is.said g is.string is.blanks)
-      (omega (arith, sum, said_length is)) o h
+      (omega (arith, sum, is.counted)) o h
 
   -- a string right behind a string
   pub no_member_string : (es : List X) (l : Last) (at : ℕ) (f : Found) (e : IcuTextError)
@@ -456,7 +451,7 @@ module _ {X : Type 0} {text : List ℕ} {p q : Quota} where
         (reading_at ws ks (behind_group t) (f.next + 1))) (tree_made h)
         (by_move ws ks _ at _
         (move.untyped_string at f.end f.next h.found.said h.found.string h.found.blanks c)
-        (omega (arith, sum, said_length h.found)) t);
+        (omega (arith, sum, h.found.counted)) t);
     keeps = λ pass test p k. said_kept text at f x h.found h.bytes h.slice test p;
     goes = (omega (arith, low), omega (arith, h.found.after, h.found.order));
   }
@@ -468,7 +463,7 @@ module _ {X : Type 0} {text : List ℕ} {p q : Quota} where
   one_over at f e o sum c is h tree ws ks =
       over_stops ws ks _ at _ e
       (move.untyped_string at f.end f.next is.said is.string is.blanks c)
-      (omega (arith, sum, said_length is)) o h
+      (omega (arith, sum, is.counted)) o h
 
   -- a string and a comma in a group without a type
   pub untyped_comma : {k : ℕ} (v : Vec X Global) (at : ℕ) (f : Found) (x : CowStr Global)
@@ -485,7 +480,7 @@ module _ {X : Type 0} {text : List ℕ} {p q : Quota} where
         ∙ ap (λ t. t ∷ []) (sym (tree_made h))))
         (by_move ws ks _ at _
         (move.begins_with_string at f.end f.next h.found.said h.found.string h.found.blanks c)
-        (omega (arith, sum, said_length h.found)) t);
+        (omega (arith, sum, h.found.counted)) t);
     keeps = λ pass test p k. and_from _ _ (ap (λ l. members_pass l pass test) e)
         (said_kept text at f x h.found h.bytes h.slice test p);
     goes = (h.found.fits, omega (arith, h.found.after, h.found.order));
@@ -499,7 +494,7 @@ module _ {X : Type 0} {text : List ℕ} {p q : Quota} where
   comma_over at f e o sum c is h tree ws ks =
       over_stops ws ks _ at _ e
       (move.begins_with_string at f.end f.next is.said is.string is.blanks c)
-      (omega (arith, sum, said_length is)) o h
+      (omega (arith, sum, is.counted)) o h
 
   -- a key and a group in a group without a type
   pub untyped_key : {b : ℕ} (v : Vec (Bor (List ℕ) × X) Global) (k : Bor (List ℕ)) (at j : ℕ)

@@ -205,14 +205,7 @@ no_escape_quoted text from last q r n k low high b =
         (omega (arith, low, u), omega (arith, high, v))
 
 module _ (text : List ℕ) (from last next : ℕ) (bytes : List ℕ) where
-  -- one piece without escapes and with no other behind it is a string
-  pub plain_string : slice_index text from ≡ ascii.quote → QuotedBytes text (from + 1) last bytes
-      → Skip text (last + 1) next → slice_index text next ≢ ascii.quote
-      → Text text from (last + 1) bytes
-  plain_string q h s n =
-      words.quoted (last_piece from (last + 1) next bytes (piece_of text from last bytes q h) s n)
-
-  -- and it stands in the text as it is
+  -- one piece without escapes and with no other behind it stands in the text as it is
   pub plain_piece : slice_index text from ≡ ascii.quote → QuotedBytes text (from + 1) last bytes
       → Skip text (last + 1) next → slice_index text next ≢ ascii.quote
       → HasNoEscape text (from + 1) last → Verbatim text from (last + 1) bytes
@@ -365,7 +358,6 @@ joined_order text from to s (one_more _ m n _ us vs p t j) =
     omega (
       arith,
       inside_order text (from + 1) p.last us p.inside,
-      p.ends,
       blanks_order text m n t.blanks,
       joined_order text n to vs j,
     )

@@ -12,15 +12,7 @@ skip-preserved c =
       fits = c.in-Some.ensures.within.1;
       so_far = comment_more _ _ _ _ c.in-Some.ensures.found
           (white_more _ _ _ _ run c.skip.invariant.so_far);
-      cost = omega (
-        arith,
-        c.in-Some.ensures.within.0,
-        run.order,
-        c.skip.invariant.cost,
-        c.add.ensures.most,
-        c.add-in-skip.ensures.most,
-        c.add-in-Some.ensures.most,
-      );
+      cost = omega (arith, c.in-Some.ensures.within.0);
     }
 
 pub returns-in-None-clause-skip : goal.returns-in-None-clause-skip
@@ -40,12 +32,6 @@ returns-in-None-clause-cost c =
     let run = rw c.as_bytes.ensures.value at c.blanks_end-white.ensures in
     omega (
       arith,
-      run.order,
-      run.fits,
-      c.skip.invariant.cost,
-      c.add.ensures.most,
-      c.add-in-skip.ensures.most,
-      c.add-in-None.ensures.most,
       reach_slash c.args.text.now c.blanks_end-white.result
           (sym c.byte.ensures.byte ∙ c.if-byte-ne47.false),
     )
@@ -55,10 +41,6 @@ returns-then-byte-ne47-clause-cost c =
     let run = rw c.as_bytes.ensures.value at c.blanks_end-white.ensures in
     omega (
       arith,
-      run.order,
-      c.skip.invariant.cost,
-      c.add.ensures.most,
-      c.add-in-skip.ensures.most,
       reach_here c.args.text.now c.blanks_end-white.result
           (λ e. c.if-byte-ne47.true (c.byte.ensures.byte ∙ e)),
     )

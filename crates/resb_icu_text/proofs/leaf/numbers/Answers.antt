@@ -65,13 +65,7 @@ returns-then-byte-eq125-clause-reads c =
       takes = rw c.in_ok-push.ensures.items
           (both_taken c.numbers.invariant.taken c.in_ok-take.ensures
           (omega (arith, length-append c.numbers.numbers.items (c.in-Some.value ∷ []))));
-      order = omega (
-        arith,
-        c.numbers.invariant.order,
-        c.in-Some.ensures.within.0,
-        c.skip-place.ensures.order,
-        c.in_ok-here.ensures.cost.0,
-      );
+      order = omega (arith, c.in-Some.ensures.within.0, c.in_ok-here.ensures.cost.0);
       fits = c.byte.ensures.inside (omega (arith, c.if-byte-eq125.true));
     }
 
@@ -86,13 +80,7 @@ numbers-preserved c =
           (both_taken c.numbers.invariant.taken c.in_ok-take.ensures
           (omega (arith, length-append c.numbers.numbers.items (c.in-Some.value ∷ []))));
       some = λ e. c.if-byte-eq125.false (c.byte.ensures.byte ∙ e);
-      order = omega (
-        arith,
-        c.numbers.invariant.order,
-        c.in-Some.ensures.within.0,
-        c.skip-place.ensures.order,
-        c.in_ok-here.ensures.cost.0,
-      );
+      order = omega (arith, c.in-Some.ensures.within.0, c.in_ok-here.ensures.cost.0);
       fits = c.in_ok-here.ensures.cost.1;
       continues = rw c.in_ok-push.ensures.items
           (continues_more _ _ _ _ _ _ _ _ c.in-Some.ensures.found c.skip-place.ensures.skip
@@ -100,13 +88,10 @@ numbers-preserved c =
           c.numbers.invariant.continues);
       cost = omega (
         arith,
-        c.numbers.invariant.cost,
         c.in-Some.ensures.cost,
         c.in-Some.ensures.within.0,
         reach_number c.args.text.now c.numbers.here _ _ c.in-Some.ensures.within.0
             c.in-Some.ensures.found,
-        c.skip-place.ensures.cost,
-        c.skip-place.ensures.order,
         c.in_ok-here.ensures.cost,
         reach_low c.args.text.now c.in_ok-here.here c.in_ok-here.ensures.cost.1,
       );

@@ -63,8 +63,6 @@ piece-preserved c =
           (c.escaped_length-length.ensures _) on;
       short = omega (
         arith,
-        c.piece.invariant.short,
-        f.order,
         c.escaped_length-length.ensures (slice_index text (c.in-Some.stop + 1)),
         escape_short text (c.in-Some.stop + 1) c.in-Some-escape.to _ x,
       );
@@ -86,10 +84,6 @@ overflow_add-length-in-piece c =
     let text = c.args.text.now in
     omega (
       arith,
-      c.piece.invariant.short,
-      f.order,
-      f.fits,
-      c.byte.ensures.fits,
       c.in-Some-escape.ensures.within.1,
       c.escaped_length-length.ensures (slice_index text (c.in-Some.stop + 1)),
       escape_short text (c.in-Some.stop + 1) c.in-Some-escape.to _ c.in-Some-escape.ensures.found,

@@ -29,11 +29,7 @@ steps-preserved g c =
       within = next.goes.0;
       comes = λ limit a. next.comes limit (c.steps.invariant.comes limit a);
       kept = next.kept;
-      cost = omega (
-        arith,
-        c.steps.invariant.cost,
-        rw c.in-Step.is at c.in_ok-next.ensures.cost,
-      );
+      cost = omega (arith, rw c.in-Step.is at c.in_ok-next.ensures.cost);
     }
 
 pub returns-in_err-next-clause-reads : goal.returns-in_err-next-clause-reads

@@ -37,12 +37,7 @@ returns-clause-reads g c =
     let was = c.args.meter.now.quota in
     let mid = c.take.new.self in
     let then = c.content.new.meter.quota in
-    let order : c.args.at + 1 ≤ first = omega (
-      arith,
-      c.in_ok-end.ensures.within,
-      c.skip-brace.ensures.order,
-      c.skip-first.ensures.order,
-    ) in
+    let order : c.args.at + 1 ≤ first = omega (arith, c.in_ok-end.ensures.within) in
     match_by (StepsTo text (typed_place _ kind first) mid then)
     (StepFails text (typed_place _ kind first) mid then)
     (StepsTo text (group_place _ c.args.at) was then)

@@ -39,12 +39,9 @@ pieces-preserved c =
           c.skip.ensures.skip piece.counted c.pieces.invariant.added;
       cost = omega (
         arith,
-        c.pieces.invariant.cost,
         reach_quote text c.pieces.seen.next q,
         c.in_ok-piece.ensures.cost,
-        c.skip.ensures.cost,
         low,
-        c.skip.ensures.order,
         reach_low text c.skip.result c.skip.ensures.fits,
       );
     }
@@ -66,12 +63,4 @@ overflow_add-seen-in-pieces c =
     let was = c.pieces.invariant.seen in
     let piece = c.in_ok-piece.ensures.reads in
     let short = inside_short c.args.text.now (c.pieces.seen.next + 1) _ _ piece.stands in
-    omega (
-      arith,
-      short,
-      piece.counted,
-      piece.fits,
-      was.short,
-      was.order,
-      c.byte.ensures.fits,
-    )
+    omega (arith, short)

@@ -37,16 +37,7 @@ pieces-preserved c =
           other c.skip-at.ensures.skip value (c.pieces.invariant.left said j);
       below = row_fits text at _ c.args.end c.skip-at.result _ _ piece.stands some.joined other
           c.skip-at.ensures.skip;
-      cost = omega (
-        arith,
-        c.pieces.invariant.cost,
-        c.in-Ok.ensures.cost,
-        c.push_piece.ensures.cost,
-        c.skip-at.ensures.cost,
-        c.skip-at.ensures.order,
-        piece.order,
-        reach_quote text c.skip-at.result next,
-      );
+      cost = omega (arith, c.in-Ok.ensures.cost, reach_quote text c.skip-at.result next);
     }
 
 pub returns-then-piece-end-clause-value : goal.returns-then-piece-end-clause-value
@@ -66,11 +57,4 @@ pub returns-in_err-push_piece-clause-cost : goal.returns-in_err-push_piece-claus
 returns-in_err-push_piece-clause-cost c =
     let piece = c.in-Ok.ensures.reads in
     let left = c.pieces.invariant.left _ c.requires.joined.1 in
-    omega (
-      arith,
-      c.pieces.invariant.cost,
-      c.in-Ok.ensures.cost,
-      c.push_piece.ensures.cost,
-      piece.order,
-      row_end _ _ _ _ _ _ piece.stands left.joined,
-    )
+    omega (arith, c.in-Ok.ensures.cost, row_end _ _ _ _ _ _ piece.stands left.joined)

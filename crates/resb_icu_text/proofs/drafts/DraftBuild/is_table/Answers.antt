@@ -5,11 +5,7 @@ use Rattle.resb_icu_text.proofs.DraftLemmas.{table_shown}
 use Rattle.resb_icu_text.proofs.drafts.DraftBuild.is_table.Goals as goal
 
 pub index-requires : goal.index-requires
-index-requires c = omega (
-  arith,
-  whole_inside c.args.self.now c.args.made.now c.requires.held,
-  c.args.self.now.pieces.ok.0,
-)
+index-requires c = omega (arith, whole_inside c.args.self.now c.args.made.now c.requires.held)
 
 pub returns-in-Table : goal.returns-in-Table
 returns-in-Table c =

@@ -1,6 +1,6 @@
 -- How each step of a reading goes on, and where a reading stops.
 use Rattle.std.proofs.Common.{◌≡◌, ◌≢◌, ℕ, ◌+◌, ◌*◌, ◌<◌, ◌≤◌, true, false, List, [], ◌∷◌}
-use Rattle.std.proofs.Common.{◌++◌, Vec, length, arith, Bor, Global, ◌⊎◌, ⊎_elim, refl}
+use Rattle.std.proofs.Common.{◌++◌, Vec, length, arith, Bor, Global, ◌⊎◌, refl}
 use Rattle.std.proofs.Common.{sym, ◌∙◌, ap, subst}
 use Rattle.std.proofs.lemmas.Bool.{false≢true, and_from}
 use Rattle.std.proofs.lemmas.List.{map-append}
@@ -53,13 +53,12 @@ use Rattle.resb_icu_text.specs.Inner.Found.{IsFound, Shows, fits_key, is_whole, 
 use Rattle.resb_icu_text.specs.Inner.Leaf.{IsReadLeaf}
 use Rattle.resb_icu_text.specs.Inner.Build.{pairs_by}
 use Rattle.resb_icu_text.specs.Inner.Kept.{members_pass, entries_pass}
-use Rattle.resb_icu_text.specs.Inner.Quota.{TakesBytes, RunsOver, GoesOn, StopsAt}
+use Rattle.resb_icu_text.specs.Inner.Quota.{TakesBytes, GoesOn, StopsAt}
 use Rattle.resb_icu_text.specs.Inner.Steps.{last_of, read_now, Place, StepsTo, StepFails}
 use Rattle.resb_icu_text.specs.Inner.Steps.{members_place, entries_place, group_place}
 use Rattle.resb_icu_text.specs.Inner.Steps.{untyped_place, typed_place, KeyAhead, Resumes}
 use Rattle.resb_icu_text.proofs.KeptLemmas.{said_kept, members_with, entries_with}
-use Rattle.resb_icu_text.proofs.StringsLemmas.{length_shown}
-use Rattle.resb_icu_text.proofs.QuotaLemmas.{by_move, by_step_out, over_stops}
+use Rattle.resb_icu_text.proofs.QuotaLemmas.{by_move, by_step_out}
 use Rattle.resb_icu_text.proofs.QuotaLemmas.{memory_stops, stuck_stops}
 
 -- what was found may be a key, and is this
@@ -227,15 +226,6 @@ module _ {X : Type 0} {text : List ℕ} {p q : Quota} where
     goes = (low, omega (arith, order));
   }
 
-  -- a comma behind none
-  pub no_member_comma : (es : List X) (l : Last) (at : ℕ) (e : IcuTextError)
-      → TakesBytes p q 0
-      → Says at expect.Member e → is_member (last_of l) ≡ false → slice_index text at ≡ ascii.comma
-      → StepFails text (members_place es l at) p q e
-  no_member_comma es l at e t h f c =
-      fails_at (λ tree. among_members (last_of l) (map tree es)) at at _ e t h (λ tree. refl)
-      (λ tree. stuck.lone_comma (last_of l) (map tree es) at f c)
-
   -- a string that is a member
   pub member_string : {k : ℕ} (v : Vec X Global) (l : Last) (at : ℕ) (f : Found) (x : CowStr Global)
       → TakesBytes p q k → k ≡ resource_weight + text_byte_weight * length_of f.stands
@@ -255,24 +245,6 @@ module _ {X : Type 0} {text : List ℕ} {p q : Quota} where
         (said_kept text at f x h.found h.bytes h.slice test p);
     goes = (h.found.fits, omega (arith, h.found.after, h.found.order));
   }
-
-  -- one that is larger than what is left
-  pub member_over : {k : ℕ} (es : List X) (l : Last) (at : ℕ) (f : Found) (e : IcuTextError)
-      → RunsOver p q k → k ≡ resource_weight + text_byte_weight * length_of f.stands
-      → ends_in_string (last_of l) ≡ false → IsFound text at f → e ≡ want_of_memory
-      → StepFails text (members_place es l at) p q e
-  member_over es l at f e o sum g is h tree ws ks =
-      over_stops ws ks _ at _ e
-      (move.string_member (last_of l) (map tree es) at f.end f.next is.said g is.string is.blanks)
-      (omega (arith, sum, is.counted)) o h
-
-  -- a string right behind a string
-  pub no_member_string : (es : List X) (l : Last) (at : ℕ) (f : Found) (e : IcuTextError)
-      → TakesBytes p q 0 → Says at expect.Comma e → ends_in_string (last_of l) ≡ true
-      → IsFound text at f → StepFails text (members_place es l at) p q e
-  no_member_string es l at f e t g h is =
-      fails_at (λ tree. among_members (last_of l) (map tree es)) at at _ e t g (λ tree. refl)
-      (λ tree. stuck.two_strings (last_of l) (map tree es) at f.end is.said h is.string)
 
   -- nothing that may stand among members
   pub no_member : (es : List X) (l : Last) (at : ℕ) (x : IcuExpected) (e : IcuTextError)
@@ -316,35 +288,6 @@ module _ {X : Type 0} {text : List ℕ} {p q : Quota} where
     goes = (s.fits, omega (arith, s.order));
   }
 
-  -- one that is larger than what is left
-  pub key_over : {b : ℕ} (es : List (Bor (List ℕ) × X)) (k : Bor (List ℕ)) (at j : ℕ)
-      (e : IcuTextError) → RunsOver p q b
-      → ((tree : X → Tree) → b ≡ next_key_bytes (pairs_by tree es) k.now)
-      → KeyAhead text at j k.now → e ≡ want_of_memory
-      → StepFails text (entries_place es at) p q e
-  key_over es k at j e o sum s h tree ws ks =
-      over_stops ws ks _ at _ e
-      (move.key_of_entry (pairs_by tree es) at s.to j k.now s.stands s.after) (sum tree) o h
-
-  -- neither a key nor a `}`
-  pub no_entry : (es : List (Bor (List ℕ) × X)) (at : ℕ) (e : IcuTextError)
-      → TakesBytes p q 0
-      → slice_index text at ≢ ascii.right_brace → KeyFails text at expect.Entry e
-      → StepFails text (entries_place es at) p q e
-  no_entry es at e t a =
-      told_at (λ tree. among_entries (pairs_by tree es)) at expect.Entry e (NoKeyAt text at) t
-      (λ tree. refl)
-      (λ tree. stuck.no_entry (pairs_by tree es) at e.position e.expected a)
-
-  -- neither a `{` nor a `:`
-  pub no_group : (at : ℕ) (e : IcuTextError) → TakesBytes p q 0
-      → Says at expect.Group e
-      → slice_index text at ≢ ascii.left_brace → slice_index text at ≢ ascii.colon
-      → StepFails text (group_place X at) p q e
-  no_group at e t h a f =
-      fails_at (λ tree. before_group) at at _ e t h (λ tree. refl)
-      (λ tree. stuck.no_group at (⊎_elim a f))
-
   -- a `:` without a type
   pub no_type : (at : ℕ) (e : IcuTextError) → TakesBytes p q 0
       → (e.position ≡ at) × TypeStuck text at e.expected
@@ -353,15 +296,6 @@ module _ {X : Type 0} {text : List ℕ} {p q : Quota} where
       fails_at (λ tree. before_group) at at _ e t
       (ap (λ k. record { position = k; expected = e.expected }) s.0) (λ tree. refl)
       (λ tree. stuck.no_type at e.expected c s.1)
-
-  -- a type without a `{`
-  pub no_group_brace : (at end brace : ℕ) (kind : Kind) (e : IcuTextError)
-      → TakesBytes p q 0
-      → Says brace expect.LeftBrace e → GroupType text at end kind → Skip text end brace
-      → slice_index text brace ≢ ascii.left_brace → StepFails text (group_place X at) p q e
-  no_group_brace at end brace kind e t h g k ne =
-      fails_at (λ tree. before_group) at brace _ e t h (λ tree. refl)
-      (λ tree. stuck.no_brace at end brace kind g k ne)
 
   -- in an array members follow
   pub array_content : (v : Vec X Global) (at : ℕ) → TakesBytes p q 0
@@ -456,15 +390,6 @@ module _ {X : Type 0} {text : List ℕ} {p q : Quota} where
     goes = (omega (arith, low), omega (arith, h.found.after, h.found.order));
   }
 
-  -- one that is larger than what is left
-  pub one_over : {k : ℕ} (at : ℕ) (f : Found) (e : IcuTextError) → RunsOver p q k
-      → k ≡ text_byte_weight * length_of f.stands → Closes text f.next → IsFound text at f
-      → e ≡ want_of_memory → StepFails text (untyped_place X at) p q e
-  one_over at f e o sum c is h tree ws ks =
-      over_stops ws ks _ at _ e
-      (move.untyped_string at f.end f.next is.said is.string is.blanks c)
-      (omega (arith, sum, is.counted)) o h
-
   -- a string and a comma in a group without a type
   pub untyped_comma : {k : ℕ} (v : Vec X Global) (at : ℕ) (f : Found) (x : CowStr Global)
       → TakesBytes p q k → k ≡ resource_weight + text_byte_weight * length_of f.stands
@@ -486,16 +411,6 @@ module _ {X : Type 0} {text : List ℕ} {p q : Quota} where
     goes = (h.found.fits, omega (arith, h.found.after, h.found.order));
   }
 
-  -- one that is larger than what is left
-  pub comma_over : {k : ℕ} (at : ℕ) (f : Found) (e : IcuTextError) → RunsOver p q k
-      → k ≡ resource_weight + text_byte_weight * length_of f.stands
-      → slice_index text f.next ≡ ascii.comma → IsFound text at f
-      → e ≡ want_of_memory → StepFails text (untyped_place X at) p q e
-  comma_over at f e o sum c is h tree ws ks =
-      over_stops ws ks _ at _ e
-      (move.begins_with_string at f.end f.next is.said is.string is.blanks c)
-      (omega (arith, sum, is.counted)) o h
-
   -- a key and a group in a group without a type
   pub untyped_key : {b : ℕ} (v : Vec (Bor (List ℕ) × X) Global) (k : Bor (List ℕ)) (at j : ℕ)
       → TakesBytes p q b
@@ -515,35 +430,6 @@ module _ {X : Type 0} {text : List ℕ} {p q : Quota} where
     keeps = λ pass test p h. ap (λ l. entries_pass l pass test) e;
     goes = (s.fits, omega (arith, s.order));
   }
-
-  -- one that is larger than what is left
-  pub first_key_over : {b : ℕ} (k : Bor (List ℕ)) (at j : ℕ) (e : IcuTextError)
-      → RunsOver p q b
-      → b ≡ table_weight + (entry_weight + text_byte_weight * length k.now)
-      → KeyAhead text at j k.now
-      → (slice_index text j ≡ ascii.left_brace) ⊎ (slice_index text j ≡ ascii.colon)
-      → e ≡ want_of_memory → StepFails text (untyped_place X at) p q e
-  first_key_over k at j e o sum s f h tree ws ks =
-      over_stops ws ks _ at _ e
-      (move.begins_with_key at s.to j k.now s.stands s.after f) sum o h
-
-  -- a string and nothing that may stand behind it in a group without a type
-  pub no_untyped_string : (at : ℕ) (f : Found) (e : IcuTextError) → TakesBytes p q 0
-      → Says f.next expect.AfterString e → IsFound text at f
-      → slice_index text f.next ≢ ascii.right_brace → slice_index text f.next ≢ ascii.comma
-      → (BeginsGroup text f.next → ⊥) → StepFails text (untyped_place X at) p q e
-  no_untyped_string at f e t h is a b c =
-      fails_at (λ tree. in_untyped) at f.next _ e t h (λ tree. refl)
-      (λ tree. stuck.no_further at f.end f.next is.said is.string is.blanks a b c)
-
-  -- a string that may be no key, with a group behind it
-  pub no_untyped_key : (at : ℕ) (f : Found) (e : IcuTextError) → TakesBytes p q 0
-      → Says at expect.Key e → IsFound text at f
-      → (slice_index text f.next ≡ ascii.left_brace) ⊎ (slice_index text f.next ≡ ascii.colon)
-      → NoKeyAt text at → StepFails text (untyped_place X at) p q e
-  no_untyped_key at f e t h is b g =
-      fails_at (λ tree. in_untyped) at at _ e t h (λ tree. refl)
-      (λ tree. stuck.no_key at f.end f.next is.said is.string is.blanks b g)
 
   -- nothing that may stand in a group without a type
   pub no_untyped : (at : ℕ) (e : IcuTextError) → TakesBytes p q 0
@@ -598,21 +484,6 @@ module _ {X : Type 0} {text : List ℕ} {p o q : Quota} where
       → StepFails text (typed_place X kind i) o q e → StepFails text (group_place X at) p q e
   typed_fails at i kind e g t sum s tree ws ks limit a =
       s tree ws ks limit (by_move ws ks _ at _ (move.type_opens at i kind g) sum t limit a)
-
-module _ {X : Type 0} {text : List ℕ} {p q : Quota} where
-  -- a `{` for which there is no room
-  pub untyped_over : (at i : ℕ) (e : IcuTextError) → slice_index text at ≡ ascii.left_brace
-      → Skip text (at + 1) i → RunsOver p q resource_weight → e ≡ want_of_memory
-      → StepFails text (group_place X at) p q e
-  untyped_over at i e b k o h tree ws ks =
-      over_stops ws ks _ at _ e (move.group_opens at i b k) refl o h
-
-  -- a type for whose `{` there is none
-  pub typed_over : {b : ℕ} (at i : ℕ) (kind : Kind) (e : IcuTextError)
-      → TypedOpening text at kind i → RunsOver p q b → b ≡ opening_bytes kind
-      → e ≡ want_of_memory → StepFails text (group_place X at) p q e
-  typed_over at i kind e g o sum h tree ws ks =
-      over_stops ws ks _ at _ e (move.type_opens at i kind g) sum o h
 
 -- a type and its `{`
 pub opening_there : (text : List ℕ) (at end brace i : ℕ) (kind : Kind) → GroupType text at end kind

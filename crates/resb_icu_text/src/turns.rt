@@ -5,8 +5,8 @@ ghost use Rattle.std.specs.Prelude.{◌≡◌, ◌+◌, ◌-◌, ◌^◌, ◌≤
 
 /// A counter of turns: one for each byte that a loop of the reader passes, and one for each of its
 /// rounds that passes none. Each byte of a binary's string counts two more, since its digits are
-/// looked at and decoded, and each key one more where the keys are listed. It stays where it is once
-/// it holds the greatest number that it can.
+/// looked at and decoded, and each key one more where the keys are listed. It stays where it is
+/// once it holds the greatest number that it can.
 #[derive(Clone, Copy, Debug, PartialEq, Eq)]
 pub struct IcuTurns {
     count: u128,

@@ -1,6 +1,9 @@
-use Rattle.std.proofs.Common.{sym, ◌∙◌}
+use Rattle.std.proofs.Common.{sym, ◌∙◌, refl, map}
 use Rattle.resb_icu_text.proofs.QuotaLemmas.{none_taken}
-use Rattle.resb_icu_text.proofs.StepsLemmas.{member_comma, no_member_comma}
+use Rattle.resb_icu_text.proofs.StepsLemmas.{member_comma, fails_at}
+use Rattle.resb_icu_grammar.specs.Machine.{among_members}
+use Rattle.resb_icu_grammar.specs.Stuck.{lone_comma}
+use Rattle.resb_icu_text.specs.Inner.Steps.{last_of}
 use Rattle.resb_icu_text.proofs.steps.comma.Goals as goal
 
 pub returns-then-is_member-clause-reads : goal.returns-then-is_member-clause-reads
@@ -11,5 +14,6 @@ returns-then-is_member-clause-reads g c =
 
 pub returns-else-is_member-clause-reads : goal.returns-else-is_member-clause-reads
 returns-else-is_member-clause-reads g c =
-    no_member_comma c.args.members.items c.args.last c.args.at c.new.result (none_taken _)
-    c.new.ensures (sym c.is_member.ensures ∙ c.if-is_member.false) c.requires.comma
+    fails_at (λ tree. among_members (last_of c.args.last) (map tree c.args.members.items))
+    c.args.at _ _ _ (none_taken _) c.new.ensures (λ tree. refl)
+    (λ tree. lone_comma _ _ _ (sym c.is_member.ensures ∙ c.if-is_member.false) c.requires.comma)

@@ -1,8 +1,11 @@
-use Rattle.std.proofs.Common.{◌+◌, ◌*◌, ap, refl, sym, ◌∙◌}
-use Rattle.resb_icu_text.specs.Inner.Steps.{members_place}
-use Rattle.resb_icu_text.proofs.QuotaLemmas.{none_taken, match_fails}
-use Rattle.resb_icu_text.proofs.StepsLemmas.{member_string, member_over, no_member_string}
-use Rattle.resb_icu_text.proofs.StepsLemmas.{no_member, lacks, text_made}
+use Rattle.std.proofs.Common.{◌+◌, ◌*◌, ap, arith, refl, sym, ◌∙◌, map}
+use Rattle.resb_icu_text.specs.Inner.Steps.{members_place, last_of}
+use Rattle.resb_icu_text.proofs.QuotaLemmas.{none_taken, match_fails, over_stops}
+use Rattle.resb_icu_text.proofs.StepsLemmas.{member_string, fails_at, no_member, lacks}
+use Rattle.resb_icu_text.proofs.StepsLemmas.{text_made}
+use Rattle.resb_icu_grammar.specs.Machine.{among_members}
+use Rattle.resb_icu_grammar.specs.Machine as move
+use Rattle.resb_icu_grammar.specs.Stuck.{two_strings}
 use Rattle.resb_icu_text.proofs.steps.string_member.Goals as goal
 
 pub returns-in_err-found-clause-reads : goal.returns-in_err-found-clause-reads
@@ -14,16 +17,18 @@ returns-in_err-found-clause-reads g c =
 
 pub returns-then-is_string-clause-reads : goal.returns-then-is_string-clause-reads
 returns-then-is_string-clause-reads g c =
-    no_member_string c.args.members.items c.args.last c.args.at c.in_ok-found.found _
-    (none_taken _) c.new.ensures (sym c.is_string.ensures ∙ c.if-is_string.true)
-    c.in_ok-found.ensures.reads
+    fails_at (λ tree. among_members (last_of c.args.last) (map tree c.args.members.items))
+    c.args.at _ _ _ (none_taken _) c.new.ensures (λ tree. refl)
+    (λ tree. two_strings _ _ _ _ _ (sym c.is_string.ensures ∙ c.if-is_string.true)
+    c.in_ok-found.ensures.reads.string)
 
 pub returns-in_err-take-clause-reads : goal.returns-in_err-take-clause-reads
 returns-in_err-take-clause-reads g c =
     match_fails _ _ _ c.from_residual-in_err-take.ensures.1
-    (member_over c.args.members.items c.args.last c.args.at c.in_ok-found.found _
-    c.in_err-take.ensures (c.string_bytes.ensures ∙ ap (λ n. 72 + 3 * n) c.length.ensures)
-    (sym c.is_string.ensures ∙ c.if-is_string.false) c.in_ok-found.ensures.reads refl)
+    (λ tree ws ks. let is = c.in_ok-found.ensures.reads in over_stops _ _ _ _ _ _
+    (move.string_member _ _ _ _ _ _ (sym c.is_string.ensures ∙ c.if-is_string.false) is.string
+    is.blanks) (omega (arith, c.string_bytes.ensures, c.length.ensures, is.counted))
+    c.in_err-take.ensures refl)
 
 pub returns-in_err-said-clause-reads : goal.returns-in_err-said-clause-reads
 returns-in_err-said-clause-reads g c =

@@ -1,10 +1,10 @@
 use Rattle.std.proofs.Common.{◌+◌, ◌≤◌, arith, refl, sym, ◌∙◌}
 use Rattle.resb_icu_grammar.specs.Kinds.{kind_of}
-use Rattle.resb_icu_text.specs.Inner.Steps.{StepsTo, StepFails, typed_place}
-use Rattle.resb_icu_text.specs.Inner.Steps.{group_place}
-use Rattle.resb_icu_text.proofs.QuotaLemmas.{none_taken, match_by, match_fails}
-use Rattle.resb_icu_text.proofs.StepsLemmas.{as_typed, typed_fails, typed_over, no_type}
-use Rattle.resb_icu_text.proofs.StepsLemmas.{no_group_brace, opening_there}
+use Rattle.resb_icu_text.proofs.QuotaLemmas.{none_taken, match_by, match_fails, over_stops}
+use Rattle.resb_icu_grammar.specs.Machine.{type_opens, before_group}
+use Rattle.resb_icu_grammar.specs.Stuck.{no_brace}
+use Rattle.resb_icu_text.proofs.StepsLemmas.{as_typed, typed_fails, no_type, fails_at}
+use Rattle.resb_icu_text.proofs.StepsLemmas.{opening_there}
 use Rattle.resb_icu_text.proofs.steps.typed.Goals as goal
 
 pub returns-in_err-end-clause-reads : goal.returns-in_err-end-clause-reads
@@ -14,8 +14,9 @@ returns-in_err-end-clause-reads g c =
 
 pub returns-then-byte-ne123-clause-reads : goal.returns-then-byte-ne123-clause-reads
 returns-then-byte-ne123-clause-reads g c =
-    no_group_brace c.args.at _ _ _ _ (none_taken _) c.new.ensures c.in_ok-end.ensures.found
-    c.skip-brace.ensures.skip (λ e. c.if-byte-ne123.true (c.byte.ensures.byte ∙ e))
+    fails_at (λ tree. before_group) c.args.at _ _ _ (none_taken _) c.new.ensures (λ tree. refl)
+    (λ tree. no_brace _ _ _ _ c.in_ok-end.ensures.found c.skip-brace.ensures.skip
+    (λ e. c.if-byte-ne123.true (c.byte.ensures.byte ∙ e)))
 
 pub returns-in_err-take-clause-reads : goal.returns-in_err-take-clause-reads
 returns-in_err-take-clause-reads g c =
@@ -23,25 +24,18 @@ returns-in_err-take-clause-reads g c =
     c.skip-brace.ensures.skip (sym c.byte.ensures.byte ∙ c.if-byte-ne123.false)
     c.skip-first.ensures.skip in
     match_fails _ _ _ c.from_residual-in_err-take.ensures.1
-    (typed_over c.args.at c.skip-first.result (kind_of c.in_ok-end.kind) _ opens
-    c.in_err-take.ensures c.opening_bytes.ensures refl)
+    (λ tree ws ks. over_stops _ _ _ _ _ _ (type_opens _ _ _ opens) c.opening_bytes.ensures
+    c.in_err-take.ensures refl)
 
 pub returns-clause-reads : goal.returns-clause-reads
 returns-clause-reads g c =
     let opens = opening_there _ _ _ _ c.skip-first.result _ c.in_ok-end.ensures.found
     c.skip-brace.ensures.skip (sym c.byte.ensures.byte ∙ c.if-byte-ne123.false)
     c.skip-first.ensures.skip in
-    let text = c.args.text.now in
     let first = c.skip-first.result in
     let kind = kind_of c.in_ok-end.kind in
-    let was = c.args.meter.now.quota in
-    let mid = c.take.new.self in
-    let then = c.content.new.meter.quota in
     let order : c.args.at + 1 ≤ first = omega (arith, c.in_ok-end.ensures.within) in
-    match_by (StepsTo text (typed_place _ kind first) mid then)
-    (StepFails text (typed_place _ kind first) mid then)
-    (StepsTo text (group_place _ c.args.at) was then)
-    (StepFails text (group_place _ c.args.at) was then) c.content.result
+    match_by _ _ _ _ _
     (λ r. as_typed c.args.at first kind r opens order c.in_ok-take.ensures
     c.opening_bytes.ensures)
     (λ e. typed_fails c.args.at first kind e opens c.in_ok-take.ensures c.opening_bytes.ensures)

@@ -1,10 +1,13 @@
 use Rattle.std.proofs.Common.{◌+◌, ◌*◌, ap, arith, refl, sym, ◌∙◌}
 use Rattle.resb_icu_text.specs.Inner.Steps.{untyped_place}
-use Rattle.resb_icu_text.proofs.QuotaLemmas.{none_taken, match_fails}
-use Rattle.resb_icu_text.proofs.StepsLemmas.{untyped_one, one_over, untyped_comma, comma_over}
-use Rattle.resb_icu_text.proofs.StepsLemmas.{untyped_key, first_key_over, no_untyped, no_key, lacks}
-use Rattle.resb_icu_text.proofs.StepsLemmas.{no_untyped_string, no_untyped_key, text_made}
-use Rattle.resb_icu_text.proofs.StepsLemmas.{key_ahead}
+use Rattle.resb_icu_text.proofs.QuotaLemmas.{none_taken, match_fails, over_stops}
+use Rattle.resb_icu_text.proofs.StepsLemmas.{untyped_one, untyped_comma, untyped_key, no_untyped}
+use Rattle.resb_icu_text.proofs.StepsLemmas.{no_key, lacks, text_made, key_ahead, is_a_key}
+use Rattle.resb_icu_text.proofs.StepsLemmas.{fails_at}
+use Rattle.resb_icu_grammar.specs.Machine.{in_untyped, begins_with_string, begins_with_key}
+use Rattle.resb_icu_grammar.specs.Machine as move
+use Rattle.resb_icu_grammar.specs.Stuck.{no_further}
+use Rattle.resb_icu_grammar.specs.Stuck as stuck
 use Rattle.resb_icu_text.proofs.steps.untyped_string.Goals as goal
 
 pub returns-in_err-found-clause-reads : goal.returns-in_err-found-clause-reads
@@ -16,10 +19,10 @@ returns-in_err-found-clause-reads g c =
 pub returns-in_err-take-clause-reads : goal.returns-in_err-take-clause-reads
 returns-in_err-take-clause-reads g c =
     match_fails _ _ _ c.from_residual-in_err-take.ensures.1
-    (one_over c.args.at c.in_ok-found.found _ c.in_err-take.ensures
-    (c.text_bytes.ensures ∙ ap (λ n. 3 * n) c.length.ensures)
-    (sym c.byte-b.ensures.byte ∙ c.if-b-eq125.true)
-    c.in_ok-found.ensures.reads refl)
+    (λ tree ws ks. let is = c.in_ok-found.ensures.reads in over_stops _ _ _ _ _ _
+    (move.untyped_string _ _ _ _ is.string is.blanks
+    (sym c.byte-b.ensures.byte ∙ c.if-b-eq125.true))
+    (omega (arith, c.text_bytes.ensures, c.length.ensures, is.counted)) c.in_err-take.ensures refl)
 
 pub returns-in_err-said-clause-reads : goal.returns-in_err-said-clause-reads
 returns-in_err-said-clause-reads g c =
@@ -37,9 +40,11 @@ returns-then-b-eq125-clause-reads g c =
 pub returns-in_err-take-2-clause-reads : goal.returns-in_err-take-2-clause-reads
 returns-in_err-take-2-clause-reads g c =
     match_fails _ _ _ c.from_residual-in_err-take-2.ensures.1
-    (comma_over c.args.at c.in_ok-found.found _ c.in_err-take-2.ensures
-    (c.string_bytes.ensures ∙ ap (λ n. 72 + 3 * n) c.length-then-b-eq44.ensures)
-    (sym c.byte-b.ensures.byte ∙ c.if-b-eq44.true) c.in_ok-found.ensures.reads refl)
+    (λ tree ws ks. let is = c.in_ok-found.ensures.reads in over_stops _ _ _ _ _ _
+    (begins_with_string _ _ _ _ is.string is.blanks
+    (sym c.byte-b.ensures.byte ∙ c.if-b-eq44.true))
+    (omega (arith, c.string_bytes.ensures, c.length-then-b-eq44.ensures, is.counted))
+    c.in_err-take-2.ensures refl)
 
 pub returns-in_err-said-2-clause-reads : goal.returns-in_err-said-2-clause-reads
 returns-in_err-said-2-clause-reads g c =
@@ -57,27 +62,30 @@ returns-then-b-eq44-clause-reads g c =
 
 pub returns-then-not-begins_group-clause-reads : goal.returns-then-not-begins_group-clause-reads
 returns-then-not-begins_group-clause-reads g c =
-    no_untyped_string c.args.at c.in_ok-found.found _ (none_taken _)
-    c.new-then-not-begins_group.ensures c.in_ok-found.ensures.reads
+    let is = c.in_ok-found.ensures.reads in
+    fails_at (λ tree. in_untyped) c.args.at _ _ _ (none_taken _)
+    c.new-then-not-begins_group.ensures (λ tree. refl)
+    (λ tree. no_further _ _ _ _ is.string is.blanks
     (λ e. c.if-b-eq125.false (c.byte-b.ensures.byte ∙ e))
     (λ e. c.if-b-eq44.false (c.byte-b.ensures.byte ∙ e))
-    (c.begins_group.ensures.no c.if-not-begins_group.true)
+    (c.begins_group.ensures.no c.if-not-begins_group.true))
 
 pub returns-in_default-clause-reads : goal.returns-in_default-clause-reads
 returns-in_default-clause-reads g c =
     let found = c.in_ok-found.ensures.reads in
-    no_untyped_key c.args.at c.in_ok-found.found _ (none_taken _) c.new-in_default.ensures found
+    fails_at (λ tree. in_untyped) c.args.at _ _ _ (none_taken _) c.new-in_default.ensures
+    (λ tree. refl) (λ tree. stuck.no_key _ _ _ _ found.string found.blanks
     (c.begins_group.ensures.yes c.if-not-begins_group.false)
-    (no_key _ _ c.in_ok-found.found found c.in_default.ensures.key)
+    (no_key _ _ c.in_ok-found.found found c.in_default.ensures.key))
 
 pub returns-in_err-take-3-clause-reads : goal.returns-in_err-take-3-clause-reads
 returns-in_err-take-3-clause-reads g c =
     let found = c.in_ok-found.ensures.reads in
     match_fails _ _ _ c.from_residual-in_err-take-3.ensures.1
-    (first_key_over c.in-Some.key c.args.at c.in_ok-found.found.next _
-    c.in_err-take-3.ensures (omega (arith, c.key_bytes.ensures))
-    (key_ahead _ _ c.in_ok-found.found c.in-Some.key found c.in-Some.ensures.key)
-    (c.begins_group.ensures.yes c.if-not-begins_group.false) refl)
+    (λ tree ws ks. over_stops _ _ _ _ _ _ (begins_with_key _ _ _ _
+    (is_a_key _ _ c.in_ok-found.found c.in-Some.key found c.in-Some.ensures.key) found.blanks
+    (c.begins_group.ensures.yes c.if-not-begins_group.false))
+    (omega (arith, c.key_bytes.ensures)) c.in_err-take-3.ensures refl)
 
 pub returns-clause-reads : goal.returns-clause-reads
 returns-clause-reads g c =

@@ -1,8 +1,6 @@
 use Rattle.std.proofs.Common.{◌∙◌, arith}
 use Rattle.resb_grammar.proofs.ReachLemmas.{reach_low, reach_here}
 use Rattle.resb_icu_text.proofs.ReachLemmas.{word_no_slash}
-use Rattle.resb_icu_grammar.specs.Faults.{StringFault}
-use Rattle.resb_icu_text.specs.Inner.Ahead.{StringFails}
 use Rattle.resb_icu_text.specs.Inner.Found.{IsFound}
 use Rattle.resb_icu_text.proofs.QuotaLemmas.{match_by}
 use Rattle.resb_icu_text.proofs.StringsLemmas.{fault_fails, unquoted_fails, word_found}
@@ -15,10 +13,8 @@ returns-in_default-clause-reads c =
 
 pub returns-then-byte-eq34-clause-reads : goal.returns-then-byte-eq34-clause-reads
 returns-then-byte-eq34-clause-reads c =
-    let text = c.args.text.now in
-    match_by (IsFound text c.args.from) (λ e. StringFault text c.args.from e.position e.expected)
-    (IsFound text c.args.from) (StringFails text c.args.from c.args.expected) c.quoted.result
-    (λ f is. is) (λ e h. fault_fails text c.args.from c.args.expected e h) c.quoted.ensures.reads
+    match_by (IsFound c.args.text.now c.args.from) _ _ _ c.quoted.result (λ f is. is)
+    (λ e h. fault_fails c.args.text.now c.args.from c.args.expected e h) c.quoted.ensures.reads
 
 pub returns-clause-reads : goal.returns-clause-reads
 returns-clause-reads c =

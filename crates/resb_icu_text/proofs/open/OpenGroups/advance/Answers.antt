@@ -19,28 +19,18 @@ returns-clause-reads g c =
     let first = c.args.self.now in
     let mid = c.read.new.self in
     let d = c.make.new.build in
-    let last : OpenGroups g.row.B.Denot g.row.X.Denot = record {
-      waiting = mid.waiting;
-      keys = mid.keys;
-      build = d;
-    } in
     let r = c.in_ok-read.read in
     let read = c.in_ok-read.ensures.reads in
     let build = c.in_ok-read.ensures.build in
-    let was = c.args.meter.now.quota in
-    let then = c.read.new.meter.quota in
-    let from = stands (tree first.build) first c.args.step in
     match_by (IsMade tree held mid.build d r)
-    (λ e. (e ≡ want_of_memory) ⊎ IsDouble (tree mid.build) r e)
-    (IsAdvanced (tree d) (held d) text from c.args.step last was then)
-    (StopsAt text was then from) c.make.result
+    (λ e. (e ≡ want_of_memory) ⊎ IsDouble (tree mid.build) r e) _ _ _
     (λ n h. record {
-      comes = advanced tree held text was then from mid.waiting.items (keys mid) first.build
-          mid.build d r n build read.comes read.kept read.ends h.grows h.comes;
+      comes = advanced tree held text _ _ _ mid.waiting.items _ first.build mid.build d r n build
+          read.comes read.kept read.ends h.grows h.comes;
       kept = advanced_kept tree held text mid.waiting.items first.build mid.build d r n build
           read.kept h.grows h.kept;
       goes = h.goes text c.args.step read.goes;
     })
-    (λ e h limit a. stops_made text then (tree first.build) r e _ _ read.ends
+    (λ e h limit a. stops_made text _ (tree first.build) r e _ _ read.ends
     (subst (λ b. (e ≡ want_of_memory) ⊎ IsDouble (tree b) r e) build h) limit
     (read.comes limit a)) c.make.ensures

@@ -28,34 +28,18 @@ check_key-requires g c =
 
 pub returns-in-Members-clause-reads : goal.returns-in-Members-clause-reads
 returns-in-Members-clause-reads g c =
-    let text = c.args.text.now in
     let tree = g.B.Build.tree c.args.self.now.build in
-    let pass = g.B.Build.held c.args.self.now.build in
-    let was = c.args.meter.now.quota in
-    let place = (members_place c.in-Members.members.items c.in-Members.last c.in-Members.at) in
-    let then = c.member.new.meter.quota in
-    let from = place.there tree (groups tree c.args.self.now) (keys c.args.self.now) in
-    rw c.in-Members.is (match_by (StepsTo text place was then) (StepFails text place was then)
-    (IsRead tree pass text from place.progress c.args.self.now was then)
-    (StopsAt text was then from) c.member.result
-    (λ r s. is_read tree pass text place c.args.self.now was then r s
-    (rw c.in-Members.is at c.requires.kept))
+    let place = members_place c.in-Members.members.items c.in-Members.last c.in-Members.at in
+    rw c.in-Members.is (match_by _ (StepFails c.args.text.now place _ _) _ _ _
+    (λ r s. is_read tree _ _ place _ _ _ r s (rw c.in-Members.is at c.requires.kept))
     (λ e s. s tree (groups tree c.args.self.now) (keys c.args.self.now)) c.member.ensures.reads)
 
 pub returns-in-Entries-clause-reads : goal.returns-in-Entries-clause-reads
 returns-in-Entries-clause-reads g c =
-    let text = c.args.text.now in
     let tree = g.B.Build.tree c.args.self.now.build in
-    let pass = g.B.Build.held c.args.self.now.build in
-    let was = c.args.meter.now.quota in
-    let place = (entries_place c.in-Entries.entries.items c.in-Entries.at) in
-    let then = c.entry.new.meter.quota in
-    let from = place.there tree (groups tree c.args.self.now) (keys c.args.self.now) in
-    rw c.in-Entries.is (match_by (StepsTo text place was then) (StepFails text place was then)
-    (IsRead tree pass text from place.progress c.args.self.now was then)
-    (StopsAt text was then from) c.entry.result
-    (λ r s. is_read tree pass text place c.args.self.now was then r s
-    (rw c.in-Entries.is at c.requires.kept))
+    let place = entries_place c.in-Entries.entries.items c.in-Entries.at in
+    rw c.in-Entries.is (match_by _ (StepFails c.args.text.now place _ _) _ _ _
+    (λ r s. is_read tree _ _ place _ _ _ r s (rw c.in-Entries.is at c.requires.kept))
     (λ e s. s tree (groups tree c.args.self.now) (keys c.args.self.now)) c.entry.ensures.reads)
 
 pub returns-in_err-open-in-Group-clause-reads : goal.returns-in_err-open-in-Group-clause-reads
@@ -67,21 +51,20 @@ returns-in_ok-open-in-Group-clause-reads g c =
     let text = c.args.text.now in
     let tree = g.B.Build.tree c.args.self.now.build in
     let pass = g.B.Build.held c.args.self.now.build in
-    let was = c.args.meter.now.quota in
     let w = c.in-Group.waiting in
     let at = c.in-Group.at in
-    let g' = c.open.new.self in
-    let then = c.group.new.meter.quota in
-    let os = groups tree g' in
-    let ws = groups tree c.args.self.now in
-    let js = keys g' in
-    let ks = keys c.args.self.now in
-    let from = stands tree c.args.self.now c.args.step in
-    let place = group_place g.row.X.Denot at in
     let opened = c.in_ok-open-in-Group.ensures in
+    let os = groups tree c.open.new.self in
+    let ws = groups tree c.args.self.now in
+    let js = keys c.open.new.self in
+    let ks = keys c.args.self.now in
+    let was = c.args.meter.now.quota in
+    let then = c.group.new.meter.quota in
+    let place = group_place g.row.X.Denot at in
     match_by (StepsTo text place was then) (StepFails text place was then)
-    (IsRead tree pass text from _ g' was then) (StopsAt text was then from) c.group.result
-    (λ r s. rw c.in-Group.is (opened_read tree pass text at w c.args.self.now g' was then r s
+    (IsRead tree pass text (stands tree c.args.self.now c.args.step) _ c.open.new.self was then)
+    (StopsAt text was then (stands tree c.args.self.now c.args.step)) c.group.result
+    (λ r s. rw c.in-Group.is (opened_read tree pass text at w c.args.self.now _ was then r s
     (opened.groups tree) opened.keys (λ t h.
     let both = and_parts _ _ (rw c.in-Group.is at (c.requires.kept t h)) in
     opened.slices pass t both.0 both.1)))

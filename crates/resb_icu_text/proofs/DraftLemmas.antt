@@ -1,6 +1,6 @@
 -- Pieces of a draft that is read into: which of them are tables, and what is put behind them.
 use Rattle.std.proofs.Common.{◌≡◌, ℕ, Bool, true, false, List, [], Bor, length, sym, ◌∙◌, ap}
-use Rattle.std.proofs.Common.{get_or, refl}
+use Rattle.std.proofs.Common.{get_or, refl, ◌++◌, map}
 use Rattle.std.proofs.lemmas.List.{length-map}
 use Rattle.resb_tree.specs.LayingOrder.{own_keys}
 use Rattle.resb_tree.specs.Tree.{Tree, string, alias, array, table, binary, integer, int_vector}
@@ -8,12 +8,13 @@ use Rattle.resb_tree.specs.Tree.{map_of}
 use Rattle.resb_tree.proofs.AtOnce.{inserted}
 use Rattle.resb_tree.specs.View.{tree_of}
 use Rattle.resb_draft.specs.Drafts.{is_leaf, tree_at, is_whole, Keeps, IsMade, texts}
+use Rattle.resb_draft.specs.Drafts.{EndsInEntries}
 use Rattle.resb_draft.specs.declared.draft.Draft.{Draft}
 use Rattle.resb_draft.specs.declared.draft.Piece.{Piece}
 use Rattle.resb_draft.specs.declared.draft.Piece.TheVariants as piece
 use Rattle.resb_draft.proofs.Whole.{whole_is}
 use Rattle.resb_icu_grammar.specs.Groups.{holds_entries}
-use Rattle.resb_icu_text.specs.Inner.Build.{Grows, pairs_by}
+use Rattle.resb_icu_text.specs.Inner.Build.{Grows, PutsBehind, pairs_by, says_table}
 use Rattle.resb_icu_text.specs.Inner.Kept.{Test}
 use Rattle.resb_icu_text.proofs.DistinctLemmas.{keyed, keys_count}
 
@@ -24,11 +25,6 @@ whole_in d n t = is_whole d n
 -- what a draft keeps stays while it grows
 pub keeps_grow : (old new : Draft) → Keeps old new → Grows tree_at whole_in old new
 keeps_grow old new k n t h = k n h
-
--- whether a piece says that it is a table
-abbrev pub says_table : Piece → Bool
-says_table (piece.Table m k) = true
-says_table _ = false
 
 leaf_no_table : (t : Tree) → is_leaf t ≡ true → false ≡ holds_entries t
 leaf_no_table (string s) h = refl
@@ -62,3 +58,14 @@ pub keys_made : (d new : Draft) (n : ℕ) (es : List (Bor (List ℕ) × ℕ)) (k
 keys_made d new n es ks made is =
     sym (length-map ks (λ (k : Bor (List ℕ)). k.now)) ∙ ap length is
     ∙ ap (λ t. length (own_keys t)) made.0 ∙ keys_count (tree_at d) es
+
+-- a draft with these entries behind its members and keys, by other words
+pub ends_at : (d new : Draft) (m k : ℕ) (ps es : List (Bor (List ℕ) × ℕ)) → PutsBehind d ps new
+    → m ≡ length d.members.items → k ≡ length d.keys.items → ps ≡ es → EndsInEntries d m k es new
+ends_at d new m k ps es p e f g = (
+  e,
+  f,
+  p.2,
+  p.3 ∙ ap (λ ps. d.members.items ++ map (λ (e : Bor (List ℕ) × ℕ). e.1) ps) g,
+  p.4 ∙ ap (λ ps. d.keys.items ++ map (λ (e : Bor (List ℕ) × ℕ). e.0) ps) g,
+)

@@ -67,6 +67,7 @@ impl<'a, X: Drop, B: Build<'a, Made = X>> OpenGroups<'a, B, X> {
         ensures groups { OnOk result ((tree : X → Tree)
             → groups tree self.new ≡ shown tree waiting.entry ∷ groups tree self.old) }
         ensures keys { OnOk result (keys self.new ≡ with_key (keys self.old) waiting.entry) }
+        ensures count { OnOk result (length (keys self.new) ≤ length (keys self.old) + 1) }
         ensures build { self.new.build ≡ self.old.build }
         ensures slices { OnOk result ((pass : X → Test → Bool) (t : Test)
             → groups_pass self.old pass t ≡ true → open_passes waiting.entry pass t ≡ true

@@ -1,25 +1,18 @@
-use Rattle.std.proofs.Common.{ap, sym, ◌∙◌, ◌++◌, map, Bor, List, ℕ}
+use Rattle.std.proofs.Common.{sym, ◌∙◌}
 use Rattle.resb_tree.specs.Tree.{table, map_of}
-use Rattle.resb_draft.specs.Drafts.{tree_at, IsMade, EndsInEntries}
+use Rattle.resb_draft.specs.Drafts.{tree_at, IsMade}
 use Rattle.resb_icu_text.specs.Inner.Build.{pairs_by}
 use Rattle.resb_icu_text.proofs.DistinctLemmas.{entries_kept, entries_distinct}
-use Rattle.resb_icu_text.proofs.DraftLemmas.{keeps_grow, keys_made}
+use Rattle.resb_icu_text.proofs.DraftLemmas.{keeps_grow, keys_made, ends_at}
 use Rattle.resb_icu_text.proofs.drafts.DraftBuild.table.Goals as goal
 
 pub returns-then-own_keys-len-clause-distinct : goal.returns-then-own_keys-len-clause-distinct
 returns-then-own_keys-len-clause-distinct c =
     let d = c.args.self.now in
     let es = c.args.entries.now.items in
-    let pushed = c.in_ok-push_entries.ensures in
-    let all = c.deref.ensures.value in
-    let ends : EndsInEntries d c.len-first_member.result c.len-first_key.result es
-    c.push_entries.new.draft = (
-      c.len-first_member.ensures ∙ d.members.ok.0,
-      c.len-first_key.ensures ∙ d.keys.ok.0,
-      pushed.2,
-      pushed.3 ∙ ap (λ ps. d.members.items ++ map (λ (e : Bor (List ℕ) × ℕ). e.1) ps) all,
-      pushed.4 ∙ ap (λ ps. d.keys.items ++ map (λ (e : Bor (List ℕ) × ℕ). e.0) ps) all,
-    ) in
+    let ends = ends_at d c.push_entries.new.draft _ _ _ es c.in_ok-push_entries.ensures
+    (c.len-first_member.ensures ∙ d.members.ok.0) (c.len-first_key.ensures ∙ d.keys.ok.0)
+    c.deref.ensures.value in
     let made : IsMade c.end_table.new.self c.in_ok-number.number
     (table (map_of (pairs_by (tree_at d) es))) =
     c.in_ok-number.ensures.made d es ends c.requires.held in
@@ -32,16 +25,9 @@ pub returns-then-own_keys-len-clause-made : goal.returns-then-own_keys-len-claus
 returns-then-own_keys-len-clause-made c =
     let d = c.args.self.now in
     let es = c.args.entries.now.items in
-    let pushed = c.in_ok-push_entries.ensures in
-    let all = c.deref.ensures.value in
-    let ends : EndsInEntries d c.len-first_member.result c.len-first_key.result es
-    c.push_entries.new.draft = (
-      c.len-first_member.ensures ∙ d.members.ok.0,
-      c.len-first_key.ensures ∙ d.keys.ok.0,
-      pushed.2,
-      pushed.3 ∙ ap (λ ps. d.members.items ++ map (λ (e : Bor (List ℕ) × ℕ). e.1) ps) all,
-      pushed.4 ∙ ap (λ ps. d.keys.items ++ map (λ (e : Bor (List ℕ) × ℕ). e.0) ps) all,
-    ) in
+    let ends = ends_at d c.push_entries.new.draft _ _ _ es c.in_ok-push_entries.ensures
+    (c.len-first_member.ensures ∙ d.members.ok.0) (c.len-first_key.ensures ∙ d.keys.ok.0)
+    c.deref.ensures.value in
     let made : IsMade c.end_table.new.self c.in_ok-number.number
     (table (map_of (pairs_by (tree_at d) es))) =
     c.in_ok-number.ensures.made d es ends c.requires.held in (
@@ -54,16 +40,9 @@ pub returns-else-own_keys-len-clause-none : goal.returns-else-own_keys-len-claus
 returns-else-own_keys-len-clause-none c = λ distinct.
     let d = c.args.self.now in
     let es = c.args.entries.now.items in
-    let pushed = c.in_ok-push_entries.ensures in
-    let all = c.deref.ensures.value in
-    let ends : EndsInEntries d c.len-first_member.result c.len-first_key.result es
-    c.push_entries.new.draft = (
-      c.len-first_member.ensures ∙ d.members.ok.0,
-      c.len-first_key.ensures ∙ d.keys.ok.0,
-      pushed.2,
-      pushed.3 ∙ ap (λ ps. d.members.items ++ map (λ (e : Bor (List ℕ) × ℕ). e.1) ps) all,
-      pushed.4 ∙ ap (λ ps. d.keys.items ++ map (λ (e : Bor (List ℕ) × ℕ). e.0) ps) all,
-    ) in
+    let ends = ends_at d c.push_entries.new.draft _ _ _ es c.in_ok-push_entries.ensures
+    (c.len-first_member.ensures ∙ d.members.ok.0) (c.len-first_key.ensures ∙ d.keys.ok.0)
+    c.deref.ensures.value in
     let made : IsMade c.end_table.new.self c.in_ok-number.number
     (table (map_of (pairs_by (tree_at d) es))) =
     c.in_ok-number.ensures.made d es ends c.requires.held in

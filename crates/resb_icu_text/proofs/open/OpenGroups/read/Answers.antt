@@ -1,21 +1,18 @@
-use Rattle.std.proofs.Common.{arith, sym, ◌∙◌, refl, ap, length, ◌+◌, ◌*◌, ◌≤◌}
+use Rattle.std.proofs.Common.{arith, sym, ◌∙◌, refl}
 use Rattle.std.proofs.Common.{◌≡◌, true, rules}
 use Rattle.std.proofs.lemmas.Bool.{and_from, and_parts}
 use Rattle.std.proofs.lemmas.Result.{err_from_is_err_and}
 use Rattle.resb_icu_text.proofs.MakingLemmas.{anything_said}
-use Rattle.resb_icu_text.proofs.QuotaLemmas.{none_taken, memory_stops, match_by, both_said}
+use Rattle.resb_icu_text.proofs.QuotaLemmas.{none_taken, memory_stops, match_by}
 use Rattle.resb_icu_text.proofs.QuotaLemmas.{match_fails}
 use Rattle.resb_icu_text.proofs.ReadingLemmas.{pushed, nothing_open, behind_ended, is_read}
-use Rattle.resb_icu_text.proofs.ReadingLemmas.{stops_ended, root_ended, with_key_length}
+use Rattle.resb_icu_text.proofs.ReadingLemmas.{stops_ended, root_ended}
 use Rattle.resb_icu_text.proofs.ReadingLemmas.{in_opened, opened_read, waiting_parts}
 use Rattle.resb_icu_text.specs.Inner.Kept.{anything, groups_pass, step_passes}
 use Rattle.resb_icu_text.specs.Inner.Quota.{StopsAt}
-use Rattle.resb_icu_text.specs.Inner.Turns.{Halts}
 use Rattle.resb_icu_text.specs.Inner.Steps.{StepsTo, StepFails, members_place}
-use Rattle.resb_icu_text.specs.Inner.Steps.{entries_place, group_place, spent_reading, Proceeds}
+use Rattle.resb_icu_text.specs.Inner.Steps.{entries_place, group_place}
 use Rattle.resb_icu_text.specs.Inner.Reading.{groups, keys, stands, IsRead}
-use Rattle.resb_grammar.specs.Inner.Reach.{reach}
-use Rattle.resb_icu_text.proofs.ReachLemmas.{reading_most}
 use Rattle.resb_icu_text.proofs.open.OpenGroups.read.Goals as goal
 
 pub check_key-requires : goal.check_key-requires
@@ -111,25 +108,3 @@ returns-in-None-clause-reads g c =
       kept = search rules;
       goes = (rw c.in-Ended.is at c.requires.within, omega arith);
     })
-
-pub returns-in_ok-open-in-Group-clause-cost : goal.returns-in_ok-open-in-Group-clause-cost
-returns-in_ok-open-in-Group-clause-cost g c =
-    let text = c.args.text.now in
-    let at = c.in-Group.at in
-    let was = c.args.meter.now in
-    let then = c.group.new.meter in
-    let place = group_place g.row.X.Denot at in
-    let count = length (keys c.args.self.now) in
-    let more = with_key_length (keys c.args.self.now) c.in-Group.waiting in
-    let same = ap length c.in_ok-open-in-Group.ensures.keys in
-    rw c.in-Group.is (match_by
-    (λ r. Proceeds text 5 at was.turns then.turns r × StepsTo text place was.quota then.quota r)
-    (λ e. Halts text 4 at was.turns then.turns)
-    (λ r. (then.turns.count + 1 + (8 * reach text at + 3) + length (keys c.open.new.self)
-    ≤ was.turns.count + spent_reading text r + count)
-    × (then.turns.count + 1 + (8 * reach text at + 3) ≤ was.turns.count + 8 * length text + 8))
-    (λ e. then.turns.count + 1 + (8 * reach text at + 3) ≤ was.turns.count + 8 * length text + 8)
-    c.group.result
-    (λ r h. (omega (arith, h.0, more, same), omega (arith, h.0, reading_most text r h.1.goes.0)))
-    (λ e h. omega (arith, h))
-    (both_said _ _ _ _ c.group.result c.group.ensures.cost c.group.ensures.reads))

@@ -1,7 +1,6 @@
 -- A table that is made of entries has as many as these exactly where their keys are distinct.
 use Rattle.std.proofs.Common.{◌≡◌, ℕ, ◌+◌, ◌≤◌, Bool, true, false, List, [], ◌∷◌, length, ◌&&◌}
-use Rattle.std.proofs.Common.{BTreeMap, Bor, refl, sym, ap, ◌∙◌, subst}
-use Rattle.std.proofs.Common.{arith, cond, T}
+use Rattle.std.proofs.Common.{BTreeMap, Bor, refl, sym, ap, ◌∙◌, subst, arith, cond, T}
 use Rattle.std.proofs.lemmas.List.{length-map}
 use Rattle.std.specs.Prelude.{Option, Some, None, nat_eq, not, ◌||◌, map}
 use Rattle.std.specs.BTreeMap.{insert_entry, IsFromIterResult}

@@ -7,8 +7,7 @@ use Rattle.resb_tree.specs.Tree.{Tree, string, alias, array, table, binary, inte
 use Rattle.resb_tree.specs.Tree.{map_of}
 use Rattle.resb_tree.proofs.AtOnce.{inserted}
 use Rattle.resb_tree.specs.View.{tree_of}
-use Rattle.resb_draft.specs.Drafts.{is_leaf, tree_at, is_whole, Keeps, IsMade, texts}
-use Rattle.resb_draft.specs.Drafts.{EndsInEntries}
+use Rattle.resb_draft.specs.Drafts.{is_leaf, tree_at, is_whole, Keeps, IsMade, texts, EndsInEntries}
 use Rattle.resb_draft.specs.declared.draft.Draft.{Draft}
 use Rattle.resb_draft.specs.declared.draft.Piece.{Piece}
 use Rattle.resb_draft.specs.declared.draft.Piece.TheVariants as piece

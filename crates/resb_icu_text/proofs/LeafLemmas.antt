@@ -1,7 +1,7 @@
 -- The content of groups without items: what stands there, and where it is stuck.
-use Rattle.std.proofs.Common.{◌≡◌, ◌≢◌, ℕ, ◌%◌, ◌^◌, List, [], ◌∷◌, ◌++◌, Some}
-use Rattle.std.proofs.Common.{inl, refl, sym, ◌∙◌, ap, subst, append_assoc, suc, ◌+◌, ◌*◌, ◌≤◌}
-use Rattle.std.proofs.Common.{◌<◌, false, length, arith, length-append}
+use Rattle.std.proofs.Common.{◌≡◌, ◌≢◌, ℕ, ◌%◌, ◌^◌, List, [], ◌∷◌, ◌++◌, Some, inl, refl, sym, ◌∙◌}
+use Rattle.std.proofs.Common.{ap, subst, append_assoc, suc, ◌+◌, ◌*◌, ◌≤◌, ◌<◌, false, length}
+use Rattle.std.proofs.Common.{arith, length-append}
 use Rattle.std.proofs.lemmas.Bool.{false≢true}
 use Rattle.std.specs.Prelude.{slice_index}
 use Rattle.resb_grammar.specs.Ascii as ascii
@@ -14,15 +14,14 @@ use Rattle.resb_tree.specs.declared.resource.Resource.{Resource}
 use Rattle.resb_tree.specs.Tree.{Tree, string, alias, binary, integer, int_vector}
 use Rattle.resb_icu_grammar.specs.Blanks.{Skip}
 use Rattle.resb_icu_grammar.specs.Words.{Text, Number}
-use Rattle.resb_icu_grammar.specs.Groups.{last_number, last_comma, one_more}
-use Rattle.resb_icu_grammar.specs.Groups.{string_content, alias_content, binary_content}
-use Rattle.resb_icu_grammar.specs.Groups.{integer_content}
+use Rattle.resb_icu_grammar.specs.Groups.{last_number, last_comma, one_more, string_content}
+use Rattle.resb_icu_grammar.specs.Groups.{alias_content, binary_content, integer_content}
 use Rattle.resb_icu_grammar.specs.Groups.{no_numbers, numbers}
 use Rattle.resb_icu_grammar.specs.Faults.{Told}
 use Rattle.resb_icu_grammar.specs.Limit.{leaf_bytes, count_so_far, by_a_number}
 use Rattle.resb_icu_grammar.specs.Machine.{reading_at, in_typed, leaf_follows}
-use Rattle.resb_icu_grammar.specs.Stuck.{NumbersSoFar, one_number, LeafStuck, NoStringAt}
-use Rattle.resb_icu_grammar.specs.Stuck.{inside, in_leaf}
+use Rattle.resb_icu_grammar.specs.Stuck.{NumbersSoFar, one_number, LeafStuck, NoStringAt, inside}
+use Rattle.resb_icu_grammar.specs.Stuck.{in_leaf}
 use Rattle.resb_icu_grammar.proofs.Blocked.{is_vector, NumbersFit, NumbersEnd, numbers_most}
 use Rattle.resb_icu_grammar.specs.declared.expected.IcuExpected.{IcuExpected}
 use Rattle.resb_icu_grammar.specs.declared.expected.IcuExpected.TheVariants as expect
@@ -33,8 +32,8 @@ use Rattle.resb_icu_text.specs.declared.quota.Quota.{Quota}
 use Rattle.resb_icu_text.specs.Borrowed.{KeepsSlices}
 use Rattle.resb_icu_text.specs.Inner.Quota.{TakesBytes, RunsOver}
 use Rattle.resb_icu_text.specs.Inner.Leaf.{Leaf, IsReadLeaf, LeafStops, Vector, IsBrace}
-use Rattle.resb_icu_text.proofs.QuotaLemmas.{over_stops, memory_stops, stuck_stops, as_many}
 use Rattle.resb_icu_text.specs.Inner.Leaf.{IsBehindNumber, at_brace, at_comma}
+use Rattle.resb_icu_text.proofs.QuotaLemmas.{over_stops, memory_stops, stuck_stops, as_many}
 
 -- a `}` stands there behind blanks
 pub record Closing (text : List ℕ) (from to : ℕ) : Type 0 where

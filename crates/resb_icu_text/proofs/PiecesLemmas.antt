@@ -1,14 +1,12 @@
 -- Laws of quoted pieces, as the reader's functions use them.
 use Rattle.std.proofs.Common.{◌≡◌, ◌≢◌, ℕ, zero, suc, ◌+◌, ◌-◌, ◌<◌, ◌≤◌, Bool, true, false, List}
-use Rattle.std.proofs.Common.{[], ◌∷◌}
-use Rattle.std.proofs.Common.{◌++◌, length, arith, subst, sym, refl, ap, ◌∙◌, take, drop}
-use Rattle.std.proofs.Common.{append_assoc, append-nil, length-drop}
-use Rattle.std.proofs.Common.{Result, Ok, Err, OnOk, is_ok, if◌then◌else◌}
-use Rattle.std.specs.Prelude.{slice_range}
+use Rattle.std.proofs.Common.{[], ◌∷◌, ◌++◌, length, arith, subst, sym, refl, ap, ◌∙◌, take, drop}
+use Rattle.std.proofs.Common.{append_assoc, append-nil, length-drop, Result, Ok, Err, OnOk, is_ok}
+use Rattle.std.proofs.Common.{if◌then◌else◌}
+use Rattle.std.specs.Prelude.{slice_range, slice_index, nat_lt}
 use Rattle.std.specs.Str.{IsUtf8, IsCharBoundary}
 use Rattle.std.proofs.lemmas.Str.{IsCharBoundary-after_ascii}
 use Rattle.std.proofs.lemmas.List.{take_more, get_or-drop, length-append}
-use Rattle.std.specs.Prelude.{slice_index, nat_lt}
 use Rattle.std.proofs.lemmas.Bool.Decides.{nat_tests}
 use Rattle.resb_icu_text.proofs.Lists.{slice_none}
 use Rattle.resb_grammar.specs.Ascii as ascii

@@ -1,13 +1,11 @@
 -- How a reading goes on that keeps to a quota, and how one stops.
-use Rattle.std.proofs.Common.{◌≡◌, ◌∙◌, ℕ, ◌+◌, true, List, inl, inr, refl, sym}
-use Rattle.std.proofs.Common.{arith, subst}
+use Rattle.std.proofs.Common.{◌≡◌, ◌∙◌, ℕ, ◌+◌, true, List, inl, inr, refl, sym, arith, subst}
 use Rattle.std.proofs.lemmas.Bool.{false≢true}
 use Rattle.std.specs.Prelude.{Result, Ok, Err, MatchResult}
 use Rattle.std.specs.Result.{IsErrAnd}
 use Rattle.resb_icu_grammar.specs.Limit.{made_by, by_a_step}
 use Rattle.resb_icu_grammar.specs.Machine.{Waiting, Standing, behind_group, Reading, reading_at}
-use Rattle.resb_icu_grammar.specs.Machine.{Move}
-use Rattle.resb_icu_grammar.specs.Machine.{StepOut}
+use Rattle.resb_icu_grammar.specs.Machine.{Move, StepOut}
 use Rattle.resb_icu_grammar.specs.Stuck.{ReadStuck, in_root}
 use Rattle.resb_icu_grammar.proofs.Blocked.{makes_on, makes_out, NumbersFit, stuck_never_more}
 use Rattle.resb_tree.specs.Tree.{Tree}

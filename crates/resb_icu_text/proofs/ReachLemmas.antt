@@ -6,8 +6,7 @@ use Rattle.std.proofs.lemmas.Bool.Decides.{nat_tests}
 use Rattle.resb_grammar.specs.Ascii as ascii
 use Rattle.resb_grammar.specs.ByteRuns.{Run}
 use Rattle.resb_icu_grammar.specs.Bytes.{is_word}
-use Rattle.resb_icu_grammar.specs.Words.{Word, Text, a_word, quoted, Number, unsigned}
-use Rattle.resb_icu_grammar.specs.Words.{plus, minus}
+use Rattle.resb_icu_grammar.specs.Words.{Word, Text, a_word, quoted, Number, unsigned, plus, minus}
 use Rattle.resb_icu_grammar.proofs.Lexical.{word_first, joined_first}
 use Rattle.resb_icu_text.specs.declared.steps.Step.{Step}
 use Rattle.resb_icu_text.specs.declared.steps.Step.TheVariants as step
@@ -17,8 +16,7 @@ use Rattle.resb_grammar.proofs.ReachLemmas.{reach_quote, reach_right, reach_left
 use Rattle.resb_grammar.proofs.ReachLemmas.{reach_colon}
 use Rattle.resb_icu_text.specs.declared.steps.Read.{Read}
 use Rattle.resb_icu_text.specs.declared.steps.Read.TheVariants as read
-use Rattle.resb_icu_text.specs.Inner.Steps.{read_to, spent_reading}
-use Rattle.resb_icu_text.specs.Inner.Steps.{stands_at, spent}
+use Rattle.resb_icu_text.specs.Inner.Steps.{read_to, spent_reading, stands_at, spent}
 
 -- how far a reading has looked that stands at a place, at any and by the byte there
 pub ruleset reached =

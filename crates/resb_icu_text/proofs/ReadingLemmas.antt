@@ -1,9 +1,9 @@
 -- What is open around a place, what stands before the root, and where a reading of a text stops.
-use Rattle.std.proofs.Common.{◌≡◌, ◌≢◌, ◌&&◌, ℕ, ◌+◌, ◌*◌, ◌≤◌, ◌<◌, Bool, true, false}
-use Rattle.std.proofs.Common.{List, [], ◌∷◌, ◌++◌}
-use Rattle.std.proofs.Common.{refl, sym, ◌∙◌, ap, subst, arith, length, get_or, Bor, ◌⊎◌, inl, inr}
-use Rattle.std.proofs.Common.{⊎_elim}
-use Rattle.std.specs.Prelude.{slice_index, map, take, nat_eq, ◌==◌}
+use Rattle.std.proofs.Common.{◌≡◌, ◌≢◌, ◌&&◌, ℕ, ◌+◌, ◌*◌, ◌≤◌, ◌<◌, Bool, true, false, List, []}
+use Rattle.std.proofs.Common.{◌∷◌, ◌++◌, refl, sym, ◌∙◌, ap, subst, arith, length, get_or, Bor, ◌⊎◌}
+use Rattle.std.proofs.Common.{inl, inr, ⊎_elim}
+use Rattle.std.specs.Prelude.{slice_index, map, take, nat_eq, ◌==◌, Result, Ok, Err, IfErr}
+use Rattle.std.specs.Prelude.{MatchResult}
 use Rattle.std.specs.Cmp.Lexicographic.{pointwise}
 use Rattle.std.proofs.lemmas.Bool.Decides.{nat_tests}
 use Rattle.indexmap.specs.IndexSet.{insert_key}
@@ -21,12 +21,10 @@ use Rattle.resb_icu_grammar.specs.Words.{KeyText, Name}
 use Rattle.resb_icu_grammar.specs.Machine.{at_root, Waiting, Reading, reading_at, behind_group}
 use Rattle.resb_icu_grammar.specs.Machine.{before_group}
 use Rattle.resb_icu_grammar.specs.Limit.{IcuMadeWithin, IcuMakesMore, by_the_root}
-use Rattle.std.specs.Prelude.{Result, Ok, Err, IfErr, MatchResult}
 use Rattle.resb_icu_grammar.proofs.Blocked.{root_makes, header_never_more, whole_text}
 use Rattle.resb_icu_grammar.specs.Machine as move
-use Rattle.resb_icu_grammar.specs.Stuck.{HeaderStuck, ReadStuck, in_header}
-use Rattle.resb_icu_grammar.specs.Stuck.{no_root_type, no_root_brace, no_typed_brace, behind}
-use Rattle.resb_icu_grammar.specs.Stuck.{more_text}
+use Rattle.resb_icu_grammar.specs.Stuck.{HeaderStuck, ReadStuck, in_header, no_root_type}
+use Rattle.resb_icu_grammar.specs.Stuck.{no_root_brace, no_typed_brace, behind, more_text}
 use Rattle.resb_icu_grammar.specs.Faults.{Told}
 use Rattle.resb_icu_grammar.specs.Stuck as stuck
 use Rattle.resb_icu_grammar.specs.declared.expected.IcuExpected.{IcuExpected}
@@ -38,29 +36,27 @@ use Rattle.resb_icu_text.specs.Answer.{IcuFails, IsNoIcuText, IcuNeverMore}
 use Rattle.resb_icu_text.specs.Refusal.{want_of_memory}
 use Rattle.resb_icu_text.specs.declared.error.IcuTextError.{IcuTextError}
 use Rattle.resb_icu_text.specs.Inner.Ahead.{KeyFails}
-use Rattle.resb_icu_text.specs.Inner.Steps.{shown, with_key, now}
+use Rattle.resb_icu_text.specs.Inner.Steps.{shown, with_key, now, IsTaken, Resumes, Place, StepsTo}
+use Rattle.resb_icu_text.specs.Inner.Steps.{group_place, read_now}
 use Rattle.resb_icu_text.specs.declared.steps.Waiting.{Waiting as Open}
 use Rattle.resb_icu_text.specs.declared.steps.Waiting.TheVariants as waiting
 use Rattle.resb_icu_text.specs.Inner.Build.{pairs_by}
-use Rattle.resb_icu_text.specs.Inner.Steps.{IsTaken, Resumes}
-use Rattle.resb_icu_text.specs.Inner.Reading.{HoldsRules, IsWhole}
-use Rattle.resb_icu_text.specs.Inner.Quota.{TakesBytes, RunsOver, IsAt, GoesOn, IsStuck}
-use Rattle.resb_icu_text.specs.Inner.Quota.{Stops, StopsAt}
+use Rattle.resb_icu_text.specs.Inner.Reading.{HoldsRules, IsWhole, groups, keys, stands, IsRead}
+use Rattle.resb_icu_text.specs.Inner.Reading.{around, NameFails, TypingThere, no_colon, a_type}
+use Rattle.resb_icu_text.specs.Inner.Reading.{OpeningFails, no_type, no_brace, HeaderFails}
+use Rattle.resb_icu_text.specs.Inner.Reading.{RootThere}
+use Rattle.resb_icu_text.specs.Inner.Quota.{TakesBytes, RunsOver, IsAt, GoesOn, IsStuck, Stops}
+use Rattle.resb_icu_text.specs.Inner.Quota.{StopsAt}
 use Rattle.resb_icu_text.specs.declared.quota.Quota.{Quota}
 use Rattle.resb_icu_text.proofs.QuotaLemmas.{none_taken, memory_stops, stuck_stops}
 use Rattle.std.proofs.lemmas.Bool.{false≢true, and_from, and_parts}
 use Rattle.resb_tree.specs.Borrowing.{all_true}
 use Rattle.resb_icu_text.specs.Inner.Kept.{Test, Passing, IsKept, groups_pass, open_passes}
-use Rattle.resb_icu_text.specs.Inner.Steps.{Place, StepsTo, group_place, read_now}
-use Rattle.resb_icu_text.specs.Inner.Reading.{groups, keys, stands, IsRead}
 use Rattle.resb_icu_text.specs.declared.open.OpenGroups.{OpenGroups}
 use Rattle.resb_icu_text.specs.declared.steps.Read.{Read}
 use Rattle.resb_tree.specs.Weights.{resource_weight}
 use Rattle.resb_icu_text.specs.declared.steps.Step.{Step}
 use Rattle.resb_icu_text.specs.declared.steps.Step.TheVariants as step
-use Rattle.resb_icu_text.specs.Inner.Reading.{around, NameFails, TypingThere, no_colon, a_type}
-use Rattle.resb_icu_text.specs.Inner.Reading.{OpeningFails, no_type, no_brace, HeaderFails}
-use Rattle.resb_icu_text.specs.Inner.Reading.{RootThere}
 
 -- one group more is the innermost
 pub around_push : {X : Type 0} (tree : X → Tree) (ws : List Waiting) (os : List (Open X))

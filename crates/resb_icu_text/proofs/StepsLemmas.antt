@@ -1,7 +1,6 @@
 -- How each step of a reading goes on, and where a reading stops.
-use Rattle.std.proofs.Common.{◌≡◌, ◌≢◌, ℕ, ◌+◌, ◌*◌, ◌<◌, ◌≤◌, true, false, List, [], ◌∷◌}
-use Rattle.std.proofs.Common.{◌++◌, Vec, length, arith, Bor, Global, ◌⊎◌, refl}
-use Rattle.std.proofs.Common.{sym, ◌∙◌, ap, subst}
+use Rattle.std.proofs.Common.{◌≡◌, ◌≢◌, ℕ, ◌+◌, ◌*◌, ◌<◌, ◌≤◌, true, false, List, [], ◌∷◌, ◌++◌}
+use Rattle.std.proofs.Common.{Vec, length, arith, Bor, Global, ◌⊎◌, refl, sym, ◌∙◌, ap, subst}
 use Rattle.std.proofs.lemmas.Bool.{false≢true, and_from}
 use Rattle.std.proofs.lemmas.List.{map-append}
 use Rattle.std.specs.Cow.{cow_str_bytes}
@@ -21,16 +20,15 @@ use Rattle.resb_icu_grammar.specs.Blanks.{Skip}
 use Rattle.resb_icu_grammar.specs.Limit.{next_key_bytes, opening_bytes}
 use Rattle.resb_icu_grammar.specs.Words.{KeyText, GroupType}
 use Rattle.resb_icu_grammar.specs.Groups.{nothing, a_string, a_group, is_member, ends_in_string}
-use Rattle.resb_icu_grammar.specs.Groups.{TypedOpening}
-use Rattle.resb_icu_grammar.specs.Groups.{LeafContent, string_content, alias_content}
+use Rattle.resb_icu_grammar.specs.Groups.{TypedOpening, LeafContent, string_content, alias_content}
 use Rattle.resb_icu_grammar.specs.Groups.{binary_content, integer_content, no_numbers, numbers}
 use Rattle.resb_icu_grammar.specs.Machine.{Waiting, Standing, Reading, reading_at, BeginsGroup}
 use Rattle.resb_icu_grammar.specs.Machine.{Move, StepOut, among_members, among_entries}
 use Rattle.resb_icu_grammar.specs.Machine.{behind_group, in_untyped, in_typed, before_group}
 use Rattle.resb_icu_grammar.specs.Machine as move
-use Rattle.resb_icu_grammar.specs.Stuck.{StepStuck, inside}
+use Rattle.resb_icu_grammar.specs.Stuck.{StepStuck, inside, NoStringAt, NoKeyAt, member_behind}
+use Rattle.resb_icu_grammar.specs.Stuck.{TypeStuck}
 use Rattle.resb_icu_grammar.specs.Faults.{Told}
-use Rattle.resb_icu_grammar.specs.Stuck.{NoStringAt, NoKeyAt, member_behind, TypeStuck}
 use Rattle.resb_icu_grammar.specs.Stuck as stuck
 use Rattle.resb_icu_grammar.specs.declared.expected.IcuExpected.{IcuExpected}
 use Rattle.resb_icu_grammar.specs.declared.expected.IcuExpected.TheVariants as expect
@@ -58,8 +56,7 @@ use Rattle.resb_icu_text.specs.Inner.Steps.{last_of, read_now, Place, StepsTo, S
 use Rattle.resb_icu_text.specs.Inner.Steps.{members_place, entries_place, group_place}
 use Rattle.resb_icu_text.specs.Inner.Steps.{untyped_place, typed_place, KeyAhead, Resumes}
 use Rattle.resb_icu_text.proofs.KeptLemmas.{said_kept, members_with, entries_with}
-use Rattle.resb_icu_text.proofs.QuotaLemmas.{by_move, by_step_out}
-use Rattle.resb_icu_text.proofs.QuotaLemmas.{memory_stops, stuck_stops}
+use Rattle.resb_icu_text.proofs.QuotaLemmas.{by_move, by_step_out, memory_stops, stuck_stops}
 
 -- what was found may be a key, and is this
 abbrev pub IsKey : Found → Bor (List ℕ) → Type 0

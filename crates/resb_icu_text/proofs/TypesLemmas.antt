@@ -1,7 +1,6 @@
 -- Laws of types of groups and of the root, as the reader's functions use them.
-use Rattle.std.proofs.Common.{◌≡◌, ◌≢◌, ℕ, suc, ◌+◌, ◌<◌, Bool, true, false, List, ◌∷◌}
-use Rattle.std.proofs.Common.{length, get_or, drop, refl, sym, ap, subst, Some}
-use Rattle.std.proofs.Common.{drop-cons}
+use Rattle.std.proofs.Common.{◌≡◌, ◌≢◌, ℕ, suc, ◌+◌, ◌<◌, Bool, true, false, List, ◌∷◌, length}
+use Rattle.std.proofs.Common.{get_or, drop, refl, sym, ap, subst, Some, drop-cons}
 use Rattle.std.specs.Prelude.{slice_get, slice_index, codes}
 use Rattle.resb_grammar.specs.Ascii as ascii
 use Rattle.resb_grammar.specs.GroupTypes.{Stands, NoFallback}

@@ -1,6 +1,5 @@
 use Rattle.std.proofs.lemmas.Option.{IfSome_then}
-use Rattle.resb_icu_text.proofs.BlanksLemmas.{no_line_comment, no_block_comment}
-use Rattle.resb_icu_text.proofs.BlanksLemmas.{block_comment}
+use Rattle.resb_icu_text.proofs.BlanksLemmas.{no_line_comment, no_block_comment, block_comment}
 use Rattle.resb_icu_text.proofs.blanks.comment_end.Goals as goal
 use Rattle.resb_grammar.proofs.Lists.{if_none}
 

@@ -1,7 +1,6 @@
 use Rattle.std.proofs.Common.{arith, sym, ◌∙◌}
 use Rattle.resb_grammar.proofs.ReachLemmas.{reach_here, reach_slash}
-use Rattle.resb_icu_text.proofs.BlanksLemmas.{white_more, comment_more, skip_ends}
-use Rattle.resb_icu_text.proofs.BlanksLemmas.{no_comment_at}
+use Rattle.resb_icu_text.proofs.BlanksLemmas.{white_more, comment_more, skip_ends, no_comment_at}
 use Rattle.resb_icu_text.proofs.blanks.skip.Goals as goal
 
 pub skip-preserved : goal.skip-preserved

@@ -1,8 +1,7 @@
 use Rattle.std.proofs.Common.{◌+◌, ◌*◌, ap, arith, refl, sym, ◌∙◌, map}
 use Rattle.resb_icu_text.specs.Inner.Steps.{members_place, last_of}
 use Rattle.resb_icu_text.proofs.QuotaLemmas.{none_taken, match_fails, over_stops}
-use Rattle.resb_icu_text.proofs.StepsLemmas.{member_string, fails_at, no_member, lacks}
-use Rattle.resb_icu_text.proofs.StepsLemmas.{text_made}
+use Rattle.resb_icu_text.proofs.StepsLemmas.{member_string, fails_at, no_member, lacks, text_made}
 use Rattle.resb_icu_grammar.specs.Machine.{among_members}
 use Rattle.resb_icu_grammar.specs.Machine as move
 use Rattle.resb_icu_grammar.specs.Stuck.{two_strings}

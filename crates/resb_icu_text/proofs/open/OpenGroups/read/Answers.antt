@@ -1,17 +1,15 @@
-use Rattle.std.proofs.Common.{arith, sym, ◌∙◌, refl}
-use Rattle.std.proofs.Common.{◌≡◌, true, rules}
+use Rattle.std.proofs.Common.{arith, sym, ◌∙◌, refl, ◌≡◌, true, rules}
 use Rattle.std.proofs.lemmas.Bool.{and_from, and_parts}
 use Rattle.std.proofs.lemmas.Result.{err_from_is_err_and}
 use Rattle.resb_icu_text.proofs.MakingLemmas.{anything_said}
-use Rattle.resb_icu_text.proofs.QuotaLemmas.{none_taken, memory_stops, match_by}
-use Rattle.resb_icu_text.proofs.QuotaLemmas.{match_fails}
+use Rattle.resb_icu_text.proofs.QuotaLemmas.{none_taken, memory_stops, match_by, match_fails}
 use Rattle.resb_icu_text.proofs.ReadingLemmas.{pushed, nothing_open, behind_ended, is_read}
-use Rattle.resb_icu_text.proofs.ReadingLemmas.{stops_ended, root_ended}
-use Rattle.resb_icu_text.proofs.ReadingLemmas.{in_opened, opened_read, waiting_parts}
+use Rattle.resb_icu_text.proofs.ReadingLemmas.{stops_ended, root_ended, in_opened, opened_read}
+use Rattle.resb_icu_text.proofs.ReadingLemmas.{waiting_parts}
 use Rattle.resb_icu_text.specs.Inner.Kept.{anything, groups_pass, step_passes}
 use Rattle.resb_icu_text.specs.Inner.Quota.{StopsAt}
-use Rattle.resb_icu_text.specs.Inner.Steps.{StepsTo, StepFails, members_place}
-use Rattle.resb_icu_text.specs.Inner.Steps.{entries_place, group_place}
+use Rattle.resb_icu_text.specs.Inner.Steps.{StepsTo, StepFails, members_place, entries_place}
+use Rattle.resb_icu_text.specs.Inner.Steps.{group_place}
 use Rattle.resb_icu_text.specs.Inner.Reading.{groups, keys, stands, IsRead}
 use Rattle.resb_icu_text.proofs.open.OpenGroups.read.Goals as goal
 

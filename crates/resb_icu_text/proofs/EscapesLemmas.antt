@@ -203,3 +203,9 @@ pub eighth_ascii : (text : List ℕ) (at : ℕ) → are_hex text (at + 1) 8 ≡ 
 eighth_ascii text at h =
     ascii_moved text (at + 1 + 4 + 3) (at + 9 - 1) (omega arith)
     (four_parts text (at + 1 + 4) (eight_parts text (at + 1) h).1).3
+
+-- which escape stands there, and which don't
+pub ruleset escapes = (
+  is_feed, is_return, is_tab, is_short, is_long, no_long, said_short, said_long, fourth_ascii,
+  eighth_ascii,
+)

@@ -27,12 +27,6 @@ pub match_by : {T E : Type 0} (P : T → Type 0) (G : E → Type 0) (Q : T → T
 match_by P G Q H (Ok x) f g h = f x h
 match_by P G Q H (Err e) f g h = g e h
 
--- two things that are said of an answer are said of it at once
-pub both_said : {T E : Type 0} (P : T → Type 0) (G : E → Type 0) (Q : T → Type 0) (H : E → Type 0)
-    (r : Result T E) → MatchResult r P G → MatchResult r Q H → MatchResult r (λ x. P x × Q x) G
-both_said P G Q H (Ok x) h k = (h, k)
-both_said P G Q H (Err e) h k = h
-
 -- nothing is taken of a quota
 pub none_taken : (q : Quota) → TakesBytes q q 0
 none_taken q = record { left = omega arith; over = refl }

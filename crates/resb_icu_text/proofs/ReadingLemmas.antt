@@ -1,4 +1,5 @@
 -- What is open around a place, what stands before the root, and where a reading of a text stops.
+use Rattle.resb_grammar.proofs.ReachLemmas.{reach_low, reach_high}
 use Rattle.std.proofs.Common.{◌≡◌, ◌≢◌, ◌&&◌, ℕ, ◌+◌, ◌*◌, ◌≤◌, ◌<◌, Bool, true, false, List, []}
 use Rattle.std.proofs.Common.{◌∷◌, ◌++◌, refl, sym, ◌∙◌, ap, subst, arith, length, get_or, Bor, ◌⊎◌}
 use Rattle.std.proofs.Common.{inl, inr, ⊎_elim}
@@ -400,3 +401,9 @@ text_within text limit n q e same s = (
   stop_fails text limit q e s,
   subst (λ l. IcuNeverMore text l e) same (stop_never_more text limit q e s),
 )
+
+-- where a name stands, and where none does
+pub ruleset names = (no_name, whole_name, reach_low, reach_high)
+
+-- where no name stands before the root
+pub ruleset headers = (no_header_name, reach_low, reach_high)

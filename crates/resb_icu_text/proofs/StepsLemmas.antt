@@ -543,3 +543,6 @@ pub later_key_bytes : {X : Type 0} (tree : X → Tree) (es : List (Bor (List ℕ
     → n ≡ entry_weight + text_byte_weight * length k → n ≡ next_key_bytes (pairs_by tree es) k
 later_key_bytes tree [] k n e h = absurd (grind (arith, nat_tests, e))
 later_key_bytes tree (x ∷ es) k n e h = h
+
+-- what a key makes
+pub ruleset keys_make = (first_key_bytes, later_key_bytes)

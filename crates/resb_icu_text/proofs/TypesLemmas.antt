@@ -17,16 +17,6 @@ use Rattle.resb_icu_text.specs.declared.error.IcuTextError.{IcuTextError}
 use Rattle.resb_icu_grammar.proofs.Types.{no_type_there}
 use Rattle.resb_icu_grammar.proofs.Lexical.{GroupType-one}
 
--- the code's names differ where the types do
-pub not_table : (k : code.IcuKind) → (k ≡ names.Table → ⊥) → kind_of k ≢ table_kind
-not_table names.Table h e = h refl
-not_table names.String h e = absurd cc
-not_table names.Alias h e = absurd cc
-not_table names.Array h e = absurd cc
-not_table names.Binary h e = absurd cc
-not_table names.Integer h e = absurd cc
-not_table names.IntVector h e = absurd cc
-
 -- where the first byte is another, the bytes do not stand
 pub not_there : (text xs : List ℕ) (here i : ℕ) → i < length xs
     → (slice_get text here ≡ Some (get_or xs i 0) → ⊥) → Stands text here (drop i xs) → ⊥
@@ -92,3 +82,8 @@ module _ (text : List ℕ) (at : ℕ) where
   other_root i kind g ne to fallback r =
       let h = root_group to fallback r in
       ne (GroupType-one text at i h.0 kind table_kind g h.1).1
+
+-- which types stand there, and which don't
+pub ruleset types_of_words = (no_type_word, no_tree_word)
+
+pub ruleset types_of_roots = (root_off, root_on, other_root, no_root)

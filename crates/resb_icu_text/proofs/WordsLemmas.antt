@@ -1,4 +1,5 @@
 -- Laws of words and numbers, as the reader's functions use them.
+use Rattle.resb_icu_text.proofs.ReachLemmas.{reach_word}
 use Rattle.std.proofs.Common.{◌≡◌, ◌≢◌, ℕ, ◌+◌, ◌-◌, ◌<◌, ◌≤◌, true, List}
 use Rattle.std.proofs.Common.{arith, subst, sym, ◌∙◌, get_or}
 use Rattle.std.specs.Prelude.{slice_index}
@@ -109,3 +110,9 @@ behind_word text from to u r w =
     subst (λ i. IsCharBoundary text i) e
     (IsCharBoundary-after_ascii text (to - 1) u (nonzero_inside text (to - 1) (word_some _ h))
     (word_ascii _ h))
+
+-- which digits with a sign stand there, and which don't
+pub ruleset signs = (no_plus, no_minus, no_digits, is_minus)
+
+-- which number stands there, and which don't
+pub ruleset numbers_of_words = (no_number, signed_number, no_whole_number, reach_word)

@@ -78,6 +78,7 @@ fn long_character(number: u32) -> Option<char>
 
 /// The escape whose backslash stands before this place: where it ends, and the character that it
 /// stands for, which is none where the byte there stands for itself.
+#[tactic(auto, using(crate::proofs::EscapesLemmas::escapes))]
 pub(crate) fn escape(text: &str, at: usize) -> Option<(usize, Option<char>)>
     requires within { at ≤ length text.now }
     ensures found { IfSome result (λ r. Escape text.now at r.0

@@ -247,7 +247,7 @@ fn begin(text: &str) -> usize
 }
 
 /// The bundle's name that must begin here, and the place behind the blanks that follow it.
-#[tactic(auto, using(crate::proofs::ReachLemmas::reached))]
+#[tactic(auto, using(crate::proofs::ReadingLemmas::names))]
 fn name<'a>(
     text: &'a str,
     at: usize,
@@ -315,7 +315,7 @@ fn opening(text: &str, at: usize, turns: &mut IcuTurns) -> Result<(usize, bool),
 }
 
 /// What stands before the root's entries.
-#[tactic(auto, using(crate::proofs::ReachLemmas::reached))]
+#[tactic(auto, using(crate::proofs::ReadingLemmas::headers))]
 fn read_header<'a>(text: &'a str, turns: &mut IcuTurns) -> Result<Header<'a>, IcuTextError>
     ensures reads { MatchResult result
         (λ h. bundle.Header text.now h.name.now h.fallback h.first × (h.first ≤ length text.now))

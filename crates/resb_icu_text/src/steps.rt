@@ -227,6 +227,7 @@ pub(crate) fn key_at<'a>(
 }
 
 /// What the key of an entry makes behind these entries: where there are none, the table as well.
+#[tactic(auto, using(crate::proofs::StepsLemmas::keys_make))]
 fn next_key_bytes<'a, X: Drop>(entries: &[Entry<'a, X>], key: &str) -> u128
     ensures { (tree : X → Tree)
         → result ≡ next_key_bytes (pairs_by tree entries.now) key.now }

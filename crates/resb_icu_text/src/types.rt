@@ -15,6 +15,7 @@ use resb_icu_grammar::{IcuExpected, IcuKind, icu_kind_named, instead_of};
 
 /// The type whose `:` stands here and the place behind it, if a type stands here; or what was
 /// expected in its place. Counts a turn for each byte up to there, and one for that place.
+#[tactic(auto, using(crate::proofs::TypesLemmas::types_of_words))]
 pub fn group_type(
     text: &str,
     at: usize,
@@ -57,6 +58,7 @@ fn stands(text: &str, at: usize, bytes: &[u8]) -> bool
 
 /// The root's type whose `:` stands here: the place behind it, and whether fallback stays on.
 /// Counts a turn for each byte up to there, and twelve for what may stand behind `table`.
+#[tactic(auto, using(crate::proofs::TypesLemmas::types_of_roots))]
 pub fn root_type(text: &str, at: usize, turns: &mut IcuTurns) -> Option<(usize, bool)>
     requires within { at < length text.now }
     requires colon { slice_index text.now at ≡ ascii.colon }

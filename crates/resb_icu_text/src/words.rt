@@ -32,6 +32,7 @@ pub(crate) fn word_end(text: &str, from: usize) -> usize
 
 /// The word that begins here, and where it ends. Counts a turn for each of its bytes and one for
 /// the byte behind it.
+#[tactic(auto, using(crate::proofs::WordsLemmas::behind_word))]
 pub(crate) fn word<'a>(text: &'a str, from: usize, turns: &mut IcuTurns) -> Option<(usize, &'a str)>
     requires within { from ≤ length text.now }
     ensures found { IfSome result (λ r. Word text.now from r.0 r.1.now) }
@@ -68,6 +69,7 @@ fn digits_up_to(text: &str, from: usize, limit: u64) -> Option<(usize, u64)>
 }
 
 /// The number that the digits behind a sign, or those of the whole word, say; and where they end.
+#[tactic(auto, using(crate::proofs::WordsLemmas::signs))]
 fn signed_digits(text: &str, from: usize) -> Option<(usize, u32)>
     requires within { from < length text.now }
     ensures found { IfSome result (λ r. DigitsInRange text.now from r.0 r.1) }
@@ -88,7 +90,7 @@ fn signed_digits(text: &str, from: usize) -> Option<(usize, u32)>
 
 /// The number that begins here, and where it ends. No word goes on behind it. Counts two turns for
 /// each byte of the word, and two for the byte behind it.
-#[tactic(auto, using(crate::proofs::ReachLemmas::reach_word))]
+#[tactic(auto, using(crate::proofs::WordsLemmas::numbers_of_words))]
 pub fn number(text: &str, from: usize, turns: &mut IcuTurns) -> Option<(usize, u32)>
     requires within { from ≤ length text.now }
     ensures found { IfSome result (λ r. Number text.now from r.0 r.1) }

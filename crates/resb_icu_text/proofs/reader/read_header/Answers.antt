@@ -1,12 +1,6 @@
-use Rattle.resb_icu_text.proofs.ReadingLemmas.{no_header_name, no_header_opening, typing_of}
+use Rattle.resb_icu_text.proofs.ReadingLemmas.{no_header_opening, typing_of}
 use Rattle.resb_icu_text.proofs.QuotaLemmas.{match_fails}
 use Rattle.resb_icu_text.proofs.reader.read_header.Goals as goal
-
-pub returns-in_err-next-clause-reads : goal.returns-in_err-next-clause-reads
-returns-in_err-next-clause-reads c =
-    match_fails _ _ _ c.from_residual.ensures.1
-    (no_header_name _ _ _ _ c.begin.ensures.begins c.skip-start.ensures.skip
-    c.in_err-next.ensures.reads)
 
 pub returns-in_err-brace-clause-reads : goal.returns-in_err-brace-clause-reads
 returns-in_err-brace-clause-reads c =

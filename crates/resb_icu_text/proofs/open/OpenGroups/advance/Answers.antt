@@ -2,9 +2,7 @@ use Rattle.std.proofs.Common.{◌≡◌, ◌⊎◌, subst}
 use Rattle.resb_icu_text.proofs.MakingLemmas.{advanced, advanced_kept, stops_made}
 use Rattle.resb_icu_text.proofs.QuotaLemmas.{match_by, match_fails}
 use Rattle.resb_icu_text.specs.Refusal.{want_of_memory}
-use Rattle.resb_icu_text.specs.declared.open.OpenGroups.{OpenGroups}
-use Rattle.resb_icu_text.specs.Inner.Quota.{StopsAt}
-use Rattle.resb_icu_text.specs.Inner.Reading.{keys, stands, IsMade, IsAdvanced, IsDouble}
+use Rattle.resb_icu_text.specs.Inner.Reading.{IsMade, IsDouble}
 use Rattle.resb_icu_text.proofs.open.OpenGroups.advance.Goals as goal
 
 pub returns-in_err-read-clause-reads : goal.returns-in_err-read-clause-reads

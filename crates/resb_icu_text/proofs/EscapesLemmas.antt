@@ -206,6 +206,14 @@ eighth_ascii text at h =
 
 -- which escape stands there, and which don't
 pub ruleset escapes = (
-  is_feed, is_return, is_tab, is_short, is_long, no_long, said_short, said_long, fourth_ascii,
+  is_feed,
+  is_return,
+  is_tab,
+  is_short,
+  is_long,
+  no_long,
+  said_short,
+  said_long,
+  fourth_ascii,
   eighth_ascii,
 )

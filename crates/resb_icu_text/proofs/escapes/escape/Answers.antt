@@ -2,7 +2,7 @@ use Rattle.std.proofs.Common.{◌≡◌, sym, ◌∙◌, subst, rules, false}
 use Rattle.std.specs.Prelude.{slice_index}
 use Rattle.std.specs.Char.{is_ascii_alphanumeric}
 use Rattle.resb_icu_grammar.specs.Escapes.{itself}
-use Rattle.resb_icu_text.proofs.EscapesLemmas.{said_long}
+use Rattle.resb_icu_text.proofs.EscapesLemmas.{no_long, said_long}
 use Rattle.resb_icu_text.proofs.Lists.{IfNone_from}
 use Rattle.resb_icu_text.proofs.escapes.escape.Goals as goal
 
@@ -18,3 +18,9 @@ returns-then-not-is_ascii_alphanumeric-clause-found c =
     let e : is_ascii_alphanumeric (slice_index c.args.text.now c.args.at) ≡ false =
     subst (λ b. is_ascii_alphanumeric b ≡ false) c.byte-b.ensures.byte (search rules) in
     itself (search rules) e
+
+pub returns-in_err-number-2-clause-none : goal.returns-in_err-number-2-clause-none
+returns-in_err-number-2-clause-none c =
+    IfNone_from _ _
+    (no_long _ _ (sym c.byte-b.ensures.byte ∙ c.if-b-eq85.true)
+    (λ h y z. c.in_err-number-2.ensures.none h))

@@ -84,13 +84,18 @@ fn add_folder(
         return add(rt.alloc(), files, folder, Some(kind.none));
     }
     for name in found.iter() {
-        add(rt.alloc(), files, name.as_str(), fault_of(rt, name.as_str()))?;
+        add(
+            rt.alloc(),
+            files,
+            name.as_str(),
+            pipe_fault(rt, name.as_str()),
+        )?;
     }
     Ok(())
 }
 
 /// Why what has a name in a folder isn't read, if it is there and no file: a pipe may never end.
-fn fault_of(rt: &HostRuntime, name: &str) -> Option<&'static str> {
+fn pipe_fault(rt: &HostRuntime, name: &str) -> Option<&'static str> {
     match fs::metadata(rt, name) {
         Ok(found) if !found.is_file() => Some("this is a device or a pipe"),
         _ => None,

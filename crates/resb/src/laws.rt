@@ -86,6 +86,8 @@ pub use resb_pool_bundle::laws::{own_files_are_the_same, own_files_denote_the_sa
 pub use resb_pool_bundle::laws::own_files_denote_without_older;
 // What is denoted where aliases aren't read is denoted where they are.
 pub use resb_format::laws::denoted_beside_no_pool;
+// There keys and texts are looked up among the file's own.
+pub use resb_format::laws::own_keys_and_texts_are_looked_up;
 // A word denotes at most one tree, with one count.
 pub use resb_format::laws::one_tree;
 // Each table of a denoted tree is a map whose keys strictly ascend.

@@ -1,17 +1,17 @@
 -- What a file denotes that uses no pool, it denotes beside an empty pool too.
-use Rattle.std.proofs.Common.{◌≡◌, ℕ, List, [], ◌∷◌, Bool, true, false, Option, Some, None, ap}
-use Rattle.std.proofs.Common.{refl, sym, ◌∙◌, subst, inl, inr, ◌≤◌, length, rules, ◌==◌}
-use Rattle.std.specs.Prelude.{◌/◌, ◌%◌, ◌^◌, ◌+◌, option_map, if◌then◌else◌}
+use Rattle.std.proofs.Common.{◌≡◌, ℕ, List, Bool, true, false, Option, Some, None, ap}
+use Rattle.std.proofs.Common.{refl, ◌∙◌, subst, inl, inr, ◌≤◌, length, rules, ◌==◌}
+use Rattle.std.specs.Prelude.{◌/◌, ◌%◌, ◌^◌, option_map, if◌then◌else◌}
 use Rattle.std.proofs.lemmas.Bool.{cases_lt, lt-ltb}
 use Rattle.std.proofs.lemmas.List.{drop_all}
-use Rattle.resb_tree.specs.Tree.{Tree, string, trees_of, map_of}
+use Rattle.resb_tree.specs.Tree.{Tree, string}
 use Rattle.resb_format.specs.Lookups.{key_in, text_in, index_in, key_place_by, text_place_by}
 use Rattle.resb_format.specs.Lookups.{index_by}
 use Rattle.resb_format.specs.Parts.{Parts, Lent, no_pool, beside_no_pool}
 use Rattle.resb_format.specs.Strings.{key_at, text_at}
 use Rattle.resb_format.specs.Types as types
-use Rattle.resb_format.specs.Content.{Member, Content, leaf, list, entry_list, content_at, word}
-use Rattle.resb_format.specs.Content.{unit, placed, empty, text_leaf}
+use Rattle.resb_format.specs.Content.{Member, Content, leaf, list, entry_list, content_at}
+use Rattle.resb_format.specs.Content.{placed, empty}
 use Rattle.resb_format.specs.Denotes.{Den, den_leaf, den_list, den_entries, DenMember, den_word}
 use Rattle.resb_format.specs.Denotes.{den_unit, DenEach, each_none, each_more, DenEntries}
 use Rattle.resb_format.specs.Denotes.{entries_none, entries_more}
@@ -131,3 +131,12 @@ denoted_beside p w n t e d =
     let with_lent : Option Lent → Parts =
     λ l. record { body = p.body; keys = p.keys; block = p.block; lent = l } in
     denoted p.body p.keys p.block (subst (λ l. Den (with_lent l) w t n) e d)
+
+-- where nothing is said of a pool, keys and texts are looked up among the file's own
+pub looked_up_alone : (p : Parts) (k i : ℕ) → p.lent ≡ None
+    → (key_in p k ≡ key_at p.keys k) × (text_in p i ≡ text_at p.block i)
+unfolding key_place_by text_place_by
+looked_up_alone p k i e = (
+  ap (λ l. key_at (key_place_by l p.keys k).0 (key_place_by l p.keys k).1) e,
+  ap (λ l. text_at (text_place_by l p.block i).0 (text_place_by l p.block i).1) e,
+)

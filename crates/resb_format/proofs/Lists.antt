@@ -1,5 +1,5 @@
 -- Lists and options: what names no word of this project.
-use Rattle.std.proofs.Common.{Option, Some, ◌≡◌, ◌-◌, None, ℕ, List, ◌<◌, length, zero, suc, []}
+use Rattle.std.proofs.Common.{Option, Some, ◌≡◌, None, ℕ, List, ◌<◌, length, zero, suc, []}
 use Rattle.std.proofs.Common.{◌∷◌, take, refl, ap, arith, min}
 use Rattle.std.specs.Prelude.{slice_get, slice_index}
 use Rattle.std.proofs.lemmas.Option.{slice_get-get_or}

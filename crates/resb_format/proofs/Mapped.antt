@@ -2,7 +2,7 @@
 use Rattle.std.proofs.Common.{ℕ, List, Bool, true, false, Option, Some, None, subst, ◌==◌}
 use Rattle.std.specs.Prelude.{◌/◌, ◌%◌, ◌^◌, ◌+◌, ◌*◌, option_map, option_and_then, ◌≡◌}
 use Rattle.std.specs.Prelude.{slice_get, if◌then◌else◌}
-use Rattle.resb_tree.specs.Tree.{Tree, string, alias, array, table, binary, integer, int_vector}
+use Rattle.resb_tree.specs.Tree.{Tree, string, alias, binary, int_vector}
 use Rattle.resb_tree.specs.Tree.{trees_of}
 use Rattle.resb_tree.specs.Maps.{AreMaps, AreMapsIn}
 use Rattle.resb_tree.specs.Inner.Dropping.{IsNoCollection}

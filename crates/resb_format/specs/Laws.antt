@@ -2,6 +2,7 @@
 --     OneTree, ReachedIsCounted   a word has one tree and count, and reaches no more resources than
 --                                 that
 --     DenotedBesideNoPool     what is denoted where aliases aren't read is denoted where they are
+--     LooksUpAlone            without a pool the file's own keys and strings are looked up
 --     DenotedAreMaps              the tables of a denoted tree are finite maps
 --     Survives write reads        what is written is read back, and what is read is written as it
 --                                 stood
@@ -10,6 +11,8 @@ use Rattle.resb_tree.specs.Tree.{Tree}
 use Rattle.resb_tree.specs.Maps.{AreMaps}
 use Rattle.resb_format.specs.Parts.{Parts, beside_no_pool}
 use Rattle.resb_format.specs.Denotes.{Den, Reaches}
+use Rattle.resb_format.specs.Lookups.{key_in, text_in}
+use Rattle.resb_format.specs.Strings.{key_at, text_at}
 use Rattle.resb_format.specs.declared.error.ReadingError.{ReadingError}
 
 -- in given parts a word denotes at most one tree, with one count
@@ -25,6 +28,12 @@ DenotedAreMaps = (p : Parts) (w n : ℕ) (t : Tree) → Den p w t n → AreMaps 
 abbrev pub DenotedBesideNoPool : Type 0
 DenotedBesideNoPool =
     (p : Parts) (w n : ℕ) (t : Tree) → p.lent ≡ None → Den p w t n → Den (beside_no_pool p) w t n
+
+-- where nothing is said of a pool, a position tells a key of the file's own, and an index a text of
+-- it
+abbrev pub LooksUpAlone : Type 0
+LooksUpAlone = (p : Parts) (k i : ℕ) → p.lent ≡ None
+    → (key_in p k ≡ key_at p.keys k) × (text_in p i ≡ text_at p.block i)
 
 -- no more resources are reached than are denoted
 abbrev pub ReachedIsCounted : Type 0

@@ -3,7 +3,7 @@
 --     reads_older p           whether aliases and strings of the older form are read
 --     beside_no_pool p        the parts of a file that uses no pool, read so that they are
 --     parts_in f              those that a value of the code shows
-use Rattle.std.specs.Prelude.{ℕ, List, [], Option, Some, None, option_map, Bool}
+use Rattle.std.specs.Prelude.{ℕ, List, [], Option, Some, option_map, Bool}
 use Rattle.std.specs.Option.{is_some}
 use Rattle.resb_format.specs.Bytes.{units_of}
 use Rattle.resb_format.specs.declared.file_blocks.FileBlocks.{FileBlocks}

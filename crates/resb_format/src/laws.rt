@@ -5,7 +5,7 @@ ghost use Rattle.resb_format.specs.Descriptor.{type_number, word_of};
 ghost use Rattle.resb_format.specs.DescriptorReading.{ReadsType, ReadsDescriptor};
 ghost use Rattle.resb_format.specs.Laws.{OneTree, ReachedIsCounted, CountedIsReached};
 ghost use Rattle.resb_format.specs.Laws.{ReachingGoesDown, Survives, DenotedAreMaps};
-ghost use Rattle.resb_format.specs.Laws.{DenotedBesideNoPool};
+ghost use Rattle.resb_format.specs.Laws.{DenotedBesideNoPool, LooksUpAlone};
 
 /// In given parts a word denotes at most one tree, with one count.
 pub fn one_tree()
@@ -21,6 +21,11 @@ pub fn denoted_are_maps()
 /// older form are read.
 pub fn denoted_beside_no_pool()
     ensures { DenotedBesideNoPool }
+{}
+
+/// In a file of which nothing is said of a pool, keys and texts are looked up among its own.
+pub fn own_keys_and_texts_are_looked_up()
+    ensures { LooksUpAlone }
 {}
 
 /// A word that denotes a tree reaches no more resources than the tree has.

@@ -27,9 +27,7 @@ pub use clues::{first_icu_outdent, first_outdent, long_icu_string_before, long_s
 pub use command::{Command, command_of};
 pub use errors::{FileError, SourceError, ToolError};
 pub use excerpt::{is_hidden, pointed_line};
-pub use files::{
-    check_file, count_file, measure_file, open_file, open_file_within, read_bundle,
-};
+pub use files::{check_file, count_file, measure_file, open_file, open_file_within, read_bundle};
 pub use location::{Location, location_of};
 pub use memory::keep_freed_memory;
 pub use names::{bundle_name, icu_bundle_name};

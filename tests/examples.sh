@@ -102,8 +102,8 @@ int main(void) {
 C
 }
 
-# status_rows COMMAND..: the rows of that program, built: a header of 24 bytes, and no body. What the
-# header says is looked at first: characters of 16 bytes are not supported.
+# status_rows COMMAND..: the rows of that program, built: a header of 24 bytes, and no body. What
+# the header says is looked at first: characters of 16 bytes are not supported.
 status_rows() {
   local front='\030\000\332\047\024\000\000\000\000\000'
   local back='\000ResB\002\000\000\000\001\004\000\000'

@@ -396,7 +396,8 @@ told 1 '' $'half.txt:1:2: expected a key or \'}\' before the text ends inside th
 printf 'b{a{"\\"{"} c{/*/ } */' > inner.txt
 told 1 '' $'inner.txt:1:13: expected a resource or \'}\' before the text ends inside this
 b{a{"\\"{"} c{/*/ } */\n            ^' compile --icu inner.txt
-# within a limit: 72 for the root's brace, 1219 for k, which begins a table, 72 for its group, 3 for v
+# within a limit: 72 for the root's brace, 1219 for k, which begins a table, 72 for its group,
+# 3 for v
 told 0 '' '' compile --icu --limit 1366 small.txt
 told 1 '' 'small.txt: reading this text takes more than the limit of 1365 bytes' \
   compile --icu --limit 1365 small.txt
@@ -453,7 +454,8 @@ icu_row 'b{a{"x" =}}' 9 "'}', a comma, '{' or a type"
 icu_row 'b{a{"\"" {}}}' 5 'a string that may be a key'
 icu_row 'b{a:array{"x" y}}' 15 'a comma between two strings'
 icu_row 'b{a{x} =}' 8 "a key or '}'"
-icu_row 'b{a{x} a{y}}' 12 'each key once in the table that ends here' '1:8: this key stands at 1:3 too'
+icu_row 'b{a{x} a{y}}' 12 'each key once in the table that ends here' \
+  '1:8: this key stands at 1:3 too'
 icu_row 'b{collations{a{"x"}}}' 13 'no table with rules of collation'
 icu_row 'b{CollationElements :table{}}' 21 'no table with rules of collation'
 icu_row 'b{}x' 4 'the end of the text'

@@ -64,8 +64,9 @@ fn dump_each(rt: &HostRuntime, wanted: &DumpWords<'_>, taken: &mut Taken) -> u8 
     status
 }
 
-/// Shows one file: the status, or that of what kept it from being shown. Its tree is made only where
-/// the keys of some table don't ascend, and where the cause is looked for that it has no text.
+/// Shows one file: the status, or that of what kept it from being shown. Its tree is made only
+/// where the keys of some table aren't seen to ascend, and where the cause is looked for that it has
+/// no text.
 fn dump_one(
     rt: &HostRuntime,
     name: &str,
@@ -107,8 +108,8 @@ impl Source<'_> {
         }
     }
 
-    /// The form that is wanted, which the file has no text of, and what is said of its JSON, which is
-    /// shown in place of that or not.
+    /// The form that is wanted, which the file has no text of, and what is said of its JSON, which
+    /// is shown in place of that or not.
     fn missing(self, has_json: bool) -> NoText {
         let instead = match (has_json, self.wanted.folder) {
             (false, _) => "",

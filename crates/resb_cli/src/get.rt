@@ -93,8 +93,8 @@ fn get_each(rt: &HostRuntime, source: Source<'_>, paths: &[&str]) -> u8 {
     status
 }
 
-/// A file as a whole, or the status, once it is said why it isn't had. A tree is made where the keys
-/// of some table don't ascend.
+/// A file as a whole, or the status, once it is said why it isn't had. A tree is made where the
+/// keys of some table aren't seen to ascend.
 fn whole_of<'f>(rt: &HostRuntime, source: Source<'f>) -> Whole<'f> {
     let Source {
         name,

@@ -1,5 +1,6 @@
-//! What is shown of a file as a whole: its text, in either form, and its JSON, from its tree or from
-//! the opened file. Where that goes is said by the commands, and why a file has no tree in `refusal`.
+//! What is shown of a file as a whole: its text, in either form, and its JSON, from its tree or
+//! from the opened file. Where that goes is said by the commands, and why a file has no tree in
+//! `refusal`.
 use crate::input::Beside;
 use crate::refusal::refuse;
 use crate::save::{Bytes, Content, cause_of_printing, print};

@@ -1,5 +1,5 @@
-//! From a text to its file, in either form: `compile` and `compile_icu`, each also within a limit; and
-//! the keys with which a tree is written.
+//! From a text to its file, in either form: `compile` and `compile_icu`, each also within a limit;
+//! and the keys with which a tree is written.
 //! Texts are read, and files written, in the crates below; nothing here reads a file.
 #![tactic(auto)]
 

@@ -30,7 +30,8 @@ returns-in_ok-push_str-in-IntVector g c =
     let left = Numbers c.args.shown 0 c.args.place in
     on_ok_weaker c.put-in-IntVector.result (λ w.
     value_vector g.F.Form.spelling c.args.self.now.line new.line
-    (jobs_in s.tree s.members s.entries first) (jobs_in s.tree s.members s.entries new.pending.items)
+    (jobs_in s.tree s.members s.entries first)
+    (jobs_in s.tree s.members s.entries new.pending.items)
     c.args.place c.args.level (s.tree c.args.shown) c.in-IntVector.ensures.0
     c.in-IntVector.ensures.1
     (appends_bytes c.args.self.now.line new.line (codes ":intvector{")

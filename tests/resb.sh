@@ -715,6 +715,12 @@ told 1 '{"path":"shared/a.res","ok":true,"resources":3,"format":"3.0","fallback"
 '"largest_table":0,"pool_bundle":true,"over":null}
 {"path":"a.res","ok":false,"kind":"pool bundle","message":"this file uses a pool bundle, and '\
 'there is no pool.res beside it; name one by --pool"}' '' check --json shared a.res
+mkdir pool.res
+told 2 '' 'pool.res: a pool bundle is read from a file alone' check a.res
+rmdir pool.res
+mkfifo pool.res
+told 2 '' 'pool.res: a pool bundle is read from a file alone' dump a.res
+rm pool.res
 told 1 '{"path":"a.res","ok":false,"kind":"pool bundle","message":"Invalid resource bundle data: '\
 'pool bundle has another checksum: other.res"}' '' check --json a.res --pool other.res
 told 2 '{"path":"a.res","ok":false,"kind":"pool bundle","message":"its pool bundle isn'"'"'t '\

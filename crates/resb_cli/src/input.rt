@@ -13,6 +13,9 @@ use std::path::Path;
 /// What a pool bundle's file is called.
 const POOL: &str = "pool.res";
 
+/// What is said of a pool bundle that is no regular file.
+const FILE_ALONE: &str = "a pool bundle is read from a file alone";
+
 /// What is read of a package whatever limit is said, in bytes: ICU's own has some 30 MB.
 const LEAST_PACKAGE: u64 = 1 << 26;
 
@@ -165,7 +168,7 @@ impl<'f> Opened<'f> {
             return Ok(Beside::Nowhere);
         }
         match (given, &self.folder) {
-            (Some("-"), _) => Err(fail(rt, "resb", "a pool bundle is read from a file alone")),
+            (Some("-"), _) => Err(fail(rt, "resb", FILE_ALONE)),
             (Some(given), _) => pool_file(rt, given, limit),
             (None, Some((package, item))) => pool_item(rt, name, package, item),
             (None, None) => pool_beside(rt, name, limit),
@@ -215,13 +218,18 @@ fn pool_file<'f>(rt: &HostRuntime, name: &str, limit: Option<u64>) -> Result<Bes
     }
 }
 
-/// The pool bundle in the folder of a file, if one is there. Standard input has no folder.
+/// The pool bundle in the folder of a file, if anything of its name is there. Standard input has no
+/// folder.
 fn pool_beside<'f>(rt: &HostRuntime, name: &str, limit: Option<u64>) -> Result<Beside<'f>, u8> {
     let Ok(pool) = pool_name(rt.alloc(), name) else {
         return Err(refuse_memory(rt, name));
     };
-    if name == "-" || !Path::new(pool.as_str()).is_file(rt) {
+    let place = Path::new(pool.as_str());
+    if name == "-" || !place.exists(rt) {
         return Ok(Beside::Nowhere);
+    }
+    if !place.is_file(rt) {
+        return Err(fail(rt, pool.as_str(), FILE_ALONE));
     }
     pool_file(rt, pool.as_str(), limit)
 }

@@ -6,3 +6,4 @@ mod OpeningLemmas
 mod OrderedLemmas
 mod StandingLemmas
 mod TextLemmas
+mod TypedLemmas

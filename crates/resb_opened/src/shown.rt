@@ -22,6 +22,9 @@ impl<'a> Shown<'a> for Ascending<'a> {
     ghost entries = { entries_ahead };
 
     fn node(self) -> Node<'a, MembersAhead<'a>, EntriesAhead<'a>> {
+        if self.handle.is_typed_string() {
+            return Node::String;
+        }
         let file = self.handle.file;
         match self.handle.standing() {
             Standing::Leaf(Leaf::Text(_) | Leaf::Empty) => Node::String,

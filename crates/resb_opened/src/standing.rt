@@ -1,6 +1,7 @@
 //! What stands at a handle, as the walk sees it.
 //! What is told of it is said in `leaves` and `inside`.
-ghost use Rattle.std.specs.Prelude.{◌≡◌, Some};
+ghost use Rattle.std.specs.Prelude.{◌≡◌, ℕ, List, Some, true};
+ghost use Rattle.resb_tree.specs.Tree.{string};
 ghost use Rattle.resb_format.specs.Parts.{parts_in};
 ghost use Rattle.resb_walk.specs.Inner.Members.{member_of, content_of};
 ghost use Rattle.resb_walk.specs.Inner.MemberContent.{member_content};
@@ -10,6 +11,9 @@ ghost use Rattle.resb_opened.specs.Inner.Holding.{Holds};
 use crate::handle::Handle;
 use resb_walk::places::index_of;
 use resb_walk::{Leaf, Member, Standing, standing_at, text_at};
+
+/// The type of a string of the 16-bit block, the upper 4 bits of its word. (ICU's `uresdata.h`.)
+const STRING_TYPE: u32 = 6;
 
 impl<'a> Handle<'a> {
     /// What stands here.
@@ -30,6 +34,18 @@ impl<'a> Handle<'a> {
                 Ok(text) => Standing::Leaf(Leaf::Text(text)),
                 Err(_) => unreachable!(),
             },
+        }
+    }
+
+    /// Whether the member's type alone tells that a string stands here: it is one of the 16-bit
+    /// block. Nothing of the file is looked at.
+    #[inline(always)]
+    pub(crate) fn is_typed_string(self) -> bool
+        ensures { result ≡ true → (s : List ℕ) × (tree_at self.entry ≡ string s) }
+    {
+        match self.at {
+            Member::Word(word) => word / (1 << 28) == STRING_TYPE,
+            Member::Unit(_) => true,
         }
     }
 }

@@ -401,12 +401,13 @@ b{a{"\\"{"} c{/*/ } */\n            ^' compile --icu inner.txt
 told 0 '' '' compile --icu --limit 1366 small.txt
 told 1 '' 'small.txt: reading this text takes more than the limit of 1365 bytes' \
   compile --icu --limit 1365 small.txt
-# a string of pieces is weighed before it is put together, and only where it may stand
+# a string of pieces is weighed before it is put together, 3 for each of its two bytes and 32 for
+# the memory that is asked for it, and only where it may stand
 printf 'b{k{"v" "\\u0076"}}' > pieces.txt
-told 0 '' '' compile --icu --limit 1369 pieces.txt
+told 0 '' '' compile --icu --limit 1401 pieces.txt
 told 0 'vv' '' get pieces.res k
-told 1 '' 'pieces.txt: reading this text takes more than the limit of 1368 bytes' \
-  compile --icu --limit 1368 pieces.txt
+told 1 '' 'pieces.txt: reading this text takes more than the limit of 1400 bytes' \
+  compile --icu --limit 1400 pieces.txt
 printf 'b{k{"v" "v":' > stuck.txt
 told 1 '' $'stuck.txt:1:5: expected a string that may be a key\nb{k{"v" "v":\n    ^' \
   compile --icu --limit 1363 stuck.txt

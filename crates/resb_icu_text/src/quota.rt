@@ -1,7 +1,8 @@
 //! How many bytes of memory a reading may still make, and what is counted of it.
 //! What each step adds is said in the grammar; `steps` and `leaf` ask for it before it is made.
 ghost use Rattle.std.specs.Prelude.{◌≡◌, ◌+◌, ◌*◌, false, length, MatchResult};
-ghost use Rattle.resb_tree.specs.Weights.{entry_weight, text_byte_weight};
+ghost use Rattle.resb_grammar.specs.Limit.{request_bytes};
+ghost use Rattle.resb_tree.specs.Weights.{resource_weight, entry_weight, text_byte_weight};
 ghost use Rattle.resb_icu_text.specs.Inner.Quota.{TakesBytes, RunsOver};
 
 use crate::turns::IcuTurns;
@@ -77,6 +78,13 @@ pub(crate) fn text_bytes(length: usize) -> u128
     ensures { result ≡ text_byte_weight * length }
 {
     weights::TEXT_BYTE * length as u128
+}
+
+/// A group that holds a string or a path of so many bytes.
+pub(crate) fn asked_bytes(length: usize) -> u128
+    ensures { result ≡ resource_weight + text_byte_weight * length + request_bytes + length }
+{
+    BLOCK + text_bytes(length) + length as u128
 }
 
 /// The key of an entry.

@@ -59,9 +59,9 @@ opening_bytes _ = 0
 
 -- what a step adds: 72 bytes for the `{` of a group without a type, of an array and of a table; 72
 -- for a string among members, and 3 for each of its bytes; those 3 alone for the string that such a
--- group without a type is; for either 32 more, and 1 for each byte, where it is put together; 192 for
--- a key, which never is, and 3 for each of its bytes, and 1024 more for the first key of a table; and
--- for a group of another type, up to its `}`, what it holds
+-- group without a type is; for either 32 more, and 1 for each byte, where it is put together; 192
+-- for a key, which never is, and 3 for each of its bytes, and 1024 more for the first key of a
+-- table; and for a group of another type, up to its `}`, what it holds
 abbrev pub made_by : {text : List ℕ} {ws : List Waiting} {ks : List (List ℕ)} {s : Standing}
     {at : ℕ} {r : Reading} → Move text ws ks s at r → ℕ
 made_by (string_member last ts at i j s alone stands after) =

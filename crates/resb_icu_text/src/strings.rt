@@ -77,8 +77,8 @@ impl<'a> Found<'a> {
         }
     }
 
-    /// What its bytes make, where it was found from this place on: 3 for each; 32 more, and 1 for each,
-    /// where it takes more of the text than these and two quotes.
+    /// What its bytes make, where it was found from this place on: 3 for each; 32 more, and 1 for
+    /// each, where it takes more of the text than these and two quotes.
     pub(crate) fn bytes_made(&self, from: usize) -> u128
         requires short { length_of self.now.stands + from ≤ self.now.end }
         ensures { (s : List ℕ) → length s ≡ length_of self.now.stands

@@ -1,7 +1,8 @@
 #!/usr/bin/env python3
 """Hostile texts, whose reading makes much, through `resb compile --limit`, in both forms.
 
-    hostile_texts.py [BYTES..]      texts of about so many bytes each; three sizes if none is named
+    hostile_texts.py [BYTES..]      texts of about so many bytes each; if none is named, three
+                                    sizes, and some of each kind at a fourth
 
 Members of each kind fill a group without a type, an array, and a table that has one key again and
 again; groups of each kind stand inside each other; and there is one long thing of each kind. In
@@ -9,23 +10,55 @@ ICU's form the keys of that table differ, since it is refused where one stands a
 are put together of pieces and escapes as well. Each text compiles within just as many bytes as
 docs/GRAMMAR.md or docs/ICU_TEXTS.md ("Within a limit") counts for it, and is refused within one
 byte less, and within a tenth, with status 1 and the one line that says so. No run may take more
-memory than 1.5 times the limit and the text, and 8 MB. The last line is 'N passed, M failed'.
+memory than 1.5 times the limit and the text, and 3.2 MB for the program itself, which has 2.3 MB
+for a text of 7 bytes, and for what its allocator keeps. A run is started by a program in C that is
+smaller than that, since what starts a program counts as its memory; `cc` builds it. The last line
+is 'N passed, M failed'.
 """
 import os
-import resource
+import subprocess
 import sys
 import tempfile
 
-from hostile import RESB, counts, ran, seen
+from hostile import RESB, counts, seen
 
 SIZES = [3_000, 60_000, 2_000_000]
+LARGE = 8_000_000
 LEAST_READ = 1 << 20
 GROUP, STRING, BYTE, TABLE, NUMBER, REQUEST = 72, 192, 3, 1024, 8, 32
 A_STRING = STRING + BYTE
 # b{v..}: the root with its `{` and `}`, and its key
 ROOT = GROUP + TABLE + A_STRING
 # the program itself, and what its allocator keeps
-OWN = 8_000_000
+OWN = 3_200_000
+# runs a program, and writes to a file how many units of 1024 bytes it had at most
+LAUNCHER = r'''
+#include <spawn.h>
+#include <stdio.h>
+#include <sys/resource.h>
+#include <sys/wait.h>
+extern char **environ;
+int main(int many, char **words) {
+  pid_t child;
+  struct rusage used;
+  int status;
+  if (many < 3 || posix_spawn(&child, words[2], 0, 0, words + 2, environ)) return 127;
+  if (wait4(child, &status, 0, &used) != child) return 127;
+  FILE *out = fopen(words[1], "w");
+  if (!out) return 127;
+  fprintf(out, "%ld", used.ru_maxrss);
+  return fclose(out) || !WIFEXITED(status) ? 126 : WEXITSTATUS(status);
+}
+'''
+# what is tried at the largest size too
+LARGE_ONES = {
+    '{ a', '{ ""', '{ {a}', '{ {k{x}}', '{ :string{""}', '{ :bin{00}', '{ :intvector{1}',
+    ':array{ {}', ':table{ k{a}', ':table{ k:bin{00}', 'nested {', 'nested :table{k', 'a string',
+    'a quoted string', 'a typed string', 'a path', 'a vector', 'a vector of warned numbers',
+    'a binary', 'a key', 'comments', '{ "a" "b"', '{ "" ""', '{ "\\u0061"', '{ "\\""',
+    '{ {"a" "b"}', '{ :string{"a" "b"}', '{ :alias{"\\""}', 'a string of pieces',
+    'a string of long pieces', 'a string of escapes', 'a string of quotes', 'a binary of pieces',
+}
 
 # members that need a comma between them, and those that may be the value of a key: what they make
 STRINGS = {'a': A_STRING, '""': STRING, '"ab"': A_STRING + BYTE, '"\\"': A_STRING}
@@ -101,16 +134,28 @@ def shapes(size):
 KEY = STRING
 ICU_ROOT = GROUP + TABLE + KEY + BYTE
 ICU_STRINGS = {'a': GROUP + BYTE, '""': GROUP, '"ab"': GROUP + 2 * BYTE}
-ICU_PIECES = {'"a" "b"': GROUP + 2 * BYTE, '"\\u0061"': GROUP + BYTE}
+# a string that takes more of the text than its bytes and two quotes is put together: it makes 32
+# more, and 1 more for each byte
+JOINED = BYTE + 1
+ICU_PIECES = {
+    '"a" "b"': GROUP + 2 * JOINED + REQUEST,
+    '"" ""': GROUP + REQUEST,
+    '"\\u0061"': GROUP + JOINED + REQUEST,
+    '"\\""': GROUP + JOINED + REQUEST,
+}
 ICU_GROUPS = {
     '{a}': GROUP + BYTE,
     '{a,}': 2 * GROUP + BYTE,
+    '{"a" "b"}': GROUP + REQUEST + 2 * JOINED,
+    '{"\\""}': GROUP + REQUEST + JOINED,
     '{}': GROUP,
     '{{}}': 2 * GROUP,
     '{k{x}}': 2 * GROUP + TABLE + KEY + 2 * BYTE,
-    ':string{"a"}': GROUP + BYTE,
-    ':string{""}': GROUP,
-    ':alias{"a"}': GROUP + BYTE,
+    ':string{"a"}': GROUP + REQUEST + JOINED,
+    ':string{""}': GROUP + REQUEST,
+    ':string{"a" "b"}': GROUP + REQUEST + 2 * JOINED,
+    ':alias{"a"}': GROUP + REQUEST + JOINED,
+    ':alias{"\\""}': GROUP + REQUEST + JOINED,
     ':int{1}': GROUP,
     ':bin{""}': GROUP + REQUEST,
     ':bin{00}': GROUP + REQUEST + 1,
@@ -134,12 +179,13 @@ ICU_NESTS = {
 ICU_LONG = {
     'a string': ('b{v{', 'a', '}}', BYTE, ICU_ROOT + GROUP),
     'a quoted string': ('b{v{"', 'a', '"}}', BYTE, ICU_ROOT + GROUP),
-    'a string of pieces': ('b{v{', '"a" ', '}}', BYTE, ICU_ROOT + GROUP),
-    'a string of long pieces': ('b{v{"a" "', 'a', '"}}', BYTE, ICU_ROOT + GROUP + BYTE),
-    'a string of escapes': ('b{v{"', '\\u0061', '"}}', BYTE, ICU_ROOT + GROUP),
-    'a string of quotes': ('b{v{"', '\\"', '"}}', BYTE, ICU_ROOT + GROUP),
-    'a typed string': ('b{v:string{"', 'a', '"}}', BYTE, ICU_ROOT + GROUP),
-    'a path': ('b{v:alias{"', 'a', '"}}', BYTE, ICU_ROOT + GROUP),
+    'a string of pieces': ('b{v{', '"a" ', '}}', JOINED, ICU_ROOT + GROUP + REQUEST),
+    'a string of long pieces':
+        ('b{v{"a" "', 'a', '"}}', JOINED, ICU_ROOT + GROUP + REQUEST + JOINED),
+    'a string of escapes': ('b{v{"', '\\u0061', '"}}', JOINED, ICU_ROOT + GROUP + REQUEST),
+    'a string of quotes': ('b{v{"', '\\"', '"}}', JOINED, ICU_ROOT + GROUP + REQUEST),
+    'a typed string': ('b{v:string{"', 'a', '"}}', JOINED, ICU_ROOT + GROUP + REQUEST),
+    'a path': ('b{v:alias{"', 'a', '"}}', JOINED, ICU_ROOT + GROUP + REQUEST),
     'a vector': ('b{v:intvector{', '1,', '}}', NUMBER, ICU_ROOT + GROUP + REQUEST),
     'a vector of long numbers':
         ('b{v:intvector{', '4000000000,', '}}', NUMBER, ICU_ROOT + GROUP + REQUEST),
@@ -188,37 +234,54 @@ def refusal(path, text, limit):
     return f'{path}: reading this text takes more than the limit of {limit} bytes\n'
 
 
-def runs(path, name, text, made, form):
+def ran(folder, words):
+    """The status, standard output and error of a run, and the most memory it had, in bytes."""
+    peak = f'{folder}/peak'
+    found = subprocess.run([f'{folder}/launcher', peak, RESB, *words], check=False,
+                           capture_output=True)
+    with open(peak, encoding='ascii') as most:
+        return found.returncode, found.stdout, found.stderr.decode(), int(most.read()) * 1024
+
+
+def runs(folder, name, text, made, form):
     """A text within its own limit, within one byte less, and within a tenth."""
+    path = f'{folder}/hostile.txt'
+    with open(path, 'w', encoding='utf-8') as out:
+        out.write(text)
     for limit in (made, made - 1, made // 10):
         words = ['compile', *form, '--limit', str(limit), path, '-o', '/dev/null']
-        status, out, said, _, most = ran(words)
+        status, out, said, most = ran(folder, words)
         wanted = (0, b'', '')
         if limit < made or len(text) > max(limit, LEAST_READ):
             wanted = (1, b'', refusal(path, text, limit))
         # warnings of a text that compiles are lines too
         same = (status, out) == wanted[:2] and (said == wanted[2] or status == 0)
         seen(same, f'{name}, {len(text)}, {limit}: {status}, {said[:200]}')
-        # the memory of what starts a program counts as its own
-        started = resource.getrusage(resource.RUSAGE_SELF).ru_maxrss * 1024
-        bound = max(started, 1.5 * (limit + len(text)) + OWN)
-        seen(most <= bound, f'{name}, {len(text)}, {limit}: {most} bytes of memory')
+        seen(most <= 1.5 * (limit + len(text)) + OWN,
+             f'{name}, {len(text)}, {limit}: {most} bytes of memory')
+
+
+def of_size(folder, size, chosen):
+    """Each shape that is chosen, at this size, in both forms."""
+    for all_of, form in ((shapes, []), (icu_shapes, ['--icu'])):
+        for name, text, made in all_of(size):
+            if chosen(name):
+                runs(folder, ' '.join([*form, name]), text, made, form)
 
 
 def main():
-    """Each shape at each size."""
+    """Each shape at each size, and some of them at the largest."""
     if not os.access(RESB, os.X_OK):
         print(f"{RESB} isn't built")
         print('0 passed, 1 failed')
         return 1
     with tempfile.TemporaryDirectory() as folder:
-        path = f'{folder}/hostile.txt'
+        subprocess.run(['cc', '-O1', '-x', 'c', '-', '-o', f'{folder}/launcher'], check=True,
+                       input=LAUNCHER.encode())
         for size in [int(it) for it in sys.argv[1:]] or SIZES:
-            for all_of, form in ((shapes, []), (icu_shapes, ['--icu'])):
-                for name, text, made in all_of(size):
-                    with open(path, 'w', encoding='utf-8') as out:
-                        out.write(text)
-                    runs(path, ' '.join([*form, name]), text, made, form)
+            of_size(folder, size, lambda _: True)
+        if not sys.argv[1:]:
+            of_size(folder, LARGE, lambda name: name in LARGE_ONES)
     print(f'{counts[True]} passed, {counts[False]} failed')
     return 1 if counts[False] else 0
 

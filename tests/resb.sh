@@ -401,12 +401,13 @@ b{a{"\\"{"} c{/*/ } */\n            ^' compile --icu inner.txt
 told 0 '' '' compile --icu --limit 1366 small.txt
 told 1 '' 'small.txt: reading this text takes more than the limit of 1365 bytes' \
   compile --icu --limit 1365 small.txt
-# a string of pieces is weighed before it is put together, and only where it may stand
+# a string of pieces is weighed before it is put together, 3 for each of its two bytes, and 32 and 1
+# for each for the memory that is asked for it, and only where it may stand
 printf 'b{k{"v" "\\u0076"}}' > pieces.txt
-told 0 '' '' compile --icu --limit 1369 pieces.txt
+told 0 '' '' compile --icu --limit 1403 pieces.txt
 told 0 'vv' '' get pieces.res k
-told 1 '' 'pieces.txt: reading this text takes more than the limit of 1368 bytes' \
-  compile --icu --limit 1368 pieces.txt
+told 1 '' 'pieces.txt: reading this text takes more than the limit of 1402 bytes' \
+  compile --icu --limit 1402 pieces.txt
 printf 'b{k{"v" "v":' > stuck.txt
 told 1 '' $'stuck.txt:1:5: expected a string that may be a key\nb{k{"v" "v":\n    ^' \
   compile --icu --limit 1363 stuck.txt
@@ -574,7 +575,7 @@ told 2 '' 'resb: standard input is read once alone' check - -
 python3 -c "
 import struct
 def file(name, *words):
-    head = bytes.fromhex('2000da27140000000000020052657342') + b'\2\0\0\0\1\4' + bytes(10)
+    head = bytes.fromhex('2000da27140200000000020052657342') + b'\2\0\0\0\1\4' + bytes(10)
     open(name, 'wb').write(head + struct.pack(f'<{len(words)}I', *words))
 file('five.res', 0x70000005, 7, 8, 8, 8, 0, 0, 8)
 file('six.res', 0x70000006, 7, 8, 8, 8, 0, 0, 8)

@@ -6,7 +6,6 @@ use Rattle.std.specs.Prelude.{slice_index}
 use Rattle.resb_grammar.specs.Ascii as ascii
 use Rattle.resb_grammar.specs.BundleText.{first_places}
 use Rattle.resb_grammar.specs.Limit.{number_bytes}
-use Rattle.resb_grammar.proofs.Numbers.{plus_no_bytes}
 use Rattle.resb_tree.specs.Tree.{Tree}
 use Rattle.resb_tree.specs.Weights.{resource_weight}
 use Rattle.resb_icu_grammar.specs.Blanks.{Skip}
@@ -16,7 +15,7 @@ use Rattle.resb_icu_grammar.specs.Words.{Number}
 use Rattle.resb_icu_grammar.specs.Stuck.{NumbersSoFar, none_yet, one_number, NoNumberAt}
 use Rattle.resb_icu_grammar.specs.Stuck.{HeaderStuck, ReadStuck}
 use Rattle.resb_icu_grammar.specs.Machine.{Waiting, Standing, in_typed, behind_group, Reading}
-use Rattle.resb_icu_grammar.specs.Machine.{reading_at, at_root, Move, StepOut, Comes, here, moves}
+use Rattle.resb_icu_grammar.specs.Machine.{reading_at, at_root, Move, StepOut, here, moves}
 use Rattle.resb_icu_grammar.specs.Machine.{leaves}
 use Rattle.resb_icu_grammar.specs.Limit.{made_by, made_on_the_way, IcuMakes, IcuMakesMore}
 use Rattle.resb_icu_grammar.specs.Limit.{count_so_far, by_the_root, by_a_step, by_a_number}

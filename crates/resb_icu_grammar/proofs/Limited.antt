@@ -1,6 +1,6 @@
 -- No part of a reading of a text in ICU's form makes more than the whole.
 use Rattle.std.proofs.Common.{◌≡◌, ◌≢◌, ℕ, suc, ◌+◌, ◌*◌, ◌≤◌, List, [], ◌∷◌, ◌++◌}
-use Rattle.std.proofs.Common.{length, refl, sym, ap, ◌∙◌, subst, arith}
+use Rattle.std.proofs.Common.{◌⊎◌, inl, inr, length, refl, sym, ap, ◌∙◌, subst, arith}
 use Rattle.std.specs.Prelude.{slice_index}
 use Rattle.resb_grammar.specs.Ascii as ascii
 use Rattle.resb_grammar.proofs.Numbers.{plus_no_bytes}
@@ -8,7 +8,7 @@ use Rattle.resb_tree.specs.Tree.{Tree, string}
 use Rattle.resb_tree.specs.Weights.{resource_weight, text_byte_weight}
 use Rattle.resb_grammar.specs.Limit.{number_bytes}
 use Rattle.resb_icu_grammar.specs.Kinds.{vector_kind}
-use Rattle.resb_icu_grammar.specs.Words.{Number}
+use Rattle.resb_icu_grammar.specs.Words.{Number, Text}
 use Rattle.resb_icu_grammar.specs.Groups.{a_string, Numbers, last_number, last_comma, one_more}
 use Rattle.resb_icu_grammar.specs.Groups.{LeafContent, no_numbers, numbers}
 use Rattle.resb_icu_grammar.specs.Stuck.{NumbersSoFar, none_yet, one_number}
@@ -18,33 +18,41 @@ use Rattle.resb_icu_grammar.specs.Machine.{behind_group, Reading, reading_at, at
 use Rattle.resb_icu_grammar.specs.Machine.{here, moves, leaves}
 use Rattle.resb_icu_grammar.specs.Machine as step
 use Rattle.resb_icu_grammar.specs.Limit.{leaf_bytes, next_key_bytes, opening_bytes, made_by}
+use Rattle.resb_icu_grammar.specs.Limit.{string_bytes, joining_bytes}
 use Rattle.resb_icu_grammar.specs.Limit.{made_on_the_way, IcuMadeWithin, IcuMakesMore, count_so_far}
 use Rattle.resb_icu_grammar.specs.Limit.{by_the_root, by_a_step, by_a_number}
-use Rattle.resb_icu_grammar.proofs.Lexical.{Skip-one, number_first}
+use Rattle.resb_icu_grammar.proofs.Lexical.{Skip-one, String-one, number_first}
 use Rattle.resb_icu_grammar.proofs.Groups.{Closes, Header-one}
 use Rattle.resb_icu_grammar.proofs.Leaves.{Behind, the_end, a_comma, others, behind_first}
 use Rattle.resb_icu_grammar.proofs.Leaves.{counted_begin}
 use Rattle.resb_icu_grammar.proofs.OneStep.{Next, inside, outside, Next-one}
 
+-- what a string that ends there makes among members
+abbrev member_said : ℕ → ℕ → Tree → ℕ
+member_said at to (string s) = string_bytes s + joining_bytes at to s
+member_said at to _ = 0
+
 -- what the last of these members makes, if it is a string
-abbrev last_bytes : List Tree → ℕ
-last_bytes [] = 0
-last_bytes (t ∷ []) = leaf_bytes t
-last_bytes (t ∷ u ∷ us) = last_bytes (u ∷ us)
+abbrev last_bytes : ℕ → ℕ → List Tree → ℕ
+last_bytes at to [] = 0
+last_bytes at to (t ∷ []) = member_said at to t
+last_bytes at to (t ∷ u ∷ us) = last_bytes at to (u ∷ us)
 
-last_member : (ts : List Tree) (t : Tree) → last_bytes (ts ++ t ∷ []) ≡ leaf_bytes t
-last_member [] t = refl
-last_member (u ∷ []) t = refl
-last_member (u ∷ v ∷ us) t = last_member (v ∷ us) t
+last_member : (at to : ℕ) (ts : List Tree) (t : Tree)
+    → last_bytes at to (ts ++ t ∷ []) ≡ member_said at to t
+last_member at to [] t = refl
+last_member at to (u ∷ []) t = refl
+last_member at to (u ∷ v ∷ us) t = last_member at to (v ∷ us) t
 
--- what a step makes is told by where it leads from and to: by the key of the innermost table
+-- what a step makes is told by where it leads from and to, and by the end of the string there: by
+-- the key of the innermost table
 abbrev key_said : List (List ℕ × Tree) → List Waiting → ℕ
 key_said es (in_table before k begin ∷ ws) = next_key_bytes es k
 key_said es _ = 0
 
-abbrev members_said : Standing → ℕ
-members_said (among_members a_string ts) = last_bytes ts
-members_said _ = 0
+abbrev members_said : ℕ → ℕ → Standing → ℕ
+members_said at to (among_members a_string ts) = last_bytes at to ts
+members_said at to _ = 0
 
 abbrev entries_said : List (List ℕ × Tree) → List Waiting → Standing → ℕ
 entries_said es ws before_group = key_said es ws
@@ -55,44 +63,107 @@ opened_said in_untyped = resource_weight
 opened_said (in_typed kind) = opening_bytes kind
 opened_said _ = 0
 
-abbrev untyped_said : List Waiting → Standing → ℕ
-untyped_said ws (behind_group (string s)) = text_byte_weight * length s
-untyped_said ws (among_members a_string ts) = last_bytes ts
-untyped_said ws before_group = key_said [] ws
-untyped_said ws _ = 0
+abbrev untyped_said : ℕ → ℕ → List Waiting → Standing → ℕ
+untyped_said at to ws (behind_group (string s)) =
+    text_byte_weight * length s + joining_bytes at to s
+untyped_said at to ws (among_members a_string ts) = last_bytes at to ts
+untyped_said at to ws before_group = key_said [] ws
+untyped_said at to ws _ = 0
 
 abbrev typed_said : Standing → ℕ
 typed_said (behind_group t) = leaf_bytes t
 typed_said _ = 0
 
 -- by where a reading stood, and what it has come to
-abbrev said : Standing → Reading → ℕ
-said (among_members last ts) r = members_said r.stands
-said (among_entries es) r = entries_said es r.around r.stands
-said before_group r = opened_said r.stands
-said in_untyped r = untyped_said r.around r.stands
-said (in_typed kind) r = typed_said r.stands
-said (behind_group t) r = 0
+abbrev said : ℕ → ℕ → Standing → Reading → ℕ
+said at to (among_members last ts) r = members_said at to r.stands
+said at to (among_entries es) r = entries_said es r.around r.stands
+said at to before_group r = opened_said r.stands
+said at to in_untyped r = untyped_said at to r.around r.stands
+said at to (in_typed kind) r = typed_said r.stands
+said at to (behind_group t) r = 0
 
-made_said : (text : List ℕ) (ws : List Waiting) (ks : List (List ℕ)) (s : Standing) (at : ℕ)
-    (r : Reading) → (m : Move text ws ks s at r) → made_by m ≡ said s r
-made_said text ws ks _ at _ (step.array_ends last ts _ c) = refl
-made_said text ws ks _ at _ (step.comma_behind last ts _ j e c k) = refl
-made_said text ws ks _ at _ (step.string_member last ts _ i j s e p k) =
-    sym (last_member ts (string s))
-made_said text ws ks _ at _ (step.group_member last ts _ b) = refl
-made_said text ws ks _ at _ (step.table_ends es _ c d) = refl
-made_said text ws ks _ at _ (step.key_of_entry es _ i j k p l) = refl
-made_said text ws ks _ at _ (step.group_opens _ i b k) = refl
-made_said text ws ks _ at _ (step.type_opens _ i kind h) = refl
-made_said text ws ks _ at _ (step.untyped_nothing _ c) = refl
-made_said text ws ks _ at _ (step.begins_with_group _ b) = refl
-made_said text ws ks _ at _ (step.untyped_string _ i j s p k c) = refl
-made_said text ws ks _ at _ (step.begins_with_string _ i j s p k c) = refl
-made_said text ws ks _ at _ (step.begins_with_key _ i j k p l b) = refl
-made_said text ws ks _ at _ (step.members_follow _) = refl
-made_said text ws ks _ at _ (step.entries_follow _) = refl
-made_said text ws ks _ at _ (step.leaf_follows kind _ to t p c) = refl
+-- a step makes so many bytes: those that are told by the end of any string that stands there; and
+-- one does, or they are told by any end
+record Told (text : List ℕ) (at n : ℕ) (s : Standing) (r : Reading) : Type 0 where
+  by_string : (to : ℕ) (v : List ℕ) → Text text at to v → n ≡ said at to s r
+  or_always : ((to : ℕ) × (v : List ℕ) × Text text at to v) ⊎ ((to : ℕ) → n ≡ said at to s r)
+
+always : (text : List ℕ) (at n : ℕ) (s : Standing) (r : Reading)
+    → ((to : ℕ) → n ≡ said at to s r) → Told text at n s r
+always text at n s r f = record { by_string = λ to v p. f to; or_always = inr f }
+
+with_string : (text : List ℕ) (at i n : ℕ) (v : List ℕ) (s : Standing) (r : Reading)
+    → Text text at i v → n ≡ said at i s r → Told text at n s r
+with_string text at i n v s r p e = record {
+  by_string = λ to w q. subst (λ u. n ≡ said at u s r) (String-one text at i to v w p q).0 e;
+  or_always = inl (i, v, p);
+}
+
+told_once : (text : List ℕ) (at n m : ℕ) (s : Standing) (r : Reading)
+    → Told text at n s r → Told text at m s r → n ≡ m
+told_once text at n m s r a b = by a.or_always b.or_always
+  where
+    by : ((to : ℕ) × (v : List ℕ) × Text text at to v) ⊎ ((to : ℕ) → n ≡ said at to s r)
+        → ((to : ℕ) × (v : List ℕ) × Text text at to v) ⊎ ((to : ℕ) → m ≡ said at to s r)
+        → n ≡ m
+    by (inl p) y = a.by_string p.0 p.1 p.2 ∙ sym (b.by_string p.0 p.1 p.2)
+    by (inr f) (inl p) = a.by_string p.0 p.1 p.2 ∙ sym (b.by_string p.0 p.1 p.2)
+    by (inr f) (inr g) = f 0 ∙ sym (g 0)
+
+made_told : (text : List ℕ) (ws : List Waiting) (ks : List (List ℕ)) (s : Standing) (at : ℕ)
+    (r : Reading) → (m : Move text ws ks s at r) → Told text at (made_by m) s r
+made_told text ws ks s at r (step.string_member last ts _ i j v e p k) =
+    with_string text at i _ v s r p (sym (last_member at i ts (string v)))
+made_told text ws ks s at r (step.untyped_string _ i j v p k c) =
+    with_string text at i _ v s r p refl
+made_told text ws ks s at r (step.begins_with_string _ i j v p k c) =
+    with_string text at i _ v s r p refl
+made_told text ws ks s at r (step.array_ends last ts _ c) =
+    always text at _ s r (λ to. refl)
+made_told text ws ks s at r (step.comma_behind last ts _ j e c k) =
+    always text at _ s r (λ to. refl)
+made_told text ws ks s at r (step.group_member last ts _ b) =
+    always text at _ s r (λ to. refl)
+made_told text ws ks s at r (step.table_ends es _ c d) =
+    always text at _ s r (λ to. refl)
+made_told text ws ks s at r (step.key_of_entry es _ i j k p l) =
+    always text at _ s r (λ to. refl)
+made_told text ws ks s at r (step.group_opens _ i b k) =
+    always text at _ s r (λ to. refl)
+made_told text ws ks s at r (step.type_opens _ i kind h) =
+    always text at _ s r (λ to. refl)
+made_told text ws ks s at r (step.untyped_nothing _ c) =
+    always text at _ s r (λ to. refl)
+made_told text ws ks s at r (step.begins_with_group _ b) =
+    always text at _ s r (λ to. refl)
+made_told text ws ks s at r (step.begins_with_key _ i j k p l b) =
+    always text at _ s r (λ to. refl)
+made_told text ws ks s at r (step.members_follow _) =
+    always text at _ s r (λ to. refl)
+made_told text ws ks s at r (step.entries_follow _) =
+    always text at _ s r (λ to. refl)
+made_told text ws ks s at r (step.leaf_follows kind _ to t p c) =
+    always text at _ s r (λ to. refl)
+
+-- what a step makes, inside a group or out of one
+abbrev pub made_next : {text : List ℕ} {from r : Reading} → Next text from r → ℕ
+made_next (inside ws ks s at r v) = made_by v
+made_next (outside ws ks t at r v) = 0
+
+next_told : (text : List ℕ) (from r : Reading) → (n : Next text from r)
+    → Told text from.at (made_next n) from.stands r
+next_told text _ r (inside ws ks s at _ v) = made_told text ws ks s at r v
+next_told text _ r (outside ws ks t at _ v) =
+    always text at 0 (behind_group t) r (λ to. refl)
+
+-- a step from a place makes what any other from there does
+made_once : (text : List ℕ) (from r q : Reading) → (n : Next text from r)
+    → (k : Next text from q) → made_next n ≡ made_next k
+made_once text from r q n k =
+    told_once text from.at _ _ from.stands q
+    (subst (λ u. Told text from.at (made_next n) from.stands u) (Next-one text from r q n k)
+    (next_told text from r n)) (next_told text from q k)
 
 -- steps, and one more
 abbrev go_on : (text : List ℕ) (from mid r : Reading) → Comes text from mid → Next text mid r
@@ -103,23 +174,22 @@ go_on text from _ r c (outside ws ks t at _ v) = leaves from r ws ks t at c v
 -- it makes what is told of it
 made_by_one : (text : List ℕ) (from mid r : Reading) → (c : Comes text from mid)
     → (n : Next text mid r)
-    → made_on_the_way (go_on text from mid r c n) ≡ made_on_the_way c + said mid.stands r
-made_by_one text from _ r c (inside ws ks s at _ v) =
-    ap (λ k. made_on_the_way c + k) (made_said text ws ks s at r v)
+    → made_on_the_way (go_on text from mid r c n) ≡ made_on_the_way c + made_next n
+made_by_one text from _ r c (inside ws ks s at _ v) = refl
 made_by_one text from _ r c (outside ws ks t at _ v) = plus_no_bytes (made_on_the_way c)
 
 -- no step, or a first one and the others, and what they make
 pub data Split (text : List ℕ) (from r : Reading) (n : ℕ) : Type 0 where
   no_step : from ≡ r → n ≡ 0 → Split text from r n
-  first_step : (mid : Reading) → Next text from mid → (d : Comes text mid r)
-      → n ≡ said from.stands mid + made_on_the_way d → Split text from r n
+  first_step : (mid : Reading) (next : Next text from mid) → (d : Comes text mid r)
+      → n ≡ made_next next + made_on_the_way d → Split text from r n
 
-split_on : (text : List ℕ) (from last r : Reading) (n m : ℕ) → Next text last r
-    → m ≡ n + said last.stands r → Split text from last n → Split text from r m
+split_on : (text : List ℕ) (from last r : Reading) (n m : ℕ) → (next : Next text last r)
+    → m ≡ n + made_next next → Split text from last n → Split text from r m
 split_on text from last r n m next sum (no_step e z) =
-    let same : said from.stands r ≡ said last.stands r = ap (λ (u : Reading). said u.stands r) e in
-    let all : m ≡ said from.stands r + 0 = omega (arith, sum, z, same) in
-    first_step r (subst (λ u. Next text u r) (sym e) next) (here r) all
+    let all : m ≡ made_next next + 0 = omega (arith, sum, z) in
+    let both = subst (λ u. (x : Next text u r) × (m ≡ made_next x + 0)) (sym e) (next, all) in
+    first_step r both.0 (here r) both.1
 split_on text from last r n m next sum (first_step mid first d s) =
     first_step mid first (go_on text mid last r d next)
     (omega (arith, sum, s, made_by_one text mid last r d next))
@@ -129,8 +199,7 @@ pub split : (text : List ℕ) (from r : Reading) → (c : Comes text from r)
 split text from _ (here _) = no_step refl refl
 split text from r (moves _ _ ws ks s at c v) =
     split_on text from (reading_at ws ks s at) r (made_on_the_way c) _ (inside ws ks s at r v)
-    (ap (λ k. made_on_the_way c + k) (made_said text ws ks s at r v))
-    (split text from (reading_at ws ks s at) c)
+    refl (split text from (reading_at ws ks s at) c)
 split text from r (leaves _ _ ws ks t at c v) =
     split_on text from (reading_at ws ks (behind_group t) at) r (made_on_the_way c) _
     (outside ws ks t at r v) (plus_no_bytes (made_on_the_way c))
@@ -141,8 +210,8 @@ pub data Meet (text : List ℕ) (r q : Reading) (n m : ℕ) : Type 0 where
   ahead : (d : Comes text r q) → m ≡ n + made_on_the_way d → Meet text r q n m
   behind : (d : Comes text q r) → n ≡ m + made_on_the_way d → Meet text r q n m
 
-meet_on : (text : List ℕ) (mid r q : Reading) (n m k : ℕ) → Next text mid r
-    → k ≡ n + said mid.stands r → Meet text mid q n m → Meet text r q k m
+meet_on : (text : List ℕ) (mid r q : Reading) (n m k : ℕ) → (next : Next text mid r)
+    → k ≡ n + made_next next → Meet text mid q n m → Meet text r q k m
 meet_on text mid r q n m k next sum (behind d e) =
     behind (go_on text q mid r d next)
     (omega (arith, sum, e, made_by_one text q mid r d next))
@@ -152,12 +221,12 @@ meet_on text mid r q n m k next sum (ahead d e) = by (split text mid q d)
     by (no_step same z) =
         let more = made_by_one text mid mid r (here mid) next in
         let one : made_on_the_way (go_on text mid mid r (here mid) next)
-        ≡ 0 + said mid.stands r = more in
+        ≡ 0 + made_next next = more in
         subst (λ u. Meet text r u k m) same
         (behind (go_on text mid mid r (here mid) next) (omega (arith, sum, e, z, one)))
     by (first_step first other c s) =
         let one = Next-one text mid first r other next in
-        let same : said mid.stands first ≡ said mid.stands r = ap (said mid.stands) one in
+        let same = made_once text mid first r other next in
         subst (λ u. Meet text u q k m) one (ahead c (omega (arith, sum, e, s, same)))
 
 meet : (text : List ℕ) (from r q : Reading) → (c : Comes text from r) → (d : Comes text from q)
@@ -165,7 +234,7 @@ meet : (text : List ℕ) (from r q : Reading) → (c : Comes text from r) → (d
 meet text from _ q (here _) d = ahead d (omega arith)
 meet text from r q (moves _ _ ws ks s at c v) d =
     meet_on text (reading_at ws ks s at) r q (made_on_the_way c) (made_on_the_way d) _
-    (inside ws ks s at r v) (ap (λ k. made_on_the_way c + k) (made_said text ws ks s at r v))
+    (inside ws ks s at r v) refl
     (meet text from (reading_at ws ks s at) q c d)
 meet text from r q (leaves _ _ ws ks t at c v) d =
     meet_on text (reading_at ws ks (behind_group t) at) r q (made_on_the_way c)
@@ -248,9 +317,9 @@ no_less text from at i to v _ before p (numbers ns r) c =
 
 -- the step from the first number of a vector on leads behind it
 pub vector_step : (text : List ℕ) (ws : List Waiting) (ks : List (List ℕ)) (from : ℕ) (r : Reading)
-    → Move text ws ks (in_typed vector_kind) from r
+    → (m : Move text ws ks (in_typed vector_kind) from r)
     → (to : ℕ) × (t : Tree) × LeafContent text from to vector_kind t × Closes text to
-    × (said (in_typed vector_kind) r ≡ leaf_bytes t)
+    × (made_by m ≡ leaf_bytes t)
 vector_step text ws ks from _ (step.leaf_follows _ _ to t p c) = (to, t, p, c, refl)
 
 -- a text that makes no more than the limit does not make more

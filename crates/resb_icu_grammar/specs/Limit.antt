@@ -6,6 +6,7 @@
 --     IcuMadeWithin text limit   the text is read to its end, and no more than the limit is made
 --     IcuMakesMore text limit    a reading comes to a token by which more than the limit is made
 use Rattle.std.specs.Prelude.{◌≡◌, ℕ, suc, ◌+◌, ◌*◌, ◌<◌, ◌≤◌, Bool, List, [], ◌∷◌, length}
+use Rattle.std.specs.Prelude.{nat_lt, if◌then◌else◌}
 use Rattle.resb_tree.specs.Tree.{Tree, string, alias, binary, int_vector}
 use Rattle.resb_tree.specs.Weights.{resource_weight, table_weight, entry_weight, text_byte_weight}
 use Rattle.resb_grammar.specs.Limit.{number_bytes, request_bytes}
@@ -24,6 +25,13 @@ use Rattle.resb_icu_grammar.specs.Machine.{leaves}
 abbrev pub string_bytes : List ℕ → ℕ
 string_bytes s = resource_weight + text_byte_weight * length s
 
+-- the memory that is asked for a string which stands between these places: 32, and 1 for each byte,
+-- where it takes more of the text than what it says and two quotes, since then it is put together;
+-- else none
+abbrev pub joining_bytes : ℕ → ℕ → List ℕ → ℕ
+joining_bytes from to s =
+    if nat_lt (from + length s + 2) to then request_bytes + length s else 0
+
 -- the key of an entry: the entry, and 3 for each byte
 abbrev pub key_bytes : List ℕ → ℕ
 key_bytes k = entry_weight + text_byte_weight * length k
@@ -33,12 +41,12 @@ abbrev pub next_key_bytes : List (List ℕ × Tree) → List ℕ → ℕ
 next_key_bytes [] k = table_weight + key_bytes k
 next_key_bytes (e ∷ es) k = key_bytes k
 
--- a group that holds neither members nor entries, with its `}`: a resource, and 3 for each byte of
--- a string or a path; for a vector and a binary the memory that is asked for it, and 8 for each
--- number of a vector or 1 for each byte of a binary
+-- a group that holds neither members nor entries, with its `}`: a resource; for all but a number 32
+-- for the memory that is asked for it, put together or not; and 4 for each byte of a string or a
+-- path, 8 for each number of a vector, 1 for each byte of a binary
 abbrev pub leaf_bytes : Tree → ℕ
-leaf_bytes (string s) = string_bytes s
-leaf_bytes (alias s) = string_bytes s
+leaf_bytes (string s) = string_bytes s + request_bytes + length s
+leaf_bytes (alias s) = string_bytes s + request_bytes + length s
 leaf_bytes (binary s) = resource_weight + request_bytes + length s
 leaf_bytes (int_vector ns) = resource_weight + request_bytes + number_bytes * length ns
 leaf_bytes _ = resource_weight
@@ -51,16 +59,20 @@ opening_bytes _ = 0
 
 -- what a step adds: 72 bytes for the `{` of a group without a type, of an array and of a table; 72
 -- for a string among members, and 3 for each of its bytes; those 3 alone for the string that such a
--- group without a type is; 192 for a key, and 3 for each of its bytes, and 1024 more for the first
--- key of a table; and for a group of another type, up to its `}`, what it holds
+-- group without a type is; for either 32 more, and 1 for each byte, where it is put together; 192
+-- for a key, which never is, and 3 for each of its bytes, and 1024 more for the first key of a
+-- table; and for a group of another type, up to its `}`, what it holds
 abbrev pub made_by : {text : List ℕ} {ws : List Waiting} {ks : List (List ℕ)} {s : Standing}
     {at : ℕ} {r : Reading} → Move text ws ks s at r → ℕ
-made_by (string_member last ts at i j s alone stands after) = string_bytes s
+made_by (string_member last ts at i j s alone stands after) =
+    string_bytes s + joining_bytes at i s
 made_by (key_of_entry es at i j k stands after) = next_key_bytes es k
 made_by (group_opens at i opens after) = resource_weight
 made_by (type_opens at i kind opens) = opening_bytes kind
-made_by (untyped_string at i j s stands after closes) = text_byte_weight * length s
-made_by (begins_with_string at i j s stands after comma) = string_bytes s
+made_by (untyped_string at i j s stands after closes) =
+    text_byte_weight * length s + joining_bytes at i s
+made_by (begins_with_string at i j s stands after comma) =
+    string_bytes s + joining_bytes at i s
 made_by (begins_with_key at i j k stands after begins) = next_key_bytes [] k
 made_by (leaf_follows kind at to t content closes) = leaf_bytes t
 made_by _ = 0

@@ -15,7 +15,7 @@ ghost use Rattle.resb_grammar.specs.Inner.Reach.{reach};
 use crate::blanks::{byte, skip};
 use crate::digits::hex_length;
 use crate::error::IcuTextError;
-use crate::quota::{BLOCK, Meter, NUMBER, string_bytes};
+use crate::quota::{BLOCK, Meter, NUMBER, asked_bytes};
 use crate::strings::{Found, found_or};
 use crate::turns::IcuTurns;
 use crate::words::number;
@@ -55,7 +55,7 @@ fn string_leaf<'a>(
 {
     let found = found_or(text, at, IcuExpected::String, &mut meter.turns)?;
     let to = closing(text, found.next)?;
-    meter.quota.take(string_bytes(found.length()))?;
+    meter.quota.take(asked_bytes(found.length()))?;
     let said = found.text(alloc, text, at, &mut meter.turns)?;
     Ok((to, Resource::String(said)))
 }
@@ -77,7 +77,7 @@ fn alias_leaf<'a>(
 {
     let found = found_or(text, at, IcuExpected::String, &mut meter.turns)?;
     let to = closing(text, found.next)?;
-    meter.quota.take(string_bytes(found.length()))?;
+    meter.quota.take(asked_bytes(found.length()))?;
     let path = found.text(alloc, text, at, &mut meter.turns)?;
     Ok((to, Resource::Alias(path)))
 }

@@ -1,6 +1,7 @@
 //! How many bytes of memory a reading may still make, and what is counted of it.
 //! What each step adds is said in the grammar; `steps` and `leaf` ask for it before it is made.
 ghost use Rattle.std.specs.Prelude.{◌≡◌, ◌+◌, ◌*◌, false, length, MatchResult};
+ghost use Rattle.resb_grammar.specs.Limit.{request_bytes};
 ghost use Rattle.resb_tree.specs.Weights.{resource_weight, entry_weight, text_byte_weight};
 ghost use Rattle.resb_icu_text.specs.Inner.Quota.{TakesBytes, RunsOver};
 
@@ -65,8 +66,12 @@ impl Meter {
 /// A number of a vector, where it is read and in the file.
 pub(crate) const NUMBER: u128 = 2 * weights::NUMBER;
 
-/// A vector or a binary, beside what it holds: a resource, and the memory that is asked for it.
-pub(crate) const BLOCK: u128 = weights::RESOURCE + 32;
+/// The memory that is asked for one thing alone, beside what it holds.
+pub(crate) const REQUEST: u128 = 32;
+
+/// A group that holds a string, a path, bytes or numbers, beside these: a resource, and the memory
+/// that is asked for it.
+pub(crate) const BLOCK: u128 = weights::RESOURCE + REQUEST;
 
 /// So many bytes of a text.
 pub(crate) fn text_bytes(length: usize) -> u128
@@ -75,11 +80,11 @@ pub(crate) fn text_bytes(length: usize) -> u128
     weights::TEXT_BYTE * length as u128
 }
 
-/// A string or a path of so many bytes.
-pub(crate) fn string_bytes(length: usize) -> u128
-    ensures { result ≡ resource_weight + text_byte_weight * length }
+/// A group that holds a string or a path of so many bytes.
+pub(crate) fn asked_bytes(length: usize) -> u128
+    ensures { result ≡ resource_weight + text_byte_weight * length + request_bytes + length }
 {
-    weights::RESOURCE + text_bytes(length)
+    BLOCK + text_bytes(length) + length as u128
 }
 
 /// The key of an entry.

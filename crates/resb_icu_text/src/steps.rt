@@ -22,7 +22,7 @@ ghost use Rattle.resb_icu_text.specs.Inner.Turns.{Halts};
 use crate::blanks::{byte, skip};
 use crate::error::IcuTextError;
 use crate::leaf::leaf;
-use crate::quota::{Meter, key_bytes, string_bytes, text_bytes};
+use crate::quota::{Meter, key_bytes};
 use crate::strings::found_or;
 use crate::turns::IcuTurns;
 use crate::types::group_type;
@@ -198,7 +198,7 @@ fn string_member<'a, X: Drop>(
     if last.is_string() {
         return Err(IcuTextError::new(at, IcuExpected::Comma));
     }
-    meter.quota.take(string_bytes(found.length()))?;
+    meter.quota.take(weights::RESOURCE + found.bytes_made(at))?;
     let said = found.text(alloc, text, at, &mut meter.turns)?;
     Ok(Read::Member(members, Resource::String(said), found.next))
 }
@@ -405,12 +405,12 @@ fn untyped_string<'a, X: Drop>(
     let next = found.next;
     let b = byte(text, next);
     if b == b'}' {
-        meter.quota.take(text_bytes(found.length()))?;
+        meter.quota.take(found.bytes_made(at))?;
         let said = found.text(alloc, text, at, &mut meter.turns)?;
         return Ok(Read::Leaf(Resource::String(said), next + 1));
     }
     if b == b',' {
-        meter.quota.take(string_bytes(found.length()))?;
+        meter.quota.take(weights::RESOURCE + found.bytes_made(at))?;
         let said = found.text(alloc, text, at, &mut meter.turns)?;
         return Ok(Read::Member(Vec::new(alloc), Resource::String(said), next));
     }

@@ -8,9 +8,11 @@ ghost use Rattle.std.specs.String.{string_bytes};
 ghost use Rattle.resb_grammar.specs.Ascii as ascii;
 ghost use Rattle.resb_grammar.specs.Inner.Reach.{reach};
 ghost use Rattle.resb_icu_grammar.specs.Faults.{StringFault};
+ghost use Rattle.resb_icu_grammar.specs.Limit.{joining_bytes};
 ghost use Rattle.resb_icu_grammar.specs.Pieces.{Joined};
 ghost use Rattle.resb_icu_grammar.specs.Stuck.{NoStringAt};
 ghost use Rattle.resb_tree.specs.Borrowing.{is_slice};
+ghost use Rattle.resb_tree.specs.Weights.{text_byte_weight};
 ghost use Rattle.resb_icu_text.specs.Lexemes.{IsLexeme};
 ghost use Rattle.resb_icu_text.specs.Inner.Ahead.{StringFails, AreSeen, GoesToEnd};
 ghost use Rattle.resb_icu_text.specs.Inner.Found.{IsFound, Shows, length_of, fits_key};
@@ -19,6 +21,7 @@ ghost use Rattle.resb_icu_text.specs.Inner.Found.{IsSaid, is_whole, turns_to_mak
 use crate::blanks::{byte, skip};
 use crate::error::IcuTextError;
 use crate::pieces::{piece_end, push_piece};
+use crate::quota::{REQUEST, text_bytes};
 use crate::turns::IcuTurns;
 use crate::words::word;
 use resb_icu_grammar::{IcuExpected, are_key_bytes};
@@ -71,6 +74,21 @@ impl<'a> Found<'a> {
         match &self.stands {
             Stands::Whole(slice) => slice.len(),
             Stands::InPieces(length) => *length,
+        }
+    }
+
+    /// What its bytes make, where it was found from this place on: 3 for each; 32 more, and 1 for
+    /// each, where it takes more of the text than these and two quotes.
+    pub(crate) fn bytes_made(&self, from: usize) -> u128
+        requires short { length_of self.now.stands + from ≤ self.now.end }
+        ensures { (s : List ℕ) → length s ≡ length_of self.now.stands
+            → result ≡ text_byte_weight * length s + joining_bytes from self.now.end s }
+    {
+        let bytes = text_bytes(self.length());
+        if self.end - from - self.length() > 2 {
+            bytes + REQUEST + self.length() as u128
+        } else {
+            bytes
         }
     }
 

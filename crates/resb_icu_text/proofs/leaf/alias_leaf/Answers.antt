@@ -31,7 +31,7 @@ returns-in_err-take-clause-reads c =
     (leaf_over c.args.at alias_kind c.in_ok-to.to (alias found.said) _
     (alias_stands _ _ _ _ _ found.string
     (closing_at _ _ _ _ found.blanks c.in_ok-to.ensures)) c.in_err-take.ensures
-    (omega (arith, c.string_bytes.ensures, c.length.ensures, found.counted)) refl)
+    (omega (arith, c.asked_bytes.ensures, c.length.ensures, found.counted)) refl)
 
 pub returns-in_err-path-clause-reads : goal.returns-in_err-path-clause-reads
 returns-in_err-path-clause-reads c =
@@ -46,7 +46,7 @@ returns-clause-reads c =
     (sym (tree_of_alias c.in_ok-path.path ∙ ap alias (said.1 found)))
     (alias_stands _ _ _ _ _ found.string
     (closing_at _ _ _ _ found.blanks c.in_ok-to.ensures)) c.in_ok-take.ensures
-    (omega (arith, c.string_bytes.ensures, c.length.ensures, found.counted))
+    (omega (arith, c.asked_bytes.ensures, c.length.ensures, found.counted))
     (path_kept _ _ _ _ found (said.1 found) said.0)
     (omega (arith, found.after, found.order, c.in_ok-to.ensures.same))
     (omega (arith, c.in_ok-to.ensures.same, c.in_ok-to.ensures.fits))

@@ -31,7 +31,7 @@ returns-in_err-take-clause-reads c =
     (leaf_over c.args.at string_kind c.in_ok-to.to (string found.said) _
     (string_stands _ _ _ _ _ found.string
     (closing_at _ _ _ _ found.blanks c.in_ok-to.ensures)) c.in_err-take.ensures
-    (omega (arith, c.string_bytes.ensures, c.length.ensures, found.counted)) refl)
+    (omega (arith, c.asked_bytes.ensures, c.length.ensures, found.counted)) refl)
 
 pub returns-in_err-said-clause-reads : goal.returns-in_err-said-clause-reads
 returns-in_err-said-clause-reads c =
@@ -46,7 +46,7 @@ returns-clause-reads c =
     (sym (tree_of_string c.in_ok-said.said ∙ ap string (said.1 found)))
     (string_stands _ _ _ _ _ found.string
     (closing_at _ _ _ _ found.blanks c.in_ok-to.ensures)) c.in_ok-take.ensures
-    (omega (arith, c.string_bytes.ensures, c.length.ensures, found.counted))
+    (omega (arith, c.asked_bytes.ensures, c.length.ensures, found.counted))
     (said_kept _ _ _ _ found (said.1 found) said.0)
     (omega (arith, found.after, found.order, c.in_ok-to.ensures.same))
     (omega (arith, c.in_ok-to.ensures.same, c.in_ok-to.ensures.fits))

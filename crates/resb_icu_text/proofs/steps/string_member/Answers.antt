@@ -1,4 +1,4 @@
-use Rattle.std.proofs.Common.{◌+◌, ◌*◌, ap, arith, refl, sym, ◌∙◌, map}
+use Rattle.std.proofs.Common.{arith, refl, sym, ◌∙◌, map}
 use Rattle.resb_icu_text.specs.Inner.Steps.{members_place, last_of}
 use Rattle.resb_icu_text.proofs.QuotaLemmas.{none_taken, match_fails, over_stops}
 use Rattle.resb_icu_text.proofs.StepsLemmas.{member_string, fails_at, no_member, lacks, text_made}
@@ -26,7 +26,7 @@ returns-in_err-take-clause-reads g c =
     match_fails _ _ _ c.from_residual-in_err-take.ensures.1
     (λ tree ws ks. let is = c.in_ok-found.ensures.reads in over_stops _ _ _ _ _ _
     (move.string_member _ _ _ _ _ _ (sym c.is_string.ensures ∙ c.if-is_string.false) is.string
-    is.blanks) (omega (arith, c.string_bytes.ensures, c.length.ensures, is.counted))
+    is.blanks) (omega (arith, c.bytes_made.ensures is.said is.counted))
     c.in_err-take.ensures refl)
 
 pub returns-in_err-said-clause-reads : goal.returns-in_err-said-clause-reads
@@ -38,6 +38,6 @@ returns-in_err-said-clause-reads g c =
 pub returns-clause-reads : goal.returns-clause-reads
 returns-clause-reads g c =
     member_string c.args.members c.args.last c.args.at c.in_ok-found.found c.in_ok-said.said
-    c.in_ok-take.ensures (c.string_bytes.ensures ∙ ap (λ n. 72 + 3 * n) c.length.ensures)
+    c.in_ok-take.ensures (λ s e. omega (arith, c.bytes_made.ensures s e))
     (sym c.is_string.ensures ∙ c.if-is_string.false)
     (text_made c.in_ok-found.ensures.reads c.in_ok-said.ensures.says)

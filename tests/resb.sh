@@ -628,6 +628,72 @@ told 0 '' '' compile --strict names.txt small.txt -d alone
 holds alone 'names.res small.res warn.res'
 told 0 '' '' compile --strict --icu icu.txt -d alone
 rm alone/*
+
+# the warnings of ICU's form: of pieces that are joined over a line's end to a member of an array,
+# which a comma, a group before or `:array` shows; pieces that are all of a group are one string,
+# and so are pieces in one line
+cat > joined.txt <<'END'
+b{
+  one{"a"
+    "b"}
+  two{"a\"" // "x"
+    "b", "c" "d",
+    "e" /* "
+    */ "f"
+    "g" }
+  three:array{ "a"
+    "b" }
+  four{ {x} "a"
+    "b" {y}
+    "c
+ d" "e" }
+  "five"{
+    "six"{x}
+  }
+}
+END
+joined="joined.txt:5:5: warning: this string is joined to the one before; a comma would part them
+joined.txt:7:8: warning: this string is joined to the one before; a comma would part them
+joined.txt:10:5: warning: this string is joined to the one before; a comma would part them
+joined.txt:12:5: warning: this string is joined to the one before; a comma would part them"
+told 0 '' "$joined" compile --icu joined.txt
+# of an integer that 28 bits don't hold, with or without a sign: what is kept
+cat > bits.txt <<'END'
+b{
+  a:int{300000000} b:integer{ /* : */ -200000000 } c:int{+268435456}
+  d:int{268435455} e:int{-134217728} f:intvector{300000000} g{300000000}
+}
+END
+bits="bits.txt:2:9: warning: this number has more than 28 bits; 31564544 is kept
+bits.txt:2:39: warning: this number has more than 28 bits; 68435456 is kept
+bits.txt:2:58: warning: this number has more than 28 bits; 0 is kept"
+told 0 '' "$bits" compile --icu bits.txt
+# of one digit in braces with which a group begins
+cat > braces.txt <<'END'
+b{
+  a{{0} of {1}} b{"{0} of {1}"} c{ { 2 }, {3}} d{x{0} y{1}}
+  e:array{{0}} f{{00}} g{{"0"}} h{{0, 1}}
+}
+END
+braces="braces.txt:2:5: warning: this group is a string of its own; braces that are meant need \
+quotes
+braces.txt:2:36: warning: this group is a string of its own; braces that are meant need quotes"
+told 0 '' "$braces" compile --icu braces.txt
+mkdir icu_texts
+cp joined.txt bits.txt icu_texts
+told 1 '' "$bits" compile --icu --strict bits.txt -d alone
+holds alone bits.res
+rm alone/bits.res
+told 0 '' "$bits" compile --icu --check bits.txt -d alone
+told 0 '' '' compile --icu --quiet --check bits.txt joined.txt braces.txt -d alone
+told 1 '' '' compile --icu --quiet --strict --check bits.txt -d alone
+told 0 '' "$bits" compile --icu --by-name bits.txt -d alone
+told 0 '' "${bits//bits.txt/icu_texts/bits.txt}
+${joined//joined.txt/icu_texts/joined.txt}" compile --icu icu_texts -d alone
+printf 'b{k{"%0300d"}}' 0 > long.txt
+told 0 '' 'long.txt: its warnings may take more than the limit: none is looked for' \
+  compile --icu --limit 3000 long.txt
+rm -r alone/* icu_texts
 told 0 '' "$warned" compile --check warn.txt -d alone
 told 1 '' "$warned" compile --check --strict warn.txt -d alone
 told 1 '' $'open.txt:1:2: expected \'}\' before the text ends inside this\nb{\n ^' \

@@ -173,9 +173,9 @@ fn file_of(
     }
 }
 
-/// The status of a text's warnings, once they are said: one of ICU's own form has none.
+/// The status of a text's warnings, once they are said.
 fn warned(rt: &HostRuntime, name: &str, source: &[u8], wanted: &CompileWords<'_>) -> u8 {
-    if wanted.is_icu || (wanted.is_quiet && !wanted.is_strict) {
+    if wanted.is_quiet && !wanted.is_strict {
         return 0;
     }
     if may_pass(source.len(), wanted.limit) {
@@ -188,7 +188,7 @@ fn warned(rt: &HostRuntime, name: &str, source: &[u8], wanted: &CompileWords<'_>
         }
         return u8::from(wanted.is_strict);
     }
-    match warn(rt, name, source, wanted.is_quiet) {
+    match warn(rt, name, source, wanted.is_icu, wanted.is_quiet) {
         Ok(is_warned) => u8::from(is_warned && wanted.is_strict),
         Err(status) => status,
     }

@@ -10,8 +10,9 @@ use resb_grammar::Expected;
 use resb_icu_grammar::IcuExpected;
 use resb_print::PathStep;
 use resb_program::{
-    Blame, Reason, SourceError, Warning, first_icu_outdent, first_outdent, location_of,
-    long_icu_string_before, long_string_before, pointed_line, text_of, warnings, where_to_look,
+    Blame, Reason, SourceError, Warning, first_icu_outdent, first_outdent, icu_warnings,
+    location_of, long_icu_string_before, long_string_before, pointed_line, text_of, warnings,
+    where_to_look,
 };
 use std::alloc::{AllocError, Global};
 use std::fmt::{self, Display};
@@ -247,19 +248,25 @@ fn point<R: Eprint + AllocGlobal>(rt: &R, name: &str, source: &[u8], place: usiz
     }
 }
 
-/// Finds what another reader takes otherwise in a text that was compiled, says it unless this is to
-/// be quiet, and answers whether there is any. The status of a want of memory is answered once that
-/// is said.
+/// Finds the warnings of a text that was compiled, of ICU's form or not, says them unless this is
+/// to be quiet, and answers whether there is any. The status of a want of memory is answered once
+/// that is said.
 pub(crate) fn warn<R: Eprint + AllocGlobal>(
     rt: &R,
     name: &str,
     source: &[u8],
+    is_icu: bool,
     is_quiet: bool,
 ) -> Result<bool, u8> {
     let Ok(text) = text_of(source) else {
         return Ok(false);
     };
-    let Ok(found) = warnings(rt.alloc(), text) else {
+    let found = if is_icu {
+        icu_warnings(rt.alloc(), text)
+    } else {
+        warnings(rt.alloc(), text)
+    };
+    let Ok(found) = found else {
         return Err(fail(rt, name, "its warnings are not known: out of memory"));
     };
     if !is_quiet {
@@ -317,6 +324,12 @@ impl fmt::Display for Told<'_> {
             Reason::CutNumber(kept) => write!(
                 f,
                 "warning: this number has more than 28 bits; {kept} is kept"
+            ),
+            Reason::JoinedOverLine => f.write_str(
+                "warning: this string is joined to the one before; a comma would part them",
+            ),
+            Reason::UnquotedGroup => f.write_str(
+                "warning: this group is a string of its own; braces that are meant need quotes",
             ),
         }
     }

@@ -1,3 +1,4 @@
 -- Words of private functions.
+pub mod IcuTokens
 pub mod Looks
 pub mod Tokens

@@ -24,4 +24,5 @@ pub mod Excerpt
 pub mod Pieces
 pub mod Groups
 pub mod Warnings
+pub mod IcuWarnings
 pub mod Inner

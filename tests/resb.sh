@@ -575,7 +575,7 @@ told 2 '' 'resb: standard input is read once alone' check - -
 python3 -c "
 import struct
 def file(name, *words):
-    head = bytes.fromhex('2000da27140200000000020052657342') + b'\2\0\0\0\1\4' + bytes(10)
+    head = bytes.fromhex('2000da27140000000000020052657342') + b'\2\0\0\0\1\4' + bytes(10)
     open(name, 'wb').write(head + struct.pack(f'<{len(words)}I', *words))
 file('five.res', 0x70000005, 7, 8, 8, 8, 0, 0, 8)
 file('six.res', 0x70000006, 7, 8, 8, 8, 0, 0, 8)

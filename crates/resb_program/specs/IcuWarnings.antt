@@ -4,7 +4,7 @@
 -- A key is one piece alone. So in a text that is a bundle pieces in a row are a member of an array,
 -- but where they are all that stands in a group that is not `:array`.
 use Rattle.std.specs.Prelude.{ℕ, zero, suc, Bool, true, false, ◌&&◌, ◌||◌, not, ◌==◌, List}
-use Rattle.std.specs.Prelude.{◌*◌, ◌+◌, ◌-◌, nat_lt, ℤ, fold, [], ◌∷◌, ◌++◌, length}
+use Rattle.std.specs.Prelude.{◌+◌, nat_lt, ℤ, [], ◌∷◌, ◌++◌, length}
 use Rattle.std.specs.Prelude.{slice_index, slice_range, if◌then◌else◌, Option, Some, None}
 use Rattle.resb_program.specs.Braces.{mode_in, icu_form}
 use Rattle.resb_program.specs.Groups.{named_by}
@@ -22,7 +22,6 @@ use Rattle.resb_program.specs.declared.warning.Warning.{Warning}
 use Rattle.resb_grammar.specs.Ascii.{quote, dash, digit_0, digit_9, left_brace, right_brace, comma}
 use Rattle.resb_grammar.specs.Ascii.{colon, plus}
 use Rattle.resb_grammar.specs.ByteRuns.{is_line_end}
-use Rattle.resb_grammar.specs.Group.{hex_value}
 use Rattle.resb_icu_grammar.specs.Bytes.{is_word}
 
 -- what is in quotes, escapes included
@@ -140,28 +139,6 @@ abbrev pub without_sign : List ℕ → List ℕ
 without_sign [] = []
 without_sign (b ∷ bs) = if b == dash || b == plus then bs else b ∷ bs
 
--- the number that octal digits say
-abbrev pub octal_number : List ℕ → ℕ
-octal_number digits = fold (λ n b. n * 8 + (b - digit_0)) 0 digits
-
--- the number that hex digits say
-abbrev pub hex_number : List ℕ → ℕ
-hex_number digits = fold (λ n b. n * 16 + hex_value b) 0 digits
-
--- the letter x, of either case
-abbrev pub is_x : ℕ → Bool
-is_x b = b == 120 || b == 88
-
--- the number that digits say behind a 0: hex ones behind an x, else octal ones
-abbrev pub number_behind_0 : List ℕ → ℕ
-number_behind_0 [] = 0
-number_behind_0 (b ∷ bs) = if is_x b then hex_number bs else octal_number (b ∷ bs)
-
--- the number that digits say as in C: behind 0x hex ones, behind another 0 octal ones
-abbrev pub c_number : List ℕ → ℕ
-c_number [] = 0
-c_number (b ∷ bs) = if b == digit_0 then number_behind_0 bs else number_of (b ∷ bs)
-
 -- the warning of a number of which only this is kept
 abbrev pub kept_at : ℕ → Option ℤ → Option Warning
 kept_at n None = None
@@ -169,7 +146,7 @@ kept_at n (Some z) = Some (warning_at (reason.CutNumber z) n)
 
 -- the warning of an integer at a place that 28 bits don't hold
 abbrev pub of_integer : ℕ → List ℕ → Option Warning
-of_integer n bytes = kept_at n (cut (is_negative bytes) (c_number (without_sign bytes)))
+of_integer n bytes = kept_at n (cut (is_negative bytes) (number_of (without_sign bytes)))
 
 -- the warning of a string whose pieces are joined over a line's end, at the first behind one
 abbrev pub of_joined : Option ℕ → Option Warning

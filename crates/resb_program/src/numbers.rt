@@ -1,7 +1,6 @@
 //! What another reader takes otherwise in a number.
 //! Which strings are numbers is known by their groups, in `groups`.
 ghost use Rattle.std.specs.Prelude.{◌≡◌, ◌++◌, ℕ, true, false, min, OnOk};
-ghost use Rattle.resb_grammar.specs.Group as group;
 ghost use Rattle.resb_program.specs.IcuWarnings as icu;
 ghost use Rattle.resb_program.specs.Warnings as spec;
 ghost use Rattle.resb_program.specs.Warnings.{of_octal, of_cut, of_number, number_of};
@@ -140,57 +139,10 @@ fn without_sign(number: &[u8]) -> &[u8]
     }
 }
 
-/// The number that octal digits say, or 2 ^ 32 where it is larger.
-fn octal_value(digits: &[u8]) -> u64
-    ensures { result ≡ min (icu.octal_number digits.now) 4294967296 }
-{
-    let mut value = 0u64;
-    for byte in digits {
-        value = (value * 8 + u64::from(byte.saturating_sub(b'0'))).min(1 << 32);
-    }
-    value
-}
-
-/// The number that hex digits say, or 2 ^ 32 where it is larger.
-fn hex_value(digits: &[u8]) -> u64
-    ensures { result ≡ min (icu.hex_number digits.now) 4294967296 }
-{
-    let mut value = 0u64;
-    for byte in digits {
-        value = (value * 16 + u64::from(hex_digit(*byte))).min(1 << 32);
-    }
-    value
-}
-
-/// The value of a hex digit.
-fn hex_digit(byte: u8) -> u8
-    ensures { result ≡ group.hex_value byte }
-{
-    if b'0' <= byte && byte <= b'9' {
-        byte - b'0'
-    } else if b'A' <= byte && byte <= b'F' {
-        byte - b'A' + 10
-    } else {
-        byte.saturating_sub(b'a') + 10
-    }
-}
-
-/// The number that digits say as in C, or 2 ^ 32 where it is larger: behind `0x` hex ones, behind
-/// another 0 octal ones.
-fn c_value(digits: &[u8]) -> u64
-    ensures { result ≡ min (icu.c_number digits.now) 4294967296 }
-{
-    match digits {
-        [b'0', b'x' | b'X', hex @ ..] => hex_value(hex),
-        [b'0', octal @ ..] => octal_value(octal),
-        _ => value_of(digits),
-    }
-}
-
 /// What is kept of an integer of ICU's form that 28 bits don't hold.
 pub(crate) fn cut_integer(number: &[u8]) -> Option<i32>
     ensures { result
-        ≡ spec.cut (spec.is_negative number.now) (icu.c_number (icu.without_sign number.now)) }
+        ≡ spec.cut (spec.is_negative number.now) (number_of (icu.without_sign number.now)) }
 {
-    cut(is_negative(number), c_value(without_sign(number)))
+    cut(is_negative(number), value_of(without_sign(number)))
 }

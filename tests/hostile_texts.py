@@ -9,13 +9,16 @@ again; groups of each kind stand inside each other; and there is one long thing 
 ICU's form the keys of that table differ, since it is refused where one stands again, and strings
 are put together of pieces and escapes as well. Each text compiles within just as many bytes as
 docs/GRAMMAR.md or docs/ICU_TEXTS.md ("Within a limit") counts for it, and is refused within one
-byte less, and within a tenth, with status 1 and the one line that says so. No run may take more
+byte less, and within a tenth, with status 1 and the one line that says so. A text of more than
+1 MiB that is longer than its limit is refused before it is read, as the large ones of comments,
+blanks, digits and escapes are, and then shows no more than that. No run may take more
 memory than 1.5 times the limit and the text, and 3.2 MB for the program itself, which has 2.3 MB
 for a text of 7 bytes, and for what its allocator keeps. A run is started by a program in C that is
 smaller than that, since what starts a program counts as its memory; `cc` builds it. The last line
 is 'N passed, M failed'.
 """
 import os
+import shutil
 import subprocess
 import sys
 import tempfile
@@ -271,8 +274,8 @@ def of_size(folder, size, chosen):
 
 def main():
     """Each shape at each size, and some of them at the largest."""
-    if not os.access(RESB, os.X_OK):
-        print(f"{RESB} isn't built")
+    if not os.access(RESB, os.X_OK) or not shutil.which('cc'):
+        print(f"{RESB} isn't built, or cc isn't there")
         print('0 passed, 1 failed')
         return 1
     with tempfile.TemporaryDirectory() as folder:

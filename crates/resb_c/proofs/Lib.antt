@@ -1,1 +1,3 @@
--- Nothing: the check proves this crate by itself.
+-- Nothing is passed on.
+mod HeadLemmas
+mod PathLemmas

@@ -1,0 +1,2 @@
+-- The words of the contracts of private functions.
+pub mod Heads

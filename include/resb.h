@@ -174,9 +174,9 @@ uint32_t resb_dump_with_pool(const uint8_t *file, size_t file_length, const uint
 
 /* Paths. The calls below look at what stands at a path in a file, beside a pool bundle of
  * pool_length bytes; a length of 0 says that there is none. Nothing is kept between two calls: each
- * looks at the head of the file and at what lies on the path, and at nothing else. So a file that
- * is broken elsewhere is answered, and a call costs no more for a large file. They may be given a
- * stranger's file, and make no tree of it.
+ * looks at the pool, at the head of the file and at what lies on the path, and at nothing else. So
+ * a file that is broken elsewhere is answered. A stranger's file may be given: no tree is made of
+ * it.
  *
  * A path is UTF-8 of path_length bytes. The empty path leads to the root. Any other begins with its
  * separator, which is an ASCII character, and has a name between two separators and behind the
@@ -212,6 +212,16 @@ uint32_t resb_kind(const uint8_t *file, size_t file_length, const uint8_t *pool,
 uint32_t resb_get_integer(const uint8_t *file, size_t file_length, const uint8_t *pool,
                           size_t pool_length, const uint8_t *path, size_t path_length,
                           int32_t *value, resb_error *error);
+
+/* Copies the text of a string at a path, as UTF-8 without a zero at its end. The path of a
+ * RESB_ALIAS is no string.
+ *
+ * RESB_OK: the text is the first *length bytes of out, and the bytes behind it are as they were.
+ * RESB_TOO_SHORT: out is as it was, and *length is the length of the text. Else out is as it was,
+ * and *length is 0: RESB_OTHER_KIND, or a reason of resb_kind. */
+uint32_t resb_get_string(const uint8_t *file, size_t file_length, const uint8_t *pool,
+                         size_t pool_length, const uint8_t *path, size_t path_length, uint8_t *out,
+                         size_t out_length, size_t *length, resb_error *error);
 
 #ifdef __cplusplus
 }

@@ -43,6 +43,23 @@ at byte 6: expected '}'" 'a {\n  ' "$@"
     "a {$(printf 'k {%.0s' {1..9000})" "$@"
 }
 
+# path_rows LANGUAGE COMMAND..: the rows of the built example that prints what stands at paths: a
+# string, numbers, a key with a slash, what is neither, the root, and nothing
+path_rows() {
+  local language=$1
+  shift
+  expect "$language: paths" 1 'c
+-5
+-2
+d
+fault 13, kind 5, size 2
+fault 13, kind 2, size 4
+fault 12: nothing stands at the path
+fault 12: nothing stands at the path' \
+    'a { b { "c" } n:int { -5 } list:intvector { 7, -2 } "x/y" { "d" } }' \
+    "$@" /b /n /list/1 '|x/y' '#list' '' /d /list/2
+}
+
 # pool_rows COMMAND..: the rows of the built example that shows files beside pool bundles, which are
 # those of `pools.py`
 pool_rows() {
@@ -133,6 +150,9 @@ if command -v cc > /dev/null; then
   built 'the C example of pools' cc -std=c99 -Wall -Wextra -Werror -O2 ${CFLAGS:-} \
     -I "$top/include" "$top/examples/c/show.c" "$RESB_LIB/libresb_c.a" "$RATTLE_C/liblibc_c.a" \
     -o "$folder/show" && pool_rows "$folder/show"
+  built 'the C example of paths' cc -std=c99 -Wall -Wextra -Werror -O2 ${CFLAGS:-} \
+    -I "$top/include" "$top/examples/c/get.c" "$RESB_LIB/libresb_c.a" "$RATTLE_C/liblibc_c.a" \
+    -o "$folder/get" && path_rows C "$folder/get"
   write_statuses "$folder/statuses.c"
   built 'the program of statuses' cc -std=c99 -Wall -Wextra -Werror -O2 ${CFLAGS:-} \
     -I "$top/include" "$folder/statuses.c" "$RESB_LIB/libresb_c.a" "$RATTLE_C/liblibc_c.a" \
@@ -141,7 +161,8 @@ fi
 if command -v cargo > /dev/null; then
   built 'the Rust example' cargo build --quiet --offline --manifest-path \
     "$top/examples/rust/Cargo.toml" --target-dir "$folder/target" &&
-    rows Rust "$folder/target/debug/resb_example"
+    rows Rust "$folder/target/debug/resb_example" &&
+    path_rows Rust "$folder/target/debug/resb_example"
 fi
 echo "$passed passed, $failed failed"
 [ "$failed" = 0 ]

@@ -1,3 +1,4 @@
 -- Nothing is passed on.
 mod HeadLemmas
 mod PathLemmas
+mod ThereLemmas

@@ -7,10 +7,13 @@
 --     kind_told r, size_told r    the two as the caller gets them
 --     TellsInteger pool file path r   what asking for a number answers
 --     integer_told r, status_told r   the number and the status as the caller gets them
+--     GivesString pool file path old new r    what asking for a string answers, and leaves in a
+--                             buffer
 use Rattle.std.specs.Prelude.{◌≡◌, ◌⊎◌, ◌==◌, ℕ, List, [], ◌∷◌, Option, Some, None, Result, Ok, Err}
 use Rattle.std.specs.Prelude.{ℤ, pos, IsUtf8, nat_lt, if◌then◌else◌}
 use Rattle.std.specs.List.{slice_split}
-use Rattle.resb_tree.specs.Tree.{Tree}
+use Rattle.resb_tree.specs.Tree.{Tree, string}
+use Rattle.resb_format.specs.Content.{leaf}
 use Rattle.resb_format.specs.Error.{IsWantOfMemory}
 use Rattle.resb_format.specs.declared.error.ReadingError.{ReadingError}
 use Rattle.resb_pool_bundle.specs.FileWith.{DenotesWith}
@@ -21,12 +24,13 @@ use Rattle.resb_read.specs.WithPool.{over}
 use Rattle.resb_path.specs.Finding.{found_at, tree_spot}
 use Rattle.resb_path.specs.InFiles.{place_at, AreFound, LeadsOnWith, AnswersPathWith}
 use Rattle.resb_program.specs.Files.{LacksPool}
-use Rattle.resb_c.specs.AtPlaces.{integer_from, kind_from, spot_refusal}
-use Rattle.resb_c.specs.Calls.{IsNotUtf8}
+use Rattle.resb_c.specs.AtPlaces.{IsOfOther, content_from, integer_from, kind_from}
+use Rattle.resb_c.specs.AtPlaces.{spot_refusal}
+use Rattle.resb_c.specs.Calls.{Fills, IsNotUtf8}
 use Rattle.resb_c.specs.Pools.{given, IsGiven, RefusesPool}
 use Rattle.resb_c.specs.declared.fault.Fault.{Fault}
 use Rattle.resb_c.specs.declared.fault.Fault.TheVariants.{NotUtf8, Reading, UsesPool, Pool}
-use Rattle.resb_c.specs.declared.fault.Fault.TheVariants.{NotFound, OtherKind}
+use Rattle.resb_c.specs.declared.fault.Fault.TheVariants.{NotFound, OtherKind, TooShort}
 
 -- The names of a path. The empty path has none, and leads to the root. The first character of any
 -- other parts it, if that is of one byte: what stands between it and the same again is a name. A
@@ -109,3 +113,25 @@ integer_told (Err fault) = pos 0
 abbrev pub status_told : Result ℤ Fault → Result ℕ Fault
 status_told (Ok x) = Ok 0
 status_told (Err fault) = Err fault
+
+-- the string that stands at the path has this text
+abbrev pub IsStringAt : List ℕ → List ℕ → List ℕ → List ℕ → Type 0
+IsStringAt pool file path text =
+    (p : Place) × Leads pool file path (Some p)
+    × (content_from (over (given pool) file).parts p.at ≡ Some (leaf (string text)))
+
+-- the text of the string at the path is in the buffer, or would be if it had room; or what stands
+-- there is no string, memory is wanted, or it isn't told, and the buffer is as it was
+abbrev pub GivesString
+    : List ℕ → List ℕ → List ℕ → List ℕ → List ℕ → Result ℕ Fault → Type 0
+GivesString pool file path old new (Ok n) =
+    (text : List ℕ) × IsStringAt pool file path text × Fills text old new (Ok n)
+GivesString pool file path old new (Err (TooShort n)) =
+    (text : List ℕ) × IsStringAt pool file path text × Fills text old new (Err n)
+GivesString pool file path old new (Err OtherKind) =
+    ((p : Place) × Leads pool file path (Some p)
+    × IsOfOther 1 (over (given pool) file).parts p.at) × (new ≡ old)
+GivesString pool file path old new (Err (Reading e)) =
+    (IsWantOfMemory e ⊎ (FailsToLead pool file path (Reading e) ⊎ LeadsToFault pool file path e))
+    × (new ≡ old)
+GivesString pool file path old new (Err fault) = FailsToLead pool file path fault × (new ≡ old)

@@ -2,9 +2,10 @@
 --     content_from parts spot     what stands there
 --     kind_number c, size_in c    its kind, as the header numbers it, and how much is in it
 --     kind_from parts spot    both, of what stands at a spot
+--     IsOfOther kind parts spot   what stands there is of another kind
 --     integer_from spot       the number that stands there, with its sign
 --     spot_refusal parts spot     why what stands there isn't read
-use Rattle.std.specs.Prelude.{ℕ, ℤ, length, Option, Some, None, option_map}
+use Rattle.std.specs.Prelude.{◌≡◌, ◌≢◌, ℕ, ℤ, length, Option, Some, None, option_map}
 use Rattle.resb_tree.specs.Tree.{Tree, string, alias, array, table, binary, integer, int_vector}
 use Rattle.resb_format.specs.Content.{Content, leaf, list, entry_list, content_at, text_leaf}
 use Rattle.resb_format.specs.Error.{Refusal, end_of_input}
@@ -63,6 +64,10 @@ kind_from p (spot.Unit u) =
     option_map (λ c. (kind_number c, size_in c)) (text_leaf p (index_in p u))
 kind_from p (spot.Word n) = Some (4, 0)
 kind_from p (spot.Key k) = None
+
+-- what stands there is of another kind than this
+abbrev pub IsOfOther : ℕ → Parts → Spot → Type 0
+IsOfOther kind p s = (k : ℕ × ℕ) × (kind_from p s ≡ Some k) × (k.0 ≢ kind)
 
 -- an integer's 28 bits with bit 27 as the sign, or a number of a vector
 abbrev pub integer_from : Spot → Option ℤ

@@ -6,14 +6,15 @@ ghost use Rattle.resb_pool_bundle.specs.Pool.{pool_in};
 ghost use Rattle.resb_program.specs.Files.{LacksPool};
 ghost use Rattle.resb_read.specs.Places.{Place};
 ghost use Rattle.resb_read.specs.WithPool.{over};
-ghost use Rattle.resb_c.specs.AtPaths.{FailsToLead, Leads, TellsInteger, TellsKind};
+ghost use Rattle.resb_c.specs.AtPaths.{FailsToLead, GivesString, Leads, TellsInteger};
+ghost use Rattle.resb_c.specs.AtPaths.{TellsKind};
 ghost use Rattle.resb_c.specs.Inner.Heads.{HasNoParts};
 ghost use Rattle.resb_c.specs.Pools.{given};
 
 use crate::fault::Fault;
-use crate::files::{Input, pool_of, text_of};
+use crate::files::{Input, fill, pool_of, text_of};
 use crate::path::names_of;
-use crate::there::{integer_there, kind_there};
+use crate::there::{integer_there, kind_there, text_there};
 use resb_format::{BinaryDeserializerError, FileBlocks};
 use resb_path::find_with_pool;
 use resb_pool_bundle::{FileHead, PoolBundle};
@@ -81,5 +82,23 @@ pub(crate) fn tell_integer(alloc: Global, input: Input<'_>, path: &[u8]) -> Resu
     match integer_there(at) {
         Some(number) => Ok(number),
         None => Err(Fault::OtherKind),
+    }
+}
+
+/// Copies the text of the string at a path to the front of the buffer.
+pub(crate) fn string_into(
+    alloc: Global,
+    input: Input<'_>,
+    path: &[u8],
+    out: &mut [u8],
+) -> Result<usize, Fault>
+    ensures { GivesString input.entry.pool.now input.entry.file.now path.now out.old out.new
+        result }
+{
+    let (file, at) = find(alloc, input, path)?;
+    let text = text_there(alloc, file, at)?;
+    match fill(text.as_bytes(), out) {
+        Ok(count) => Ok(count),
+        Err(needed) => Err(Fault::TooShort(needed)),
     }
 }

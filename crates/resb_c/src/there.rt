@@ -1,17 +1,24 @@
 //! What stands at a place of a file: its kind, and how much is in it.
 //! Where a path leads is found in `resb_path`, what the caller is told is said in `report`.
-ghost use Rattle.std.specs.Prelude.{◌≡◌, Some, None, MatchResult};
+ghost use Rattle.std.specs.Prelude.{◌≡◌, ◌≢◌, Some, None, IfOk, IfErr, MatchResult};
+ghost use Rattle.std.specs.Prelude.{MatchOption};
+ghost use Rattle.std.specs.String.{string_bytes};
+ghost use Rattle.resb_tree.specs.Tree.{string};
+ghost use Rattle.resb_format.specs.Content.{leaf};
+ghost use Rattle.resb_c.specs.Inner.Texts.{HasNoText};
 ghost use Rattle.resb_format.specs.Parts.{parts_in};
-ghost use Rattle.resb_walk.specs.Inner.Members.{content_of, leaf_tree};
+ghost use Rattle.resb_walk.specs.Inner.Members.{content_of, leaf_tree, text_of_bytes};
 ghost use Rattle.resb_c.specs.AtPlaces.{content_from, integer_from, kind_from, kind_number};
 ghost use Rattle.resb_c.specs.AtPlaces.{leaf_size, size_in, spot_refusal, tree_kind};
 ghost use Rattle.resb_walk.specs.BlockRefusals.{Says};
 
+use crate::fault::Fault;
 use resb_format::{BinaryDeserializerError, FileBlocks, Int28};
 use resb_read::Spot;
 use resb_walk::faults::past_end;
 use resb_walk::places::index_of;
-use resb_walk::{Leaf, Standing, standing_at, text_at};
+use resb_walk::{Leaf, Standing, standing_at, text_at, text_of_units};
+use std::alloc::Global;
 
 /// What stands at a spot of a resource. A number of a vector and a key are none.
 pub(crate) fn standing_there(
@@ -109,5 +116,55 @@ pub(crate) fn integer_there(at: Spot) -> Option<i32>
         }
         Spot::Word(word) => Some(word.cast_signed()),
         Spot::Unit(_) | Spot::Key(_) => None,
+    }
+}
+
+/// The units of a string's leaf.
+#[tactic(auto, using(crate::proofs::ThereLemmas::empty_text))]
+fn units_of_leaf(leaf: Leaf<'_>) -> Option<&[u8]>
+    ensures { MatchOption result (tree_kind (leaf_tree leaf.entry) ≢ 1)
+        (λ units. leaf_tree leaf.entry ≡ string (text_of_bytes units.now)) }
+{
+    match leaf {
+        Leaf::Text(units) => Some(units),
+        Leaf::Empty => Some(&[]),
+        Leaf::Integer(_) => None,
+        Leaf::Numbers(_) => None,
+        Leaf::Binary(_) => None,
+        Leaf::Alias(_) => None,
+    }
+}
+
+/// The units of a string that stands there.
+fn units_in(there: Standing<'_>) -> Option<&[u8]>
+    ensures { MatchOption result (kind_number (content_of there.entry) ≢ 1)
+        (λ units. content_of there.entry ≡ leaf (string (text_of_bytes units.now))) }
+{
+    match there {
+        Standing::Leaf(leaf) => units_of_leaf(leaf),
+        Standing::List(_) => None,
+        Standing::Table(_) => None,
+    }
+}
+
+/// The text of the string at a spot.
+pub(crate) fn text_there(alloc: Global, file: FileBlocks<'_>, at: Spot) -> Result<String, Fault>
+    ensures ok { IfOk result (λ s. content_from (parts_in file.entry) at
+        ≡ Some (leaf (string (string_bytes s)))) }
+    ensures err { IfErr result (HasNoText (parts_in file.entry) at) }
+{
+    if let Spot::Word(_) = at {
+        return Err(Fault::OtherKind);
+    }
+    let there = match standing_there(file, at) {
+        Ok(there) => there,
+        Err(e) => return Err(Fault::Reading(e)),
+    };
+    let Some(units) = units_in(there) else {
+        return Err(Fault::OtherKind);
+    };
+    match text_of_units(alloc, units) {
+        Ok(text) => Ok(text),
+        Err(_) => Err(Fault::Reading(BinaryDeserializerError::out_of_memory())),
     }
 }

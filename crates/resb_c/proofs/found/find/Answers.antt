@@ -17,8 +17,8 @@ returns-in-Ok-Some-clause-ok c =
     let tree = rw c.in-Ok-Some.field-0-is at c.in-Ok-Some.ensures.tree in (
       place_of c.in-Ok-Some.found,
       leads_there pool file c.args.path.now (option_map pool_in c.in_ok-pool.pool)
-          (texts c.as_slice.result.now) c.in-Ok-Some.found c.in_ok-path.ensures.ok.1 lent.0 lent.1 names
-          leads tree,
+          (texts c.as_slice.result.now) c.in-Ok-Some.found c.in_ok-path.ensures.ok.1 lent.0 lent.1
+          names leads tree,
       c.spot.ensures,
       c.in_ok-parts.ensures.ok.1 ∙ ap (λ g. parts_with g file) lent.1,
     )

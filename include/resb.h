@@ -223,6 +223,15 @@ uint32_t resb_get_string(const uint8_t *file, size_t file_length, const uint8_t 
                          size_t pool_length, const uint8_t *path, size_t path_length, uint8_t *out,
                          size_t out_length, size_t *length, resb_error *error);
 
+/* Copies the bytes of a binary at a path.
+ *
+ * RESB_OK: they are the first *length bytes of out, and the bytes behind them are as they were.
+ * RESB_TOO_SHORT: out is as it was, and *length is their number. Else out is as it was, and *length
+ * is 0: RESB_OTHER_KIND, or a reason of resb_kind. */
+uint32_t resb_get_bytes(const uint8_t *file, size_t file_length, const uint8_t *pool,
+                        size_t pool_length, const uint8_t *path, size_t path_length, uint8_t *out,
+                        size_t out_length, size_t *length, resb_error *error);
+
 #ifdef __cplusplus
 }
 #endif

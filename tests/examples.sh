@@ -44,7 +44,7 @@ at byte 6: expected '}'" 'a {\n  ' "$@"
 }
 
 # path_rows LANGUAGE COMMAND..: the rows of the built example that prints what stands at paths: a
-# string, numbers, a key with a slash, what is neither, the root, and nothing
+# string, numbers, a key with a slash, a binary, what is none of these, the root, and nothing
 path_rows() {
   local language=$1
   shift
@@ -52,12 +52,13 @@ path_rows() {
 -5
 -2
 d
+01ff
 fault 13, kind 5, size 2
-fault 13, kind 2, size 4
+fault 13, kind 2, size 5
 fault 12: nothing stands at the path
 fault 12: nothing stands at the path' \
-    'a { b { "c" } n:int { -5 } list:intvector { 7, -2 } "x/y" { "d" } }' \
-    "$@" /b /n /list/1 '|x/y' '#list' '' /d /list/2
+    'a { b { "c" } n:int { -5 } list:intvector { 7, -2 } "x/y" { "d" } raw:bin { 01ff } }' \
+    "$@" /b /n /list/1 '|x/y' /raw '#list' '' /d /list/2
 }
 
 # pool_rows COMMAND..: the rows of the built example that shows files beside pool bundles, which are

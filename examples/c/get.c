@@ -1,11 +1,11 @@
-/* Compiles the text on standard input, and prints what stands at each path in its file, a string or
- * a number as it is, and of all else its kind and size: get PATH.. */
+/* Compiles the text on standard input, and prints what stands at each path in its file: a string or
+ * a number as it is, a binary in hexadecimal, and of all else its kind and size: get PATH.. */
 #include "resb.h"
 
 #include <stdio.h>
 #include <string.h>
 
-/* the most bytes of a text, of a file and of a string */
+/* the most bytes of a text, of a file, and of a string or a binary */
 #define MOST 100000u
 
 static uint8_t text[MOST], file[MOST], out[MOST];
@@ -34,6 +34,14 @@ static int show(size_t file_length, const char *words) {
   status = resb_get_integer(file, file_length, file, 0, path, path_length, &value, &error);
   if (status == RESB_OK) {
     printf("%ld\n", (long)value);
+    return 0;
+  }
+  if (status != RESB_OTHER_KIND) return fail(&error);
+  status = resb_get_bytes(file, file_length, file, 0, path, path_length, out, MOST, &length,
+                          &error);
+  if (status == RESB_OK) {
+    for (size_t number = 0; number < length; number++) printf("%02x", out[number]);
+    putchar('\n');
     return 0;
   }
   if (status != RESB_OTHER_KIND) return fail(&error);

@@ -15,9 +15,12 @@ pub empty_text : text_of_bytes [] ≡ []
 unfolding utf16_chars units_of
 empty_text = refl
 
--- a number of a vector is no string and no binary
-pub number_is_other : (p : Parts) (s : Spot) (n : ℕ) → s ≡ spot.Word n → IsOfOther 1 p s
-number_is_other p s n is = ((4, 0), ap (kind_from p) is, λ e. omega (arith, e))
+-- a number of a vector is no string, and no binary
+pub number_is_no_string : (p : Parts) (s : Spot) (n : ℕ) → s ≡ spot.Word n → IsOfOther 1 p s
+number_is_no_string p s n is = ((4, 0), ap (kind_from p) is, λ e. omega (arith, e))
+
+pub number_is_no_binary : (p : Parts) (s : Spot) (n : ℕ) → s ≡ spot.Word n → IsOfOther 6 p s
+number_is_no_binary p s n is = ((4, 0), ap (kind_from p) is, λ e. omega (arith, e))
 
 none_some : {A : Type 0} {x : A} → None ≡ Some x → ⊥
 none_some {A} e = subst IsNone e tt

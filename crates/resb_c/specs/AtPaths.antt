@@ -7,12 +7,12 @@
 --     kind_told r, size_told r    the two as the caller gets them
 --     TellsInteger pool file path r   what asking for a number answers
 --     integer_told r, status_told r   the number and the status as the caller gets them
---     GivesString pool file path old new r    what asking for a string answers, and leaves in a
---                             buffer
+--     GivesString, GivesBytes pool file path old new r    what asking for a string or a binary
+--                             answers, and leaves in a buffer
 use Rattle.std.specs.Prelude.{◌≡◌, ◌⊎◌, ◌==◌, ℕ, List, [], ◌∷◌, Option, Some, None, Result, Ok, Err}
 use Rattle.std.specs.Prelude.{ℤ, pos, IsUtf8, nat_lt, if◌then◌else◌}
 use Rattle.std.specs.List.{slice_split}
-use Rattle.resb_tree.specs.Tree.{Tree, string}
+use Rattle.resb_tree.specs.Tree.{Tree, binary, string}
 use Rattle.resb_format.specs.Content.{leaf}
 use Rattle.resb_format.specs.Error.{IsWantOfMemory}
 use Rattle.resb_format.specs.declared.error.ReadingError.{ReadingError}
@@ -113,6 +113,27 @@ integer_told (Err fault) = pos 0
 abbrev pub status_told : Result ℤ Fault → Result ℕ Fault
 status_told (Ok x) = Ok 0
 status_told (Err fault) = Err fault
+
+-- the binary that stands at the path has these bytes
+abbrev pub IsBinaryAt : List ℕ → List ℕ → List ℕ → List ℕ → Type 0
+IsBinaryAt pool file path bytes =
+    (p : Place) × Leads pool file path (Some p)
+    × (content_from (over (given pool) file).parts p.at ≡ Some (leaf (binary bytes)))
+
+-- the bytes of the binary at the path are in the buffer, or would be if it had room; or what stands
+-- there is no binary, or it isn't told, and the buffer is as it was
+abbrev pub GivesBytes
+    : List ℕ → List ℕ → List ℕ → List ℕ → List ℕ → Result ℕ Fault → Type 0
+GivesBytes pool file path old new (Ok n) =
+    (bytes : List ℕ) × IsBinaryAt pool file path bytes × Fills bytes old new (Ok n)
+GivesBytes pool file path old new (Err (TooShort n)) =
+    (bytes : List ℕ) × IsBinaryAt pool file path bytes × Fills bytes old new (Err n)
+GivesBytes pool file path old new (Err OtherKind) =
+    ((p : Place) × Leads pool file path (Some p)
+    × IsOfOther 6 (over (given pool) file).parts p.at) × (new ≡ old)
+GivesBytes pool file path old new (Err (Reading e)) =
+    (FailsToLead pool file path (Reading e) ⊎ LeadsToFault pool file path e) × (new ≡ old)
+GivesBytes pool file path old new (Err fault) = FailsToLead pool file path fault × (new ≡ old)
 
 -- the string that stands at the path has this text
 abbrev pub IsStringAt : List ℕ → List ℕ → List ℕ → List ℕ → Type 0

@@ -6,15 +6,15 @@ ghost use Rattle.resb_pool_bundle.specs.Pool.{pool_in};
 ghost use Rattle.resb_program.specs.Files.{LacksPool};
 ghost use Rattle.resb_read.specs.Places.{Place};
 ghost use Rattle.resb_read.specs.WithPool.{over};
-ghost use Rattle.resb_c.specs.AtPaths.{FailsToLead, GivesString, Leads, TellsInteger};
-ghost use Rattle.resb_c.specs.AtPaths.{TellsKind};
+ghost use Rattle.resb_c.specs.AtPaths.{FailsToLead, GivesBytes, GivesString, Leads};
+ghost use Rattle.resb_c.specs.AtPaths.{TellsInteger, TellsKind};
 ghost use Rattle.resb_c.specs.Inner.Heads.{HasNoParts};
 ghost use Rattle.resb_c.specs.Pools.{given};
 
 use crate::fault::Fault;
 use crate::files::{Input, fill, pool_of, text_of};
 use crate::path::names_of;
-use crate::there::{integer_there, kind_there, text_there};
+use crate::there::{bytes_there, integer_there, kind_there, text_there};
 use resb_format::{BinaryDeserializerError, FileBlocks};
 use resb_path::find_with_pool;
 use resb_pool_bundle::{FileHead, PoolBundle};
@@ -98,6 +98,24 @@ pub(crate) fn string_into(
     let (file, at) = find(alloc, input, path)?;
     let text = text_there(alloc, file, at)?;
     match fill(text.as_bytes(), out) {
+        Ok(count) => Ok(count),
+        Err(needed) => Err(Fault::TooShort(needed)),
+    }
+}
+
+/// Copies the bytes of the binary at a path to the front of the buffer.
+pub(crate) fn bytes_into(
+    alloc: Global,
+    input: Input<'_>,
+    path: &[u8],
+    out: &mut [u8],
+) -> Result<usize, Fault>
+    ensures { GivesBytes input.entry.pool.now input.entry.file.now path.now out.old out.new
+        result }
+{
+    let (file, at) = find(alloc, input, path)?;
+    let bytes = bytes_there(file, at)?;
+    match fill(bytes, out) {
         Ok(count) => Ok(count),
         Err(needed) => Err(Fault::TooShort(needed)),
     }

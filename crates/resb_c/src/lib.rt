@@ -6,7 +6,7 @@
 ghost use Rattle.std.specs.Prelude.{◌≡◌, ℕ, ℤ, [], Result, length, min};
 ghost use Rattle.resb_read.specs.declared.measuring.Measured.{Measured};
 ghost use Rattle.resb_program.specs.Location.{line_at, column_at};
-ghost use Rattle.resb_c.specs.AtPaths.{GivesString, TellsInteger, TellsKind};
+ghost use Rattle.resb_c.specs.AtPaths.{GivesBytes, GivesString, TellsInteger, TellsKind};
 ghost use Rattle.resb_c.specs.AtPaths.{integer_told, kind_told, size_told, status_told};
 ghost use Rattle.resb_c.specs.Calls.{CompilesInto, CompilesWithin, CountsFile, Reports};
 ghost use Rattle.resb_c.specs.Dumping.{DumpsInto};
@@ -23,7 +23,7 @@ mod there;
 use crate::files::{
     Input, compile_into, compile_within_into, count_file, count_measured, dump_into, measure_file,
 };
-use crate::found::{string_into, tell_integer, tell_kind};
+use crate::found::{bytes_into, string_into, tell_integer, tell_kind};
 use crate::report::report;
 pub use fault::Fault;
 pub use measured::ResbMeasured;
@@ -253,5 +253,24 @@ pub extern "C" fn resb_get_string(
         × Reports r result length.new error.new }
 {
     let answer = string_into(alloc, Input { file, pool }, path, out);
+    report(alloc, answer, length, error)
+}
+
+/// Copies the bytes of the binary at a path in a file to the front of `out`, as `resb_get_string`
+/// does the text of a string. `length` gets their number, for `RESB_TOO_SHORT` too, else 0.
+#[unsafe(no_mangle)]
+pub extern "C" fn resb_get_bytes(
+    alloc: Global,
+    file: &[u8],
+    pool: &[u8],
+    path: &[u8],
+    out: &mut [u8],
+    length: &mut usize,
+    error: &mut ResbError,
+) -> u32
+    ensures { (r : Result ℕ Fault) × GivesBytes pool.now file.now path.now out.old out.new r
+        × Reports r result length.new error.new }
+{
+    let answer = bytes_into(alloc, Input { file, pool }, path, out);
     report(alloc, answer, length, error)
 }

@@ -3,9 +3,9 @@
 ghost use Rattle.std.specs.Prelude.{◌≡◌, ◌≢◌, Some, None, IfOk, IfErr, MatchResult};
 ghost use Rattle.std.specs.Prelude.{MatchOption};
 ghost use Rattle.std.specs.String.{string_bytes};
-ghost use Rattle.resb_tree.specs.Tree.{string};
+ghost use Rattle.resb_tree.specs.Tree.{binary, string};
 ghost use Rattle.resb_format.specs.Content.{leaf};
-ghost use Rattle.resb_c.specs.Inner.Texts.{HasNoText};
+ghost use Rattle.resb_c.specs.Inner.Texts.{HasNoBytes, HasNoText};
 ghost use Rattle.resb_format.specs.Parts.{parts_in};
 ghost use Rattle.resb_walk.specs.Inner.Members.{content_of, leaf_tree, text_of_bytes};
 ghost use Rattle.resb_c.specs.AtPlaces.{content_from, integer_from, kind_from, kind_number};
@@ -167,4 +167,50 @@ pub(crate) fn text_there(alloc: Global, file: FileBlocks<'_>, at: Spot) -> Resul
         Ok(text) => Ok(text),
         Err(_) => Err(Fault::Reading(BinaryDeserializerError::out_of_memory())),
     }
+}
+
+/// The bytes of a binary's leaf.
+fn bytes_of_leaf(leaf: Leaf<'_>) -> Option<&[u8]>
+    ensures { MatchOption result (tree_kind (leaf_tree leaf.entry) ≢ 6)
+        (λ bytes. leaf_tree leaf.entry ≡ binary bytes.now) }
+{
+    match leaf {
+        Leaf::Binary(bytes) => Some(bytes),
+        Leaf::Text(_) => None,
+        Leaf::Empty => None,
+        Leaf::Integer(_) => None,
+        Leaf::Numbers(_) => None,
+        Leaf::Alias(_) => None,
+    }
+}
+
+/// The bytes of a binary that stands there.
+fn bytes_in(there: Standing<'_>) -> Option<&[u8]>
+    ensures { MatchOption result (kind_number (content_of there.entry) ≢ 6)
+        (λ bytes. content_of there.entry ≡ leaf (binary bytes.now)) }
+{
+    match there {
+        Standing::Leaf(leaf) => bytes_of_leaf(leaf),
+        Standing::List(_) => None,
+        Standing::Table(_) => None,
+    }
+}
+
+/// The bytes of the binary at a spot.
+pub(crate) fn bytes_there(file: FileBlocks<'_>, at: Spot) -> Result<&[u8], Fault>
+    ensures ok { IfOk result (λ bytes. content_from (parts_in file.entry) at
+        ≡ Some (leaf (binary bytes.now))) }
+    ensures err { IfErr result (HasNoBytes (parts_in file.entry) at) }
+{
+    if let Spot::Word(_) = at {
+        return Err(Fault::OtherKind);
+    }
+    let there = match standing_there(file, at) {
+        Ok(there) => there,
+        Err(e) => return Err(Fault::Reading(e)),
+    };
+    let Some(bytes) = bytes_in(there) else {
+        return Err(Fault::OtherKind);
+    };
+    Ok(bytes)
 }

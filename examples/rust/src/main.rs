@@ -1,6 +1,6 @@
 //! Compiles the text on standard input, says how large its file is, and prints it back as a text.
-//! Where paths are given, what stands at each is printed alone: a string or a number as it is, and
-//! of all else its kind and size.
+//! Where paths are given, what stands at each is printed alone: a string or a number as it is, a
+//! binary in hexadecimal, and of all else its kind and size.
 mod resb;
 
 use std::io::Read;
@@ -26,11 +26,15 @@ fn said(input: resb::Input<'_>, path: &str) -> Result<String, resb::Error> {
         answer => return answer,
     }
     match resb::integer(input, path) {
+        Err(e) if e.kind == resb::OTHER_KIND => {}
+        answer => return Ok(answer?.to_string()),
+    }
+    match resb::bytes(input, path) {
         Err(e) if e.kind == resb::OTHER_KIND => {
             let (kind, size) = resb::kind(input, path)?;
             Ok(format!("fault {}, kind {kind}, size {size}", e.kind))
         }
-        answer => Ok(answer?.to_string()),
+        answer => Ok(answer?.iter().map(|byte| format!("{byte:02x}")).collect()),
     }
 }
 

@@ -122,6 +122,18 @@ extern "C" {
         length: *mut usize,
         error: *mut Error,
     ) -> u32;
+    fn resb_get_bytes(
+        file: *const u8,
+        file_length: usize,
+        pool: *const u8,
+        pool_length: usize,
+        path: *const u8,
+        path_length: usize,
+        out: *mut u8,
+        out_length: usize,
+        length: *mut usize,
+        error: *mut Error,
+    ) -> u32;
 }
 
 /// Compiles to the buffer: the file's length, and whether it fitted.
@@ -291,6 +303,39 @@ pub fn integer(input: Input<'_>, path: &str) -> Result<i32, Error> {
         OK => Ok(value),
         _ => Err(error),
     }
+}
+
+/// Copies the binary at a path to the buffer: its length, and whether it fitted.
+fn bytes_to(input: Input<'_>, path: &str, out: &mut [u8]) -> Result<(usize, bool), Error> {
+    let Input { file, pool } = input;
+    let (mut length, mut error) = (0, Error::none());
+    let status = unsafe {
+        resb_get_bytes(
+            file.as_ptr(),
+            file.len(),
+            pool.as_ptr(),
+            pool.len(),
+            path.as_ptr(),
+            path.len(),
+            out.as_mut_ptr(),
+            out.len(),
+            &mut length,
+            &mut error,
+        )
+    };
+    match status {
+        OK => Ok((length, true)),
+        TOO_SHORT => Ok((length, false)),
+        _ => Err(error),
+    }
+}
+
+/// The bytes of the binary at a path.
+pub fn bytes(input: Input<'_>, path: &str) -> Result<Vec<u8>, Error> {
+    let (length, _) = bytes_to(input, path, &mut [])?;
+    let mut bytes = vec![0; length];
+    bytes_to(input, path, &mut bytes)?;
+    Ok(bytes)
 }
 
 /// Copies the string at a path to the buffer: its length, and whether it fitted.

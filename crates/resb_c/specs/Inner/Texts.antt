@@ -1,4 +1,4 @@
--- Why the text of a string isn't had at a spot.
+-- Why the text of a string, or the bytes of a binary, aren't had at a spot.
 use Rattle.std.specs.Prelude.{◌≡◌, ◌⊎◌, None}
 use Rattle.resb_format.specs.Error.{IsWantOfMemory}
 use Rattle.resb_format.specs.Parts.{Parts}
@@ -13,3 +13,9 @@ abbrev pub HasNoText : Parts → Spot → Fault → Type 0
 HasNoText p s OtherKind = IsOfOther 1 p s
 HasNoText p s (Reading e) = IsWantOfMemory e ⊎ ((kind_from p s ≡ None) × Says (spot_refusal p s) e)
 HasNoText p s _ = ⊥
+
+-- what stands there is no binary, or no resource stands there whole
+abbrev pub HasNoBytes : Parts → Spot → Fault → Type 0
+HasNoBytes p s OtherKind = IsOfOther 6 p s
+HasNoBytes p s (Reading e) = (kind_from p s ≡ None) × Says (spot_refusal p s) e
+HasNoBytes p s _ = ⊥

@@ -1,4 +1,5 @@
 -- Nothing is passed on.
 mod HeadLemmas
+mod OwnPlaces
 mod PathLemmas
 mod ThereLemmas

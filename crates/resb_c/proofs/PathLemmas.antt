@@ -6,11 +6,13 @@ use Rattle.std.specs.List.{slice_split, slice_index}
 use Rattle.std.proofs.lemmas.Bool.{false≢true, lt-ltb}
 use Rattle.resb_pool_bundle.specs.Pool.{Pool}
 use Rattle.resb_read.specs.Places.{place_of}
+use Rattle.resb_read.specs.Roots.{place_of_root}
 use Rattle.resb_read.specs.WithPool.{over}
 use Rattle.resb_read.specs.declared.cursor.Cursor.{Cursor}
 use Rattle.resb_path.specs.InFiles.{LeadsOnWith, AnswersPathWith}
-use Rattle.resb_c.specs.AtPaths.{names_in, Leads}
+use Rattle.resb_c.specs.AtPaths.{names_in, IsOwn, Leads}
 use Rattle.resb_c.specs.Pools.{given, IsGiven}
+use Rattle.resb_c.proofs.OwnPlaces.{leads_to_own}
 
 -- a text that isn't empty has a first byte
 pub has_first : (path : List ℕ) → (length path == 0) ≡ false → 0 < length path
@@ -41,5 +43,8 @@ leads_there pool file path lent names c text right is are leads answers =
       is_given = right;
       passes = there.0;
       leads = sym there.1;
+      own =
+          subst (IsOwn (over (given pool) file).parts) (sym there.1)
+          (leads_to_own (place_of_root (over (given pool) file)) (names_in path));
       tree = told;
     }

@@ -16,6 +16,7 @@ use Rattle.resb_tree.specs.Tree.{Tree, binary, string}
 use Rattle.resb_format.specs.Content.{leaf}
 use Rattle.resb_format.specs.Error.{IsWantOfMemory}
 use Rattle.resb_format.specs.declared.error.ReadingError.{ReadingError}
+use Rattle.resb_format.specs.Parts.{Parts}
 use Rattle.resb_pool_bundle.specs.FileWith.{DenotesWith}
 use Rattle.resb_walk.specs.BlockRefusals.{Says}
 use Rattle.resb_read.specs.Places.{Place}
@@ -40,14 +41,20 @@ names_in [] = []
 names_in (b ∷ bs) =
     if nat_lt b 128 then slice_split (λ byte. byte == b) bs else (b ∷ bs) ∷ []
 
+-- the place, if there is one, lies in these parts
+abbrev pub IsOwn : Parts → Option Place → Type 0
+IsOwn parts None = Unit {0}
+IsOwn parts (Some p) = p.parts ≡ parts
+
 -- the path and the pool are right, no check of the file's head fails, and from its root the path
--- leads to this place, or to none; where the bytes denote a tree, what stands in the tree at the
--- path stands at this place, or nothing does
+-- leads to this place in the file's parts, or to none; where the bytes denote a tree, what stands
+-- in the tree at the path stands at this place, or nothing does
 pub record Leads (pool file path : List ℕ) (place : Option Place) : Type 0 where
   pub is_text : IsUtf8 path
   pub is_given : IsGiven pool
   pub passes : (over (given pool) file).refusal ≡ None
   pub leads : place_at (place_of_root (over (given pool) file)) (names_in path) ≡ place
+  pub own : IsOwn (over (given pool) file).parts place
   pub tree : (t : Tree) (n : ℕ) → DenotesWith (given pool) file t n
       → AreFound place (found_at (tree_spot t) (names_in path))
 

@@ -87,7 +87,8 @@ bundle{
 }
 
 # write_statuses FILE: the program that asks each call that takes a file about the bytes of standard
-# input: check, measure and dump; the same beside no pool bundle; and where these are the pool too
+# input: check, measure and dump; the same beside no pool bundle, and what stands at the root; and
+# where these are the pool too
 write_statuses() {
   cat > "$1" << 'C'
 #include "resb.h"
@@ -102,7 +103,8 @@ int main(void) {
   size_t number, count = 0;
   resb_measured measured;
   resb_error error;
-  uint32_t got[9];
+  uint32_t kind, got[17];
+  int32_t value;
   got[count++] = resb_check(bytes, length, &number, &error);
   got[count++] = resb_measure(bytes, length, &measured, &error);
   got[count++] = resb_dump(bytes, length, name, 1, UINT64_MAX, out, sizeof out, &number, &error);
@@ -112,6 +114,12 @@ int main(void) {
     got[count++] = resb_measure_with_pool(bytes, length, bytes, pool, &measured, &error);
     got[count++] = resb_dump_with_pool(bytes, length, bytes, pool, name, 1, UINT64_MAX, out,
                                        sizeof out, &number, &error);
+    got[count++] = resb_kind(bytes, length, bytes, pool, name, 0, &kind, &number, &error);
+    got[count++] = resb_get_integer(bytes, length, bytes, pool, name, 0, &value, &error);
+    got[count++] = resb_get_string(bytes, length, bytes, pool, name, 0, out, sizeof out, &number,
+                                   &error);
+    got[count++] = resb_get_bytes(bytes, length, bytes, pool, name, 0, out, sizeof out, &number,
+                                  &error);
   }
   for (size_t call = 0; call < count; call++)
     printf("%s%u", call > 0 ? " " : "", (unsigned)got[call]);
@@ -125,8 +133,9 @@ C
 status_rows() {
   local front='\030\000\332\047\024\000\000\000\000\000'
   local back='\000ResB\002\000\000\000\001\004\000\000'
-  expect 'C: characters of another size' 0 '6 6 6 6 6 6 11 11 11' "$front\020$back" "$@"
-  expect 'C: no body' 0 '5 5 5 5 5 5 11 11 11' "$front\002$back" "$@"
+  expect 'C: characters of another size' 0 '6 6 6 6 6 6 6 6 6 6 11 11 11 11 11 11 11' \
+    "$front\020$back" "$@"
+  expect 'C: no body' 0 '5 5 5 5 5 5 5 5 5 5 11 11 11 11 11 11 11' "$front\002$back" "$@"
 }
 
 # built NAME COMMAND..: whether the example is built, which counts only where it fails

@@ -1,4 +1,5 @@
-/* resb.h: ICU resource bundles, from a text to a .res file and back, and checks of such files.
+/* resb.h: ICU resource bundles, from a text to a .res file and back, checks of such files, and what
+ * stands at a path in one.
  *
  * Link with libresb_c.a and with the toolchain's liblibc_c.a, in this order.
  *
@@ -30,7 +31,7 @@ extern "C" {
 #define RESB_OK 0u
 /* The buffer is too short: nothing was written to it, and *length is the length that is needed. */
 #define RESB_TOO_SHORT 1u
-/* The text, or the name of a dump, is not UTF-8 from the error's place on. */
+/* The text, the name of a dump, or a path is not UTF-8 from the error's place on. */
 #define RESB_NOT_UTF8 2u
 /* The text is no bundle: it can't be read on at the error's place. */
 #define RESB_NOT_A_BUNDLE 3u
@@ -55,13 +56,17 @@ extern "C" {
 #define RESB_OVER_LIMIT 10u
 /* The bytes that were given as a pool bundle are none. */
 #define RESB_NOT_A_POOL 11u
+/* Nothing stands at the path. */
+#define RESB_NOT_FOUND 12u
+/* What stands at the path is of another kind. */
+#define RESB_OTHER_KIND 13u
 
 /* Why a call failed. Each call writes all of it: after RESB_OK it holds zeros alone. */
 typedef struct resb_error {
   /* what the call answered */
   uint32_t kind;
-  /* for RESB_NOT_UTF8 and RESB_NOT_A_BUNDLE a byte of the text, or of a dump's name, counted from
-   * 0; else 0 */
+  /* for RESB_NOT_UTF8 and RESB_NOT_A_BUNDLE a byte of the text, of a dump's name or of a path,
+   * counted from 0; else 0 */
   size_t place;
   /* what went wrong, in English, perhaps in several lines, cut at 255 bytes wherever that is, and
    * zero bytes behind it; empty where memory is wanted for it */
@@ -166,6 +171,66 @@ uint32_t resb_dump_with_pool(const uint8_t *file, size_t file_length, const uint
                              size_t pool_length, const uint8_t *name, size_t name_length,
                              uint64_t limit, uint8_t *out, size_t out_length, size_t *length,
                              resb_error *error);
+
+/* Paths. The calls below look at what stands at a path in a file, beside a pool bundle of
+ * pool_length bytes; a length of 0 says that there is none. Nothing is kept between two calls: each
+ * looks at the pool, at the head of the file and at what lies on the path, and at nothing else. So
+ * a file that is broken elsewhere is answered. A stranger's file may be given: no tree is made of
+ * it.
+ *
+ * A path is UTF-8 of path_length bytes. The empty path leads to the root. Any other begins with its
+ * separator, which is an ASCII character, and has a name between two separators and behind the
+ * last: "/names/greeting" and "|names|greeting" say the same, and "|a/b|c" has a name with a slash.
+ * A name leads into a table, to the last entry of that name, and a number from 0 into an array or a
+ * vector, such as "/list/0". A path that begins with a character that is not ASCII is one name as
+ * it stands. An alias is not followed. */
+
+/* What stands at a path. */
+#define RESB_STRING 1u
+#define RESB_TABLE 2u
+#define RESB_ARRAY 3u
+/* a number of 28 bits, or one of a vector, of 32 bits */
+#define RESB_INTEGER 4u
+#define RESB_VECTOR 5u
+#define RESB_BINARY 6u
+#define RESB_ALIAS 7u
+
+/* Tells of what stands at a path which kind it has, and how much is in it.
+ *
+ * RESB_OK: *kind is one of the kinds above. *size is the number of a table's entries, those that
+ * are replaced included, of an array's members, of a vector's numbers, or of a binary's bytes; for
+ * any other kind it is 0. Else both are 0: RESB_NOT_UTF8 for the path, which is looked at first,
+ * RESB_NOT_FOUND, or a reason of resb_check_with_pool, for the head of the file or for what lies on
+ * the path. */
+uint32_t resb_kind(const uint8_t *file, size_t file_length, const uint8_t *pool,
+                   size_t pool_length, const uint8_t *path, size_t path_length, uint32_t *kind,
+                   size_t *size, resb_error *error);
+
+/* Tells the number at a path: a RESB_INTEGER, of 28 bits or, in a vector, of 32, with its sign.
+ *
+ * RESB_OK: *value is the number. Else it is 0: RESB_OTHER_KIND, or a reason of resb_kind. */
+uint32_t resb_get_integer(const uint8_t *file, size_t file_length, const uint8_t *pool,
+                          size_t pool_length, const uint8_t *path, size_t path_length,
+                          int32_t *value, resb_error *error);
+
+/* Copies the text of a string at a path, as UTF-8 without a zero at its end. The path of a
+ * RESB_ALIAS is no string.
+ *
+ * RESB_OK: the text is the first *length bytes of out, and the bytes behind it are as they were.
+ * RESB_TOO_SHORT: out is as it was, and *length is the length of the text. Else out is as it was,
+ * and *length is 0: RESB_OTHER_KIND, or a reason of resb_kind. */
+uint32_t resb_get_string(const uint8_t *file, size_t file_length, const uint8_t *pool,
+                         size_t pool_length, const uint8_t *path, size_t path_length, uint8_t *out,
+                         size_t out_length, size_t *length, resb_error *error);
+
+/* Copies the bytes of a binary at a path.
+ *
+ * RESB_OK: they are the first *length bytes of out, and the bytes behind them are as they were.
+ * RESB_TOO_SHORT: out is as it was, and *length is their number. Else out is as it was, and *length
+ * is 0: RESB_OTHER_KIND, or a reason of resb_kind. */
+uint32_t resb_get_bytes(const uint8_t *file, size_t file_length, const uint8_t *pool,
+                        size_t pool_length, const uint8_t *path, size_t path_length, uint8_t *out,
+                        size_t out_length, size_t *length, resb_error *error);
 
 #ifdef __cplusplus
 }

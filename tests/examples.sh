@@ -43,6 +43,24 @@ at byte 6: expected '}'" 'a {\n  ' "$@"
     "a {$(printf 'k {%.0s' {1..9000})" "$@"
 }
 
+# path_rows LANGUAGE COMMAND..: the rows of the built example that prints what stands at paths: a
+# string, numbers, a key with a slash, a binary, what is none of these, the root, and nothing
+path_rows() {
+  local language=$1
+  shift
+  expect "$language: paths" 1 'c
+-5
+-2
+d
+01ff
+fault 13, kind 5, size 2
+fault 13, kind 2, size 5
+fault 12: nothing stands at the path
+fault 12: nothing stands at the path' \
+    'a { b { "c" } n:int { -5 } list:intvector { 7, -2 } "x/y" { "d" } raw:bin { 01ff } }' \
+    "$@" /b /n /list/1 '|x/y' /raw '#list' '' /d /list/2
+}
+
 # pool_rows COMMAND..: the rows of the built example that shows files beside pool bundles, which are
 # those of `pools.py`
 pool_rows() {
@@ -69,7 +87,8 @@ bundle{
 }
 
 # write_statuses FILE: the program that asks each call that takes a file about the bytes of standard
-# input: check, measure and dump; the same beside no pool bundle; and where these are the pool too
+# input: check, measure and dump; the same beside no pool bundle, and what stands at the root; and
+# where these are the pool too
 write_statuses() {
   cat > "$1" << 'C'
 #include "resb.h"
@@ -84,7 +103,8 @@ int main(void) {
   size_t number, count = 0;
   resb_measured measured;
   resb_error error;
-  uint32_t got[9];
+  uint32_t kind, got[17];
+  int32_t value;
   got[count++] = resb_check(bytes, length, &number, &error);
   got[count++] = resb_measure(bytes, length, &measured, &error);
   got[count++] = resb_dump(bytes, length, name, 1, UINT64_MAX, out, sizeof out, &number, &error);
@@ -94,6 +114,12 @@ int main(void) {
     got[count++] = resb_measure_with_pool(bytes, length, bytes, pool, &measured, &error);
     got[count++] = resb_dump_with_pool(bytes, length, bytes, pool, name, 1, UINT64_MAX, out,
                                        sizeof out, &number, &error);
+    got[count++] = resb_kind(bytes, length, bytes, pool, name, 0, &kind, &number, &error);
+    got[count++] = resb_get_integer(bytes, length, bytes, pool, name, 0, &value, &error);
+    got[count++] = resb_get_string(bytes, length, bytes, pool, name, 0, out, sizeof out, &number,
+                                   &error);
+    got[count++] = resb_get_bytes(bytes, length, bytes, pool, name, 0, out, sizeof out, &number,
+                                  &error);
   }
   for (size_t call = 0; call < count; call++)
     printf("%s%u", call > 0 ? " " : "", (unsigned)got[call]);
@@ -107,8 +133,9 @@ C
 status_rows() {
   local front='\030\000\332\047\024\000\000\000\000\000'
   local back='\000ResB\002\000\000\000\001\004\000\000'
-  expect 'C: characters of another size' 0 '6 6 6 6 6 6 11 11 11' "$front\020$back" "$@"
-  expect 'C: no body' 0 '5 5 5 5 5 5 11 11 11' "$front\002$back" "$@"
+  expect 'C: characters of another size' 0 '6 6 6 6 6 6 6 6 6 6 11 11 11 11 11 11 11' \
+    "$front\020$back" "$@"
+  expect 'C: no body' 0 '5 5 5 5 5 5 5 5 5 5 11 11 11 11 11 11 11' "$front\002$back" "$@"
 }
 
 # built NAME COMMAND..: whether the example is built, which counts only where it fails
@@ -133,6 +160,9 @@ if command -v cc > /dev/null; then
   built 'the C example of pools' cc -std=c99 -Wall -Wextra -Werror -O2 ${CFLAGS:-} \
     -I "$top/include" "$top/examples/c/show.c" "$RESB_LIB/libresb_c.a" "$RATTLE_C/liblibc_c.a" \
     -o "$folder/show" && pool_rows "$folder/show"
+  built 'the C example of paths' cc -std=c99 -Wall -Wextra -Werror -O2 ${CFLAGS:-} \
+    -I "$top/include" "$top/examples/c/get.c" "$RESB_LIB/libresb_c.a" "$RATTLE_C/liblibc_c.a" \
+    -o "$folder/get" && path_rows C "$folder/get"
   write_statuses "$folder/statuses.c"
   built 'the program of statuses' cc -std=c99 -Wall -Wextra -Werror -O2 ${CFLAGS:-} \
     -I "$top/include" "$folder/statuses.c" "$RESB_LIB/libresb_c.a" "$RATTLE_C/liblibc_c.a" \
@@ -141,7 +171,8 @@ fi
 if command -v cargo > /dev/null; then
   built 'the Rust example' cargo build --quiet --offline --manifest-path \
     "$top/examples/rust/Cargo.toml" --target-dir "$folder/target" &&
-    rows Rust "$folder/target/debug/resb_example"
+    rows Rust "$folder/target/debug/resb_example" &&
+    path_rows Rust "$folder/target/debug/resb_example"
 fi
 echo "$passed passed, $failed failed"
 [ "$failed" = 0 ]

@@ -1,1 +1,5 @@
--- Nothing: the check proves this crate by itself.
+-- Nothing is passed on.
+mod HeadLemmas
+mod OwnPlaces
+mod PathLemmas
+mod ThereLemmas

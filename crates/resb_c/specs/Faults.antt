@@ -21,6 +21,7 @@ use Rattle.resb_c.specs.declared.fault.Fault.{Fault}
 use Rattle.resb_c.specs.declared.fault.Fault.TheVariants.{TooShort, NotUtf8, Compiling, Reading}
 use Rattle.resb_c.specs.declared.fault.Fault.TheVariants.{UsesPool, Pool, Larger, LongKeys}
 use Rattle.resb_c.specs.declared.fault.Fault.TheVariants.{LongText, LargerText, Printing}
+use Rattle.resb_c.specs.declared.fault.Fault.TheVariants.{NotFound, OtherKind}
 
 -- a text that isn't read is 3, want of memory 8
 abbrev pub text_number : Expected → ℕ
@@ -50,7 +51,7 @@ compile_number (compiling.Writing e) = tree_number (fault_of e)
 
 -- a buffer that is too short is 1, bytes that aren't UTF-8 are 2, a file that lacks its pool bundle
 -- is 9, a tree, its keys or a text over the limit 10, a pool's bytes that are no pool bundle 11,
--- and else the fault's own number
+-- nothing at a path 12, another kind at it 13, and else the fault's own number
 abbrev pub number_of : Fault → ℕ
 number_of (TooShort n) = 1
 number_of (NotUtf8 n) = 2
@@ -63,6 +64,8 @@ number_of LongKeys = 10
 number_of LongText = 10
 number_of LargerText = 10
 number_of (Printing e) = print_number e
+number_of NotFound = 12
+number_of OtherKind = 13
 
 -- the reader's place in the text, and 0 for a tree that isn't written
 abbrev pub compile_place : CompileError → ℕ
@@ -82,6 +85,8 @@ place_of LongKeys = 0
 place_of LongText = 0
 place_of LargerText = 0
 place_of (Printing e) = 0
+place_of NotFound = 0
+place_of OtherKind = 0
 
 -- the length that was wanted, the place, or what the error inside prints
 abbrev pub message_of : Fault → List ℕ
@@ -97,3 +102,5 @@ message_of LongKeys = codes "the keys of the entries take more bytes than the li
 message_of LongText = codes "the text takes more bytes than the limit"
 message_of LargerText = codes "reading the text takes more bytes than the limit"
 message_of (Printing e) = printing.message_of e
+message_of NotFound = codes "nothing stands at the path"
+message_of OtherKind = codes "what stands at the path is of another kind"

@@ -4,3 +4,6 @@ pub mod Pools
 pub mod Calls
 pub mod Dumping
 pub mod Measures
+pub mod AtPlaces
+pub mod AtPaths
+pub mod Inner

@@ -33,6 +33,10 @@ pub enum Fault {
     UsesPool,
     /// The bytes that were given as a pool bundle are none.
     Pool(BinaryDeserializerError),
+    /// Nothing stands at the path.
+    NotFound,
+    /// What stands at the path is of another kind.
+    OtherKind,
     /// The tree has no text.
     Printing(PrintError),
 }
@@ -62,6 +66,8 @@ impl Fault {
             Fault::Printing(PrintError::NotPrintable(_)) => 7,
             Fault::Printing(PrintError::OutOfMemory) => 8,
             Fault::Pool(_) => 11,
+            Fault::NotFound => 12,
+            Fault::OtherKind => 13,
         }
     }
 
@@ -95,6 +101,8 @@ impl fmt::Display for Fault {
             Fault::LongText => write!(f, "the text takes more bytes than the limit"),
             Fault::LargerText => write!(f, "reading the text takes more bytes than the limit"),
             Fault::Printing(e) => write!(f, "{e}"),
+            Fault::NotFound => write!(f, "nothing stands at the path"),
+            Fault::OtherKind => write!(f, "what stands at the path is of another kind"),
         }
     }
 }

@@ -39,7 +39,7 @@ pub(crate) fn fill(answer: &[u8], out: &mut [u8]) -> Result<usize, usize>
 }
 
 /// The bytes as a text.
-fn text_of(bytes: &[u8]) -> Result<&str, Fault>
+pub(crate) fn text_of(bytes: &[u8]) -> Result<&str, Fault>
     ensures ok { IfOk result (λ text. (text.now ≡ bytes.entry.now) × IsUtf8 bytes.entry.now) }
     ensures err { IfErr result
         (λ e. (n : ℕ) × (e ≡ Fault.NotUtf8 n) × IsNotUtf8 bytes.entry.now n) }
@@ -85,7 +85,7 @@ pub(crate) fn compile_within_into(
 }
 
 /// The pool bundle of these bytes: none where there are no bytes.
-fn pool_of(bytes: &[u8]) -> Result<Option<PoolBundle<'_>>, Fault>
+pub(crate) fn pool_of(bytes: &[u8]) -> Result<Option<PoolBundle<'_>>, Fault>
     ensures ok { IfOk result
         (λ p. IsGiven bytes.entry.now × (option_map pool_in p ≡ given bytes.entry.now)) }
     ensures err { IfErr result

@@ -3,21 +3,27 @@
 //! bytes is in `files`, why a call fails in `fault`.
 #![tactic(auto)]
 
-ghost use Rattle.std.specs.Prelude.{◌≡◌, ℕ, [], Result, length, min};
+ghost use Rattle.std.specs.Prelude.{◌≡◌, ℕ, ℤ, [], Result, length, min};
 ghost use Rattle.resb_read.specs.declared.measuring.Measured.{Measured};
 ghost use Rattle.resb_program.specs.Location.{line_at, column_at};
+ghost use Rattle.resb_c.specs.AtPaths.{GivesBytes, GivesString, TellsInteger, TellsKind};
+ghost use Rattle.resb_c.specs.AtPaths.{integer_told, kind_told, size_told, status_told};
 ghost use Rattle.resb_c.specs.Calls.{CompilesInto, CompilesWithin, CountsFile, Reports};
 ghost use Rattle.resb_c.specs.Dumping.{DumpsInto};
 ghost use Rattle.resb_c.specs.Measures.{MeasuresFile, ShowsSums, resources_of};
 
 mod fault;
 mod files;
+mod found;
 mod measured;
+mod path;
 mod report;
+mod there;
 
 use crate::files::{
     Input, compile_into, compile_within_into, count_file, count_measured, dump_into, measure_file,
 };
+use crate::found::{bytes_into, string_into, tell_integer, tell_kind};
 use crate::report::report;
 pub use fault::Fault;
 pub use measured::ResbMeasured;
@@ -173,5 +179,98 @@ pub extern "C" fn resb_dump_with_pool(
         × Reports r result length.new error.new }
 {
     let answer = dump_into(alloc, Input { file, pool }, name, limit, out);
+    report(alloc, answer, length, error)
+}
+
+/// Tells of what stands at a path in a file, beside the pool bundle of these bytes, which kind it
+/// has, and how much is in it. None is given where there are no bytes. Both are 0 where it isn't
+/// told. The file's head is checked and what lies on the path, and nothing else.
+#[unsafe(no_mangle)]
+pub extern "C" fn resb_kind(
+    alloc: Global,
+    file: &[u8],
+    pool: &[u8],
+    path: &[u8],
+    kind: &mut u32,
+    size: &mut usize,
+    error: &mut ResbError,
+) -> u32
+    ensures { (r : Result (ℕ × ℕ) Fault) × TellsKind pool.now file.now path.now r
+        × (kind.new ≡ kind_told r) × Reports (size_told r) result size.new error.new }
+{
+    match tell_kind(alloc, Input { file, pool }, path) {
+        Ok((found, count)) => {
+            *kind = found;
+            report(alloc, Ok(count), size, error)
+        }
+        Err(fault) => {
+            *kind = 0;
+            report(alloc, Err(fault), size, error)
+        }
+    }
+}
+
+/// Tells the number at a path in a file, with its sign, as `resb_kind` tells of kinds: an integer
+/// of 28 bits, or a number of a vector. It is 0 where it isn't told.
+#[unsafe(no_mangle)]
+pub extern "C" fn resb_get_integer(
+    alloc: Global,
+    file: &[u8],
+    pool: &[u8],
+    path: &[u8],
+    value: &mut i32,
+    error: &mut ResbError,
+) -> u32
+    ensures { (r : Result ℤ Fault) × (n : ℕ) × TellsInteger pool.now file.now path.now r
+        × (value.new ≡ integer_told r) × Reports (status_told r) result n error.new }
+{
+    let mut nothing = 0;
+    match tell_integer(alloc, Input { file, pool }, path) {
+        Ok(found) => {
+            *value = found;
+            report(alloc, Ok(0), &mut nothing, error)
+        }
+        Err(fault) => {
+            *value = 0;
+            report(alloc, Err(fault), &mut nothing, error)
+        }
+    }
+}
+
+/// Copies the UTF-8 text of the string at a path in a file to the front of `out`, as `resb_kind`
+/// tells of kinds. `length` gets the text's length, for `RESB_TOO_SHORT` too, else 0.
+#[unsafe(no_mangle)]
+pub extern "C" fn resb_get_string(
+    alloc: Global,
+    file: &[u8],
+    pool: &[u8],
+    path: &[u8],
+    out: &mut [u8],
+    length: &mut usize,
+    error: &mut ResbError,
+) -> u32
+    ensures { (r : Result ℕ Fault) × GivesString pool.now file.now path.now out.old out.new r
+        × Reports r result length.new error.new }
+{
+    let answer = string_into(alloc, Input { file, pool }, path, out);
+    report(alloc, answer, length, error)
+}
+
+/// Copies the bytes of the binary at a path in a file to the front of `out`, as `resb_get_string`
+/// does the text of a string. `length` gets their number, for `RESB_TOO_SHORT` too, else 0.
+#[unsafe(no_mangle)]
+pub extern "C" fn resb_get_bytes(
+    alloc: Global,
+    file: &[u8],
+    pool: &[u8],
+    path: &[u8],
+    out: &mut [u8],
+    length: &mut usize,
+    error: &mut ResbError,
+) -> u32
+    ensures { (r : Result ℕ Fault) × GivesBytes pool.now file.now path.now out.old out.new r
+        × Reports r result length.new error.new }
+{
+    let answer = bytes_into(alloc, Input { file, pool }, path, out);
     report(alloc, answer, length, error)
 }

@@ -1,4 +1,6 @@
 //! Compiles the text on standard input, says how large its file is, and prints it back as a text.
+//! Where paths are given, what stands at each is printed alone: a string or a number as it is, a
+//! binary in hexadecimal, and of all else its kind and size.
 mod resb;
 
 use std::io::Read;
@@ -17,11 +19,53 @@ fn show(text: &[u8]) -> Result<(), resb::Error> {
     Ok(())
 }
 
+/// What is printed of a path.
+fn said(input: resb::Input<'_>, path: &str) -> Result<String, resb::Error> {
+    match resb::string(input, path) {
+        Err(e) if e.kind == resb::OTHER_KIND => {}
+        answer => return answer,
+    }
+    match resb::integer(input, path) {
+        Err(e) if e.kind == resb::OTHER_KIND => {}
+        answer => return Ok(answer?.to_string()),
+    }
+    match resb::bytes(input, path) {
+        Err(e) if e.kind == resb::OTHER_KIND => {
+            let (kind, size) = resb::kind(input, path)?;
+            Ok(format!("fault {}, kind {kind}, size {size}", e.kind))
+        }
+        answer => Ok(answer?.iter().map(|byte| format!("{byte:02x}")).collect()),
+    }
+}
+
+/// Prints what stands at each path, and gives whether something does at all of them.
+fn show_paths(text: &[u8], paths: &[String]) -> Result<bool, resb::Error> {
+    let file = resb::compile_within(text, LIMIT)?;
+    let input = resb::Input { file: &file, pool: &[] };
+    let mut is_all = true;
+    for path in paths {
+        match said(input, path) {
+            Ok(line) => println!("{line}"),
+            Err(e) => {
+                println!("{e}");
+                is_all = false;
+            }
+        }
+    }
+    Ok(is_all)
+}
+
 fn main() -> ExitCode {
     let mut text = Vec::new();
     std::io::stdin().read_to_end(&mut text).expect("standard input");
-    match show(&text) {
-        Ok(()) => ExitCode::SUCCESS,
+    let paths: Vec<String> = std::env::args().skip(1).collect();
+    let answer = match paths.is_empty() {
+        true => show(&text).map(|()| true),
+        false => show_paths(&text, &paths),
+    };
+    match answer {
+        Ok(true) => ExitCode::SUCCESS,
+        Ok(false) => ExitCode::FAILURE,
         Err(e) => {
             let (line, column) = resb::location(&text, e.place);
             eprintln!("{line}:{column}: {e}");

@@ -40,6 +40,9 @@ pub struct Measured {
 const OK: u32 = 0;
 const TOO_SHORT: u32 = 1;
 
+/// What stands at the path is of another kind.
+pub const OTHER_KIND: u32 = 13;
+
 extern "C" {
     fn resb_compile_within(
         text: *const u8,
@@ -81,6 +84,51 @@ extern "C" {
         name: *const u8,
         name_length: usize,
         limit: u64,
+        out: *mut u8,
+        out_length: usize,
+        length: *mut usize,
+        error: *mut Error,
+    ) -> u32;
+    fn resb_kind(
+        file: *const u8,
+        file_length: usize,
+        pool: *const u8,
+        pool_length: usize,
+        path: *const u8,
+        path_length: usize,
+        kind: *mut u32,
+        size: *mut usize,
+        error: *mut Error,
+    ) -> u32;
+    fn resb_get_integer(
+        file: *const u8,
+        file_length: usize,
+        pool: *const u8,
+        pool_length: usize,
+        path: *const u8,
+        path_length: usize,
+        value: *mut i32,
+        error: *mut Error,
+    ) -> u32;
+    fn resb_get_string(
+        file: *const u8,
+        file_length: usize,
+        pool: *const u8,
+        pool_length: usize,
+        path: *const u8,
+        path_length: usize,
+        out: *mut u8,
+        out_length: usize,
+        length: *mut usize,
+        error: *mut Error,
+    ) -> u32;
+    fn resb_get_bytes(
+        file: *const u8,
+        file_length: usize,
+        pool: *const u8,
+        pool_length: usize,
+        path: *const u8,
+        path_length: usize,
         out: *mut u8,
         out_length: usize,
         length: *mut usize,
@@ -209,5 +257,116 @@ pub fn dump(input: Input<'_>, name: &str, limit: u64) -> Result<String, Error> {
     let (length, _) = dump_to(input, name, limit, &mut [])?;
     let mut text = vec![0; length];
     dump_to(input, name, limit, &mut text)?;
+    Ok(String::from_utf8_lossy(&text).into_owned())
+}
+
+/// The kind of what stands at a path, as the header numbers it, and how much is in it.
+pub fn kind(input: Input<'_>, path: &str) -> Result<(u32, usize), Error> {
+    let Input { file, pool } = input;
+    let (mut kind, mut size, mut error) = (0, 0, Error::none());
+    let status = unsafe {
+        resb_kind(
+            file.as_ptr(),
+            file.len(),
+            pool.as_ptr(),
+            pool.len(),
+            path.as_ptr(),
+            path.len(),
+            &mut kind,
+            &mut size,
+            &mut error,
+        )
+    };
+    match status {
+        OK => Ok((kind, size)),
+        _ => Err(error),
+    }
+}
+
+/// The number at a path, with its sign.
+pub fn integer(input: Input<'_>, path: &str) -> Result<i32, Error> {
+    let Input { file, pool } = input;
+    let (mut value, mut error) = (0, Error::none());
+    let status = unsafe {
+        resb_get_integer(
+            file.as_ptr(),
+            file.len(),
+            pool.as_ptr(),
+            pool.len(),
+            path.as_ptr(),
+            path.len(),
+            &mut value,
+            &mut error,
+        )
+    };
+    match status {
+        OK => Ok(value),
+        _ => Err(error),
+    }
+}
+
+/// Copies the binary at a path to the buffer: its length, and whether it fitted.
+fn bytes_to(input: Input<'_>, path: &str, out: &mut [u8]) -> Result<(usize, bool), Error> {
+    let Input { file, pool } = input;
+    let (mut length, mut error) = (0, Error::none());
+    let status = unsafe {
+        resb_get_bytes(
+            file.as_ptr(),
+            file.len(),
+            pool.as_ptr(),
+            pool.len(),
+            path.as_ptr(),
+            path.len(),
+            out.as_mut_ptr(),
+            out.len(),
+            &mut length,
+            &mut error,
+        )
+    };
+    match status {
+        OK => Ok((length, true)),
+        TOO_SHORT => Ok((length, false)),
+        _ => Err(error),
+    }
+}
+
+/// The bytes of the binary at a path.
+pub fn bytes(input: Input<'_>, path: &str) -> Result<Vec<u8>, Error> {
+    let (length, _) = bytes_to(input, path, &mut [])?;
+    let mut bytes = vec![0; length];
+    bytes_to(input, path, &mut bytes)?;
+    Ok(bytes)
+}
+
+/// Copies the string at a path to the buffer: its length, and whether it fitted.
+fn string_to(input: Input<'_>, path: &str, out: &mut [u8]) -> Result<(usize, bool), Error> {
+    let Input { file, pool } = input;
+    let (mut length, mut error) = (0, Error::none());
+    let status = unsafe {
+        resb_get_string(
+            file.as_ptr(),
+            file.len(),
+            pool.as_ptr(),
+            pool.len(),
+            path.as_ptr(),
+            path.len(),
+            out.as_mut_ptr(),
+            out.len(),
+            &mut length,
+            &mut error,
+        )
+    };
+    match status {
+        OK => Ok((length, true)),
+        TOO_SHORT => Ok((length, false)),
+        _ => Err(error),
+    }
+}
+
+/// The string at a path.
+pub fn string(input: Input<'_>, path: &str) -> Result<String, Error> {
+    let (length, _) = string_to(input, path, &mut [])?;
+    let mut text = vec![0; length];
+    string_to(input, path, &mut text)?;
     Ok(String::from_utf8_lossy(&text).into_owned())
 }

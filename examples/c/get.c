@@ -1,0 +1,63 @@
+/* Compiles the text on standard input, and prints what stands at each path in its file: a string or
+ * a number as it is, a binary in hexadecimal, and of all else its kind and size: get PATH.. */
+#include "resb.h"
+
+#include <stdio.h>
+#include <string.h>
+
+/* the most bytes of a text, of a file, and of a string or a binary */
+#define MOST 100000u
+
+static uint8_t text[MOST], file[MOST], out[MOST];
+
+static int fail(const resb_error *error) {
+  printf("fault %u: %s\n", (unsigned)error->kind, (const char *)error->message);
+  return 1;
+}
+
+/* Prints what stands at a path, and gives 0, or 1 where nothing does. */
+static int show(size_t file_length, const char *words) {
+  const uint8_t *path = (const uint8_t *)words;
+  size_t path_length = strlen(words), length, size;
+  int32_t value;
+  uint32_t kind, status;
+  resb_error error;
+  /* a length of 0 says that there is no pool bundle */
+  status = resb_get_string(file, file_length, file, 0, path, path_length, out, MOST, &length,
+                           &error);
+  if (status == RESB_OK) {
+    fwrite(out, 1, length, stdout);
+    putchar('\n');
+    return 0;
+  }
+  if (status != RESB_OTHER_KIND) return fail(&error);
+  status = resb_get_integer(file, file_length, file, 0, path, path_length, &value, &error);
+  if (status == RESB_OK) {
+    printf("%ld\n", (long)value);
+    return 0;
+  }
+  if (status != RESB_OTHER_KIND) return fail(&error);
+  status = resb_get_bytes(file, file_length, file, 0, path, path_length, out, MOST, &length,
+                          &error);
+  if (status == RESB_OK) {
+    for (size_t number = 0; number < length; number++) printf("%02x", out[number]);
+    putchar('\n');
+    return 0;
+  }
+  if (status != RESB_OTHER_KIND) return fail(&error);
+  printf("fault %u, ", (unsigned)status);
+  if (resb_kind(file, file_length, file, 0, path, path_length, &kind, &size, &error) != RESB_OK)
+    return fail(&error);
+  printf("kind %u, size %zu\n", (unsigned)kind, size);
+  return 0;
+}
+
+int main(int count, char **words) {
+  size_t text_length = fread(text, 1, MOST, stdin), file_length;
+  resb_error error;
+  if (resb_compile(text, text_length, file, MOST, &file_length, &error) != RESB_OK)
+    return fail(&error);
+  int status = 0;
+  for (int number = 1; number < count; number++) status |= show(file_length, words[number]);
+  return status;
+}

@@ -12,7 +12,7 @@ docs/GRAMMAR.md or docs/ICU_TEXTS.md ("Within a limit") counts for it, and is re
 byte less, and within a tenth, with status 1 and the one line that says so. A text of more than
 1 MiB that is longer than its limit is refused before it is read, as the large ones of comments,
 blanks, digits and escapes are, and then shows no more than that. No run may take more
-memory than 1.5 times the limit and the text, and 3.2 MB for the program itself, which has 2.3 MB
+memory than 1.5 times the limit and the text, and 4 MB for the program itself, which has 2.3 MB
 for a text of 7 bytes, and for what its allocator keeps. A run is started by a program in C that is
 smaller than that, since what starts a program counts as its memory; `cc` builds it. The last line
 is 'N passed, M failed'.
@@ -33,7 +33,7 @@ A_STRING = STRING + BYTE
 # b{v..}: the root with its `{` and `}`, and its key
 ROOT = GROUP + TABLE + A_STRING
 # the program itself, and what its allocator keeps
-OWN = 3_200_000
+OWN = 4_000_000
 # runs a program, and writes to a file how many units of 1024 bytes it had at most
 LAUNCHER = r'''
 #include <spawn.h>

@@ -1,15 +1,16 @@
--- Counts of what is still to be dropped.
-use Rattle.std.proofs.Common.{◌≡◌, ℕ, ◌+◌, ◌≤◌, List, [], ◌∷◌, ◌++◌, Ordering, Less, Equal}
+-- Counts and depths of what is still to be dropped.
+use Rattle.std.proofs.Common.{◌≡◌, ℕ, ◌+◌, ◌≤◌, max, List, [], ◌∷◌, ◌++◌, Ordering, Less, Equal}
 use Rattle.std.proofs.Common.{Greater, nat_cmp, Vec, BTreeMap, Global, refl, ap}
 use Rattle.std.proofs.Common.{arith, rules}
-use Rattle.std.specs.BTreeMap.{insert_entry}
+use Rattle.std.specs.BTreeMap.{insert_entry, values}
+use Rattle.std.specs.Map.{values_of}
 use Rattle.std.specs.Cmp.Lexicographic.{slice_cmp}
 use Rattle.std.specs.Ordering.{match_ordering}
 use Rattle.resb_tree.specs.Tree.{Tree, string, alias, array, table, binary, integer}
 use Rattle.resb_tree.specs.Tree.{int_vector, no_trees, tree_count, entries_count}
 use Rattle.resb_tree.specs.View.{tree_of, items_view, entries_view}
-use Rattle.resb_tree.specs.declared.resource.Resource.{Resource, Array, Table}
-use Rattle.resb_tree.specs.Inner.Dropping.{count, counts, table_count}
+use Rattle.resb_tree.specs.declared.resource.Resource.{Resource, Array, Table, the_lemmas}
+use Rattle.resb_tree.specs.Inner.Dropping.{count, counts, table_count, depth, depth_of}
 use Rattle.resb_tree.proofs.ViewLemmas.{tree_of_array, tree_of_table}
 
 -- a resource is itself at least
@@ -41,6 +42,22 @@ pub entries_count_more : (es : List (List ℕ × Resource)) (p : List ℕ × Res
 entries_count_more [] p = omega arith
 entries_count_more (e ∷ es) p = omega (arith, entries_count_more es p)
 
+pub depth_array : (v : Vec Resource Global) → depth (Array v) ≡ depth_of v.items + 1
+depth_array v = search (rules, the_lemmas)
+
+pub depth_table : (m : BTreeMap (List ℕ) Resource) → depth (Table m) ≡ depth_of (values m) + 1
+depth_table m = search (rules, the_lemmas)
+
+pub depth_more : (rs : List Resource) (r : Resource)
+    → depth_of (rs ++ r ∷ []) ≡ max (depth_of rs) (depth r)
+depth_more [] r = omega arith
+depth_more (s ∷ rs) r = omega (arith, depth_more rs r)
+
+pub entries_depth_more : (es : List (List ℕ × Resource)) (p : List ℕ × Resource)
+    → depth_of (values_of (es ++ p ∷ [])) ≡ max (depth_of (values_of es)) (depth p.1)
+entries_depth_more [] p = omega arith
+entries_depth_more (e ∷ es) p = omega (arith, entries_depth_more es p)
+
 -- a list of no resources is empty
 pub none_counted : (rs : List Resource) → counts rs ≡ 0 → rs ≡ []
 none_counted [] e = refl
@@ -66,6 +83,21 @@ insert_count (e ∷ es) k v =
     at_most (slice_cmp nat_cmp k e.0) _ _ _ (entries_count (entries_view (e ∷ es)) + count v)
     (omega arith) (omega arith) (omega (arith, insert_count es k v))
 
+no_deeper : (o : Ordering) (a b c : List (List ℕ × Resource)) (n : ℕ) → depth_of (values_of a) ≤ n
+    → depth_of (values_of b) ≤ n → depth_of (values_of c) ≤ n
+    → depth_of (values_of (match_ordering o a b c)) ≤ n
+no_deeper Less a b c n h k l = h
+no_deeper Equal a b c n h k l = k
+no_deeper Greater a b c n h k l = l
+
+pub insert_depth : (es : List (List ℕ × Resource)) (k : List ℕ) (v : Resource)
+    → depth_of (values_of (insert_entry (slice_cmp nat_cmp) es k v))
+    ≤ max (depth_of (values_of es)) (depth v)
+insert_depth [] k v = omega arith
+insert_depth (e ∷ es) k v =
+    no_deeper (slice_cmp nat_cmp k e.0) _ _ _ (max (depth_of (values_of (e ∷ es))) (depth v))
+    (omega arith) (omega arith) (omega (arith, insert_depth es k v))
+
 -- an array of no trees has no resource inside
 pub no_resource_inside : (v : Vec Resource Global) → tree_of (Array v) ≡ array no_trees
     → v.items ≡ []
@@ -80,8 +112,15 @@ pub ruleset drop_steps = (
   count_is_one,
   count_array,
   count_table,
+  depth_array,
+  depth_table,
+  depth_more,
+  entries_depth_more,
   counts_more,
   entries_count_more,
   none_counted,
   no_entries_counted,
 )
+
+-- what an entry does that is put in
+pub ruleset insert_steps = (insert_count, insert_depth)

@@ -1,10 +1,10 @@
 //! The drop of a resource by a list of what is still to be dropped, so that no depth of a tree ends
 //! the process.
 //! A resource is dropped by a call of its own only where that list can't grow.
-ghost use Rattle.std.specs.Prelude.{◌≡◌, ◌+◌, ◌≤◌, None, [], MatchOption, MatchResult, OnOk, IfErr};
-ghost use Rattle.std.specs.Prelude.{IsTrue};
-ghost use Rattle.resb_tree.specs.Inner.Dropping.{count, counts, table_count};
-ghost use Rattle.std.specs.BTreeMap.{get};
+ghost use Rattle.std.specs.Prelude.{◌≡◌, ◌+◌, ◌≤◌, None, [], MatchOption, MatchResult, OnOk, IfErr, IfSome};
+ghost use Rattle.std.specs.Prelude.{IsTrue, ◌<◌, max};
+ghost use Rattle.resb_tree.specs.Inner.Dropping.{count, counts, table_count, depth, depth_of};
+ghost use Rattle.std.specs.BTreeMap.{get, values};
 ghost use Rattle.std.specs.Ordering.{nat_cmp};
 ghost use Rattle.std.specs.Cmp.Lexicographic.{slice_cmp};
 
@@ -31,11 +31,16 @@ impl<'a> MadeWith<Global> for Resource<'a> {
 #[tactic(auto, using(crate::proofs::DroppingLemmas::drop_steps))]
 #[cycle(dropping)]
 pub(crate) fn drop_all(mut pending: Vec<Resource<'_>>) {
-    'pending: while let Some(mut resource) = pending.pop() {
-        'members: while let Some(refused) = resource.move_members(&mut pending) {
-            drop(refused);
+    'pending: while let Some(resource) = pending.pop() {
+        match resource.into_table_of_leaves() {
+            Ok(table) => drop(table),
+            Err(mut resource) => {
+                'members: while let Some(refused) = resource.move_members(&mut pending) {
+                    drop(refused);
+                }
+                resource.drop_empty();
+            }
         }
-        resource.drop_empty();
     }
     pending.destroy_empty();
 }
@@ -52,6 +57,9 @@ impl<'a> Resource<'a> {
             ≤ counts pending.old.items + count self.old)
             (λ r. count r + counts pending.new.items + count self.new
             ≤ counts pending.old.items + count self.old) }
+        ensures depth { (depth self.new ≤ depth self.old)
+            × (depth_of pending.new.items ≤ max (depth_of pending.old.items) (depth self.old)) }
+        ensures refused { IfSome result (λ r. depth r < depth self.old) }
     {
         match self {
             Resource::Array(items) => move_items(items, pending),
@@ -95,6 +103,10 @@ fn move_items<'a>(
         ≤ counts pending.old.items + counts items.old.items)
         (λ r. count r + counts pending.new.items + counts items.new.items
         ≤ counts pending.old.items + counts items.old.items) }
+    ensures depth { (depth_of items.new.items ≤ depth_of items.old.items)
+        × (depth_of pending.new.items
+        ≤ max (depth_of pending.old.items) (depth_of items.old.items)) }
+    ensures refused { IfSome result (λ r. depth r ≤ depth_of items.old.items) }
 {
     'items: while let Some(item) = items.pop() {
         if let Some(refused) = set_aside(pending, item) {
@@ -118,6 +130,10 @@ pub(crate) fn move_values<'a>(
         ≤ counts pending.old.items + table_count table.old)
         (λ r. count r + counts pending.new.items + table_count table.new
         ≤ counts pending.old.items + table_count table.old) }
+    ensures depth { (depth_of (values table.new) ≤ depth_of (values table.old))
+        × (depth_of pending.new.items
+        ≤ max (depth_of pending.old.items) (depth_of (values table.old))) }
+    ensures refused { IfSome result (λ r. depth r ≤ depth_of (values table.old)) }
 {
     'entries: while let Some((_, value)) = table.pop_last() {
         if let Some(refused) = set_aside(pending, value) {
@@ -131,9 +147,11 @@ pub(crate) fn move_values<'a>(
 /// that the list has no room for.
 #[tactic(auto, using(crate::proofs::DroppingLemmas::drop_steps))]
 fn set_aside<'a>(pending: &mut Vec<Resource<'a>>, resource: Resource<'a>) -> Option<Resource<'a>>
-    ensures { MatchOption result
+    ensures count { MatchOption result
         (counts pending.new.items ≤ counts pending.old.items + count resource.entry)
         (λ r. (r ≡ resource.entry) × (pending.new.items ≡ pending.old.items)) }
+    ensures depth { depth_of pending.new.items
+        ≤ max (depth_of pending.old.items) (depth resource.entry) }
 {
     if resource.has_no_members() {
         resource.drop_empty();
@@ -148,7 +166,7 @@ fn set_aside<'a>(pending: &mut Vec<Resource<'a>>, resource: Resource<'a>) -> Opt
 
 /// An empty list on the table's allocator, with the child put back at its key. Without memory the
 /// child is handed back.
-#[tactic(auto, using(crate::proofs::DroppingLemmas::insert_count))]
+#[tactic(auto, using(crate::proofs::DroppingLemmas::insert_steps))]
 pub(crate) fn list_beside<'a>(
     table: &mut Table<'a>,
     key: Key<'a>,
@@ -158,6 +176,8 @@ pub(crate) fn list_beside<'a>(
     ensures list { MatchResult result (λ v. v.items ≡ []) (λ r. r ≡ child.entry) }
     ensures table { OnOk result
         (table_count table.new ≤ table_count table.old + count child.entry) }
+    ensures depth { OnOk result
+        (depth_of (values table.new) ≤ max (depth_of (values table.old)) (depth child.entry)) }
     ensures same { IfErr result (λ r. table.new.entries ≡ table.old.entries) }
 {
     match table.entry(key) {

@@ -72,6 +72,7 @@ impl Drop for Resource<'_> {
     fn drop(self) {
         match self {
             Resource::Array(items) => drop_all(items),
+            Resource::Table(table) if has_leaves_alone(&table) => drop(table),
             Resource::Table(mut table) => {
                 'entries: while let Some((key, last)) = table.pop_last() {
                     match list_beside(&mut table, key, last) {
@@ -99,10 +100,11 @@ impl Drop for Resource<'_> {
 }
 
 impl<'a> Resource<'a> {
-    ghost use Rattle.std.specs.Prelude.{◌≡◌, []};
+    ghost use Rattle.std.specs.Prelude.{◌≡◌, [], MatchResult};
     ghost use Rattle.resb_tree.specs.Tree.{no_trees, array};
     ghost use Rattle.resb_tree.specs.View.{tree_of};
     ghost use Rattle.resb_tree.specs.Inner.Dropping.{count};
+    ghost use Rattle.resb_tree.specs.declared.resource.Resource.{Table};
 
     /// Drops a resource that has no others inside.
     #[tactic(auto, using(crate::proofs::DroppingLemmas::drop_steps))]
@@ -120,6 +122,17 @@ impl<'a> Resource<'a> {
         }
     }
 
+    /// The table, if no value of it is an array or a table, so that it can be dropped as a whole.
+    /// Any other resource is handed back.
+    pub(crate) fn into_table_of_leaves(self) -> Result<Table<'a>, Resource<'a>>
+        ensures { MatchResult result (λ m. self.entry ≡ Table m) (λ r. r ≡ self.entry) }
+    {
+        match self {
+            Resource::Table(table) if has_leaves_alone(&table) => Ok(table),
+            resource => Err(resource),
+        }
+    }
+
     /// The list of an empty array.
     pub(crate) fn into_items(self) -> Vec<Resource<'a>>
         requires { tree_of self ≡ array no_trees }
@@ -130,6 +143,11 @@ impl<'a> Resource<'a> {
             _ => unreachable!(),
         }
     }
+}
+
+/// Whether no value of the table is an array or a table.
+fn has_leaves_alone(table: &Table<'_>) -> bool {
+    table.values().all(|value| !matches!(value, Resource::Array(_) | Resource::Table(_)))
 }
 
 /// Equality of trees. It takes no stack for their depth, as `equality` says.

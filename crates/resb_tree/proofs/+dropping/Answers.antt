@@ -8,9 +8,6 @@ dropping::drop_all-pending-init c = grind (arith, drop_steps)
 pub dropping::drop_all-members-init : goal.dropping::drop_all-members-init
 dropping::drop_all-members-init c = grind (arith, drop_steps)
 
-pub dropping::drop_all-drop-requires : goal.dropping::drop_all-drop-requires
-dropping::drop_all-drop-requires c = grind (arith, drop_steps)
-
 pub dropping::drop_all-members-smaller : goal.dropping::drop_all-members-smaller
 dropping::drop_all-members-smaller c = grind (arith, drop_steps)
 
@@ -41,9 +38,6 @@ resource::Resource::drop-list_beside-requires c = grind (arith, drop_steps)
 
 pub resource::Resource::drop-values-init : goal.resource::Resource::drop-values-init
 resource::Resource::drop-values-init c = grind (arith, drop_steps)
-
-pub resource::Resource::drop-drop-requires : goal.resource::Resource::drop-drop-requires
-resource::Resource::drop-drop-requires c = grind (arith, drop_steps)
 
 pub resource::Resource::drop-values-smaller : goal.resource::Resource::drop-values-smaller
 resource::Resource::drop-values-smaller c = grind (arith, drop_steps)

@@ -48,7 +48,7 @@ def words_of(process):
 
 def kind_of(words, folder):
     """What a check is for."""
-    if '/rt-edit-' in folder:
+    if '/rt-edit-' in folder or '/wrong-bodies-' in folder:
         return KINDS[2]
     is_tests = '--test' in words or any(it.endswith('_tests.o') for it in words)
     return KINDS[1] if is_tests else KINDS[0]

@@ -2,13 +2,16 @@
 """Tries each wrong body, and says for which goal it is refused.
 
     wrong_bodies.py [--jobs N] [--logs FOLDER] [--without-answers] [CRATE | CRATE/EDIT]..
+    wrong_bodies.py --gate [--jobs N] [--logs FOLDER]     those of tests/gate_bodies.txt
     wrong_bodies.py --standing     only looks whether each can be applied: no proof, a second
 
-A wrong body is a file EDIT.edit of crates/CRATE/must-fail, which the gate tries too, or of
+A wrong body is a file EDIT.edit of crates/CRATE/must-fail, which `rt ci` tries too, or of
 crates/CRATE/wrong-bodies, which this script alone does. Each is applied to a copy of the repository
 in a temporary folder, never in place, and the copy takes over what out/ keeps, so that little more
 than the changed function is proved. First each crate is checked as it stands. N checks run side by
 side (1 if left out); --logs keeps what each of them printed.
+With --gate each is tried by a check of the one function that tests/gate_bodies.txt names beside it,
+over the libraries that `rt ci` has built, which has proved each crate as it stands.
 
 A line for each wrong body has the crate, the edit, the kind of the goal, the goal, and how it was
 refused. The kinds:
@@ -43,6 +46,7 @@ import tempfile
 ROOT = os.path.dirname(os.path.dirname(os.path.abspath(__file__)))
 PARTS = ('src', 'specs', 'proofs')
 FOLDERS = ('must-fail', 'wrong-bodies')
+GATE_LIST = 'tests/gate_bodies.txt'
 MOST_IN_GATE = 70
 SAFETY = re.compile(r'(overflow|nonzero|bounds|slice_bounds|offset_bounds)_|(bounds|slice_bounds|'
                     r'offset_bounds)-|.*(unreachable|prove)-requires')
@@ -80,7 +84,7 @@ class Edit:
     def __init__(self, crate, path):
         self.crate, self.path = crate, path
         self.name = os.path.basename(path).removesuffix('.edit')
-        self.steps, self.same = [], False
+        self.steps, self.same, self.function = [], False, None
         file = old = None
         with open(path, encoding='utf-8') as lines:
             for line in lines.read().split('\n'):
@@ -148,23 +152,26 @@ class Room:
                 copy(f'crates/{name}/{part}', folder)
 
     def hold(self, crate):
-        """Has the crate with its kept proofs, and its libraries as they are built."""
+        """Has the crate with its kept proofs, and its libraries as they are built. What is proved
+        of the crate in the room stays there until another crate comes."""
         for name in all_below(crate, self.below) - self.made:
             copy(f'crates/{name}/out/rlib', self.folder)
             self.made.add(name)
         for part in PARTS:
             restore(f'{ROOT}/crates/{crate}/{part}', f'{self.folder}/crates/{crate}/{part}')
         kept = f'crates/{crate}/out/incremental'
-        restore(f'{ROOT}/{kept}', f'{self.folder}/{kept}')
+        if os.path.isdir(f'{ROOT}/{kept}'):
+            restore(f'{ROOT}/{kept}', f'{self.folder}/{kept}')
 
-    def check(self, crate, texts, modules):
-        """What a check of the crate prints with these texts, and whether it is proved."""
+    def check(self, crate, texts, paths):
+        """What a check of the crate prints with these texts, and whether it is proved; of all of
+        it, or of these modules and functions alone."""
         self.hold(crate)
         for file, text in texts.items():
             with open(f'{self.folder}/crates/{crate}/{file}', 'w', encoding='utf-8') as it:
                 it.write(text)
         words = ['rt', 'check', '--jobs', '1', '--allow-holes']
-        for it in modules:
+        for it in paths:
             words += ['--only', it]
         ran = subprocess.run(words, cwd=f'{self.folder}/crates/{crate}', text=True,
                              stdin=subprocess.DEVNULL, stdout=subprocess.PIPE,
@@ -285,8 +292,8 @@ def judged(edit, room, without=False):
     except (OSError, ValueError) as error:
         return False, f'{label}: cannot be applied: {error}', ''
     modules = edit.modules()
-    said, proved = room.check(edit.crate, texts, modules)
-    if proved and modules:
+    said, proved = room.check(edit.crate, texts, [edit.function] if edit.function else modules)
+    if proved and modules and not edit.function:
         said, proved = room.check(edit.crate, texts, [])
     if proved:
         return False, f'{label}: not refused', said
@@ -337,6 +344,19 @@ def chosen(words, below):
     return kept
 
 
+def of_gate(edits):
+    """The wrong bodies that tests/gate_bodies.txt names, each with the function that is checked."""
+    by_name = {f'{it.crate}/{it.name}': it for it in edits}
+    found = []
+    with open(f'{ROOT}/{GATE_LIST}', encoding='utf-8') as lines:
+        for name, function in (it.split() for it in lines if it.strip() and not it.startswith('#')):
+            if name not in by_name:
+                sys.exit(f'wrong_bodies: {GATE_LIST} names {name}, which there is not')
+            by_name[name].function = function
+            found.append(by_name[name])
+    return found
+
+
 def standing(edits):
     """Whether each wrong body can be applied, and no more are in the gate than its budget has."""
     passed, failed = 0, 0
@@ -348,6 +368,7 @@ def standing(edits):
             print(f'FAILED: {edit.crate}/{edit.name}: cannot be applied: {error}')
             failed += 1
     in_gate = sum(os.path.basename(os.path.dirname(it.path)) == FOLDERS[0] for it in edits)
+    in_gate += len(of_gate(edits))
     if in_gate > MOST_IN_GATE:
         print(f'FAILED: {in_gate} wrong bodies are in the gate, of at most {MOST_IN_GATE}')
         failed += 1
@@ -375,14 +396,18 @@ def main():
     words.add_argument('--logs')
     words.add_argument('--without-answers', action='store_true')
     words.add_argument('--standing', action='store_true')
+    words.add_argument('--gate', action='store_true')
     words.add_argument('names', nargs='*')
     given = words.parse_args()
     below = libraries()
     edits = chosen(given.names, below)
     if given.standing:
         return standing(edits)
-    bad = checked_first(dict.fromkeys(it.crate for it in edits))
-    edits = [it for it in edits if it.crate not in bad]
+    if given.gate:
+        bad, edits = [], of_gate(edits)
+    else:
+        bad = checked_first(dict.fromkeys(it.crate for it in edits))
+        edits = [it for it in edits if it.crate not in bad]
     passed, failed = 0, len(bad)
     if given.logs:
         os.makedirs(given.logs, exist_ok=True)

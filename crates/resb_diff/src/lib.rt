@@ -6,8 +6,6 @@ mod differences;
 pub mod laws;
 mod members;
 mod paths;
-#[cfg(test)]
-mod tests;
 mod walk;
 
 pub use differences::{Change, ChangeAt, Differences};

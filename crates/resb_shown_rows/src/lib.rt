@@ -1,8 +1,10 @@
 //! The worked rows of what is shown: texts with the JSON of their trees and with their
-//! bundles' lines, and writers that fail.
+//! bundles' lines, writers that fail, and trees with their differences.
 //! Only tests stand here, so that no crate with code is proved twice.
 #![tactic(auto)]
 
+#[cfg(test)]
+mod diff_rows;
 #[cfg(test)]
 mod json_rows;
 #[cfg(test)]

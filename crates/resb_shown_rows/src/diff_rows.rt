@@ -1,5 +1,5 @@
 //! Two trees whose differences were written down by hand, equal trees, and deep ones.
-use crate::{Change, ChangeAt, PathStep, differences_between};
+use resb_diff::{Change, ChangeAt, PathStep, differences_between};
 use resb_tree::{Int28, Key, NoMemory, Resource, Table};
 use std::alloc::{AllocError, Global};
 use std::collections::BTreeMap;

@@ -61,6 +61,7 @@ LARGE_ONES = {
     'a binary', 'a key', 'comments', '{ "a" "b"', '{ "" ""', '{ "\\u0061"', '{ "\\""',
     '{ {"a" "b"}', '{ :string{"a" "b"}', '{ :alias{"\\""}', 'a string of pieces',
     'a string of long pieces', 'a string of escapes', 'a string of quotes', 'a binary of pieces',
+    'a binary of long pieces',
 }
 
 # members that need a comma between them, and those that may be the value of a key: what they make
@@ -140,6 +141,8 @@ ICU_STRINGS = {'a': GROUP + BYTE, '""': GROUP, '"ab"': GROUP + 2 * BYTE}
 # a string that takes more of the text than its bytes and two quotes is put together: it makes 32
 # more, and 1 more for each byte
 JOINED = BYTE + 1
+# a byte of a binary, and its two digits
+BINARY_BYTE = 3
 ICU_PIECES = {
     '"a" "b"': GROUP + 2 * JOINED + REQUEST,
     '"" ""': GROUP + REQUEST,
@@ -161,7 +164,7 @@ ICU_GROUPS = {
     ':alias{"\\""}': GROUP + REQUEST + JOINED,
     ':int{1}': GROUP,
     ':bin{""}': GROUP + REQUEST,
-    ':bin{00}': GROUP + REQUEST + 1,
+    ':bin{00}': GROUP + REQUEST + BINARY_BYTE,
     ':intvector{}': GROUP + REQUEST,
     ':intvector{1}': GROUP + REQUEST + NUMBER,
     ':intvector{1,2}': GROUP + REQUEST + 2 * NUMBER,
@@ -192,8 +195,12 @@ ICU_LONG = {
     'a vector': ('b{v:intvector{', '1,', '}}', NUMBER, ICU_ROOT + GROUP + REQUEST),
     'a vector of long numbers':
         ('b{v:intvector{', '4000000000,', '}}', NUMBER, ICU_ROOT + GROUP + REQUEST),
-    'a binary': ('b{v:bin{"', '00', '"}}', 1, ICU_ROOT + GROUP + REQUEST),
-    'a binary of pieces': ('b{v:bin{', '"00" ', '}}', 1, ICU_ROOT + GROUP + REQUEST),
+    'a binary': ('b{v:bin{"', '00', '"}}', BINARY_BYTE, ICU_ROOT + GROUP + REQUEST),
+    'a binary of pieces': ('b{v:bin{', '"00" ', '}}', BINARY_BYTE, ICU_ROOT + GROUP + REQUEST),
+    'a binary of long pieces':
+        ('b{v:bin{"00" "', '00', '"}}', BINARY_BYTE, ICU_ROOT + GROUP + REQUEST + BINARY_BYTE),
+    'a binary of escapes':
+        ('b{v:bin{"', '\\u0030\\u0030', '"}}', BINARY_BYTE, ICU_ROOT + GROUP + REQUEST),
     'a name': ('b', 'b', '{}', 0, GROUP),
     'a key': ('b{k', 'k', '{x}}', BYTE, ICU_ROOT + GROUP + BYTE),
     'blanks': ('b{', ' ', '}', 0, GROUP),

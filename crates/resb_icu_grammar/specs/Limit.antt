@@ -41,13 +41,17 @@ abbrev pub next_key_bytes : List (List ℕ × Tree) → List ℕ → ℕ
 next_key_bytes [] k = table_weight + key_bytes k
 next_key_bytes (e ∷ es) k = key_bytes k
 
+-- a byte of a binary: itself and its two digits, whether these are put together or not
+abbrev pub binary_byte_weight : ℕ
+binary_byte_weight = 3
+
 -- a group that holds neither members nor entries, with its `}`: a resource; for all but a number 32
 -- for the memory that is asked for it, put together or not; and 4 for each byte of a string or a
--- path, 8 for each number of a vector, 1 for each byte of a binary
+-- path, 8 for each number of a vector, 3 for each byte of a binary
 abbrev pub leaf_bytes : Tree → ℕ
 leaf_bytes (string s) = string_bytes s + request_bytes + length s
 leaf_bytes (alias s) = string_bytes s + request_bytes + length s
-leaf_bytes (binary s) = resource_weight + request_bytes + length s
+leaf_bytes (binary s) = resource_weight + request_bytes + binary_byte_weight * length s
 leaf_bytes (int_vector ns) = resource_weight + request_bytes + number_bytes * length ns
 leaf_bytes _ = resource_weight
 

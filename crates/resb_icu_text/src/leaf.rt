@@ -15,7 +15,7 @@ ghost use Rattle.resb_grammar.specs.Inner.Reach.{reach};
 use crate::blanks::{byte, skip};
 use crate::digits::hex_length;
 use crate::error::IcuTextError;
-use crate::quota::{BLOCK, Meter, NUMBER, asked_bytes};
+use crate::quota::{BINARY_BYTE, BLOCK, Meter, NUMBER, asked_bytes};
 use crate::strings::{Found, found_or};
 use crate::turns::IcuTurns;
 use crate::words::number;
@@ -82,8 +82,8 @@ fn alias_leaf<'a>(
     Ok((to, Resource::Alias(path)))
 }
 
-/// The place of the `}` of a `:bin` group, and its bytes, which are taken from the quota before
-/// digits are put together.
+/// The place of the `}` of a `:bin` group, and its bytes, which are taken from the quota with their
+/// digits before these are put together.
 fn binary_leaf<'a>(
     alloc: Global,
     text: &'a str,
@@ -103,7 +103,7 @@ fn binary_leaf<'a>(
         return Err(IcuTextError::new(at, IcuExpected::HexPairs));
     };
     let to = closing(text, found.next)?;
-    meter.quota.take(BLOCK + count as u128)?;
+    meter.quota.take(BLOCK + BINARY_BYTE * count as u128)?;
     let bytes = decoded(alloc, found, text, at, &mut meter.turns)?;
     Ok((to, Resource::Binary(CowSlice::Owned(bytes))))
 }

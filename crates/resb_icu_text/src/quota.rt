@@ -73,6 +73,9 @@ pub(crate) const REQUEST: u128 = 32;
 /// that is asked for it.
 pub(crate) const BLOCK: u128 = weights::RESOURCE + REQUEST;
 
+/// A byte of a binary: itself and its two digits, whether these are put together or not.
+pub(crate) const BINARY_BYTE: u128 = 3;
+
 /// So many bytes of a text.
 pub(crate) fn text_bytes(length: usize) -> u128
     ensures { result ≡ text_byte_weight * length }

@@ -6,6 +6,10 @@ mod CommentRuns
 mod FirstBytes
 mod Heads
 mod HexText
+mod IcuCommentRuns
+mod IcuPassing
+mod IcuQuotes
+mod IcuTokenRuns
 mod KeysLemmas
 mod Lists
 mod NamesLemmas

@@ -39,19 +39,24 @@ pub no_quote_here : (text : List ℕ) (from at to : ℕ) → StopsAt text from a
     → NoByte quote text at to → NoByte quote text from to
 no_quote_here text from at to h g = nowhere_on quote text from at to h.plain.quote g
 
-pub backslash_first : (text : List ℕ) (from at to : ℕ) → StopsAt text from at → at < to
-    → (slice_index text at ≡ quote → ⊥) → IsFound backslash text from to (Some at)
-backslash_first text from at to h lt other = record {
-  order = h.order;
-  fits = lt;
-  stands = by h.stands;
-  none = h.plain.backslash;
-}
+-- a stop that is no quote is a backslash
+pub not_quote : (text : List ℕ) (from at : ℕ) → StopsAt text from at
+    → (slice_index text at ≡ quote → ⊥) → slice_index text at ≡ backslash
+not_quote text from at h other = by h.stands
   where
     by : (slice_index text at ≡ quote) ⊎ (slice_index text at ≡ backslash)
         → slice_index text at ≡ backslash
     by (inl e) = absurd (other e)
     by (inr e) = e
+
+pub backslash_first : (text : List ℕ) (from at to : ℕ) → StopsAt text from at → at < to
+    → (slice_index text at ≡ quote → ⊥) → IsFound backslash text from to (Some at)
+backslash_first text from at to h lt other = record {
+  order = h.order;
+  fits = lt;
+  stands = not_quote text from at h other;
+  none = h.plain.backslash;
+}
 
 pub quote_later : (text : List ℕ) (from at end : ℕ) → StopsAt text from at
     → IsFirst quote text at (length text) end → IsFirst quote text from (length text) end

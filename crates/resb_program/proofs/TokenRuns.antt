@@ -16,7 +16,7 @@ use Rattle.resb_grammar.specs.Ascii.{quote, slash, left_brace, right_brace, comm
 use Rattle.resb_program.proofs.Passing.{up, still, one_token, further, then_piece, between_behind}
 
 -- the byte is one of the four blanks
-white_cases : (P : ℕ → Type 0) → P 32 → P 9 → P 13 → P 10 → (b : ℕ) → is_white b ≡ true → P b
+pub white_cases : (P : ℕ → Type 0) → P 32 → P 9 → P 13 → P 10 → (b : ℕ) → is_white b ≡ true → P b
 white_cases P space tab return feed b h =
     by (b == 32) refl (b == 9) refl (b == 13) refl (b == 10) refl h
   where

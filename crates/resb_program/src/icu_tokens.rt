@@ -1,11 +1,10 @@
-//! The tokens of a text of ICU's form, as far as its warnings ask for them.
-//! Where quotes and comments end is found in `braces`; what is told of tokens is in `icu_warning`.
-ghost use Rattle.std.specs.Prelude.{◌≡◌, ◌≤◌, ◌<◌, length, slice_index};
+//! The tokens of a text of ICU's form, as far as its warnings ask for them, and the last of them.
+//! Where each stands is found in `icu_steps`; what is told of tokens is in `icu_warning`.
+ghost use Rattle.std.specs.Prelude.{◌≡◌, ◌≤◌, ◌<◌, length};
 ghost use Rattle.resb_program.specs.IcuWarnings as spec;
-ghost use Rattle.resb_program.specs.Inner.IcuTokens.{Fits, IsIn};
+ghost use Rattle.resb_program.specs.Inner.IcuTokens.{Fits};
 
 use crate::named::{Named, named_by};
-use resb_icu_grammar::is_word;
 
 /// A token. Places are in bytes from the text's start.
 #[derive(Clone, Copy, Debug, PartialEq, Eq)]
@@ -48,33 +47,6 @@ pub(crate) enum IcuLast {
     Member(Option<usize>),
 }
 
-/// The token at a byte that isn't in quotes or in a comment, where the word that ends there, if one
-/// does, begins at this place.
-pub(crate) fn token_of(text: &[u8], at: usize, word_start: usize) -> Option<IcuToken>
-    requires fits { at < length text.now }
-    requires start { word_start ≡ spec.icu_word_start text.now at }
-    requires order { word_start ≤ at }
-    ensures token { result ≡ spec.icu_token_of text.now at (slice_index text.now at) }
-    ensures fits { IsIn text.now result }
-{
-    match text[at] {
-        b'"' => Some(IcuToken::Piece(at)),
-        b'{' => Some(IcuToken::Open(at)),
-        b'}' => Some(IcuToken::Close),
-        b',' => Some(IcuToken::Comma),
-        byte if is_word(byte) && !goes_on(text, at) => Some(IcuToken::Word(word_start, at + 1)),
-        _ => None,
-    }
-}
-
-/// Whether a word character follows a place.
-fn goes_on(text: &[u8], at: usize) -> bool
-    requires { at < length text.now }
-    ensures { result ≡ spec.goes_on text.now at }
-{
-    at + 1 < text.len() && is_word(text[at + 1])
-}
-
 /// Whether a `:` stands right before a place.
 fn is_behind_colon(text: &[u8], place: usize) -> bool
     requires { place < length text.now }
@@ -99,7 +71,7 @@ fn is_digit(word: &[u8]) -> bool
     ensures { result ≡ spec.is_digit word.now }
 {
     match word {
-        [byte] => !(*byte < b'0') && !(b'9' < *byte),
+        [byte] => byte.is_ascii_digit(),
         _ => false,
     }
 }

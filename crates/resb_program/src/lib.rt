@@ -11,6 +11,8 @@ mod errors;
 mod excerpt;
 mod files;
 mod groups;
+mod icu_runs;
+mod icu_steps;
 mod icu_tokens;
 mod icu_warning;
 mod location;

@@ -97,7 +97,7 @@ fn line_end(text: &[u8], from: usize) -> usize
 }
 
 /// Behind the first `*/`, or the text's end if there is none.
-fn block_end(text: &[u8], from: usize) -> usize
+pub(crate) fn block_end(text: &[u8], from: usize) -> usize
     requires { from ≤ length text.now }
     ensures { IsBlockRest text.now from result }
 {

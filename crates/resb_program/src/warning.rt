@@ -46,8 +46,8 @@ pub enum Reason {
     LeadingZero,
     /// The integer has more than 28 bits: these are kept, the highest one as the sign.
     CutNumber(i32),
-    /// A member of an array goes on with this string, which stands in a line of its own, in a text
-    /// of ICU's form: a comma may be missing.
+    /// A member of an array goes on with this piece, the first of its pieces before which a line
+    /// ended, in a text of ICU's form: a comma may be missing.
     JoinedOverLine,
     /// A group begins with a group of one digit without quotes, in a text of ICU's form.
     UnquotedGroup,

@@ -1,6 +1,10 @@
--- The bytes before the place were looked at.
+-- The text was looked at up to the place.
+use Rattle.std.proofs.Common.{◌-◌, length}
 use Rattle.resb_program.specs.Inner.IcuTokens.{HasLooked}
 use Rattle.resb_program.proofs.icu_warning.icu_warnings.Given as goal
 
-abbrev pub invariant-bytes : goal.invariant-bytes
-invariant-bytes l = HasLooked l.look l.bytes l.at
+abbrev pub invariant-steps : goal.invariant-steps
+invariant-steps l = HasLooked l.look l.text
+
+abbrev pub decreases-steps : goal.decreases-steps
+decreases-steps l = length l.text - l.look.at

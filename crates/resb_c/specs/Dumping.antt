@@ -13,9 +13,10 @@ use Rattle.resb_print.specs.Quotes.{first_cause}
 use Rattle.resb_print.specs.Inner.Jobs.{SaysCause}
 use Rattle.resb_print.specs.declared.error.PrintError.{PrintError}
 use Rattle.resb_print.specs.declared.error.PrintError.TheVariants.{OutOfMemory}
-use Rattle.resb_read.specs.Measuring.{TakesMoreOf}
+use Rattle.resb_walk.specs.TreeBytes.{tree_bytes}
+use Rattle.resb_read.specs.Measuring.{TakesMoreOf, key_bytes}
 use Rattle.resb_read.specs.WithPool.{over}
-use Rattle.resb_program.specs.Files.{LacksPool, RefusesReading, HasLongKeys, IsBundleBeside}
+use Rattle.resb_program.specs.Files.{LacksPool, RefusesReading, IsBundleBeside}
 use Rattle.resb_c.specs.Calls.{Fills, IsNotUtf8}
 use Rattle.resb_c.specs.Pools.{given, IsGiven, RefusesPool}
 use Rattle.resb_c.specs.declared.fault.Fault.{Fault}
@@ -36,9 +37,10 @@ abbrev pub HasNoBundle : List ℕ → List ℕ → ℕ → Fault → Type 0
 HasNoBundle pool file limit UsesPool = LacksPool (given pool) file
 HasNoBundle pool file limit (Pool e) = RefusesPool pool e
 HasNoBundle pool file limit (Reading e) = IsGiven pool × RefusesReading (given pool) file e
-HasNoBundle pool file limit Larger = IsGiven pool × TakesMoreOf (over (given pool) file) limit
+HasNoBundle pool file limit Larger =
+    IsGiven pool × TakesMoreOf tree_bytes (over (given pool) file) limit
 HasNoBundle pool file limit LongKeys =
-    IsGiven pool × ((taken : Option ℕ) × HasLongKeys (over (given pool) file) limit taken)
+    IsGiven pool × TakesMoreOf key_bytes (over (given pool) file) limit
 HasNoBundle pool file limit _ = ⊥
 
 -- the text is what the file's bundle is printed as under this name, which is UTF-8, so that it is a

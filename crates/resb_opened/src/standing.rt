@@ -9,11 +9,9 @@ ghost use Rattle.resb_opened.specs.Handles.{tree_at};
 ghost use Rattle.resb_opened.specs.Inner.Holding.{Holds};
 
 use crate::handle::Handle;
+use resb_format::ResourceReprType;
 use resb_walk::places::index_of;
 use resb_walk::{Leaf, Member, Standing, standing_at, text_at};
-
-/// The type of a string of the 16-bit block, the upper 4 bits of its word. (ICU's `uresdata.h`.)
-const STRING_TYPE: u32 = 6;
 
 impl<'a> Handle<'a> {
     /// What stands here.
@@ -44,7 +42,9 @@ impl<'a> Handle<'a> {
         ensures { result ≡ true → (s : List ℕ) × (tree_at self.entry ≡ string s) }
     {
         match self.at {
-            Member::Word(word) => word / (1 << 28) == STRING_TYPE,
+            Member::Word(word) => {
+                word / (1 << 28) == u32::from(u16::from(ResourceReprType::StringV2))
+            }
             Member::Unit(_) => true,
         }
     }

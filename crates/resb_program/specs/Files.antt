@@ -5,9 +5,8 @@
 --     FitsIn w limit          the file's tree and keys are no larger than they may be
 --     IsBundleBeside pool file name limit b, RefusesBeside pool file limit e   its bundle, and why
 --                             there is none
-use Rattle.std.specs.Prelude.{◌≡◌, ◌<◌, ◌≤◌, ◌%◌, ◌^◌, ◌==◌, ℕ, List, true, Option, Some, None}
-use Rattle.std.specs.Prelude.{Result, Ok, Err, IfSome, sum_by, unwrap_or}
-use Rattle.resb_tree.specs.Tree.{Tree}
+use Rattle.std.specs.Prelude.{◌≡◌, ◌≤◌, ◌%◌, ◌^◌, ◌==◌, ℕ, List, true, Option, Some, None}
+use Rattle.std.specs.Prelude.{Result, Ok, Err, IfSome, unwrap_or}
 use Rattle.resb_tree.specs.Bundle.{name_of, root_of}
 use Rattle.resb_tree.specs.View.{tree_of}
 use Rattle.resb_tree.specs.declared.bundle.ResourceBundle.{ResourceBundle}
@@ -15,7 +14,7 @@ use Rattle.resb_tree.specs.declared.resource.Resource.{Resource}
 use Rattle.resb_format.specs.Error.{refusal_of}
 use Rattle.resb_format.specs.declared.error.ReadingError.{ReadingError}
 use Rattle.resb_walk.specs.Pieces.{Piece}
-use Rattle.resb_walk.specs.Sums.{fitting, key_bytes_in}
+use Rattle.resb_walk.specs.Sums.{fitting}
 use Rattle.resb_walk.specs.TreeBytes.{tree_bytes}
 use Rattle.resb_pool_bundle.specs.Checks.{head_refusal}
 use Rattle.resb_pool_bundle.specs.Fields.{uses_pool, attributes_in}
@@ -25,7 +24,7 @@ use Rattle.resb_pool_bundle.specs.declared.head.FileHead.{FileHead}
 use Rattle.resb_opened.specs.Opening.{Opens}
 use Rattle.resb_opened.specs.declared.opened.Opened.{Opened}
 use Rattle.resb_read.specs.Roots.{Whole, AnswersTreeOf, AnswersCountOf, RefusesWhole}
-use Rattle.resb_read.specs.Measuring.{HoldsPieces, AnswersMeasureOf, TakesMoreOf}
+use Rattle.resb_read.specs.Measuring.{HoldsPieces, AnswersMeasureOf, TakesMoreOf, key_bytes}
 use Rattle.resb_read.specs.WithPool.{over}
 use Rattle.resb_read.specs.declared.measuring.Measured.{Measured}
 use Rattle.resb_program.specs.declared.errors.FileError.{FileError}
@@ -74,10 +73,6 @@ MeasuresBeside pool bytes (Err (Reading e)) = RefusesReading pool bytes e
 MeasuresBeside pool bytes (Err (Larger n limit)) = ⊥
 MeasuresBeside pool bytes (Err (LongKeys n limit)) = ⊥
 
--- the bytes of the keys of all entries, be they shared or not
-abbrev pub key_bytes : List Piece → ℕ
-key_bytes xs = sum_by key_bytes_in xs
-
 -- the most bytes of keys, since each may be compared: those of the limit, and 2^28 without one
 abbrev pub key_limit : Option ℕ → ℕ
 key_limit limit = unwrap_or limit (2 ^ 28)
@@ -89,30 +84,19 @@ FitsIn w limit =
     (xs : List Piece) × HoldsPieces w xs × IfSome limit (λ most. tree_bytes xs ≤ most)
     × (key_bytes xs ≤ key_limit limit)
 
--- the file's tree takes so many bytes, more than the limit; none stands for 2^64 and more
-pub record IsOver (w : Whole) (limit : ℕ) (taken : Option ℕ) : Type 0 where
-  pub more : TakesMoreOf w limit
-  pub said : taken ≡ fitting (tree_bytes more.holding)
-
--- a tree is denoted within the budget, and the keys of its entries have so many bytes, more than
--- the limit; none stands for 2^64 and more
-pub record HasLongKeys (w : Whole) (limit : ℕ) (taken : Option ℕ) : Type 0 where
-  pub tree : Tree
-  pub count : ℕ
-  pub holding : List Piece
-  pub denotes : w.denotes tree count
-  pub within : count ≤ w.budget
-  pub holds : HoldsPieces w holding
-  pub more : limit < key_bytes holding
-  pub said : taken ≡ fitting (key_bytes holding)
+-- in this sum the pieces of the file's tree have so many bytes, more than the limit; none stands for
+-- 2^64 and more
+pub record IsOver (sum : List Piece → ℕ) (w : Whole) (limit : ℕ) (taken : Option ℕ) : Type 0 where
+  pub more : TakesMoreOf sum w limit
+  pub said : taken ≡ fitting (sum more.holding)
 
 -- the reader's refusal, or that of a tree that takes more bytes than the limit, if there is one, or
 -- the keys of whose entries take more than they may
 abbrev pub RefusesSize : Whole → Option ℕ → FileError → Type 0
 RefusesSize w limit UsesPool = ⊥
 RefusesSize w limit (Reading e) = RefusesWhole w e
-RefusesSize w limit (Larger n most) = (limit ≡ Some most) × IsOver w most n
-RefusesSize w limit (LongKeys n most) = (most ≡ key_limit limit) × HasLongKeys w most n
+RefusesSize w limit (Larger n most) = (limit ≡ Some most) × IsOver tree_bytes w most n
+RefusesSize w limit (LongKeys n most) = (most ≡ key_limit limit) × IsOver key_bytes w most n
 
 -- the bundle has this name, the file's tree, which fits, and the fallback flag of the file's head:
 -- the lowest bit of the attributes turns fallback off
@@ -131,6 +115,6 @@ abbrev pub RefusesBeside : Option Pool → List ℕ → Option ℕ → FileError
 RefusesBeside pool bytes limit UsesPool = LacksPool pool bytes
 RefusesBeside pool bytes limit (Reading e) = RefusesReading pool bytes e
 RefusesBeside pool bytes limit (Larger n most) =
-    (limit ≡ Some most) × IsOver (over pool bytes) most n
+    (limit ≡ Some most) × IsOver tree_bytes (over pool bytes) most n
 RefusesBeside pool bytes limit (LongKeys n most) =
-    (most ≡ key_limit limit) × HasLongKeys (over pool bytes) most n
+    (most ≡ key_limit limit) × IsOver key_bytes (over pool bytes) most n

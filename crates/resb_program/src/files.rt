@@ -1,8 +1,7 @@
 //! What is had of a file, alone or beside its pool bundle: how many resources, their sums, the
 //! bundle, or the file as it is. What the file's head says is in `resb_pool_bundle`.
-ghost use Rattle.std.specs.Prelude.{◌≡◌, ◌≤◌, ◌↔◌, ℕ, IfOk, IfErr, IfSome, OnOk, IsTrue};
+ghost use Rattle.std.specs.Prelude.{◌≡◌, IfOk, IfErr, IfSome, OnOk};
 ghost use Rattle.std.specs.Prelude.{option_map, Ok, Some};
-ghost use Rattle.resb_walk.specs.Sums.{fitting};
 ghost use Rattle.resb_pool_bundle.specs.Heads.{head_bytes};
 ghost use Rattle.resb_pool_bundle.specs.Pool.{pool_in};
 ghost use Rattle.resb_read.specs.Roots.{AnswersTree};
@@ -125,16 +124,6 @@ pub fn measure_file<'a>(
     }
 }
 
-/// Whether a sum, which is none where it doesn't fit in 64 bits, is no more than the limit.
-fn is_at_most(sum: Option<u64>, limit: u64) -> bool
-    ensures { (n : ℕ) → sum ≡ fitting n → (IsTrue result ↔ (n ≤ limit)) }
-{
-    match sum {
-        Some(bytes) => bytes <= limit,
-        None => false,
-    }
-}
-
 /// Refuses a file whose tree takes more bytes than the limit, if there is one, or the keys of whose
 /// entries take more than it or than `MOST_KEY_BYTES`, before any of the tree is made.
 fn check_size<'a>(
@@ -151,14 +140,15 @@ fn check_size<'a>(
         Ok(measured) => measured,
         Err(e) => return Err(FileError::Reading(e)),
     };
+    let key_limit = limit.unwrap_or(MOST_KEY_BYTES);
     if let Some(limit) = limit
         && !measured.is_within(limit)
     {
         let bytes = measured.tree_bytes();
         return Err(FileError::Larger { bytes, limit });
     }
-    let (bytes, limit) = (measured.sums.key_bytes, limit.unwrap_or(MOST_KEY_BYTES));
-    if !is_at_most(bytes, limit) {
+    if !measured.keys_are_within(key_limit) {
+        let (bytes, limit) = (measured.sums.key_bytes, key_limit);
         return Err(FileError::LongKeys { bytes, limit });
     }
     Ok(())

@@ -1,9 +1,8 @@
 -- What the tree at a root adds up to, by what was counted and summed there.
-use Rattle.std.proofs.Common.{ℕ, List, ◌≡◌, ◌≤◌, ◌<◌, ◌+◌, ◌⊎◌, inl, inr, Result, Ok, Err}
-use Rattle.std.proofs.Common.{Some, None}
+use Rattle.std.proofs.Common.{ℕ, List, ◌≡◌, ◌≤◌, ◌+◌, ◌⊎◌, inl, inr, Result, Ok, Err}
+use Rattle.std.proofs.Common.{None}
 use Rattle.std.proofs.Common.{sym}
-use Rattle.std.proofs.Common.{◌∙◌, ap, subst, arith, nat_le, ◌^◌, false, ◌↔◌, IsTrue}
-use Rattle.std.proofs.lemmas.Bool.Decides.{nat_tests}
+use Rattle.std.proofs.Common.{◌∙◌, ap, subst, arith}
 use Rattle.std.specs.Prelude.{sum_by}
 use Rattle.resb_tree.specs.Tree.{Tree, tree_count}
 use Rattle.resb_tree.specs.declared.resource.Resource.{Resource}
@@ -12,14 +11,15 @@ use Rattle.resb_format.specs.Error.{IsWantOfMemory}
 use Rattle.resb_format.specs.Parts.{Parts}
 use Rattle.resb_format.specs.declared.error.ReadingError.{ReadingError}
 use Rattle.resb_walk.specs.Pieces.{Piece, pieces}
-use Rattle.resb_walk.specs.Sums.{AddsUp, count_of, fitting}
+use Rattle.resb_walk.specs.Sums.{AddsUp, count_of}
+use Rattle.resb_walk.specs.TreeBytes.{tree_bytes}
 use Rattle.resb_walk.specs.declared.sums.Sums.{Sums}
 use Rattle.resb_walk.proofs.Holding.{denoted_is_held, one_holding}
 use Rattle.resb_walk.proofs.TreePieces.{tree_within}
-use Rattle.resb_walk.proofs.SumsLemmas.{fits_some, fits_none}
 use Rattle.resb_read.specs.Inner.AtRoot.{IsRoot, RefusesHere, CountHere, MeasureHere}
-use Rattle.resb_read.specs.Inner.AtRoot.{TreeWithinHere}
-use Rattle.resb_read.specs.Measuring.{HoldsPieces, AnswersMeasureOf, TreeWithinOf}
+use Rattle.resb_read.specs.Inner.AtRoot.{MoreHere, TreeWithinHere}
+use Rattle.resb_read.specs.Measuring.{HoldsPieces, AnswersMeasureOf, TakesMoreOf, TreeWithinOf}
+use Rattle.resb_read.specs.Measuring.{key_bytes}
 use Rattle.resb_read.specs.Measuring.{OneWeight, TreesWeighNoMore}
 use Rattle.resb_read.specs.Places.{Place}
 use Rattle.resb_read.specs.Resources.{DenSpot, DenPlace, HoldsSpot, HoldsPlace}
@@ -76,6 +76,20 @@ measure_root w p left (Ok m) l none same all ((t, d, paid), xs, h, adds) = (
 )
 measure_root w p left (Err e) l none same all h = refused_root w p left e l none same all h
 
+-- a tree that has more in a sum at the root has so in the file
+more_root : (sum : List Piece → ℕ) (w : Whole) (p : Place) (left limit : ℕ)
+    → IsLinked w → w.refusal ≡ None → p ≡ place_of_root w → left ≡ w.budget
+    → MoreHere sum p left limit → TakesMoreOf sum w limit
+more_root sum w p left limit l none same all (n, (t, d, paid), xs, holds, over) = record {
+  tree = t;
+  count = n;
+  holding = xs;
+  denotes = denoted_root w p t n l none same d;
+  within = omega (arith, all, paid);
+  holds = subst (λ q. HoldsPlace q xs) same holds;
+  more = over;
+}
+
 pub within_root : (w : Whole) (p : Place) (left limit : ℕ) (r : Result Resource ReadingError)
     → IsLinked w → w.refusal ≡ None → p ≡ place_of_root w → left ≡ w.budget
     → TreeWithinHere p left limit r → TreeWithinOf w limit r
@@ -85,31 +99,10 @@ within_root w p left limit (Ok x) l none same all (h, xs, holds, fits) = (
 )
 within_root w p left limit (Err e) l none same all (inl h) =
     inl (refused_root w p left e l none same all h)
-within_root w p left limit (Err e) l none same all (inr (is, more)) =
-    let (n, (t, d, paid), xs, holds, over) = more in
-    inr (
-      is,
-      record {
-        tree = t;
-        count = n;
-        holding = xs;
-        denotes = denoted_root w p t n l none same d;
-        within = omega (arith, all, paid);
-        holds = subst (λ q. HoldsPlace q xs) same holds;
-        more = over;
-      },
-    )
-
--- a number that fits is compared, and one that doesn't is above each limit
-pub within_some : (n v limit : ℕ) → Some v ≡ fitting n → IsTrue (nat_le v limit) ↔ (n ≤ limit)
-within_some n v limit e =
-    let same : v ≡ n = (fits_some n v e).0 in
-    (λ h. grind (arith, nat_tests, same, h), λ h. grind (arith, nat_tests, same, h))
-
-pub within_none : (n limit : ℕ) → None ≡ fitting n → limit < 2 ^ 64
-    → IsTrue false ↔ (n ≤ limit)
-within_none n limit e small =
-    let large = fits_none n e in (λ h. absurd cc, λ h. absurd (omega (arith, small, large, h)))
+within_root w p left limit (Err e) l none same all (inr (inl (is, more))) =
+    inr (inl (is, more_root tree_bytes w p left limit l none same all more))
+within_root w p left limit (Err e) l none same all (inr (inr (is, more))) =
+    inr (inr (is, more_root key_bytes w p left limit l none same all more))
 
 -- the laws
 pub one_weight_of : (w : Whole) (xs ys : List Piece) → HoldsPieces w xs → HoldsPieces w ys

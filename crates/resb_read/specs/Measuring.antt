@@ -3,6 +3,7 @@
 --     HoldsPieces w xs, FileHolds bytes xs    the pieces of the tree
 --     IsMeasured m xs         how many resources these pieces are, and what they add up to
 --     AnswersMeasureOf, AnswersMeasure    what measuring the tree answers
+--     FitsWithin limit xs     neither the tree nor the keys of its entries take more bytes
 --     TreeWithinOf, TreeWithin    what reading it within a limit answers
 --     OneWeight, TreesWeighNoMore     that a file's tree has one weight, and is no heavier
 use Rattle.std.specs.Prelude.{◌≡◌, ◌<◌, ◌≤◌, ◌⊎◌, ℕ, List, Result, Ok, Err, codes, sum_by}
@@ -12,7 +13,7 @@ use Rattle.resb_head.specs.File.{Denotes}
 use Rattle.resb_format.specs.Error.{IsInvalid}
 use Rattle.resb_format.specs.declared.error.ReadingError.{ReadingError}
 use Rattle.resb_walk.specs.Pieces.{Piece, Holds, pieces}
-use Rattle.resb_walk.specs.Sums.{AddsUp, count_of}
+use Rattle.resb_walk.specs.Sums.{AddsUp, count_of, key_bytes_in}
 use Rattle.resb_walk.specs.TreeBytes.{tree_bytes}
 use Rattle.resb_read.specs.Roots.{Whole, RefusesWhole, AnswersTreeOf, alone}
 use Rattle.resb_read.specs.declared.measuring.Measured.{Measured}
@@ -37,22 +38,38 @@ AnswersMeasureOf w (Err e) = RefusesWhole w e
 abbrev pub IsLarger : ReadingError → Type 0
 IsLarger e = IsInvalid e (codes "tree larger than the limit")
 
--- a tree is denoted within the budget, and takes more bytes than this
-pub record TakesMoreOf (w : Whole) (limit : ℕ) : Type 0 where
+-- the error says that the keys of the tree's entries have more bytes than they may
+abbrev pub HasLargerKeys : ReadingError → Type 0
+HasLargerKeys e = IsInvalid e (codes "keys larger than the limit")
+
+-- the bytes of the keys of all entries, be they shared or not: each of them may be compared where
+-- the tree is made
+abbrev pub key_bytes : List Piece → ℕ
+key_bytes xs = sum_by key_bytes_in xs
+
+-- a tree of these pieces takes no more bytes than the limit, nor do the keys of its entries
+abbrev pub FitsWithin : ℕ → List Piece → Type 0
+FitsWithin limit xs = (tree_bytes xs ≤ limit) × (key_bytes xs ≤ limit)
+
+-- a tree is denoted within the budget, and in this sum its pieces have more bytes than the limit
+pub record TakesMoreOf (sum : List Piece → ℕ) (w : Whole) (limit : ℕ) : Type 0 where
   pub tree : Tree
   pub count : ℕ
   pub holding : List Piece
   pub denotes : w.denotes tree count
   pub within : count ≤ w.budget
   pub holds : HoldsPieces w holding
-  pub more : limit < tree_bytes holding
+  pub more : limit < sum holding
 
--- the tree, which takes no more bytes than the limit; or its refusal, or that of a tree that takes
--- more
+-- the tree, where neither it nor the keys of its entries take more bytes than the limit; or its
+-- refusal, or that of a tree that takes more, or of keys that do
 abbrev pub TreeWithinOf : Whole → ℕ → Result Resource ReadingError → Type 0
 TreeWithinOf w limit (Ok r) =
-    AnswersTreeOf w (Ok r) × ((xs : List Piece) × HoldsPieces w xs × (tree_bytes xs ≤ limit))
-TreeWithinOf w limit (Err e) = RefusesWhole w e ⊎ (IsLarger e × TakesMoreOf w limit)
+    AnswersTreeOf w (Ok r) × ((xs : List Piece) × HoldsPieces w xs × FitsWithin limit xs)
+TreeWithinOf w limit (Err e) =
+    RefusesWhole w e
+    ⊎ ((IsLarger e × TakesMoreOf tree_bytes w limit)
+    ⊎ (HasLargerKeys e × TakesMoreOf key_bytes w limit))
 
 -- the pieces of a file's tree, in the order of the file
 abbrev pub FileHolds : List ℕ → List Piece → Type 0
@@ -62,12 +79,8 @@ FileHolds bytes xs = HoldsPieces (alone bytes) xs
 abbrev pub AnswersMeasure : List ℕ → Result Measured ReadingError → Type 0
 AnswersMeasure bytes r = AnswersMeasureOf (alone bytes) r
 
--- a tree is denoted within the budget of a file, and takes more bytes than this
-abbrev pub TakesMore : List ℕ → ℕ → Type 0
-TakesMore bytes limit = TakesMoreOf (alone bytes) limit
-
--- the file's tree, which takes no more bytes than the limit; or its refusal, or that of a tree that
--- takes more
+-- the file's tree, where neither it nor the keys of its entries take more bytes than the limit; or
+-- its refusal, or that of a tree that takes more, or of keys that do
 abbrev pub TreeWithin : List ℕ → ℕ → Result Resource ReadingError → Type 0
 TreeWithin bytes limit r = TreeWithinOf (alone bytes) limit r
 

@@ -48,6 +48,13 @@ impl<'de> Cursor<'de> {
         self.at
     }
 
+    /// The parts of the file in which the cursor stands.
+    pub fn file(self) -> FileBlocks<'de>
+        ensures { result ≡ self.entry.file }
+    {
+        self.file
+    }
+
     /// A cursor at the root of the parts of a file, and the whole budget of the file's bytes.
     pub(crate) fn begin(parts: CheckedFile<'de>, bytes: &[u8]) -> (Cursor<'de>, Walk)
         ensures root { place_of result.0

@@ -6,7 +6,8 @@ ghost use Rattle.resb_walk.specs.Pieces.{Piece, Holds};
 ghost use Rattle.resb_walk.specs.Sums.{AddsUp, count_of, fitting};
 ghost use Rattle.resb_walk.specs.TreeBytes.{tree_bytes};
 ghost use Rattle.resb_read.specs.Inner.AtRoot.{IsRoot, MeasureHere, TreeWithinHere};
-ghost use Rattle.resb_read.specs.Measuring.{IsMeasured, AnswersMeasure, TreeWithin, IsLarger};
+ghost use Rattle.resb_read.specs.Measuring.{IsMeasured, AnswersMeasure, TreeWithin};
+ghost use Rattle.resb_read.specs.Measuring.{IsLarger, HasLargerKeys, key_bytes};
 ghost use Rattle.resb_read.specs.Places.{place_of};
 ghost use Rattle.resb_read.specs.Resources.{HoldsPlace};
 
@@ -24,6 +25,16 @@ pub struct Measured {
     pub resources: usize,
     /// What they add up to.
     pub sums: Sums,
+}
+
+/// Whether a sum, which is none where it doesn't fit in 64 bits, is no more than the limit.
+fn is_at_most(sum: Option<u64>, limit: u64) -> bool
+    ensures { (n : ℕ) → sum ≡ fitting n → (IsTrue result ↔ (n ≤ limit)) }
+{
+    match sum {
+        Some(bytes) => bytes <= limit,
+        None => false,
+    }
 }
 
 impl Measured {
@@ -55,10 +66,16 @@ impl Measured {
         ensures { (xs : List Piece) → IsMeasured self xs
             → (IsTrue result ↔ (tree_bytes xs ≤ limit)) }
     {
-        match self.tree_bytes() {
-            Some(bytes) => bytes <= limit,
-            None => false,
-        }
+        is_at_most(self.tree_bytes(), limit)
+    }
+
+    /// Whether the keys of all entries, be they shared or not, have no more bytes than the limit:
+    /// each of them may be compared where the tree is made.
+    pub fn keys_are_within(self, limit: u64) -> bool
+        ensures { (xs : List Piece) → IsMeasured self xs
+            → (IsTrue result ↔ (key_bytes xs ≤ limit)) }
+    {
+        is_at_most(self.sums.key_bytes, limit)
     }
 }
 
@@ -67,6 +84,13 @@ fn larger() -> BinaryDeserializerError
     ensures { IsLarger result }
 {
     BinaryDeserializerError::invalid_data("tree larger than the limit")
+}
+
+/// The keys of the tree's entries would have more bytes than they may.
+fn larger_keys() -> BinaryDeserializerError
+    ensures { HasLargerKeys result }
+{
+    BinaryDeserializerError::invalid_data("keys larger than the limit")
 }
 
 impl<'de> Cursor<'de> {
@@ -94,7 +118,8 @@ pub fn measure(alloc: Global, bytes: &[u8]) -> Result<Measured, BinaryDeserializ
 }
 
 /// Reads the tree of a file where it takes no more bytes than the limit, as `Measured::tree_bytes`
-/// counts them. It is refused before any of the tree is made; else it answers as `tree_from_bytes`.
+/// counts them, nor do the keys of its entries, be they shared or not: each may be compared. It is
+/// refused before any of the tree is made; else it answers as `tree_from_bytes`.
 pub fn tree_from_bytes_within(
     alloc: Global,
     bytes: &[u8],
@@ -120,7 +145,8 @@ pub(crate) fn measure_root(
     Ok(Measured { resources, sums })
 }
 
-/// Reads the tree at a root, from what is left, where it takes no more bytes than the limit.
+/// Reads the tree at a root, from what is left, where neither it nor the keys of its entries take
+/// more bytes than the limit.
 pub(crate) fn read_root_within(
     alloc: Global,
     root: Cursor<'_>,
@@ -133,6 +159,9 @@ pub(crate) fn read_root_within(
     let measured = measure_root(alloc, root, Walk::new(walk.left()))?;
     if !measured.is_within(limit) {
         return Err(larger());
+    }
+    if !measured.keys_are_within(limit) {
+        return Err(larger_keys());
     }
     read_root_tree(alloc, root, walk)
 }

@@ -46,20 +46,30 @@ fn line_within(alloc: Global, bytes: &[u8], count: usize, limit: u64) -> Result<
     }
 }
 
-/// The line of what was measured. The tree is read within just its bytes, and refused within fewer.
+/// The line of what was measured. The tree is read within just its bytes, or those of its keys where
+/// these are more, and refused within fewer.
 fn line_of_measured(alloc: Global, bytes: &[u8], measured: Measured) -> Result<String, Fail> {
     let count = measured.resources;
-    let limit = fit(measured.tree_bytes())?;
+    let (taken, keys) = (fit(measured.tree_bytes())?, fit(measured.sums.key_bytes)?);
+    let limit = taken.max(keys);
+    if !measured.keys_are_within(keys) || (keys > 0 && measured.keys_are_within(keys - 1)) {
+        return Err("keys of another length")?;
+    }
     same(
         line_within(alloc, bytes, count, limit)?,
         line_by_tree(alloc, bytes)?,
     )?;
     let refusal = line_within(alloc, bytes, count, limit.saturating_sub(1))?;
-    if refusal.as_str() != "Invalid resource bundle data: tree larger than the limit" {
+    let said = if keys > taken {
+        "Invalid resource bundle data: keys larger than the limit"
+    } else {
+        "Invalid resource bundle data: tree larger than the limit"
+    };
+    if refusal.as_str() != said {
         return Err("read over the limit")?;
     }
     let sums = line_of_sums(alloc, measured.sums)?;
-    Ok(format!(in alloc; "{count}: {sums}; {limit} bytes")?)
+    Ok(format!(in alloc; "{count}: {sums}; {taken} bytes")?)
 }
 
 /// The line of what the file of a row adds up to.

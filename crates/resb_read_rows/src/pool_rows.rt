@@ -80,7 +80,8 @@ fn are_led(file: &[u8], pool: PoolBundle<'_>) -> Result<bool, BinaryDeserializer
     let Some(short) = find_with_pool(file, Some(pool), &["beta"])? else {
         return Ok(false);
     };
-    let same = short.read_bytes(&mut walk)? == b"x\0".as_slice();
+    let of_file = short.file().keys == root.file().keys;
+    let same = of_file && short.read_bytes(&mut walk)? == b"x\0".as_slice();
     let misses = find_in(root, &["beta", "0"])?.is_none() && root.entry("bet")?.is_none();
     Ok(same && misses && root.member(0).is_err())
 }

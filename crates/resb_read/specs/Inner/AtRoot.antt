@@ -7,7 +7,7 @@ use Rattle.resb_walk.specs.Meets.{Blames}
 use Rattle.resb_walk.specs.Pieces.{Piece}
 use Rattle.resb_walk.specs.Refusals.{Refuses}
 use Rattle.resb_walk.specs.TreeBytes.{tree_bytes}
-use Rattle.resb_read.specs.Measuring.{IsMeasured, IsLarger}
+use Rattle.resb_read.specs.Measuring.{IsMeasured, IsLarger, HasLargerKeys, key_bytes, FitsWithin}
 use Rattle.resb_read.specs.Places.{Place}
 use Rattle.resb_read.specs.Resources.{DenPlace, ReachesPlace, MeetsPlace, HoldsPlace, ReadsTree}
 use Rattle.resb_read.specs.declared.cursor.Spot.TheVariants as spot
@@ -37,14 +37,17 @@ MeasureHere p left (Ok m) =
     CountHere p left (Ok m.resources) × (xs : List Piece) × HoldsPlace p xs × IsMeasured m xs
 MeasureHere p left (Err e) = RefusesHere p left e
 
--- a tree within what is left takes more bytes than this
-abbrev pub MoreHere : Place → ℕ → ℕ → Type 0
-MoreHere p left limit =
-    (n : ℕ) × CountHere p left (Ok n) × (xs : List Piece) × HoldsPlace p xs
-    × (limit < tree_bytes xs)
+-- a tree within what is left has more bytes in this sum than the limit
+abbrev pub MoreHere : (List Piece → ℕ) → Place → ℕ → ℕ → Type 0
+MoreHere sum p left limit =
+    (n : ℕ) × CountHere p left (Ok n) × (xs : List Piece) × HoldsPlace p xs × (limit < sum xs)
 
--- a tree within what is left that takes no more bytes than the limit, or its refusal
+-- a tree within what is left, where neither it nor its keys take more bytes than the limit, or its
+-- refusal
 abbrev pub TreeWithinHere : Place → ℕ → ℕ → Result Resource ReadingError → Type 0
 TreeWithinHere p left limit (Ok r) =
-    TreeHere p left (Ok r) × (xs : List Piece) × HoldsPlace p xs × (tree_bytes xs ≤ limit)
-TreeWithinHere p left limit (Err e) = RefusesHere p left e ⊎ (IsLarger e × MoreHere p left limit)
+    TreeHere p left (Ok r) × (xs : List Piece) × HoldsPlace p xs × FitsWithin limit xs
+TreeWithinHere p left limit (Err e) =
+    RefusesHere p left e
+    ⊎ ((IsLarger e × MoreHere tree_bytes p left limit)
+    ⊎ (HasLargerKeys e × MoreHere key_bytes p left limit))

@@ -119,15 +119,15 @@ plain_text_is block from bs u n is few inside h g e cut =
     let spelled : take n (drop u (units_of block)) ≡ units_of bs =
     ap (take n) (sym there) ∙ sym cut in
     let paired : has_unpaired_surrogate (units_of bs) ≡ false =
-    rw cut (below_paired (take n (units_of from)) (front_below (units_of from) n g)) in
+    rw cut (below_paired (take n (units_of from)) (front_below (units_of from) n 0xd800 (lit< tt) g)) in
     text_some (units_of block) u bs (stands ∙ ap Some spelled) (rw paired refl)
 
--- the unit behind those so far
-pub plain_more : (us : List ℕ) (n found : ℕ) → found ≡ get_or us n 0 → 0 < found
-    → found < 0xd800
-    → ((k : ℕ) → k < n → (0 < get_or us k 0) × (get_or us k 0 < 0xd800))
-    → (k : ℕ) → k < n + 1 → (0 < get_or us k 0) × (get_or us k 0 < 0xd800)
-plain_more us n found e some small h k less = elim (cases_lt k n) [
+-- the number behind those so far
+pub plain_more : (us : List ℕ) (n most found : ℕ) → found ≡ get_or us n 0 → 0 < found
+    → found < most
+    → ((k : ℕ) → k < n → (0 < get_or us k 0) × (get_or us k 0 < most))
+    → (k : ℕ) → k < n + 1 → (0 < get_or us k 0) × (get_or us k 0 < most)
+plain_more us n most found e some small h k less = elim (cases_lt k n) [
   | inl before ↦ h k before
   | inr behind ↦
       let same : k ≡ n = omega arith in

@@ -216,7 +216,7 @@ impl<'a> Checker<'a> {
     }
 
     /// Looks at what stands at a word.
-    #[inline(never)]
+    #[inline(always)]
     fn look_closer(
         &mut self,
         alloc: Global,

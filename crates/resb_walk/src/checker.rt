@@ -2,6 +2,7 @@
 //! a whole. What is known of its blocks and of its pool's is in `known`; the rounds are in `count`.
 ghost use Rattle.std.specs.Prelude.{◌≡◌, ◌<◌, ◌^◌, ℕ, List, Some, IfOk, IfSome, IsTrue};
 ghost use Rattle.std.specs.Option.{ForSome};
+ghost use Rattle.resb_format.specs.Content as at;
 ghost use Rattle.resb_format.specs.Lookups.{key_in, text_in};
 ghost use Rattle.resb_format.specs.Parts.{parts_in};
 ghost use Rattle.resb_walk.specs.Inner.Counting.{LooksKey, LooksText, LooksCounted, LooksAt};
@@ -10,10 +11,10 @@ ghost use Rattle.resb_walk.specs.Inner.Places.{pool_keys, pool_block};
 
 use crate::faults::not_utf16;
 use crate::known::{Known, KnownTexts, SHORT_STRING};
-use crate::leads::{Lead, lead_at};
+use crate::leads::{Glance, Lead, glance_at, lead_at};
 use crate::members::{Member, Rest, Standing};
-use crate::places::{Place, key_spot, text_spot};
-use crate::standing::{counted_units, key_at, text_at};
+use crate::places::{Place, key_spot, text_place, text_spot};
+use crate::standing::{counted_units, is_plain_key, is_plain_text, key_at, text_at};
 use crate::units::is_well_formed;
 use resb_blocks::SHORT_TAIL;
 use resb_format::{BinaryDeserializerError, FileBlocks};
@@ -85,9 +86,23 @@ impl<'a> Checker<'a> {
         }
     }
 
-    /// Looks at the key at a position, the file's own or the pool's.
+    /// Looks at the key at a position, the file's own or the pool's. Most are short ASCII, of which
+    /// one look is enough.
     #[inline(always)]
+    #[tactic(auto, unfolding(resb_format::specs::Lookups::key_place_by))]
     pub fn key(&mut self, alloc: Global, at: usize) -> Result<(), BinaryDeserializerError>
+        ensures looks { LooksKey (parts_in self.old.file) at result }
+        ensures file { self.new.file ≡ self.old.file }
+    {
+        if at < self.file.keys.len() && is_plain_key(self.file.keys, at) {
+            return Ok(());
+        }
+        self.any_key(alloc, at)
+    }
+
+    /// Looks at a key of any kind.
+    #[inline(never)]
+    fn any_key(&mut self, alloc: Global, at: usize) -> Result<(), BinaryDeserializerError>
         ensures looks { LooksKey (parts_in self.old.file) at result }
         ensures file { self.new.file ≡ self.old.file }
     {
@@ -131,18 +146,32 @@ impl<'a> Checker<'a> {
         }
     }
 
-    /// Looks at the string with an index, own or the pool's.
+    /// Looks at the string with an index, own or the pool's. Most are short and have no surrogate,
+    /// so that one look is enough.
     #[inline(always)]
-    pub fn text(&mut self, alloc: Global, unit: usize) -> Result<(), BinaryDeserializerError>
-        ensures looks { LooksText (parts_in self.old.file) unit result }
+    pub fn text(&mut self, alloc: Global, index: usize) -> Result<(), BinaryDeserializerError>
+        ensures looks { LooksText (parts_in self.old.file) index result }
         ensures file { self.new.file ≡ self.old.file }
     {
-        if self.has_noted && self.has_text(unit) {
+        let (block, unit) = text_place(self.file, index);
+        if is_plain_text(block, unit) {
             return Ok(());
         }
-        let units = text_at(self.file, unit)?;
+        self.any_text(alloc, index)
+    }
+
+    /// Looks at a string of any kind.
+    #[inline(never)]
+    fn any_text(&mut self, alloc: Global, index: usize) -> Result<(), BinaryDeserializerError>
+        ensures looks { LooksText (parts_in self.old.file) index result }
+        ensures file { self.new.file ≡ self.old.file }
+    {
+        if self.has_noted && self.has_text(index) {
+            return Ok(());
+        }
+        let units = text_at(self.file, index)?;
         if units.len() > SHORT_STRING {
-            self.note_text(alloc, unit, units.len())?;
+            self.note_text(alloc, index, units.len())?;
         }
         Ok(())
     }
@@ -176,8 +205,28 @@ impl<'a> Checker<'a> {
         ensures looks { LooksAt (parts_in self.old.file) (member_of member) result }
         ensures file { self.new.file ≡ self.old.file }
     {
-        match lead_at(self.file, member)? {
-            Lead::Text(index) => self.text(alloc, index)?,
+        match glance_at(self.file, member) {
+            Glance::Text(index) => {
+                self.text(alloc, index)?;
+                Ok(None)
+            }
+            Glance::Integer => Ok(None),
+            Glance::Other(word) => self.look_closer(alloc, word),
+        }
+    }
+
+    /// Looks at what stands at a word.
+    #[inline(always)]
+    fn look_closer(
+        &mut self,
+        alloc: Global,
+        word: u32,
+    ) -> Result<Option<Rest<'a>>, BinaryDeserializerError>
+        ensures looks { LooksAt (parts_in self.old.file) (at.word word) result }
+        ensures file { self.new.file ≡ self.old.file }
+    {
+        match lead_at(self.file, Member::Word(word))? {
+            Lead::Text(index) => self.any_text(alloc, index)?,
             Lead::Counted(word) => self.counted(alloc, word)?,
             Lead::Plain(Standing::Leaf(_)) => {}
             Lead::Plain(Standing::List(members)) => return Ok(Some(Rest::List(members))),

@@ -31,6 +31,6 @@ pub use members::{Leaf, Member, Members, Positions, Rest, Standing, TableParts};
 pub use read::{read_checked, read_string_at, read_word};
 pub use standing::{counted_text_at, key_at, standing_at, text_at};
 pub use sums::Sums;
-pub use units::text_of_units;
+pub use units::{push_text_of_units, text_of_units};
 pub use walk::Walk;
 pub use weigh::weigh_word;

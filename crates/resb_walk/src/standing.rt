@@ -1,7 +1,7 @@
 //! What stands at a word, at a unit of the 16-bit block, and at a key's position.
 //! Bytes are looked at in `resb_format::bytes` alone.
 ghost use Rattle.std.specs.Prelude.{◌≡◌, ◌≢◌, ◌<◌, ◌^◌, ◌/◌, ◌%◌, Some, None, true};
-ghost use Rattle.std.specs.Prelude.{MatchResult, IfErr, IfOk, IfSome};
+ghost use Rattle.std.specs.Prelude.{MatchOption, MatchResult, IfErr, IfOk, IfSome, IsTrue, ℕ, List};
 ghost use Rattle.resb_format.specs.Bytes.{units_of};
 ghost use Rattle.resb_format.specs.Strings as strings;
 ghost use Rattle.resb_format.specs.Descriptor.{type_number};
@@ -23,9 +23,9 @@ use crate::members::{Leaf, Member, Members, Positions, Standing, TableParts};
 use crate::places::{index_of, key_place, text_place};
 use crate::types::readable;
 use crate::units::is_well_formed;
-use resb_blocks::first_zero;
+use resb_blocks::{SHORT_TAIL, first_zero};
 use resb_format::bytes::{
-    cut_at, some_bytes, some_unit, some_units, some_word, some_words, unit_at,
+    byte_at, cut_at, some_bytes, some_unit, some_units, some_word, some_words, unit_at,
 };
 use resb_format::{BinaryDeserializerError, FileBlocks, MAX_UNMARKED, ResourceReprType, string_at};
 
@@ -53,6 +53,36 @@ fn plain_text(block: &[u8], unit: usize) -> Option<&[u8]>
         return None;
     }
     None
+}
+
+/// Whether such a string stands at a unit of the block.
+#[inline(always)]
+pub(crate) fn is_plain_text(block: &[u8], unit: usize) -> bool
+    ensures { let units = units_of block.now in IsTrue result
+        → (text : List ℕ) × (strings.text_at units unit ≡ Some text) }
+{
+    plain_text(block, unit).is_some()
+}
+
+/// Whether a short key of ASCII stands at a byte of a block of keys, as most do: one look at each of
+/// its bytes finds the 0 behind it and that it is a text.
+#[inline(always)]
+pub(crate) fn is_plain_key(keys: &[u8], at: usize) -> bool
+    ensures { let keys = keys.now in IsTrue result
+        → (key : List ℕ) × (strings.key_at keys at ≡ Some key) }
+{
+    let Some((_, tail)) = cut_at(keys, at) else {
+        return false;
+    };
+    let most = tail.len().min(SHORT_TAIL + 1);
+    'bytes: for count in 0..most {
+        let found = byte_at(tail, count);
+        if found.wrapping_sub(1) < 0x7f {
+            continue;
+        }
+        return found == 0;
+    }
+    false
 }
 
 /// The key at a byte of a block of keys: what stands before the next zero byte.
@@ -97,6 +127,7 @@ fn block_text(units: &[u8], unit: usize) -> Result<&[u8], BinaryDeserializerErro
 
 /// The same of a string with a marker or surrogates too: first it is found, and then tested.
 #[tactic(auto, using(crate::proofs::Placed::text_some, crate::proofs::Placed::text_unpaired))]
+#[inline(never)]
 fn any_text(units: &[u8], unit: usize) -> Result<&[u8], BinaryDeserializerError>
     ensures stands { let block = units_of units.now in
         MatchResult result (λ v. strings.text_at block unit ≡ Some (text_of_bytes v.now))
@@ -230,125 +261,113 @@ fn placed(
     ensures says { IfErr result
         (Says (refusals.value_refusal (parts_in file.entry) (type_number kind) value)) }
 {
-    match kind {
+    let found = match kind {
         ResourceReprType::Binary => binary_at(file, value),
         ResourceReprType::Table => table_at(file, value),
         ResourceReprType::_Table32 => table32_at(file, value),
         ResourceReprType::Table16 => table16_at(file, value),
-        ResourceReprType::StringV2 => Ok(Standing::Leaf(Leaf::Text(text_at(file, value)?))),
+        ResourceReprType::StringV2 => Some(Standing::Leaf(Leaf::Text(text_at(file, value)?))),
         ResourceReprType::Array => array_at(file, value),
         ResourceReprType::Array16 => array16_at(file, value),
         ResourceReprType::IntVector => int_vector_at(file, value),
-        ResourceReprType::_String => Ok(Standing::Leaf(Leaf::Text(counted_text_at(file, value)?))),
-        ResourceReprType::_Alias => Ok(Standing::Leaf(Leaf::Alias(counted_text_at(file, value)?))),
+        ResourceReprType::_String => {
+            Some(Standing::Leaf(Leaf::Text(counted_text_at(file, value)?)))
+        }
+        ResourceReprType::_Alias => {
+            Some(Standing::Leaf(Leaf::Alias(counted_text_at(file, value)?)))
+        }
         ResourceReprType::Int => unreachable!(),
-    }
+    };
+    found.ok_or(past_end())
 }
 
 /// A count of bytes, and the bytes.
-fn binary_at(file: FileBlocks<'_>, value: usize) -> Result<Standing<'_>, BinaryDeserializerError>
+fn binary_at(file: FileBlocks<'_>, value: usize) -> Option<Standing<'_>>
     requires { value < 2 ^ 28 }
-    ensures stands { let p = parts_in file.entry in
-        MatchResult result (λ s. at.binary_at p value ≡ Some (content_of s))
-        (λ e. (at.binary_at p value ≡ None) × IsFault e) }
-    ensures says { IfErr result (Says reading.end_of_input) }
+    ensures { let found = at.binary_at (parts_in file.entry) value in
+        MatchOption result (found ≡ None) (λ s. found ≡ Some (content_of s)) }
 {
-    let count = some_word(file.body, value).ok_or(past_end())?;
-    let bytes = some_bytes(file.body, 4 * value + 4, count as usize).ok_or(past_end())?;
-    Ok(Standing::Leaf(Leaf::Binary(bytes)))
+    let count = some_word(file.body, value)?;
+    let bytes = some_bytes(file.body, 4 * value + 4, count as usize)?;
+    Some(Standing::Leaf(Leaf::Binary(bytes)))
 }
 
 /// A count of numbers, and the numbers.
-fn int_vector_at(
-    file: FileBlocks<'_>,
-    value: usize,
-) -> Result<Standing<'_>, BinaryDeserializerError>
+fn int_vector_at(file: FileBlocks<'_>, value: usize) -> Option<Standing<'_>>
     requires { value < 2 ^ 28 }
-    ensures stands { let p = parts_in file.entry in
-        MatchResult result (λ s. at.int_vector_at p value ≡ Some (content_of s))
-        (λ e. (at.int_vector_at p value ≡ None) × IsFault e) }
-    ensures says { IfErr result (Says reading.end_of_input) }
+    ensures { let found = at.int_vector_at (parts_in file.entry) value in
+        MatchOption result (found ≡ None) (λ s. found ≡ Some (content_of s)) }
 {
-    let count = some_word(file.body, value).ok_or(past_end())?;
-    let numbers = some_words(file.body, value + 1, count as usize).ok_or(past_end())?;
-    Ok(Standing::Leaf(Leaf::Numbers(numbers)))
+    let count = some_word(file.body, value)?;
+    let numbers = some_words(file.body, value + 1, count as usize)?;
+    Some(Standing::Leaf(Leaf::Numbers(numbers)))
 }
 
 /// A count of descriptors, and the descriptors.
-fn array_at(file: FileBlocks<'_>, value: usize) -> Result<Standing<'_>, BinaryDeserializerError>
+fn array_at(file: FileBlocks<'_>, value: usize) -> Option<Standing<'_>>
     requires { value < 2 ^ 28 }
-    ensures stands { let p = parts_in file.entry in
-        MatchResult result (λ s. at.array_at p value ≡ Some (content_of s))
-        (λ e. (at.array_at p value ≡ None) × IsFault e) }
-    ensures says { IfErr result (Says reading.end_of_input) }
+    ensures { let found = at.array_at (parts_in file.entry) value in
+        MatchOption result (found ≡ None) (λ s. found ≡ Some (content_of s)) }
 {
-    let count = some_word(file.body, value).ok_or(past_end())?;
-    let members = some_words(file.body, value + 1, count as usize).ok_or(past_end())?;
-    Ok(Standing::List(Members::Words(members)))
+    let count = some_word(file.body, value)?;
+    let members = some_words(file.body, value + 1, count as usize)?;
+    Some(Standing::List(Members::Words(members)))
 }
 
 /// A count of offsets, and the offsets.
-fn array16_at(file: FileBlocks<'_>, value: usize) -> Result<Standing<'_>, BinaryDeserializerError>
+fn array16_at(file: FileBlocks<'_>, value: usize) -> Option<Standing<'_>>
     requires { value < 2 ^ 28 }
-    ensures stands { let p = parts_in file.entry in
-        MatchResult result (λ s. at.array16_at p value ≡ Some (content_of s))
-        (λ e. (at.array16_at p value ≡ None) × IsFault e) }
-    ensures says { IfErr result (Says reading.end_of_input) }
+    ensures { let found = at.array16_at (parts_in file.entry) value in
+        MatchOption result (found ≡ None) (λ s. found ≡ Some (content_of s)) }
 {
-    let count = some_unit(file.block, value).ok_or(past_end())?;
-    let members = some_units(file.block, value + 1, usize::from(count)).ok_or(past_end())?;
-    Ok(Standing::List(Members::Units(members)))
+    let count = some_unit(file.block, value)?;
+    let members = some_units(file.block, value + 1, usize::from(count))?;
+    Some(Standing::List(Members::Units(members)))
 }
 
 /// A 16-bit count of entries, 16-bit key positions, padding up to a word, and descriptors.
-fn table_at(file: FileBlocks<'_>, value: usize) -> Result<Standing<'_>, BinaryDeserializerError>
+fn table_at(file: FileBlocks<'_>, value: usize) -> Option<Standing<'_>>
     requires { value < 2 ^ 28 }
-    ensures stands { let p = parts_in file.entry in
-        MatchResult result (λ s. at.table_at p value ≡ Some (content_of s))
-        (λ e. (at.table_at p value ≡ None) × IsFault e) }
-    ensures says { IfErr result (Says reading.end_of_input) }
+    ensures { let found = at.table_at (parts_in file.entry) value in
+        MatchOption result (found ≡ None) (λ s. found ≡ Some (content_of s)) }
 {
-    let count = some_unit(file.body, 2 * value).ok_or(past_end())?;
+    let count = some_unit(file.body, 2 * value)?;
     let count = usize::from(count);
-    let keys = some_units(file.body, 2 * value + 1, count).ok_or(past_end())?;
-    let members = some_words(file.body, value + count / 2 + 1, count).ok_or(past_end())?;
-    Ok(Standing::Table(TableParts {
+    let keys = some_units(file.body, 2 * value + 1, count)?;
+    let members = some_words(file.body, value + count / 2 + 1, count)?;
+    Some(Standing::Table(TableParts {
         keys: Positions::Halves(keys),
         members: Members::Words(members),
     }))
 }
 
 /// A count of entries, key positions and offsets, all of 16 bits.
-fn table16_at(file: FileBlocks<'_>, value: usize) -> Result<Standing<'_>, BinaryDeserializerError>
+fn table16_at(file: FileBlocks<'_>, value: usize) -> Option<Standing<'_>>
     requires { value < 2 ^ 28 }
-    ensures stands { let p = parts_in file.entry in
-        MatchResult result (λ s. at.table16_at p value ≡ Some (content_of s))
-        (λ e. (at.table16_at p value ≡ None) × IsFault e) }
-    ensures says { IfErr result (Says reading.end_of_input) }
+    ensures { let found = at.table16_at (parts_in file.entry) value in
+        MatchOption result (found ≡ None) (λ s. found ≡ Some (content_of s)) }
 {
-    let count = some_unit(file.block, value).ok_or(past_end())?;
+    let count = some_unit(file.block, value)?;
     let count = usize::from(count);
-    let keys = some_units(file.block, value + 1, count).ok_or(past_end())?;
-    let members = some_units(file.block, value + 1 + count, count).ok_or(past_end())?;
-    Ok(Standing::Table(TableParts {
+    let keys = some_units(file.block, value + 1, count)?;
+    let members = some_units(file.block, value + 1 + count, count)?;
+    Some(Standing::Table(TableParts {
         keys: Positions::Halves(keys),
         members: Members::Units(members),
     }))
 }
 
 /// A count of entries, key positions and descriptors, all of 32 bits, without padding.
-fn table32_at(file: FileBlocks<'_>, value: usize) -> Result<Standing<'_>, BinaryDeserializerError>
+fn table32_at(file: FileBlocks<'_>, value: usize) -> Option<Standing<'_>>
     requires { value < 2 ^ 28 }
-    ensures stands { let p = parts_in file.entry in
-        MatchResult result (λ s. at.table32_at p value ≡ Some (content_of s))
-        (λ e. (at.table32_at p value ≡ None) × IsFault e) }
-    ensures says { IfErr result (Says reading.end_of_input) }
+    ensures { let found = at.table32_at (parts_in file.entry) value in
+        MatchOption result (found ≡ None) (λ s. found ≡ Some (content_of s)) }
 {
-    let count = some_word(file.body, value).ok_or(past_end())?;
+    let count = some_word(file.body, value)?;
     let count = count as usize;
-    let keys = some_words(file.body, value + 1, count).ok_or(past_end())?;
-    let members = some_words(file.body, value + 1 + count, count).ok_or(past_end())?;
-    Ok(Standing::Table(TableParts {
+    let keys = some_words(file.body, value + 1, count)?;
+    let members = some_words(file.body, value + 1 + count, count)?;
+    Some(Standing::Table(TableParts {
         keys: Positions::Wholes(keys),
         members: Members::Words(members),
     }))

@@ -1,7 +1,7 @@
 //! UTF-16 among bytes, two for each unit: whether each surrogate has its partner, and the text.
 //! Where a string's units stand is found in `standing`.
-ghost use Rattle.std.specs.Prelude.{◌≡◌, ◌∷◌, ◌<◌, ◌≤◌, ◌*◌, ◌/◌, [], true, not, length};
-ghost use Rattle.std.specs.Prelude.{MatchOption, IfOk, IfSome, IsTrue, IsAscii};
+ghost use Rattle.std.specs.Prelude.{◌≡◌, ◌∷◌, ◌++◌, ◌<◌, ◌≤◌, ◌*◌, ◌/◌, [], true, not, length};
+ghost use Rattle.std.specs.Prelude.{MatchOption, IfOk, IfSome};
 ghost use Rattle.std.specs.Char.Utf16.{is_high_surrogate, is_low_surrogate, has_unpaired_surrogate};
 ghost use Rattle.std.specs.Char.Utf16.{utf16_lossy_chars, surrogate_pair_char};
 ghost use Rattle.std.specs.Char.Utf16.{lone_unit_char};
@@ -14,6 +14,9 @@ use resb_blocks::{is_high, is_low};
 use resb_format::bytes::{first_four_units, first_unit, unit_at};
 use resb_tree::NoMemory;
 use std::alloc::Global;
+
+/// The most ASCII units that are put behind a text at once.
+const RUN: usize = 64;
 
 /// The bytes behind the first four units, if so many stand there and none is a surrogate.
 #[tactic(auto, using(crate::proofs::Surrogates::four_plain))]
@@ -92,36 +95,6 @@ fn first_char(bytes: &[u8]) -> Option<(char, &[u8])>
     Some((lone_char(first), later))
 }
 
-/// Whether all units are ASCII.
-fn is_ascii(bytes: &[u8]) -> bool
-    ensures { IsTrue result → IsAscii (units_of bytes.now) }
-{
-    let mut most = 0;
-    let mut rest = bytes;
-    'units: while let Some((unit, later)) = first_unit(rest) {
-        most = most.max(unit);
-        rest = later;
-    }
-    most < 0x80
-}
-
-/// The text of ASCII units: the lower byte of each.
-fn ascii_text(alloc: Global, bytes: &[u8]) -> Result<String, NoMemory>
-    requires { IsAscii (units_of bytes.now) }
-    ensures { IfOk result (λ s. string_bytes s ≡ units_of bytes.now) }
-{
-    let count = bytes.len() / 2;
-    let mut text = Vec::with_capacity(alloc, count)?;
-    text.resize(count, 0u8)?;
-    'units: for number in 0..count {
-        text[number] = unit_at(bytes, number) as u8;
-    }
-    let Ok(text) = String::from_utf8(text) else {
-        unreachable!()
-    };
-    Ok(text)
-}
-
 /// How many bytes the text of some units has.
 #[tactic(auto, using(crate::proofs::Surrogates::first_chars))]
 pub fn text_len(bytes: &[u8]) -> usize
@@ -148,19 +121,55 @@ fn room_for(bytes: &[u8]) -> usize
     }
 }
 
-/// The text of some units. U+FFFD stands for a surrogate without a partner.
-#[tactic(auto, using(crate::proofs::Plain::ascii_text_is))]
-pub fn text_of_units(alloc: Global, bytes: &[u8]) -> Result<String, NoMemory>
-    ensures { IfOk result (λ s. string_bytes s ≡ text_of_bytes bytes.now) }
+/// Puts the ASCII units at the front behind a text, as far as a run goes. Gives the bytes behind
+/// them.
+fn push_ascii<'b>(text: &mut String, bytes: &'b [u8]) -> Result<&'b [u8], NoMemory>
+    ensures { IfOk result (λ rest. (string_bytes text.new ++ text_of_bytes rest.now
+        ≡ string_bytes text.old ++ text_of_bytes bytes.now)
+        × (length (units_of rest.now) ≤ length (units_of bytes.now))) }
 {
-    if is_ascii(bytes) {
-        return ascii_text(alloc, bytes);
+    let mut run = [0u8; RUN];
+    let most = (bytes.len() / 2).min(RUN);
+    let mut count = 0;
+    'units: while count < most {
+        let unit = unit_at(bytes, count);
+        if unit >= 0x80 {
+            break;
+        }
+        run[count] = unit as u8;
+        count += 1;
     }
-    let mut text = String::with_capacity(alloc, room_for(bytes))?;
+    let Ok(front) = str::from_utf8(&run[..count]) else {
+        unreachable!()
+    };
+    text.push_str(front)?;
+    let (_, rest) = bytes.split_at(2 * count);
+    Ok(rest)
+}
+
+/// Puts the text of some units behind what stands. U+FFFD stands for a surrogate without a partner.
+#[tactic(auto, using(crate::proofs::Surrogates::no_units_no_chars))]
+pub fn push_text_of_units(text: &mut String, bytes: &[u8]) -> Result<(), NoMemory>
+    ensures { IfOk result (λ _. string_bytes text.new
+        ≡ string_bytes text.old ++ text_of_bytes bytes.now) }
+{
     let mut rest = bytes;
     'chars: while let Some((first, later)) = first_char(rest) {
         text.push(first)?;
-        rest = later;
+        rest = if first.is_ascii() {
+            push_ascii(text, later)?
+        } else {
+            later
+        };
     }
+    Ok(())
+}
+
+/// The text of some units. U+FFFD stands for a surrogate without a partner.
+pub fn text_of_units(alloc: Global, bytes: &[u8]) -> Result<String, NoMemory>
+    ensures { IfOk result (λ s. string_bytes s ≡ text_of_bytes bytes.now) }
+{
+    let mut text = String::with_capacity(alloc, room_for(bytes))?;
+    push_text_of_units(&mut text, bytes)?;
     Ok(text)
 }

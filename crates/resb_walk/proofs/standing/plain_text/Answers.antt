@@ -6,7 +6,7 @@ use Rattle.resb_walk.proofs.standing.plain_text.Goals as goal
 
 pub units-preserved : goal.units-preserved
 units-preserved c =
-    plain_more (units_of c.in_ok-from.from.now) c.units.count c.unit_at-found.result
+    plain_more (units_of c.in_ok-from.from.now) c.units.count 0xd800 c.unit_at-found.result
     c.unit_at-found.ensures (omega arith) (omega arith) c.units.invariant
 
 pub returns-then-found-eq0 : goal.returns-then-found-eq0

@@ -4,7 +4,7 @@ use Rattle.std.specs.Char.Utf16.{utf16_lossy_chars}
 use Rattle.std.specs.String.{string_bytes}
 use Rattle.resb_format.specs.Bytes.{units_of}
 use Rattle.resb_walk.proofs.Surrogates.{no_units_no_chars}
-use Rattle.resb_walk.proofs.units.text_of_units.Goals as goal
+use Rattle.resb_walk.proofs.units.push_text_of_units.Goals as goal
 
 pub returns : goal.returns
 returns c =

@@ -8,6 +8,7 @@ mod Heads
 mod HexText
 mod KeysLemmas
 mod Lists
+mod LocationLemmas
 mod NamesLemmas
 mod Passing
 mod Sizes

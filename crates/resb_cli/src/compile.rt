@@ -5,10 +5,11 @@ use crate::folders::{Named, TEXTS, named_files};
 use crate::place::{Place, place_of};
 use crate::progress::Progress;
 use crate::save::{Bytes, save, saved};
-use crate::say::{complain, fail, fail_input, or_fail, refuse, warn};
+use crate::say::{complain, fail, fail_input, or_fail, refuse};
 use crate::show::settled;
 use crate::streams::{made, read_input};
 use crate::taken::Taken;
+use crate::warn::warn;
 use crate::words::{NO_UTF8, is_marked};
 use resb_program::{
     SourceError, bundle_name, compile_icu_source, compile_icu_source_within, compile_source,

@@ -65,8 +65,8 @@ fn dump_each(rt: &HostRuntime, wanted: &DumpWords<'_>, taken: &mut Taken) -> u8 
 }
 
 /// Shows one file: the status, or that of what kept it from being shown. Its tree is made only
-/// where the keys of some table aren't seen to ascend, and where the cause is looked for that it has
-/// no text.
+/// where the keys of some table aren't seen to ascend, and where the cause is looked for that it
+/// has no text.
 fn dump_one(
     rt: &HostRuntime,
     name: &str,

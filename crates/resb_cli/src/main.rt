@@ -23,6 +23,7 @@ mod shown;
 mod streams;
 mod taken;
 mod unread;
+mod warn;
 mod words;
 
 use resb_program::keep_freed_memory;

@@ -1,5 +1,5 @@
-//! What is said on standard error: the place, the cause, the line round it, and warnings.
-//! What the causes are called is theirs to print.
+//! What is said on standard error: the place, the cause, and the line round it.
+//! What the causes are called is theirs to print; warnings are said in `warn`.
 use crate::hints::{hint_at, repeated_key};
 use crate::paths::Name;
 use crate::show::Form;
@@ -10,15 +10,11 @@ use resb_grammar::Expected;
 use resb_icu_grammar::IcuExpected;
 use resb_print::PathStep;
 use resb_program::{
-    Blame, Reason, SourceError, Warning, first_icu_outdent, first_outdent, icu_warnings,
-    location_of, long_icu_string_before, long_string_before, pointed_line, text_of, warnings,
-    where_to_look,
+    Blame, Location, SourceError, first_icu_outdent, first_outdent, location_of,
+    long_icu_string_before, long_string_before, pointed_line, where_to_look,
 };
 use std::alloc::{AllocError, Global};
 use std::fmt::{self, Display};
-
-/// The most warnings that are said of one text.
-const MOST_WARNINGS: usize = 20;
 
 /// What is said of the last string that spans lines before the place of a refusal.
 const LONG_STRING: &str = "the last string before that which spans lines begins here";
@@ -140,51 +136,47 @@ pub(crate) fn refuse<R: Eprint + AllocGlobal>(
     match where_to_look(source, error) {
         Blame::Nowhere if wants_memory(error) => complain(rt, name, NO_MEMORY),
         Blame::Nowhere => complain(rt, name, error),
-        Blame::At(place) => {
-            say_at(rt, name, source, place, error);
-            point(rt, name, source, place);
-            if let Some(hint) = hint_at(rt.alloc(), source, place, error) {
-                complain(rt, name, hint);
-            }
-            if let Some(quote) = long_string(source, place, error) {
-                say_at(rt, name, source, quote, LONG_STRING);
-            }
-            if let Some(key) = repeated_key(rt.alloc(), source, place, error) {
-                say_at(
-                    rt,
-                    name,
-                    source,
-                    key.place,
-                    Repeated {
-                        source,
-                        first: key.first,
-                    },
-                );
-            }
-        }
+        Blame::At(place) => refuse_at(rt, name, source, place, error),
         Blame::Open(place) => {
-            let cause = Unclosed(error);
-            say_at(rt, name, source, place, cause);
+            say_at(rt, name, location_of(source, place), Unclosed(error));
             point(rt, name, source, place);
             if let Ok(Some(line)) = outdent(rt.alloc(), source, error) {
-                say_at(rt, name, source, line, OUTDENT);
+                say_at(rt, name, location_of(source, line), OUTDENT);
             }
         }
     }
     1
 }
 
-/// Where a key stands that stands a second time.
-#[derive(Clone, Copy)]
-struct Repeated<'t> {
-    source: &'t [u8],
-    first: usize,
+/// Says why a text is refused at a place, and what else may be the cause.
+fn refuse_at<R: Eprint + AllocGlobal>(
+    rt: &R,
+    name: &str,
+    source: &[u8],
+    place: usize,
+    error: &SourceError,
+) {
+    say_at(rt, name, location_of(source, place), error);
+    point(rt, name, source, place);
+    if let Some(hint) = hint_at(rt.alloc(), source, place, error) {
+        complain(rt, name, hint);
+    }
+    if let Some(quote) = long_string(source, place, error) {
+        say_at(rt, name, location_of(source, quote), LONG_STRING);
+    }
+    if let Some(key) = repeated_key(rt.alloc(), source, place, error) {
+        let first = Repeated(location_of(source, key.first));
+        say_at(rt, name, location_of(source, key.place), first);
+    }
 }
 
-impl fmt::Display for Repeated<'_> {
+/// A key that stands a second time, and where it stands first.
+#[derive(Clone, Copy)]
+pub(crate) struct Repeated(pub(crate) Location);
+
+impl fmt::Display for Repeated {
     fn fmt<W: fmt::Write>(&self, f: &mut fmt::Formatter<W>) -> fmt::Result {
-        let before = location_of(self.source, self.first);
-        let (line, column) = (before.line, before.column);
+        let (line, column) = (self.0.line, self.0.column);
         write!(f, "this key stands at {line}:{column} too")
     }
 }
@@ -218,8 +210,7 @@ impl fmt::Display for Unclosed<'_> {
 }
 
 /// Says a line of a place in a text.
-fn say_at<R: Eprint, C: Display + Drop>(rt: &R, name: &str, source: &[u8], place: usize, cause: C) {
-    let at = location_of(source, place);
+pub(crate) fn say_at<R: Eprint, C: Display + Drop>(rt: &R, name: &str, at: Location, cause: C) {
     let (name, line, column) = (Shown(name), at.line, at.column);
     let _ = eprintln!(rt; "{name}:{line}:{column}: {cause}");
 }
@@ -245,92 +236,5 @@ fn point<R: Eprint + AllocGlobal>(rt: &R, name: &str, source: &[u8], place: usiz
             let _ = eprintln!(rt; "{line}");
         }
         Err(_) => complain(rt, name, NO_MEMORY),
-    }
-}
-
-/// Finds the warnings of a text that was compiled, of ICU's form or not, says them unless this is
-/// to be quiet, and answers whether there is any. The status of a want of memory is answered once
-/// that is said.
-pub(crate) fn warn<R: Eprint + AllocGlobal>(
-    rt: &R,
-    name: &str,
-    source: &[u8],
-    is_icu: bool,
-    is_quiet: bool,
-) -> Result<bool, u8> {
-    let Ok(text) = text_of(source) else {
-        return Ok(false);
-    };
-    let found = if is_icu {
-        icu_warnings(rt.alloc(), text)
-    } else {
-        warnings(rt.alloc(), text)
-    };
-    let Ok(found) = found else {
-        return Err(fail(rt, name, "its warnings are not known: out of memory"));
-    };
-    if !is_quiet {
-        say_warnings(rt, name, source, found.as_slice());
-    }
-    Ok(!found.is_empty())
-}
-
-/// Says the first of the warnings of a text, and how many more there are.
-fn say_warnings<R: Eprint>(rt: &R, name: &str, source: &[u8], found: &[Warning]) {
-    for warning in found.iter().take(MOST_WARNINGS) {
-        say_at(rt, name, source, warning.place, Told { source, warning });
-    }
-    if found.len() > MOST_WARNINGS {
-        let (name, more) = (Shown(name), found.len() - MOST_WARNINGS);
-        let _ = eprintln!(rt; "{name}: {more} more warnings");
-    }
-}
-
-/// A warning of a text, as it is said.
-#[derive(Clone, Copy)]
-struct Told<'t> {
-    source: &'t [u8],
-    warning: &'t Warning,
-}
-
-impl fmt::Display for Told<'_> {
-    fn fmt<W: fmt::Write>(&self, f: &mut fmt::Formatter<W>) -> fmt::Result {
-        match self.warning.reason {
-            Reason::RepeatedKey(first) => {
-                let repeated = Repeated {
-                    source: self.source,
-                    first,
-                };
-                write!(f, "warning: {repeated}; genrb refuses that")
-            }
-            Reason::Backslash => f.write_str(
-                "warning: this backslash is a character here, and an escape for genrb",
-            ),
-            Reason::StringsInRow => f.write_str(
-                "warning: this string is an item of its own here; genrb joins it to the one before",
-            ),
-            Reason::CommaBehindPairs => {
-                f.write_str("warning: pairs with commas are an Array; genrb refuses this")
-            }
-            Reason::LoneString => f.write_str(
-                "warning: this string has no group, so that all are an Array; genrb refuses this",
-            ),
-            Reason::EmptyGroup => f.write_str(
-                "warning: the empty group that ends here is a Table, and an Array for genrb",
-            ),
-            Reason::LeadingZero => f.write_str(
-                "warning: this number is decimal here; genrb takes its 0 for that of an octal one",
-            ),
-            Reason::CutNumber(kept) => write!(
-                f,
-                "warning: this number has more than 28 bits; {kept} is kept"
-            ),
-            Reason::JoinedOverLine => f.write_str(
-                "warning: this string is joined to the one before; a comma would part them",
-            ),
-            Reason::UnquotedGroup => f.write_str(
-                "warning: this group is a string of its own; braces that are meant need quotes",
-            ),
-        }
     }
 }

@@ -12,6 +12,7 @@ mod IcuQuotes
 mod IcuTokenRuns
 mod KeysLemmas
 mod Lists
+mod LocationLemmas
 mod NamesLemmas
 mod Passing
 mod Sizes

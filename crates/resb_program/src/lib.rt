@@ -33,7 +33,7 @@ pub use errors::{FileError, SourceError, ToolError};
 pub use excerpt::{is_hidden, pointed_line};
 pub use files::{check_file, count_file, measure_file, open_file, open_file_within, read_bundle};
 pub use icu_warning::icu_warnings;
-pub use location::{Location, location_of};
+pub use location::{Location, Locations, location_of};
 pub use memory::keep_freed_memory;
 pub use names::{bundle_name, icu_bundle_name};
 pub use sources::{

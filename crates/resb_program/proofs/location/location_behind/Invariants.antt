@@ -1,7 +1,7 @@
 -- Line and column are those of the place, and no more than the bytes before it and 1.
 use Rattle.std.proofs.Common.{◌≡◌, ◌≤◌, suc}
 use Rattle.resb_program.specs.Location.{line_at, column_at}
-use Rattle.resb_program.proofs.location.location_of.Given as goal
+use Rattle.resb_program.proofs.location.location_behind.Given as goal
 
 abbrev pub invariant-bytes : goal.invariant-bytes
 invariant-bytes l =

@@ -1,0 +1,101 @@
+//! What is said on standard error of a text that is compiled, though something in it may not be
+//! meant so.
+//! Where a warning is due is told by `resb_program`; refusals are said in `say`.
+use crate::say::{Repeated, fail, say_at};
+use crate::shown::Shown;
+use resb_program::{Location, Locations, Reason, Warning, icu_warnings, text_of, warnings};
+use std::fmt;
+
+/// The most warnings that are said of one text.
+const MOST_WARNINGS: usize = 20;
+
+/// Finds the warnings of a text that was compiled, of ICU's form or not, says them unless this is
+/// to be quiet, and answers whether there is any. The status of a want of memory is answered once
+/// that is said.
+pub(crate) fn warn<R: Eprint + AllocGlobal>(
+    rt: &R,
+    name: &str,
+    source: &[u8],
+    is_icu: bool,
+    is_quiet: bool,
+) -> Result<bool, u8> {
+    let Ok(text) = text_of(source) else {
+        return Ok(false);
+    };
+    let found = if is_icu {
+        icu_warnings(rt.alloc(), text)
+    } else {
+        warnings(rt.alloc(), text)
+    };
+    let Ok(found) = found else {
+        return Err(fail(rt, name, "its warnings are not known: out of memory"));
+    };
+    if !is_quiet {
+        say_warnings(rt, name, source, found.as_slice());
+    }
+    Ok(!found.is_empty())
+}
+
+/// Says the first of the warnings of a text, and how many more there are.
+fn say_warnings<R: Eprint>(rt: &R, name: &str, source: &[u8], found: &[Warning]) {
+    let (mut places, mut firsts) = (Locations::new(source), Locations::new(source));
+    for warning in found.iter().take(MOST_WARNINGS) {
+        let (reason, at) = (warning.reason, places.find(warning.place));
+        let first = match reason {
+            Reason::RepeatedKey(first) => firsts.find(first),
+            _ => at,
+        };
+        say_at(rt, name, at, Told { reason, first });
+    }
+    if found.len() > MOST_WARNINGS {
+        let (name, more) = (Shown(name), found.len() - MOST_WARNINGS);
+        let _ = eprintln!(rt; "{name}: {more} more warnings");
+    }
+}
+
+/// A warning of a text, as it is said.
+#[derive(Clone, Copy)]
+struct Told {
+    reason: Reason,
+    /// Where a repeated key stands first; of others, their own place.
+    first: Location,
+}
+
+impl fmt::Display for Told {
+    fn fmt<W: fmt::Write>(&self, f: &mut fmt::Formatter<W>) -> fmt::Result {
+        match self.reason {
+            Reason::RepeatedKey(_) => {
+                let repeated = Repeated(self.first);
+                write!(f, "warning: {repeated}; genrb refuses that")
+            }
+            Reason::Backslash => f.write_str(
+                "warning: this backslash is a character here, and an escape for genrb",
+            ),
+            Reason::StringsInRow => f.write_str(
+                "warning: this string is an item of its own here; genrb joins it to the one before",
+            ),
+            Reason::CommaBehindPairs => {
+                f.write_str("warning: pairs with commas are an Array; genrb refuses this")
+            }
+            Reason::LoneString => f.write_str(
+                "warning: this string has no group, so that all are an Array; genrb refuses this",
+            ),
+            Reason::EmptyGroup => f.write_str(
+                "warning: the empty group that ends here is a Table, and an Array for genrb",
+            ),
+            Reason::LeadingZero => f.write_str(
+                "warning: this number is decimal here; genrb takes its 0 for that of an octal one",
+            ),
+            Reason::CutNumber(kept) => write!(
+                f,
+                "warning: this number has more than 28 bits; {kept} is kept"
+            ),
+            Reason::JoinedOverLine => f.write_str(
+                "warning: this string is joined to the one before; a comma would part them",
+            ),
+            Reason::UnquotedGroup => f.write_str(
+                "warning: this group is a string of its own; braces that are meant need quotes",
+            ),
+        }
+    }
+}

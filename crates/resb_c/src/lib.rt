@@ -5,7 +5,7 @@
 
 ghost use Rattle.std.specs.Prelude.{◌≡◌, ℕ, ℤ, [], Result, length, min};
 ghost use Rattle.resb_read.specs.declared.measuring.Measured.{Measured};
-ghost use Rattle.resb_program.specs.Location.{line_at, column_at};
+ghost use Rattle.resb_diagnostics.specs.Location.{line_at, column_at};
 ghost use Rattle.resb_c.specs.AtPaths.{GivesBytes, GivesString, TellsInteger, TellsKind};
 ghost use Rattle.resb_c.specs.AtPaths.{integer_told, kind_told, size_told, status_told};
 ghost use Rattle.resb_c.specs.Calls.{CompilesInto, CompilesWithin, CountsFile, Reports};
@@ -28,7 +28,7 @@ use crate::report::report;
 pub use fault::Fault;
 pub use measured::ResbMeasured;
 pub use report::ResbError;
-use resb_program::location_of;
+use resb_diagnostics::location_of;
 use std::alloc::Global;
 
 /// Compiles a bundle's text to the front of `out`. `length` gets the file's length, for

@@ -1,9 +1,10 @@
 //! What is said beside a refusal of a text, where what stands at its place tells more.
 //! What is expected there is said in `say`; which places are to blame is told by `resb_program`.
 use resb_compile::{CompileError, IcuCompileError};
+use resb_diagnostics::{Reason, warnings};
 use resb_grammar::Expected;
 use resb_icu_grammar::IcuExpected;
-use resb_program::{Reason, SourceError, text_of, warnings};
+use resb_program::{SourceError, text_of};
 use std::alloc::Global;
 use std::fmt;
 use strsim::osa_distance;

@@ -6,13 +6,14 @@ use crate::show::Form;
 use crate::shown::Shown;
 use crate::streams::{InputError, NO_MEMORY};
 use resb_compile::{CompileError, IcuCompileError};
+use resb_diagnostics::{
+    Location, first_icu_outdent, first_outdent, location_of, long_icu_string_before,
+    long_string_before, pointed_line,
+};
 use resb_grammar::Expected;
 use resb_icu_grammar::IcuExpected;
 use resb_print::PathStep;
-use resb_program::{
-    Blame, Location, SourceError, first_icu_outdent, first_outdent, location_of,
-    long_icu_string_before, long_string_before, pointed_line, where_to_look,
-};
+use resb_program::{Blame, SourceError, where_to_look};
 use std::alloc::{AllocError, Global};
 use std::fmt::{self, Display};
 

@@ -2,7 +2,7 @@
 //! turns its text, and none fills the screen; and the same of JSON that says something of files.
 //! Lines of texts are shown by `resb_program`.
 use crate::words::MARK;
-use resb_program::is_hidden;
+use resb_diagnostics::is_hidden;
 use std::alloc::{AllocError, Global};
 use std::fmt;
 

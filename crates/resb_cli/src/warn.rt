@@ -3,7 +3,8 @@
 //! Where a warning is due is told by `resb_program`; refusals are said in `say`.
 use crate::say::{Repeated, fail, say_at};
 use crate::shown::Shown;
-use resb_program::{Location, Locations, Reason, Warning, icu_warnings, text_of, warnings};
+use resb_diagnostics::{Location, Locations, Reason, Warning, icu_warnings, warnings};
+use resb_program::text_of;
 use std::fmt;
 
 /// The most warnings that are said of one text.

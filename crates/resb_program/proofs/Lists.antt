@@ -1,22 +1,5 @@
--- Lists and options: what names no word of this project.
-use Rattle.std.proofs.Common.{◌≡◌, ◌∙◌, ◌≤◌, ◌<◌, ℕ, List, [], ◌∷◌, length, get_or, sym, ap, arith}
-use Rattle.std.proofs.Common.{Option, Some, None, Bor, nat_eq}
-use Rattle.std.specs.Cmp.Lexicographic.{pointwise, bytes_decides}
-use Rattle.std.specs.Prelude.{slice_get, option_map}
-use Rattle.std.specs.Slice.{IsItemAt}
-use Rattle.std.proofs.lemmas.Bool.Decides.{same_from_decides, Decides-like}
-use Rattle.std.proofs.lemmas.Option.{slice_get_past, slice_get-get_or}
-
--- a test of bytes, one by one, is the same either way round
-pub either_way : (a b : List ℕ) → pointwise nat_eq a b ≡ pointwise nat_eq b a
-either_way a b = same_from_decides _ _ (Decides-like _ (λ e. sym e) (λ e. sym e)
-    (bytes_decides a b)) (bytes_decides b a)
-
--- what an index finds in a list of numbers
-pub number_found : (ns : List ℕ) (n : ℕ) (r : Option (Bor ℕ)) → IsItemAt ns n r
-    → option_map (λ x. x.now) r ≡ slice_get ns n
-number_found ns n None h = sym (slice_get_past ns n h.3)
-number_found ns n (Some x) h = ap Some h.1 ∙ sym (slice_get-get_or ns n x.now h.3.0)
+-- Lists: what names no word of this project.
+use Rattle.std.proofs.Common.{◌≡◌, ◌≤◌, ◌<◌, List, [], ◌∷◌, length, get_or, arith}
 
 -- a list of two things, by its length
 pub two_words : {A : Type 0} (xs : List A) (a b : A) → 2 ≤ length xs → length xs < 3

@@ -1,7 +1,6 @@
--- The words of the contracts: a text's file and why there is none, what is had of a file, and what
--- a person is told of a place of a text; what the program is asked, what it writes,
--- and why it fails; and what the crates below say of files and texts.
--- `Inner` has words of private functions.
+-- The words of the contracts: a text's file and why there is none, and what is had of a file; what
+-- the program is asked, what it writes, and why it fails; and what the crates below say of files and
+-- texts.
 pub use Rattle.hex.specs.Hex
 pub use Rattle.resb_compile.specs.Compiling
 pub use Rattle.resb_tree.specs.View
@@ -17,12 +16,3 @@ pub mod Sources
 pub mod Files
 pub mod Messages
 pub mod Names
-pub mod Location
-pub mod Braces
-pub mod Clues
-pub mod Excerpt
-pub mod Pieces
-pub mod Groups
-pub mod Warnings
-pub mod IcuWarnings
-pub mod Inner

@@ -4,7 +4,7 @@ use Rattle.std.specs.Prelude.{IsUtf8}
 use Rattle.std.specs.Prelude.{if◌then◌else◌}
 use Rattle.std.specs.Str.{IsValidUpTo}
 use Rattle.std.specs.Str.Lossy.{utf8_valid_len}
-use Rattle.resb_program.specs.Braces.{innermost_open, innermost_icu_open}
+use Rattle.resb_diagnostics.specs.Braces.{innermost_open, innermost_icu_open}
 use Rattle.resb_grammar.specs.declared.expected.Expected.{Expected}
 use Rattle.resb_grammar.specs.declared.expected.Expected.TheVariants.{Memory}
 use Rattle.resb_grammar.specs.Limit.{MadeWithin, MakesMore}

@@ -1,5 +1,5 @@
 //! The file of a text that is given as bytes, and where a person is to look if there is none.
-//! Lines and columns are in `location`.
+//! What else a person is told of a text is in `resb_diagnostics`.
 ghost use Rattle.std.specs.Prelude.{◌≡◌, IsUtf8, IfOk, IfErr};
 ghost use Rattle.resb_grammar.specs.Limit.{MadeWithin};
 ghost use Rattle.resb_icu_grammar.specs.Limit.{IcuMadeWithin};
@@ -10,12 +10,12 @@ ghost use Rattle.resb_program.specs.Sources as sources;
 ghost use Rattle.resb_program.specs.Sources.{IsNotUtf8, IsNoSource, IsNoIcuSource};
 ghost use Rattle.resb_program.specs.Sources.{IsNoSourceWithin, IsNoIcuSourceWithin, blame_of};
 
-use crate::braces::{innermost_icu_open, innermost_open};
 use crate::errors::{SourceError, ToolError};
 use resb_compile::{
     CompileError, CompileWithinError, IcuCompileError, IcuCompileWithinError, compile, compile_icu,
     compile_icu_within, compile_within,
 };
+use resb_diagnostics::{innermost_icu_open, innermost_open};
 use resb_grammar::Expected;
 use resb_icu_grammar::IcuExpected;
 use resb_icu_text::IcuTextError;

@@ -1,0 +1,141 @@
+-- Passing the bytes of a text of ICU's form one after another: which token two passings are.
+use Rattle.std.proofs.Common.{◌≡◌, ◌∙◌, ℕ, suc, ◌<◌, ◌≤◌, Bool, true, false, ◌&&◌, ◌||◌}
+use Rattle.std.proofs.Common.{List, length, refl, ap, subst, arith, Option, Some, None}
+use Rattle.std.proofs.Common.{inl, inr}
+use Rattle.std.specs.Prelude.{slice_index, not, if◌then◌else◌, ◌⊎◌}
+use Rattle.std.proofs.lemmas.Bool.{cases_lt, false≢true}
+use Rattle.resb_grammar.specs.ByteRuns.{is_line_end}
+use Rattle.resb_icu_grammar.specs.Bytes.{is_word}
+use Rattle.resb_diagnostics.specs.Braces.{icu_mode_behind, has_icu_tokens}
+use Rattle.resb_diagnostics.specs.IcuWarnings.{is_icu_quoted, line_ended, icu_word_start, icu_last_at}
+use Rattle.resb_diagnostics.specs.IcuWarnings.{icu_warned, icu_token_of, icu_token_at, of_some_token}
+use Rattle.resb_diagnostics.specs.IcuWarnings.{and_one, behind_icu_word}
+use Rattle.resb_diagnostics.specs.Inner.IcuTokens.{icu_mode_at, IsIcuBetween, IcuPasses, IsUnquoted}
+use Rattle.resb_diagnostics.specs.declared.braces.IcuMode.{IcuMode}
+use Rattle.resb_diagnostics.specs.declared.braces.IcuMode.TheVariants.{As, Escape, BlockStart}
+use Rattle.resb_diagnostics.specs.declared.braces.Mode.TheVariants as modes
+use Rattle.resb_diagnostics.specs.declared.icu_tokens.IcuToken.{IcuToken}
+use Rattle.resb_diagnostics.specs.declared.icu_tokens.IcuToken.TheVariants as token
+use Rattle.resb_diagnostics.proofs.Passing.{up}
+
+-- nothing is passed
+pub still : (text : List ℕ) (at : ℕ) → at ≤ length text → IcuPasses text at at None
+still text at fits = record { order = omega arith; fits = fits; last = refl; found = refl }
+
+-- a byte is passed, at which this token stands, if one does
+pub one_of : (text : List ℕ) (n : ℕ) (t : Option IcuToken) → n < length text
+    → icu_token_at text n ≡ t → IcuPasses text n (suc n) t
+one_of text n t fits e =
+    subst (λ o. IcuPasses text n (suc n) o) e
+    (record { order = omega arith; fits = omega (arith, fits); last = refl; found = refl })
+
+-- a byte among tokens
+pub one_token : (text : List ℕ) (n : ℕ) (t : Option IcuToken) → n < length text
+    → has_icu_tokens (icu_mode_at text n) ≡ true → icu_token_of text n (slice_index text n) ≡ t
+    → IcuPasses text n (suc n) t
+one_token text n t fits h e =
+    one_of text n t fits
+    (ap (λ b. if b then icu_token_of text n (slice_index text n) else None) h ∙ e)
+
+-- a byte in quotes or in a comment
+pub one_silent : (text : List ℕ) (n : ℕ) → n < length text
+    → has_icu_tokens (icu_mode_at text n) ≡ false → IcuPasses text n (suc n) None
+one_silent text n fits h =
+    one_of text n None fits
+    (ap (λ b. if b then icu_token_of text n (slice_index text n) else None) h)
+
+-- what is passed, and then no token
+pub then_quiet : (text : List ℕ) (a b c : ℕ) (t : Option IcuToken) → IcuPasses text a b t
+    → IcuPasses text b c None → IcuPasses text a c t
+then_quiet text a b c t h k = record {
+  order = omega (arith, h.order, k.order);
+  fits = k.fits;
+  last = k.last ∙ h.last;
+  found = k.found ∙ h.found;
+}
+
+-- no token, and then a word
+pub then_word : (text : List ℕ) (a b c from to : ℕ) → IcuPasses text a b None
+    → IcuPasses text b c (Some (token.Word from to))
+    → IcuPasses text a c (Some (token.Word from to))
+then_word text a b c from to h k = record {
+  order = omega (arith, h.order, k.order);
+  fits = k.fits;
+  last = k.last ∙ ap (behind_icu_word text from to) h.last;
+  found = k.found
+      ∙ ap (λ ws. and_one ws (of_some_token text (Some (token.Word from to)) (icu_last_at text b)))
+      h.found
+      ∙ ap (λ l. and_one (icu_warned text a) (of_some_token text (Some (token.Word from to)) l))
+      h.last;
+}
+
+-- what is among tokens isn't in quotes
+pub open_mode : (m : IcuMode) → has_icu_tokens m ≡ true → is_icu_quoted m ≡ false
+open_mode (As modes.Tokens) h = refl
+open_mode (As modes.Slash) h = refl
+open_mode (As modes.Quotes) h = absurd (false≢true h)
+open_mode (As modes.LineComment) h = refl
+open_mode (As modes.BlockComment) h = refl
+open_mode (As modes.Star) h = refl
+open_mode Escape h = absurd (false≢true h)
+open_mode BlockStart h = refl
+
+-- what is in quotes isn't among tokens
+pub quoted_mode : (m : IcuMode) → is_icu_quoted m ≡ true → has_icu_tokens m ≡ false
+quoted_mode (As modes.Tokens) h = absurd (false≢true h)
+quoted_mode (As modes.Slash) h = absurd (false≢true h)
+quoted_mode (As modes.Quotes) h = refl
+quoted_mode (As modes.LineComment) h = absurd (false≢true h)
+quoted_mode (As modes.BlockComment) h = absurd (false≢true h)
+quoted_mode (As modes.Star) h = absurd (false≢true h)
+quoted_mode Escape h = refl
+quoted_mode BlockStart h = refl
+
+-- one byte more that isn't in quotes
+pub unquoted_more : (text : List ℕ) (from k : ℕ) → IsUnquoted text from k
+    → is_icu_quoted (icu_mode_at text k) ≡ false → IsUnquoted text from (suc k)
+unquoted_more text from k h here j low high = by (cases_lt j k)
+  where
+    by : (j < k) ⊎ (k ≤ j) → is_icu_quoted (icu_mode_at text j) ≡ false
+    by (inl lt) = h j low lt
+    by (inr le) =
+        let same : k ≡ j = omega arith in
+        subst (λ i. is_icu_quoted (icu_mode_at text i) ≡ false) same here
+
+-- a byte that isn't in quotes and ends no line
+pub ended_same : (text : List ℕ) (k : ℕ) → is_icu_quoted (icu_mode_at text k) ≡ false
+    → is_line_end (slice_index text k) ≡ false → line_ended text (suc k) ≡ line_ended text k
+ended_same text k plain none =
+    ap (λ q. not q && (is_line_end (slice_index text k) || line_ended text k)) plain
+    ∙ ap (λ e. e || line_ended text k) none
+
+-- a byte that isn't in quotes and ends a line
+pub ended_here : (text : List ℕ) (k : ℕ) → is_icu_quoted (icu_mode_at text k) ≡ false
+    → is_line_end (slice_index text k) ≡ true → line_ended text (suc k) ≡ true
+ended_here text k plain ends =
+    ap (λ q. not q && (is_line_end (slice_index text k) || line_ended text k)) plain
+    ∙ ap (λ e. e || line_ended text k) ends
+
+-- behind a byte that is no word character, and behind which tokens stand
+pub between_behind : (text : List ℕ) (k : ℕ) → icu_mode_at text (suc k) ≡ As modes.Tokens
+    → is_word (slice_index text k) ≡ false → IsIcuBetween text (suc k)
+between_behind text k e other = record {
+  tokens = ap has_icu_tokens e;
+  next = ap (λ m. icu_mode_behind m (slice_index text (suc k))) e;
+  word = λ w. ap (λ b. if b then icu_word_start text k else suc k) other;
+}
+
+-- where a line ended, as long as nothing stands in quotes
+pub ended_stays : (text : List ℕ) (from to : ℕ) → from ≤ to → IsUnquoted text from to
+    → line_ended text from ≡ true → line_ended text to ≡ true
+ended_stays text from to order unquoted e =
+    up (λ k. line_ended text k ≡ true) from to e order
+    (λ k low high so_far.
+    ap (λ q. not q && (is_line_end (slice_index text k) || line_ended text k))
+    (unquoted k low high)
+    ∙ ap (λ l. is_line_end (slice_index text k) || l) so_far
+    ∙ either_way (is_line_end (slice_index text k)))
+  where
+    either_way : (b : Bool) → (b || true) ≡ true
+    either_way true = refl
+    either_way false = refl

@@ -1,0 +1,228 @@
+-- The keys of a group beside what the code keeps, and the first places of keys.
+use Rattle.std.proofs.Common.{◌≡◌, ℕ, Bool, true, false, cond, List, [], ◌∷◌, ◌++◌, Option, Some}
+use Rattle.std.proofs.Common.{None, refl, sym, ◌∙◌, ap, append_assoc, nat_eq, true≢false}
+use Rattle.std.specs.Prelude.{map, not, ◌&&◌}
+use Rattle.std.specs.Option.{option_map}
+use Rattle.std.specs.Cmp.Lexicographic.{pointwise, bytes_decides}
+use Rattle.std.proofs.lemmas.Option.{none-some}
+use Rattle.resb_diagnostics.specs.Pieces.{PlacedText}
+use Rattle.resb_diagnostics.specs.Groups.{GroupItem, string_item, group_item, comma_item, OpenGroup}
+use Rattle.resb_diagnostics.specs.Groups.{pair_keys}
+use Rattle.resb_diagnostics.specs.Warnings.{first_place, of_key, of_keys, of_some_keys, of_group}
+use Rattle.resb_diagnostics.specs.Warnings.{is_array, is_nothing, behind_pairs, lone_string}
+use Rattle.resb_diagnostics.specs.Warnings.{of_lone, of_some_lone}
+use Rattle.resb_diagnostics.specs.Warnings.{of_comma, of_comma_behind, warning_at}
+use Rattle.resb_diagnostics.specs.Inner.Looks.{Pairing, pairs, key, other, pairing_of, pairing_behind}
+use Rattle.resb_diagnostics.specs.Inner.Looks.{level_of, is_pairs}
+use Rattle.resb_diagnostics.specs.Inner.Looks.{code_may_be_table, code_has_pairs, code_lone, is_nil}
+use Rattle.resb_diagnostics.specs.declared.warning.Reason.TheVariants as reason
+use Rattle.resb_diagnostics.specs.declared.text_pieces.StringAt.{StringAt}
+use Rattle.resb_diagnostics.specs.Inner.Looks.{pairing_in, placed_text_of, level_of_code}
+use Rattle.resb_diagnostics.specs.declared.warning.Warning.{Warning}
+use Rattle.resb_diagnostics.specs.declared.groups.Shape.{Shape}
+use Rattle.resb_diagnostics.specs.declared.groups.Shape.TheVariants as shape
+use Rattle.resb_diagnostics.specs.declared.groups.Group.{Group as CodeGroup}
+use Rattle.resb_diagnostics.proofs.Lists.{either_way}
+
+abbrev keys_if : Pairing → Option (List PlacedText)
+keys_if (pairs ks) = Some ks
+keys_if (key ks s) = None
+keys_if other = None
+
+group_after_string : (s : PlacedText) (l : Pairing)
+    → option_map (λ ks. ks ++ s ∷ []) (keys_if l)
+    ≡ keys_if (pairing_behind group_item (pairing_behind (string_item s) l))
+group_after_string s (pairs ks) = refl
+group_after_string s (key ks t) = refl
+group_after_string s other = refl
+
+group_after_group : (l : Pairing)
+    → None ≡ keys_if (pairing_behind group_item (pairing_behind group_item l))
+group_after_group (pairs ks) = refl
+group_after_group (key ks t) = refl
+group_after_group other = refl
+
+string_last : (s : PlacedText) (l : Pairing) → None ≡ keys_if (pairing_behind (string_item s) l)
+string_last s (pairs ks) = refl
+string_last s (key ks t) = refl
+string_last s other = refl
+
+pub keys_by_pairing : (xs : List GroupItem) → pair_keys xs ≡ keys_if (pairing_of xs)
+keys_by_pairing [] = refl
+keys_by_pairing (string_item s ∷ xs) = string_last s (pairing_of xs)
+keys_by_pairing (comma_item ∷ xs) = refl
+keys_by_pairing (group_item ∷ []) = refl
+keys_by_pairing (group_item ∷ comma_item ∷ xs) = refl
+keys_by_pairing (group_item ∷ group_item ∷ xs) = group_after_group (pairing_of xs)
+keys_by_pairing (group_item ∷ string_item s ∷ xs) =
+    ap (option_map (λ ks. ks ++ s ∷ [])) (keys_by_pairing xs) ∙ group_after_string s (pairing_of xs)
+
+-- what the code asks of a group is what the definitions do
+abbrev pub keys_of_code : CodeGroup → List PlacedText
+keys_of_code c = map placed_text_of c.keys.items
+
+pub group_by_code : (c : CodeGroup) (g : OpenGroup) → level_of_code c ≡ level_of g
+    → cond (code_may_be_table c) (of_keys [] (keys_of_code c)) [] ≡ of_group g
+group_by_code c g e =
+    by (is_array c.named) c.shape
+    ∙ ap (λ l. cond (is_array l.named) [] (of_some_keys (keys_if l.pairing))) e
+    ∙ ap (λ ks. cond (is_array g.named) [] (of_some_keys ks)) (sym (keys_by_pairing g.items))
+  where
+    by : (b : Bool) (sh : Shape) → cond (not b && is_pairs sh) (of_keys [] (keys_of_code c)) []
+        ≡ cond b [] (of_some_keys (keys_if (pairing_in sh (keys_of_code c))))
+    by true sh = refl
+    by false shape.Pairs = refl
+    by false (shape.Key k) = refl
+    by false shape.Other = refl
+
+pub comma_by_code : (n : ℕ) (c : CodeGroup) (g : OpenGroup) → level_of_code c ≡ level_of g
+    → cond (code_has_pairs c) (warning_at reason.CommaBehindPairs n ∷ []) [] ≡ of_comma n g
+comma_by_code n c g e =
+    by (is_array c.named) c.shape c.keys.items
+    ∙ ap (λ l. cond (is_array l.named) [] (of_comma_behind n (keys_if l.pairing))) e
+    ∙ ap (λ ks. cond (is_array g.named) [] (of_comma_behind n ks)) (sym (keys_by_pairing g.items))
+  where
+    by : (b : Bool) (sh : Shape) (ks : List StringAt)
+        → cond ((not b && is_pairs sh) && not (is_nil ks))
+        (warning_at reason.CommaBehindPairs n ∷ []) []
+        ≡ cond b [] (of_comma_behind n (keys_if (pairing_in sh (map placed_text_of ks))))
+    by true sh ks = refl
+    by false shape.Pairs [] = refl
+    by false shape.Pairs (k ∷ ks) = refl
+    by false (shape.Key k) ks = refl
+    by false shape.Other ks = refl
+
+abbrev lone_if : Pairing → Option PlacedText
+lone_if (key (k ∷ ks) s) = Some s
+lone_if _ = None
+
+lone_after_string : (s : PlacedText) (l : Pairing)
+    → behind_pairs s (keys_if l) ≡ lone_if (pairing_behind (string_item s) l)
+lone_after_string s (pairs []) = refl
+lone_after_string s (pairs (k ∷ ks)) = refl
+lone_after_string s (key ks t) = refl
+lone_after_string s other = refl
+
+lone_after_group : (l : Pairing) → None ≡ lone_if (pairing_behind group_item l)
+lone_after_group (pairs ks) = refl
+lone_after_group (key ks t) = refl
+lone_after_group other = refl
+
+lone_by_pairing : (xs : List GroupItem) → lone_string xs ≡ lone_if (pairing_of xs)
+lone_by_pairing [] = refl
+lone_by_pairing (comma_item ∷ xs) = refl
+lone_by_pairing (group_item ∷ xs) = lone_after_group (pairing_of xs)
+lone_by_pairing (string_item s ∷ xs) =
+    ap (behind_pairs s) (keys_by_pairing xs) ∙ lone_after_string s (pairing_of xs)
+
+pub lone_by_code : (c : CodeGroup) (g : OpenGroup) → level_of_code c ≡ level_of g
+    → code_lone (is_nothing c.named) c.shape c.keys.items ≡ of_lone g
+lone_by_code c g e =
+    by (is_nothing c.named) c.shape c.keys.items
+    ∙ ap (λ l. cond (is_nothing l.named) (of_some_lone (lone_if l.pairing)) []) e
+    ∙ ap (λ s. cond (is_nothing g.named) (of_some_lone s) []) (sym (lone_by_pairing g.items))
+  where
+    by : (b : Bool) (sh : Shape) (ks : List StringAt)
+        → code_lone b sh ks
+        ≡ cond b (of_some_lone (lone_if (pairing_in sh (map placed_text_of ks)))) []
+    by true shape.Pairs ks = refl
+    by true (shape.Key s) [] = refl
+    by true (shape.Key s) (k ∷ ks) = refl
+    by true shape.Other ks = refl
+    by false shape.Pairs ks = refl
+    by false (shape.Key s) ks = refl
+    by false shape.Other ks = refl
+
+-- what the code tells of a string alone
+pub told_lone : (c : CodeGroup) (s : StringAt) → c.shape ≡ shape.Key s
+    → is_nothing c.named ≡ true → is_nil c.keys.items ≡ false
+    → warning_at reason.LoneString s.place ∷ []
+    ≡ code_lone (is_nothing c.named) c.shape c.keys.items
+told_lone c s e b n =
+    sym (ap (λ sh. code_lone (is_nothing c.named) sh c.keys.items) e
+    ∙ ap (λ t. code_lone t (shape.Key s) c.keys.items) b ∙ by c.keys.items n)
+  where
+    by : (ks : List StringAt) → is_nil ks ≡ false
+        → code_lone true (shape.Key s) ks ≡ warning_at reason.LoneString s.place ∷ []
+    by [] h = absurd (true≢false h)
+    by (k ∷ ks) h = refl
+
+pub not_lone : (c : CodeGroup) → ((s : StringAt) → c.shape ≡ shape.Key s → ⊥)
+    → [] ≡ code_lone (is_nothing c.named) c.shape c.keys.items
+not_lone c other_shape = by (is_nothing c.named) c.shape c.keys.items other_shape
+  where
+    by : (b : Bool) (sh : Shape) (ks : List StringAt) → ((s : StringAt) → sh ≡ shape.Key s → ⊥)
+        → [] ≡ code_lone b sh ks
+    by true shape.Pairs ks h = refl
+    by true (shape.Key s) ks h = absurd (h s refl)
+    by true shape.Other ks h = refl
+    by false shape.Pairs ks h = refl
+    by false (shape.Key s) ks h = refl
+    by false shape.Other ks h = refl
+
+abbrev place_if : Bool → ℕ → Option ℕ → Option ℕ
+place_if b n (Some m) = Some m
+place_if true n None = Some n
+place_if false n None = None
+
+first_place-snoc : (q : List ℕ) (ks : List PlacedText) (k : PlacedText)
+    → first_place q (ks ++ k ∷ [])
+    ≡ place_if (pointwise nat_eq q k.bytes) k.place (first_place q ks)
+first_place-snoc q [] k = by (pointwise nat_eq q k.bytes)
+  where
+    by : (b : Bool) → cond b (Some k.place) None ≡ place_if b k.place None
+    by true = refl
+    by false = refl
+first_place-snoc q (j ∷ ks) k =
+    by (pointwise nat_eq q j.bytes) (first_place-snoc q ks k)
+  where
+    by : (b : Bool)
+        → first_place q (ks ++ k ∷ []) ≡ place_if (pointwise nat_eq q k.bytes) k.place
+        (first_place q ks)
+        → cond b (Some j.place) (first_place q (ks ++ k ∷ []))
+        ≡ place_if (pointwise nat_eq q k.bytes) k.place (cond b (Some j.place) (first_place q ks))
+    by true e = refl
+    by false e = e
+
+-- a key that stands before has its first place there
+pub first_stays : (q : List ℕ) (ks : List PlacedText) (k : PlacedText) (n : ℕ)
+    → first_place k.bytes ks ≡ Some n → first_place q (ks ++ k ∷ []) ≡ first_place q ks
+first_stays q ks k n h =
+    first_place-snoc q ks k ∙ by (pointwise nat_eq q k.bytes) refl (first_place q ks) refl
+  where
+    by : (b : Bool) → pointwise nat_eq q k.bytes ≡ b → (o : Option ℕ) → first_place q ks ≡ o
+        → place_if b k.place o ≡ o
+    by b e (Some m) f = refl
+    by false e None f = refl
+    by true e None f =
+        absurd (none-some n (sym f
+        ∙ ap (λ s. first_place s ks) ((bytes_decides q k.bytes).0 e) ∙ h))
+
+-- a key that doesn't stand before has its first place here
+pub first_moves : (q : List ℕ) (ks : List PlacedText) (k : PlacedText)
+    → first_place k.bytes ks ≡ None
+    → first_place q (ks ++ k ∷ [])
+    ≡ cond (pointwise nat_eq k.bytes q) (Some k.place) (first_place q ks)
+first_moves q ks k h =
+    first_place-snoc q ks k
+    ∙ by (pointwise nat_eq q k.bytes) refl (first_place q ks) refl
+    ∙ ap (λ b. cond b (Some k.place) (first_place q ks)) (either_way q k.bytes)
+  where
+    by : (b : Bool) → pointwise nat_eq q k.bytes ≡ b → (o : Option ℕ) → first_place q ks ≡ o
+        → place_if b k.place o ≡ cond b (Some k.place) o
+    by false e None f = refl
+    by false e (Some m) f = refl
+    by true e None f = refl
+    by true e (Some m) f =
+        absurd (none-some m (sym h
+        ∙ ap (λ s. first_place s ks) (sym ((bytes_decides q k.bytes).0 e)) ∙ f))
+
+-- one key more is told of
+pub keys_told : (found more all : List Warning) (before ks : List PlacedText) (k : PlacedText)
+    → found ++ of_keys before (k ∷ ks) ≡ all
+    → more ≡ found ++ of_key k.place (first_place k.bytes before)
+    → more ++ of_keys (before ++ k ∷ []) ks ≡ all
+keys_told found more all before ks k h e =
+    ap (λ l. l ++ of_keys (before ++ k ∷ []) ks) e
+    ∙ append_assoc found (of_key k.place (first_place k.bytes before))
+    (of_keys (before ++ k ∷ []) ks) ∙ h

@@ -1,0 +1,181 @@
+-- The warnings of a text of ICU's form: of pieces that are joined over a line's end to one member
+-- of an array, of integers that lose bits, and of `{0}` where a group begins.
+--     icu_warned text n   those of the first n bytes
+-- A key is one piece alone. So in a text that is a bundle pieces in a row are a member of an array,
+-- but where they are all that stands in a group that is not `:array`.
+use Rattle.std.specs.Prelude.{ℕ, zero, suc, Bool, true, false, ◌&&◌, ◌||◌, not, ◌==◌, List}
+use Rattle.std.specs.Prelude.{◌+◌, nat_lt, ℤ, [], ◌∷◌, ◌++◌, length}
+use Rattle.std.specs.Prelude.{slice_index, slice_range, if◌then◌else◌, Option, Some, None}
+use Rattle.resb_diagnostics.specs.Braces.{mode_in, icu_form}
+use Rattle.resb_diagnostics.specs.Groups.{named_by}
+use Rattle.resb_diagnostics.specs.Warnings.{warning_at, is_quoted, is_negative, number_of, cut}
+use Rattle.resb_diagnostics.specs.declared.braces.IcuMode.{IcuMode}
+use Rattle.resb_diagnostics.specs.declared.braces.IcuMode.TheVariants.{As, Escape, BlockStart}
+use Rattle.resb_diagnostics.specs.declared.named.Named.{Named}
+use Rattle.resb_diagnostics.specs.declared.named.Named.TheVariants as named
+use Rattle.resb_diagnostics.specs.declared.icu_tokens.IcuToken.{IcuToken}
+use Rattle.resb_diagnostics.specs.declared.icu_tokens.IcuToken.TheVariants as token
+use Rattle.resb_diagnostics.specs.declared.icu_tokens.IcuLast.{IcuLast}
+use Rattle.resb_diagnostics.specs.declared.icu_tokens.IcuLast.TheVariants as last
+use Rattle.resb_diagnostics.specs.declared.warning.Reason.TheVariants as reason
+use Rattle.resb_diagnostics.specs.declared.warning.Warning.{Warning}
+use Rattle.resb_grammar.specs.Ascii.{quote, dash, digit_0, digit_9, left_brace, right_brace, comma}
+use Rattle.resb_grammar.specs.Ascii.{colon, plus}
+use Rattle.resb_grammar.specs.ByteRuns.{is_line_end}
+use Rattle.resb_icu_grammar.specs.Bytes.{is_word}
+
+-- what is in quotes, escapes included
+abbrev pub is_icu_quoted : IcuMode → Bool
+is_icu_quoted (As m) = is_quoted m
+is_icu_quoted Escape = true
+is_icu_quoted BlockStart = false
+
+-- a line ended before this place, behind the last byte that stands in quotes
+abbrev pub line_ended : List ℕ → ℕ → Bool
+line_ended text zero = false
+line_ended text (suc n) =
+    not (is_icu_quoted (mode_in icu_form text n))
+    && (is_line_end (slice_index text n) || line_ended text n)
+
+-- where the run of word characters before a place begins: at the place itself if there is none
+abbrev pub icu_word_start : List ℕ → ℕ → ℕ
+icu_word_start text zero = 0
+icu_word_start text (suc n) =
+    if is_word (slice_index text n) then icu_word_start text n else suc n
+
+-- a word character follows a place
+abbrev pub goes_on : List ℕ → ℕ → Bool
+goes_on text n = nat_lt (n + 1) (length text) && is_word (slice_index text (n + 1))
+
+-- among tokens: a piece stands at its first quote, a word at its last character, from its start up
+-- to behind that
+abbrev pub icu_token_of : List ℕ → ℕ → ℕ → Option IcuToken
+icu_token_of text n b =
+    if b == quote then Some (token.Piece n)
+    else (if b == left_brace then Some (token.Open n)
+    else (if b == right_brace then Some token.Close
+    else (if b == comma then Some token.Comma
+    else (if is_word b && not (goes_on text n)
+    then Some (token.Word (icu_word_start text n) (n + 1)) else None))))
+
+-- the token at a place, if the byte there isn't in quotes or in a comment
+abbrev pub icu_token_at : List ℕ → ℕ → Option IcuToken
+icu_token_at text n =
+    if icu_form.has_tokens (mode_in icu_form text n)
+    then icu_token_of text n (slice_index text n) else None
+
+-- a `:` stands right before this place
+abbrev pub is_behind_colon : List ℕ → ℕ → Bool
+is_behind_colon text zero = false
+is_behind_colon text (suc n) = slice_index text n == colon
+
+-- the last token is a type of this name
+abbrev pub last_named : Named → IcuLast
+last_named named.Integer = last.IntegerType
+last_named named.Array = last.ArrayType
+last_named _ = last.Other
+
+-- these bytes are one decimal digit
+abbrev pub is_digit : List ℕ → Bool
+is_digit (b ∷ []) = not (nat_lt b digit_0) && not (nat_lt digit_9 b)
+is_digit _ = false
+
+-- behind a word that is no type, one digit or not: a digit is kept in mind where it stands first in
+-- a group with which another begins
+abbrev pub behind_digit : Bool → IcuLast → IcuLast
+behind_digit true (last.Inner n) = last.Digit n
+behind_digit _ _ = last.Other
+
+-- behind a word: it is the name of a type right behind a `:`
+abbrev pub behind_icu_word : List ℕ → ℕ → ℕ → IcuLast → IcuLast
+behind_icu_word text from to l =
+    if is_behind_colon text from then last_named (named_by (slice_range text from to))
+    else behind_digit (is_digit (slice_range text from to)) l
+
+-- behind a `{` at a place: what group it begins
+abbrev pub behind_open : ℕ → IcuLast → IcuLast
+behind_open n last.IntegerType = last.Integer
+behind_open n last.ArrayType = last.Array
+behind_open n last.Open = last.Inner n
+behind_open n (last.Inner m) = last.Inner n
+behind_open n _ = last.Open
+
+-- the first piece of a string before which a line ended: that one, or the one at this place
+abbrev pub first_joined : Option ℕ → Bool → ℕ → Option ℕ
+first_joined (Some m) _ n = Some m
+first_joined None true n = Some n
+first_joined None false n = None
+
+-- behind a piece at a place, where a line ended before it or not: it goes on with the string of the
+-- piece before, or begins one, first in a group or elsewhere
+abbrev pub behind_icu_piece : ℕ → Bool → IcuLast → IcuLast
+behind_icu_piece n ended (last.First joined) = last.First (first_joined joined ended n)
+behind_icu_piece n ended (last.Member joined) = last.Member (first_joined joined ended n)
+behind_icu_piece n ended last.Open = last.First None
+behind_icu_piece n ended (last.Inner m) = last.First None
+behind_icu_piece n ended _ = last.Member None
+
+-- the last token behind one more
+abbrev pub behind_icu_token : List ℕ → IcuToken → Bool → IcuLast → IcuLast
+behind_icu_token text (token.Piece n) ended l = behind_icu_piece n ended l
+behind_icu_token text (token.Word from to) ended l = behind_icu_word text from to l
+behind_icu_token text (token.Open n) ended l = behind_open n l
+behind_icu_token text token.Close ended l = last.Other
+behind_icu_token text token.Comma ended l = last.Other
+
+-- the same behind a place where a token may stand
+abbrev pub behind_some : List ℕ → Option IcuToken → Bool → IcuLast → IcuLast
+behind_some text None ended l = l
+behind_some text (Some t) ended l = behind_icu_token text t ended l
+
+-- the last token of so many bytes
+abbrev pub icu_last_at : List ℕ → ℕ → IcuLast
+icu_last_at text zero = last.Other
+icu_last_at text (suc n) =
+    behind_some text (icu_token_at text n) (line_ended text n) (icu_last_at text n)
+
+-- a number's bytes without its sign
+abbrev pub without_sign : List ℕ → List ℕ
+without_sign [] = []
+without_sign (b ∷ bs) = if b == dash || b == plus then bs else b ∷ bs
+
+-- the warning of a number of which only this is kept
+abbrev pub kept_at : ℕ → Option ℤ → Option Warning
+kept_at n None = None
+kept_at n (Some z) = Some (warning_at (reason.CutNumber z) n)
+
+-- the warning of an integer at a place that 28 bits don't hold
+abbrev pub of_integer : ℕ → List ℕ → Option Warning
+of_integer n bytes = kept_at n (cut (is_negative bytes) (number_of (without_sign bytes)))
+
+-- the warning of a string whose pieces are joined over a line's end, at the first behind one
+abbrev pub of_joined : Option ℕ → Option Warning
+of_joined None = None
+of_joined (Some n) = Some (warning_at reason.JoinedOverLine n)
+
+-- the warning that a token brings out: of an integer; of `{0}` with which a group begins, at its
+-- `}`; of a string among the members of an array, behind its last piece; and of one that is first
+-- in a group, where a comma follows it
+abbrev pub of_icu_token : List ℕ → IcuToken → IcuLast → Option Warning
+of_icu_token text (token.Word from to) last.Integer = of_integer from (slice_range text from to)
+of_icu_token text token.Close (last.Digit n) = Some (warning_at reason.UnquotedGroup n)
+of_icu_token text token.Comma (last.First joined) = of_joined joined
+of_icu_token text (token.Piece n) (last.Member joined) = None
+of_icu_token text _ (last.Member joined) = of_joined joined
+of_icu_token text _ _ = None
+
+-- the same of a place where a token may stand
+abbrev pub of_some_token : List ℕ → Option IcuToken → IcuLast → Option Warning
+of_some_token text None l = None
+of_some_token text (Some t) l = of_icu_token text t l
+
+-- warnings, and one more if there is one
+abbrev pub and_one : List Warning → Option Warning → List Warning
+and_one ws None = ws
+and_one ws (Some w) = ws ++ w ∷ []
+
+-- the warnings of the first n bytes
+abbrev pub icu_warned : List ℕ → ℕ → List Warning
+icu_warned text zero = []
+icu_warned text (suc n) =
+    and_one (icu_warned text n) (of_some_token text (icu_token_at text n) (icu_last_at text n))

@@ -1,0 +1,103 @@
+-- What the code finds between one place of a text of ICU's form and another.
+use Rattle.std.specs.Prelude.{◌≡◌, ℕ, ◌+◌, ◌-◌, ◌<◌, ◌≤◌, true, false, List, length}
+use Rattle.std.specs.Prelude.{slice_index, ◌==◌, if◌then◌else◌, ⊤, Option, Some, None}
+use Rattle.resb_grammar.specs.Ascii.{quote, left_brace, right_brace, comma}
+use Rattle.resb_grammar.specs.ByteRuns.{is_line_end}
+use Rattle.resb_icu_grammar.specs.Bytes.{is_word}
+use Rattle.resb_diagnostics.specs.Braces.{mode_in, icu_form, icu_mode_behind, has_icu_tokens}
+use Rattle.resb_diagnostics.specs.Braces.{behind_token}
+use Rattle.resb_diagnostics.specs.IcuWarnings.{is_icu_quoted, line_ended, icu_word_start, icu_last_at}
+use Rattle.resb_diagnostics.specs.IcuWarnings.{icu_warned, behind_some, of_some_token, and_one}
+use Rattle.resb_diagnostics.specs.declared.braces.IcuMode.{IcuMode}
+use Rattle.resb_diagnostics.specs.declared.braces.IcuMode.TheVariants.{As}
+use Rattle.resb_diagnostics.specs.declared.braces.Mode.TheVariants as mode
+use Rattle.resb_diagnostics.specs.declared.icu_steps.IcuStep.{IcuStep}
+use Rattle.resb_diagnostics.specs.declared.icu_tokens.IcuToken.{IcuToken}
+use Rattle.resb_diagnostics.specs.declared.icu_tokens.IcuToken.TheVariants as token
+use Rattle.resb_diagnostics.specs.declared.icu_warning.Look.{Look}
+
+-- a word stands inside the text
+abbrev pub Fits : List ℕ → IcuToken → Type 0
+Fits text (token.Word from to) = (from < to) × (to ≤ length text)
+Fits text _ = ⊤
+
+-- the same of a token, if there is one
+abbrev pub IsIn : List ℕ → Option IcuToken → Type 0
+IsIn text None = ⊤
+IsIn text (Some t) = Fits text t
+
+-- the token that is this byte at a place, if it is one
+abbrev pub icu_sign : ℕ → ℕ → Option IcuToken
+icu_sign n b =
+    if b == left_brace then Some (token.Open n)
+    else (if b == right_brace then Some token.Close
+    else (if b == comma then Some token.Comma else None))
+
+-- what the byte at a place stands in
+abbrev pub icu_mode_at : List ℕ → ℕ → IcuMode
+icu_mode_at text n = mode_in icu_form text n
+
+-- the byte at a place stands in quotes, behind no backslash
+pub record IsInQuotes (text : List ℕ) (at : ℕ) : Type 0 where
+  pub mode : icu_mode_at text at ≡ As mode.Quotes
+
+-- the byte at a place stands among tokens, no slash before it begins a comment with it, and no word
+-- goes on there
+pub record IsIcuBetween (text : List ℕ) (at : ℕ) : Type 0 where
+  pub tokens : has_icu_tokens (icu_mode_at text at) ≡ true
+  pub next : icu_mode_behind (icu_mode_at text at) (slice_index text at)
+      ≡ As (behind_token (slice_index text at))
+  pub word : is_word (slice_index text at) ≡ true → icu_word_start text at ≡ at
+
+-- from one place to another this token stands, if one does, and nothing else
+pub record IcuPasses (text : List ℕ) (from to : ℕ) (token : Option IcuToken) : Type 0 where
+  pub order : from ≤ to
+  pub fits : to ≤ length text
+  pub last : icu_last_at text to
+      ≡ behind_some text token (line_ended text from) (icu_last_at text from)
+  pub found : icu_warned text to
+      ≡ and_one (icu_warned text from) (of_some_token text token (icu_last_at text from))
+
+-- nothing stands in quotes from one place on and before another
+abbrev pub IsUnquoted : List ℕ → ℕ → ℕ → Type 0
+IsUnquoted text from to =
+    (k : ℕ) → from ≤ k → k < to → is_icu_quoted (icu_mode_at text k) ≡ false
+
+-- no token stands between two places, nothing in quotes, and the code can go on from the second
+pub record IsIcuQuiet (text : List ℕ) (from to : ℕ) : Type 0 where
+  pub more : from < to
+  pub passes : IcuPasses text from to None
+  pub unquoted : IsUnquoted text from to
+  pub between : to < length text → IsIcuBetween text to
+
+-- what the step tells stands between a place and its end, and the code can go on from there
+pub record IsIcuStep (text : List ℕ) (from : ℕ) (s : IcuStep) : Type 0 where
+  pub more : from < s.end
+  pub passes : IcuPasses text from s.end s.token
+  pub inside : IsIn text s.token
+  pub ended : s.end < length text → s.has_ended ≡ line_ended text s.end
+  pub between : s.end < length text → IsIcuBetween text s.end
+
+-- all bytes between two places stand in quotes, and tokens behind them, unless the text ends there
+pub record IsQuotedRest (text : List ℕ) (from to : ℕ) : Type 0 where
+  pub order : from ≤ to
+  pub fits : to ≤ length text
+  pub quoted : (k : ℕ) → from ≤ k → k < to → is_icu_quoted (icu_mode_at text k) ≡ true
+  pub ends : to < length text
+      → (from < to) × IsInQuotes text (to - 1) × (slice_index text (to - 1) ≡ quote)
+
+-- a comment of a line goes on up to behind its line end, or to the text's end
+pub record IsIcuLineRest (text : List ℕ) (from to : ℕ) : Type 0 where
+  pub order : from ≤ to
+  pub fits : to ≤ length text
+  pub none : (k : ℕ) → from ≤ k → k + 1 < to → is_line_end (slice_index text k) ≡ false
+  pub ends : to < length text → (from < to) × (is_line_end (slice_index text (to - 1)) ≡ true)
+
+-- the code has looked at a text up to a place between tokens, or to its end
+pub record HasLooked (l : Look) (whole : List ℕ) : Type 0 where
+  pub text : l.text.now ≡ whole
+  pub fits : l.at ≤ length whole
+  pub between : l.at < length whole → IsIcuBetween whole l.at
+  pub ended : l.at < length whole → l.has_ended ≡ line_ended whole l.at
+  pub last : l.last ≡ icu_last_at whole l.at
+  pub found : l.found.items ≡ icu_warned whole l.at

@@ -1,0 +1,114 @@
+//! What stands from place to place in a text of ICU's form: a token, a comment, or a byte that is
+//! nothing by itself.
+//! Where it ends is found in `icu_runs`; blanks are passed, and tokens told of, in `icu_warning`.
+ghost use Rattle.std.specs.Prelude.{◌≡◌, ◌<◌, length, slice_index, true, false};
+ghost use Rattle.resb_grammar.specs.Ascii as ascii;
+ghost use Rattle.resb_grammar.specs.ByteRuns as bytes;
+ghost use Rattle.resb_icu_grammar.specs.Bytes as words;
+ghost use Rattle.resb_diagnostics.specs.IcuWarnings.{line_ended};
+ghost use Rattle.resb_diagnostics.specs.Inner.IcuTokens.{IsIcuBetween, IsIcuStep, icu_sign};
+
+use crate::icu_runs::{ended_behind, icu_comment_end, icu_word_end, quotes_end};
+use crate::icu_tokens::IcuToken;
+use resb_icu_grammar::is_word;
+
+/// What stands at a place between tokens.
+#[derive(Clone, Copy)]
+pub(crate) struct IcuStep {
+    /// The token that it is, if it is one.
+    pub token: Option<IcuToken>,
+    /// Whether a line ended before its end, behind the last byte in quotes.
+    pub has_ended: bool,
+    /// Behind it.
+    pub end: usize,
+}
+
+/// What stands at a place between tokens where no blank does, and before which a line ended or not.
+pub(crate) fn next_step(text: &[u8], at: usize, has_ended: bool) -> IcuStep
+    requires fits { at < length text.now }
+    requires between { IsIcuBetween text.now at }
+    requires ended { has_ended ≡ line_ended text.now at }
+    requires dark { bytes.is_white (slice_index text.now at) ≡ false }
+    ensures { IsIcuStep text.now at result }
+{
+    let byte = text[at];
+    if byte == b'"' {
+        return piece(text, at);
+    }
+    if let Some(token) = sign(at, byte) {
+        return IcuStep {
+            token: Some(token),
+            has_ended,
+            end: at + 1,
+        };
+    }
+    if is_word(byte) {
+        return word(text, at, has_ended);
+    }
+    if byte == b'/' {
+        return comment(text, at, has_ended);
+    }
+    IcuStep {
+        token: None,
+        has_ended,
+        end: at + 1,
+    }
+}
+
+/// The piece in quotes that begins at a place.
+fn piece(text: &[u8], at: usize) -> IcuStep
+    requires fits { at < length text.now }
+    requires between { IsIcuBetween text.now at }
+    requires quote { slice_index text.now at ≡ ascii.quote }
+    ensures { IsIcuStep text.now at result }
+{
+    IcuStep {
+        token: Some(IcuToken::Piece(at)),
+        has_ended: false,
+        end: quotes_end(text, at + 1),
+    }
+}
+
+/// The word that begins at a place.
+fn word(text: &[u8], at: usize, has_ended: bool) -> IcuStep
+    requires fits { at < length text.now }
+    requires between { IsIcuBetween text.now at }
+    requires ended { has_ended ≡ line_ended text.now at }
+    requires word { words.is_word (slice_index text.now at) ≡ true }
+    ensures { IsIcuStep text.now at result }
+{
+    let end = icu_word_end(text, at);
+    IcuStep {
+        token: Some(IcuToken::Word(at, end)),
+        has_ended,
+        end,
+    }
+}
+
+/// The comment that begins with the slash at a place, or the slash if none does.
+fn comment(text: &[u8], at: usize, has_ended: bool) -> IcuStep
+    requires fits { at < length text.now }
+    requires between { IsIcuBetween text.now at }
+    requires ended { has_ended ≡ line_ended text.now at }
+    requires slash { slice_index text.now at ≡ ascii.slash }
+    ensures { IsIcuStep text.now at result }
+{
+    let end = icu_comment_end(text, at);
+    IcuStep {
+        token: None,
+        has_ended: ended_behind(text, at, end, has_ended),
+        end,
+    }
+}
+
+/// The token that is the byte at a place, if it is one.
+fn sign(at: usize, byte: u8) -> Option<IcuToken>
+    ensures { result ≡ icu_sign at byte }
+{
+    match byte {
+        b'{' => Some(IcuToken::Open(at)),
+        b'}' => Some(IcuToken::Close),
+        b',' => Some(IcuToken::Comma),
+        _ => None,
+    }
+}

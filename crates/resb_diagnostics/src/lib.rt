@@ -1,0 +1,26 @@
+//! What a person is told of a text: where a place is, the line round it, what else may be the cause
+//! of a refusal, and warnings.
+//! Nothing is read, compiled or printed here.
+#![tactic(auto)]
+
+mod braces;
+mod clues;
+mod excerpt;
+mod groups;
+mod icu_runs;
+mod icu_steps;
+mod icu_tokens;
+mod icu_warning;
+mod location;
+mod named;
+mod numbers;
+mod runs;
+mod text_pieces;
+mod warning;
+
+pub use braces::{innermost_icu_open, innermost_open};
+pub use clues::{first_icu_outdent, first_outdent, long_icu_string_before, long_string_before};
+pub use excerpt::{is_hidden, pointed_line};
+pub use icu_warning::icu_warnings;
+pub use location::{Location, Locations, location_of};
+pub use warning::{Reason, Warning, warnings};

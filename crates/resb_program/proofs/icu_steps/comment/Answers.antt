@@ -1,7 +1,0 @@
-use Rattle.resb_program.proofs.IcuTokenRuns.{quiet_step}
-use Rattle.resb_program.proofs.icu_steps.comment.Goals as goal
-
-pub returns : goal.returns
-returns c =
-    quiet_step c.args.text.now c.args.at c.icu_comment_end-end.result c.ended_behind.result
-    c.icu_comment_end-end.ensures c.ended_behind.ensures

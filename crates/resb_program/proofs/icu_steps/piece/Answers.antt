@@ -1,7 +1,0 @@
-use Rattle.resb_program.proofs.IcuTokenRuns.{piece_step}
-use Rattle.resb_program.proofs.icu_steps.piece.Goals as goal
-
-pub returns : goal.returns
-returns c =
-    piece_step c.args.text.now c.args.at c.quotes_end.result c.requires.fits c.requires.between
-    c.requires.quote c.quotes_end.ensures

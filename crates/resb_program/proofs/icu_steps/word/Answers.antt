@@ -1,7 +1,0 @@
-use Rattle.resb_program.proofs.IcuTokenRuns.{word_step}
-use Rattle.resb_program.proofs.icu_steps.word.Goals as goal
-
-pub returns : goal.returns
-returns c =
-    word_step c.args.text.now c.args.at c.icu_word_end-end.result c.args.has_ended c.requires.fits
-    c.requires.between c.requires.word c.icu_word_end-end.ensures c.requires.ended

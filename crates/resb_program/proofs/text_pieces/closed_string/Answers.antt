@@ -1,8 +1,0 @@
--- The string ends at its second quote.
-use Rattle.resb_program.proofs.StringRuns.{whole_string}
-use Rattle.resb_program.proofs.text_pieces.closed_string.Goals as goal
-
-pub returns : goal.returns
-returns c =
-    whole_string c.args.text.now c.args.at c.args.end c.args.backslash c.requires.between
-    c.requires.quote c.requires.closes c.requires.found

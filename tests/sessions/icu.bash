@@ -23,6 +23,19 @@ printf 'b{a{x}\n a{y}}' > twice.txt
 told 1 '' $'twice.txt:2:6: expected each key once in the table that ends here\n a{y}}\n     ^
 twice.txt:2:2: this key stands at 1:3 too' \
   compile --icu twice.txt
+# the first of several, where quotes are hidden before, and other tables have these keys
+cat > keys.txt <<'END'
+b{
+  a{"x\"y{"} t{ k{"1"} k_9:int{1} k_1.x{"2"} } // { k
+  u:array{ { k{"1"} } "k" }
+  k_1.x{"1"} k{"3"}
+  "k_1.x":array{ "4" }
+  k{"5"}
+}
+END
+told 1 '' $'keys.txt:7:1: expected each key once in the table that ends here\n}\n^
+keys.txt:5:3: this key stands at 4:3 too' \
+  compile --icu keys.txt
 printf 'b{a{"\\q"}}' > escape.txt
 told 1 '' $'escape.txt:1:6: expected a known escape\nb{a{"\\q"}}\n     ^' \
   compile --icu escape.txt

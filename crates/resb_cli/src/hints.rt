@@ -1,10 +1,10 @@
 //! What is said beside a refusal of a text, where what stands at its place tells more.
 //! What is expected there is said in `say`; which places are to blame is told by `resb_program`.
 use resb_compile::{CompileError, IcuCompileError};
-use resb_diagnostics::{Reason, warnings};
+use resb_diagnostics::{Reason, repeated_icu_keys};
 use resb_grammar::Expected;
 use resb_icu_grammar::IcuExpected;
-use resb_program::{SourceError, text_of};
+use resb_program::SourceError;
 use std::alloc::Global;
 use std::fmt;
 use strsim::osa_distance;
@@ -115,7 +115,7 @@ pub(crate) struct RepeatedKey {
 }
 
 /// The first key that stands in its table before, where a text of ICU's form is refused for that at
-/// the table's end: the groups that end before it have none.
+/// the table's end.
 pub(crate) fn repeated_key(
     alloc: Global,
     source: &[u8],
@@ -125,19 +125,16 @@ pub(crate) fn repeated_key(
     if !is_of_keys(error) {
         return None;
     }
-    let (table, _) = source.split_at_checked(end.saturating_add(1))?;
-    let text = text_of(table).ok()?;
-    // quotes that are escaped aren't known to warnings
-    if text.contains("\\\"") {
-        return None;
+    let (before, _) = source.split_at_checked(end)?;
+    let found = repeated_icu_keys(alloc, before).ok()?;
+    let repeated = found.first()?;
+    match repeated.reason {
+        Reason::RepeatedKey(first) => Some(RepeatedKey {
+            place: repeated.place,
+            first,
+        }),
+        _ => None,
     }
-    for warning in warnings(alloc, text).ok()?.iter() {
-        if let Reason::RepeatedKey(first) = warning.reason {
-            let place = warning.place;
-            return Some(RepeatedKey { place, first });
-        }
-    }
-    None
 }
 
 /// Whether a text of ICU's form is refused for a key that stands twice in a table.

@@ -10,6 +10,8 @@ use Rattle.resb_diagnostics.specs.Braces.{icu_mode_behind, has_icu_tokens}
 use Rattle.resb_diagnostics.specs.IcuWarnings.{is_icu_quoted, line_ended, icu_word_start, icu_last_at}
 use Rattle.resb_diagnostics.specs.IcuWarnings.{icu_warned, icu_token_of, icu_token_at, of_some_token}
 use Rattle.resb_diagnostics.specs.IcuWarnings.{and_one, behind_icu_word}
+use Rattle.resb_diagnostics.specs.IcuKeys.{icu_word_piece}
+use Rattle.resb_diagnostics.specs.Groups.{behind_piece}
 use Rattle.resb_diagnostics.specs.Inner.IcuTokens.{icu_mode_at, IsIcuBetween, IcuPasses, IsUnquoted}
 use Rattle.resb_diagnostics.specs.declared.braces.IcuMode.{IcuMode}
 use Rattle.resb_diagnostics.specs.declared.braces.IcuMode.TheVariants.{As, Escape, BlockStart}
@@ -20,14 +22,26 @@ use Rattle.resb_diagnostics.proofs.Passing.{up}
 
 -- nothing is passed
 pub still : (text : List ℕ) (at : ℕ) → at ≤ length text → IcuPasses text at at None
-still text at fits = record { order = omega arith; fits = fits; last = refl; found = refl }
+still text at fits = record {
+  order = omega arith;
+  fits = fits;
+  last = refl;
+  found = refl;
+  groups = refl;
+}
 
 -- a byte is passed, at which this token stands, if one does
 pub one_of : (text : List ℕ) (n : ℕ) (t : Option IcuToken) → n < length text
     → icu_token_at text n ≡ t → IcuPasses text n (suc n) t
 one_of text n t fits e =
     subst (λ o. IcuPasses text n (suc n) o) e
-    (record { order = omega arith; fits = omega (arith, fits); last = refl; found = refl })
+    (record {
+      order = omega arith;
+      fits = omega (arith, fits);
+      last = refl;
+      found = refl;
+      groups = refl;
+    })
 
 -- a byte among tokens
 pub one_token : (text : List ℕ) (n : ℕ) (t : Option IcuToken) → n < length text
@@ -52,6 +66,7 @@ then_quiet text a b c t h k = record {
   fits = k.fits;
   last = k.last ∙ h.last;
   found = k.found ∙ h.found;
+  groups = k.groups ∙ h.groups;
 }
 
 -- no token, and then a word
@@ -67,6 +82,7 @@ then_word text a b c from to h k = record {
       h.found
       ∙ ap (λ l. and_one (icu_warned text a) (of_some_token text (Some (token.Word from to)) l))
       h.last;
+  groups = k.groups ∙ ap (behind_piece (icu_word_piece text from to)) h.groups;
 }
 
 -- what is among tokens isn't in quotes

@@ -330,7 +330,7 @@ piece_step text at to fits between e rest =
           (one_token text at (Some (token.Piece at)) fits between.tokens
           (ap (icu_token_of text at) e)))
           (quoted_passes text (at + 1) to rest);
-      inside = tt;
+      inside = fits;
       ended = λ lt.
           let (more, quotes, closes) = rest.ends lt in
           let is : suc last ≡ to = omega (arith, more) in

@@ -9,4 +9,5 @@ pub mod Pieces
 pub mod Groups
 pub mod Warnings
 pub mod IcuWarnings
+pub mod IcuKeys
 pub mod Inner

@@ -214,6 +214,14 @@ impl<'a> Groups<'a> {
         }
     }
 
+    /// Adds the warnings of the keys of the innermost group.
+    pub(crate) fn tell_keys(&self, found: &mut Vec<Warning>) -> Result<(), AllocError>
+        ensures { OnOk result ((g : spec.Nesting) → ShowsNesting self.now g
+            → found.new.items ≡ found.old.items ++ of_group g.inner) }
+    {
+        self.inner.tell(self.alloc, found)
+    }
+
     /// Adds the warnings of a piece that comes.
     pub(crate) fn tell(&self, piece: Piece<'a>, found: &mut Vec<Warning>) -> Result<(), AllocError>
         ensures { OnOk result ((g : spec.Nesting) → ShowsNesting self.now g

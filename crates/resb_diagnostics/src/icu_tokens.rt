@@ -48,7 +48,7 @@ pub(crate) enum IcuLast {
 }
 
 /// Whether a `:` stands right before a place.
-fn is_behind_colon(text: &[u8], place: usize) -> bool
+pub(crate) fn is_behind_colon(text: &[u8], place: usize) -> bool
     requires { place < length text.now }
     ensures { result ≡ spec.is_behind_colon text.now place }
 {

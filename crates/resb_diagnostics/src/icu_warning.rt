@@ -1,5 +1,5 @@
 //! What a person may not have meant in a text that is a bundle of ICU's form.
-//! Where its tokens stand is found in `icu_steps`; the warnings of the other form are in `warning`.
+//! Where its tokens stand is found in `icu_walk`; the warnings of the other form are in `warning`.
 ghost use Rattle.std.specs.Prelude.{◌≡◌, ◌<◌, ◌≤◌, length, slice_index, false, IfOk, OnOk};
 ghost use Rattle.std.specs.Prelude.{IsPermutation};
 ghost use Rattle.std.specs.List.Sorted.{IsSortedByKey};
@@ -10,12 +10,10 @@ ghost use Rattle.resb_diagnostics.specs.IcuWarnings.{icu_warned};
 ghost use Rattle.resb_diagnostics.specs.declared.icu_tokens.IcuLast.TheVariants as last;
 ghost use Rattle.resb_diagnostics.specs.Inner.IcuTokens.{HasLooked, Fits, IsIn};
 
-use crate::icu_runs::ended_behind;
-use crate::icu_steps::next_step;
 use crate::icu_tokens::{IcuLast, IcuToken};
+use crate::icu_walk::IcuWalk;
 use crate::numbers::cut_integer;
 use crate::warning::{Reason, Warning};
-use resb_grammar::blanks_end;
 use std::alloc::{AllocError, Global};
 
 /// The warnings of a text of ICU's form, in order of place. They are right for a text that is a
@@ -26,7 +24,7 @@ pub fn icu_warnings(alloc: Global, text: &str) -> Result<Vec<Warning>, AllocErro
     ensures order { IfOk result (λ found. IsSortedByKey (λ w. w.place) nat_cmp found.items) }
 {
     let mut look = Look::new(alloc, text.as_bytes());
-    'steps: while look.at < text.len() {
+    'tokens: while look.walk.at < text.len() {
         look.advance()?;
     }
     let mut found = look.found;
@@ -37,11 +35,7 @@ pub fn icu_warnings(alloc: Global, text: &str) -> Result<Vec<Warning>, AllocErro
 /// How far a text was looked at, and what was found.
 #[derive(Drop)]
 struct Look<'a> {
-    text: &'a [u8],
-    /// A place between two tokens, or the text's end.
-    at: usize,
-    /// Whether a line ended before it, behind the last byte in quotes.
-    has_ended: bool,
+    walk: IcuWalk<'a>,
     last: IcuLast,
     found: Vec<Warning>,
 }
@@ -52,9 +46,7 @@ impl<'a> Look<'a> {
         ensures { HasLooked result text.now }
     {
         Look {
-            text,
-            at: 0,
-            has_ended: false,
+            walk: IcuWalk::new(text),
             last: IcuLast::Other,
             found: Vec::new(alloc),
         }
@@ -62,52 +54,38 @@ impl<'a> Look<'a> {
 
     /// Goes on behind blanks and what stands behind them, or to the text's end.
     fn advance(&mut self) -> Result<(), AllocError>
-        requires more { self.old.at < length self.old.text.now }
-        requires looked { HasLooked self.old self.old.text.now }
+        requires more { self.old.walk.at < length self.old.walk.text.now }
+        requires looked { HasLooked self.old self.old.walk.text.now }
         ensures { OnOk result
-            (HasLooked self.new self.old.text.now × (self.old.at < self.new.at)) }
+            (HasLooked self.new self.old.walk.text.now × (self.old.walk.at < self.new.walk.at)) }
     {
-        self.pass_blanks();
-        if self.at == self.text.len() {
+        self.walk.pass_blanks();
+        if self.walk.at == self.walk.text.len() {
             return Ok(());
         }
-        let step = next_step(self.text, self.at, self.has_ended);
-        self.take(step.token)?;
-        self.has_ended = step.has_ended;
-        self.at = step.end;
-        Ok(())
+        let has_ended = self.walk.has_ended;
+        let token = self.walk.pass_token();
+        self.take(token, has_ended)
     }
 
-    /// Goes on behind blanks.
-    fn pass_blanks(&mut self)
-        requires more { self.old.at < length self.old.text.now }
-        requires looked { HasLooked self.old self.old.text.now }
-        ensures text { self.new.text ≡ self.old.text }
-        ensures looked { HasLooked self.new self.old.text.now }
-        ensures order { self.old.at ≤ self.new.at }
-        ensures dark { bytes.is_white (slice_index self.old.text.now self.new.at) ≡ false }
-    {
-        let end = blanks_end(self.text, self.at);
-        self.has_ended = ended_behind(self.text, self.at, end, self.has_ended);
-        self.at = end;
-    }
-
-    /// Adds the warning that a token brings out, if one comes, and goes on behind it.
-    fn take(&mut self, token: Option<IcuToken>) -> Result<(), AllocError>
-        requires { IsIn self.old.text.now token }
-        ensures text { self.new.text ≡ self.old.text }
+    /// Adds the warning that a token brings out, if one comes, and goes on behind it. A line ended
+    /// before it or not.
+    fn take(&mut self, token: Option<IcuToken>, has_ended: bool) -> Result<(), AllocError>
+        requires { IsIn self.old.walk.text.now token }
+        ensures walk { self.new.walk ≡ self.old.walk }
         ensures last { OnOk result (self.new.last
-            ≡ spec.behind_some self.old.text.now token self.old.has_ended self.old.last) }
+            ≡ spec.behind_some self.old.walk.text.now token has_ended self.old.last) }
         ensures found { OnOk result (self.new.found.items ≡ spec.and_one self.old.found.items
-            (spec.of_some_token self.old.text.now token self.old.last)) }
+            (spec.of_some_token self.old.walk.text.now token self.old.last)) }
     {
         let Some(token) = token else {
             return Ok(());
         };
-        if let Some(warning) = told(self.text, token, self.last) {
+        let text = self.walk.text;
+        if let Some(warning) = told(text, token, self.last) {
             self.found.push(warning)?;
         }
-        self.last = self.last.behind(self.text, token, self.has_ended);
+        self.last = self.last.behind(text, token, has_ended);
         Ok(())
     }
 }

@@ -14,10 +14,17 @@ use Rattle.resb_diagnostics.specs.declared.braces.Mode.TheVariants as mode
 use Rattle.resb_diagnostics.specs.declared.icu_steps.IcuStep.{IcuStep}
 use Rattle.resb_diagnostics.specs.declared.icu_tokens.IcuToken.{IcuToken}
 use Rattle.resb_diagnostics.specs.declared.icu_tokens.IcuToken.TheVariants as token
+use Rattle.resb_diagnostics.specs.declared.icu_walk.IcuWalk.{IcuWalk}
 use Rattle.resb_diagnostics.specs.declared.icu_warning.Look.{Look}
+use Rattle.resb_diagnostics.specs.declared.icu_keys.Keys.{Keys}
+use Rattle.resb_diagnostics.specs.Groups.{groups_behind}
+use Rattle.resb_diagnostics.specs.IcuKeys.{icu_piece, icu_groups_at}
+use Rattle.resb_diagnostics.specs.Inner.Looks.{ShowsNesting}
+use Rattle.std.specs.Option.{option_map}
 
--- a word stands inside the text
+-- a piece begins inside the text, and a word stands there
 abbrev pub Fits : List ℕ → IcuToken → Type 0
+Fits text (token.Piece n) = n < length text
 Fits text (token.Word from to) = (from < to) × (to ≤ length text)
 Fits text _ = ⊤
 
@@ -57,6 +64,8 @@ pub record IcuPasses (text : List ℕ) (from to : ℕ) (token : Option IcuToken)
       ≡ behind_some text token (line_ended text from) (icu_last_at text from)
   pub found : icu_warned text to
       ≡ and_one (icu_warned text from) (of_some_token text token (icu_last_at text from))
+  pub groups : icu_groups_at text to
+      ≡ groups_behind (option_map (icu_piece text) token) (icu_groups_at text from)
 
 -- nothing stands in quotes from one place on and before another
 abbrev pub IsUnquoted : List ℕ → ℕ → ℕ → Type 0
@@ -93,11 +102,20 @@ pub record IsIcuLineRest (text : List ℕ) (from to : ℕ) : Type 0 where
   pub none : (k : ℕ) → from ≤ k → k + 1 < to → is_line_end (slice_index text k) ≡ false
   pub ends : to < length text → (from < to) × (is_line_end (slice_index text (to - 1)) ≡ true)
 
--- the code has looked at a text up to a place between tokens, or to its end
+-- the code has gone through a text up to a place between tokens, or to its end
+pub record IsIcuWalk (w : IcuWalk) (whole : List ℕ) : Type 0 where
+  pub text : w.text.now ≡ whole
+  pub fits : w.at ≤ length whole
+  pub between : w.at < length whole → IsIcuBetween whole w.at
+  pub ended : w.at < length whole → w.has_ended ≡ line_ended whole w.at
+
+-- what the code knows of the tokens behind which it has gone, and the warnings that it has found
 pub record HasLooked (l : Look) (whole : List ℕ) : Type 0 where
-  pub text : l.text.now ≡ whole
-  pub fits : l.at ≤ length whole
-  pub between : l.at < length whole → IsIcuBetween whole l.at
-  pub ended : l.at < length whole → l.has_ended ≡ line_ended whole l.at
-  pub last : l.last ≡ icu_last_at whole l.at
-  pub found : l.found.items ≡ icu_warned whole l.at
+  pub walk : IsIcuWalk l.walk whole
+  pub last : l.last ≡ icu_last_at whole l.walk.at
+  pub found : l.found.items ≡ icu_warned whole l.walk.at
+
+-- the groups that the code has are those that are open where it has gone
+pub record HasListed (k : Keys) (whole : List ℕ) : Type 0 where
+  pub walk : IsIcuWalk k.walk whole
+  pub groups : ShowsNesting k.groups (icu_groups_at whole k.walk.at)

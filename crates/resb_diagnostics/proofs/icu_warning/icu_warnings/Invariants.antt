@@ -3,8 +3,8 @@ use Rattle.std.proofs.Common.{◌-◌, length}
 use Rattle.resb_diagnostics.specs.Inner.IcuTokens.{HasLooked}
 use Rattle.resb_diagnostics.proofs.icu_warning.icu_warnings.Given as goal
 
-abbrev pub invariant-steps : goal.invariant-steps
-invariant-steps l = HasLooked l.look l.text
+abbrev pub invariant-tokens : goal.invariant-tokens
+invariant-tokens l = HasLooked l.look l.text
 
-abbrev pub decreases-steps : goal.decreases-steps
-decreases-steps l = length l.text - l.look.at
+abbrev pub decreases-tokens : goal.decreases-tokens
+decreases-tokens l = length l.text - l.look.walk.at

@@ -1,23 +1,27 @@
 -- No token stands among blanks.
-use Rattle.std.proofs.Common.{◌∙◌, sym}
 use Rattle.resb_diagnostics.proofs.IcuTokenRuns.{behind_blanks}
-use Rattle.resb_diagnostics.proofs.icu_warning.Look.pass_blanks.Goals as goal
+use Rattle.resb_diagnostics.proofs.icu_walk.IcuWalk.pass_blanks.Goals as goal
 
 pub ended_behind-self-requires-clause-unquoted : goal.ended_behind-self-requires-clause-unquoted
 ended_behind-self-requires-clause-unquoted c =
     let (between, passes, unquoted) = behind_blanks c.args.self.now.text.now c.args.self.now.at
-    c.blanks_end-end.result (c.requires.looked.between c.requires.more) c.blanks_end-end.ensures in
+    c.blanks_end-end.result (c.requires.walk.between c.requires.more) c.blanks_end-end.ensures in
     unquoted
 
-pub returns-clause-looked : goal.returns-clause-looked
-returns-clause-looked c =
-    let old = c.requires.looked in
+pub returns-clause-walk : goal.returns-clause-walk
+returns-clause-walk c =
+    let old = c.requires.walk in
     let (between, passes, unquoted) = behind_blanks c.args.self.now.text.now c.args.self.now.at
     c.blanks_end-end.result (old.between c.requires.more) c.blanks_end-end.ensures in record {
       text = old.text;
       fits = passes.fits;
       between = λ _. between;
       ended = λ _. c.ended_behind-self.ensures;
-      last = old.last ∙ sym passes.last;
-      found = old.found ∙ sym passes.found;
     }
+
+pub returns-clause-passes : goal.returns-clause-passes
+returns-clause-passes c =
+    let old = c.requires.walk in
+    let (between, passes, unquoted) = behind_blanks c.args.self.now.text.now c.args.self.now.at
+    c.blanks_end-end.result (old.between c.requires.more) c.blanks_end-end.ensures in
+    passes

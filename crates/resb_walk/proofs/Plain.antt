@@ -159,7 +159,8 @@ plain_text_is block from bs u n is few inside h g e cut =
     let spelled : take n (drop u (units_of block)) ≡ units_of bs =
     ap (take n) (sym there) ∙ sym cut in
     let paired : has_unpaired_surrogate (units_of bs) ≡ false =
-    rw cut (below_paired (take n (units_of from)) (front_below (units_of from) n 0xd800 (lit< tt) g)) in
+    rw cut (below_paired (take n (units_of from))
+    (front_below (units_of from) n 0xd800 (lit< tt) g)) in
     text_some (units_of block) u bs (stands ∙ ap Some spelled) (rw paired refl)
 
 -- the number behind those so far

@@ -160,11 +160,7 @@ pub fn text_of_units(alloc: Global, bytes: &[u8]) -> Result<String, NoMemory>
         return ascii_text(alloc, bytes);
     }
     let mut text = String::with_capacity(alloc, room_for(bytes))?;
-    let mut rest = bytes;
-    'chars: while let Some((first, later)) = first_char(rest) {
-        text.push(first)?;
-        rest = later;
-    }
+    push_text_of_units(&mut text, bytes)?;
     Ok(text)
 }
 

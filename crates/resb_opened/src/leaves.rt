@@ -11,7 +11,7 @@ use crate::handle::Handle;
 use crate::kind::Kind;
 use resb_format::bytes::some_word;
 use resb_tree::{Int28, NoMemory};
-use resb_walk::{Leaf, Standing, text_of_units};
+use resb_walk::{Leaf, Standing, push_text_of_units};
 
 impl<'a> Handle<'a> {
     /// Which kind of resource stands here.
@@ -83,9 +83,7 @@ impl<'a> Handle<'a> {
     {
         match self.standing() {
             Standing::Leaf(Leaf::Text(units) | Leaf::Alias(units)) => {
-                let own = text_of_units(*text.allocator(), units)?;
-                text.push_str(own.as_str())?;
-                Ok(())
+                push_text_of_units(text, units)
             }
             _ => Ok(()),
         }

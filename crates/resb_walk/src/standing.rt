@@ -64,8 +64,8 @@ pub(crate) fn is_plain_text(block: &[u8], unit: usize) -> bool
     plain_text(block, unit).is_some()
 }
 
-/// Whether a short key of ASCII stands at a byte of a block of keys, as most do: one look at each of
-/// its bytes finds the 0 behind it and that it is a text.
+/// Whether a short key of ASCII stands at a byte of a block of keys, as most do: one look at each
+/// byte finds the 0 behind it and that it is a text.
 #[inline(always)]
 pub(crate) fn is_plain_key(keys: &[u8], at: usize) -> bool
     ensures { let keys = keys.now in IsTrue result

@@ -1,7 +1,7 @@
 //! UTF-16 among bytes, two for each unit: whether each surrogate has its partner, and the text.
 //! Where a string's units stand is found in `standing`.
 ghost use Rattle.std.specs.Prelude.{◌≡◌, ◌∷◌, ◌++◌, ◌<◌, ◌≤◌, ◌*◌, ◌/◌, [], true, not, length};
-ghost use Rattle.std.specs.Prelude.{MatchOption, IfOk, IfSome};
+ghost use Rattle.std.specs.Prelude.{MatchOption, IfOk, IfSome, IsTrue, IsAscii};
 ghost use Rattle.std.specs.Char.Utf16.{is_high_surrogate, is_low_surrogate, has_unpaired_surrogate};
 ghost use Rattle.std.specs.Char.Utf16.{utf16_lossy_chars, surrogate_pair_char};
 ghost use Rattle.std.specs.Char.Utf16.{lone_unit_char};
@@ -95,6 +95,36 @@ fn first_char(bytes: &[u8]) -> Option<(char, &[u8])>
     Some((lone_char(first), later))
 }
 
+/// Whether all units are ASCII.
+fn is_ascii(bytes: &[u8]) -> bool
+    ensures { IsTrue result → IsAscii (units_of bytes.now) }
+{
+    let mut most = 0;
+    let mut rest = bytes;
+    'units: while let Some((unit, later)) = first_unit(rest) {
+        most = most.max(unit);
+        rest = later;
+    }
+    most < 0x80
+}
+
+/// The text of ASCII units: the lower byte of each.
+fn ascii_text(alloc: Global, bytes: &[u8]) -> Result<String, NoMemory>
+    requires { IsAscii (units_of bytes.now) }
+    ensures { IfOk result (λ s. string_bytes s ≡ units_of bytes.now) }
+{
+    let count = bytes.len() / 2;
+    let mut text = Vec::with_capacity(alloc, count)?;
+    text.resize(count, 0u8)?;
+    'units: for number in 0..count {
+        text[number] = unit_at(bytes, number) as u8;
+    }
+    let Ok(text) = String::from_utf8(text) else {
+        unreachable!()
+    };
+    Ok(text)
+}
+
 /// How many bytes the text of some units has.
 #[tactic(auto, using(crate::proofs::Surrogates::first_chars))]
 pub fn text_len(bytes: &[u8]) -> usize
@@ -119,6 +149,19 @@ fn room_for(bytes: &[u8]) -> usize
         Some((first, _)) if first >= 0x80 => units.saturating_mul(2),
         _ => units,
     }
+}
+
+/// The text of some units. U+FFFD stands for a surrogate without a partner.
+#[tactic(auto, using(crate::proofs::Plain::ascii_text_is))]
+pub fn text_of_units(alloc: Global, bytes: &[u8]) -> Result<String, NoMemory>
+    ensures { IfOk result (λ s. string_bytes s ≡ text_of_bytes bytes.now) }
+{
+    if is_ascii(bytes) {
+        return ascii_text(alloc, bytes);
+    }
+    let mut text = String::with_capacity(alloc, room_for(bytes))?;
+    push_text_of_units(&mut text, bytes)?;
+    Ok(text)
 }
 
 /// Puts the ASCII units at the front behind a text, as far as a run goes. Gives the bytes behind
@@ -163,13 +206,4 @@ pub fn push_text_of_units(text: &mut String, bytes: &[u8]) -> Result<(), NoMemor
         };
     }
     Ok(())
-}
-
-/// The text of some units. U+FFFD stands for a surrogate without a partner.
-pub fn text_of_units(alloc: Global, bytes: &[u8]) -> Result<String, NoMemory>
-    ensures { IfOk result (λ s. string_bytes s ≡ text_of_bytes bytes.now) }
-{
-    let mut text = String::with_capacity(alloc, room_for(bytes))?;
-    push_text_of_units(&mut text, bytes)?;
-    Ok(text)
 }

@@ -1,5 +1,4 @@
 -- Nothing is passed on.
 mod HeadLemmas
-mod OwnPlaces
 mod PathLemmas
 mod ThereLemmas

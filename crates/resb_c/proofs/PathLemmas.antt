@@ -1,18 +1,20 @@
 -- The parts of a path are its names, and where these lead, it leads.
-use Rattle.std.proofs.Common.{◌≡◌, ℕ, List, [], ◌∷◌, Option, Some, Ok, false, refl, sym, ◌<◌}
-use Rattle.std.proofs.Common.{length, drop, arith, subst}
-use Rattle.std.specs.Prelude.{◌==◌, IsUtf8}
+use Rattle.std.proofs.Common.{◌≡◌, ℕ, List, [], ◌∷◌, Option, Ok, false, refl, sym}
+use Rattle.std.proofs.Common.{length, drop, arith, subst, ◌<◌, inl}
+use Rattle.std.specs.Prelude.{◌==◌, IsUtf8, option_map}
 use Rattle.std.specs.List.{slice_split, slice_index}
 use Rattle.std.proofs.lemmas.Bool.{false≢true, lt-ltb}
-use Rattle.resb_pool_bundle.specs.Pool.{Pool}
-use Rattle.resb_read.specs.Places.{place_of}
-use Rattle.resb_read.specs.Roots.{place_of_root}
+use Rattle.resb_pool_bundle.specs.Pool as lent
+use Rattle.resb_format.specs.Error.{IsWantOfMemory}
+use Rattle.resb_format.specs.declared.error.ReadingError.{ReadingError}
+use Rattle.resb_read.specs.Places.{Place, place_of}
 use Rattle.resb_read.specs.WithPool.{over}
 use Rattle.resb_read.specs.declared.cursor.Cursor.{Cursor}
 use Rattle.resb_path.specs.InFiles.{LeadsOnWith, AnswersPathWith}
-use Rattle.resb_c.specs.AtPaths.{names_in, IsOwn, Leads}
+use Rattle.resb_c.specs.AtPaths.{names_in, Leads, FailsToLead}
 use Rattle.resb_c.specs.Pools.{given, IsGiven}
-use Rattle.resb_c.proofs.OwnPlaces.{leads_to_own}
+use Rattle.resb_c.specs.declared.fault.Fault.TheVariants.{Reading}
+use Rattle.resb_c.proofs.HeadLemmas.{passes_given}
 
 -- a text that isn't empty has a first byte
 pub has_first : (path : List ℕ) → (length path == 0) ≡ false → 0 < length path
@@ -27,24 +29,26 @@ parts_are_names [] rest first some is low behind = absurd (false≢true (sym som
 parts_are_names (b ∷ bs) rest first some is low behind =
     rw (behind, is, lt-ltb b 128 (subst (λ x. x < 128) is low)) refl
 
--- a place that is answered for the names of a path is where the path leads
-pub leads_there : (pool file path : List ℕ) (lent : Option Pool) (names : List (List ℕ))
-    (c : Cursor) → IsUtf8 path → IsGiven pool → lent ≡ given pool → names ≡ names_in path
-    → LeadsOnWith (over lent file) names (Ok (Some c))
-    → AnswersPathWith lent file names (Ok (Some c))
-    → Leads pool file path (Some (place_of c))
+-- a place, or none, that is answered for the names of a path is where the path leads
+pub leads_there : (pool file path : List ℕ) (lent : Option lent.Pool) (names : List (List ℕ))
+    (c : Option Cursor) → IsUtf8 path → IsGiven pool → lent ≡ given pool → names ≡ names_in path
+    → LeadsOnWith (over lent file) names (Ok c) → AnswersPathWith lent file names (Ok c)
+    → Leads pool file path (option_map place_of c)
 leads_there pool file path lent names c text right is are leads answers =
-    let there = subst (λ ns. LeadsOnWith (over (given pool) file) ns (Ok (Some c))) are
-    (subst (λ g. LeadsOnWith (over g file) names (Ok (Some c))) is leads) in
-    let told = subst (λ ns. AnswersPathWith (given pool) file ns (Ok (Some c))) are
-    (subst (λ g. AnswersPathWith g file names (Ok (Some c))) is answers) in
+    let there = subst (λ ns. LeadsOnWith (over (given pool) file) ns (Ok c)) are
+    (subst (λ g. LeadsOnWith (over g file) names (Ok c)) is leads) in
+    let told = subst (λ ns. AnswersPathWith (given pool) file ns (Ok c)) are
+    (subst (λ g. AnswersPathWith g file names (Ok c)) is answers) in
     record {
       is_text = text;
       is_given = right;
       passes = there.0;
       leads = sym there.1;
-      own =
-          subst (IsOwn (over (given pool) file).parts) (sym there.1)
-          (leads_to_own (place_of_root (over (given pool) file)) (names_in path));
       tree = told;
     }
+
+-- where a path leads, no pool bundle is lacking, so that want of memory is told
+pub wants_there : (pool file path : List ℕ) (o : Option Place) (e : ReadingError)
+    → Leads pool file path o → IsWantOfMemory e → FailsToLead pool file path (Reading e)
+wants_there pool file path o e leads wants =
+    (leads.is_text, leads.is_given, passes_given (given pool) file leads.passes, inl wants)

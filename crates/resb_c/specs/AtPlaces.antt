@@ -2,6 +2,7 @@
 --     content_from parts spot     what stands there
 --     kind_number c, size_in c    its kind, as the header numbers it, and how much is in it
 --     kind_from parts spot    both, of what stands at a spot
+--     found_kind s            the kind of what is found in a tree
 --     IsOfOther kind parts spot   what stands there is of another kind
 --     integer_from spot       the number that stands there, with its sign
 --     spot_refusal parts spot     why what stands there isn't read
@@ -13,6 +14,7 @@ use Rattle.resb_format.specs.Lookups.{index_in}
 use Rattle.resb_format.specs.Parts.{Parts}
 use Rattle.resb_walk.specs.BlockRefusals.{word_refusal, text_refusal_in}
 use Rattle.resb_read.specs.Leaves.{signed_at}
+use Rattle.resb_path.specs.Finding as finding
 use Rattle.resb_read.specs.declared.cursor.Spot.{Spot}
 use Rattle.resb_read.specs.declared.cursor.Spot.TheVariants as spot
 
@@ -34,6 +36,11 @@ tree_kind (integer n) = 4
 tree_kind (int_vector ns) = 5
 tree_kind (binary bytes) = 6
 tree_kind (alias s) = 7
+
+-- the number of the kind of what is found in a tree: a number of a vector is an integer
+abbrev pub found_kind : finding.Spot → ℕ
+found_kind (finding.tree_spot t) = tree_kind t
+found_kind (finding.number_spot n) = 4
 
 -- the number of the kind of what stands there
 abbrev pub kind_number : Content → ℕ

@@ -2,7 +2,8 @@
 --     CompilesInto text old new r    what compiling to a buffer answers, and leaves there
 --     CompilesWithin text limit old new r   the same of a text whose reading keeps within a limit
 --     CountsFile pool file r         what checking a file answers, beside the pool's bytes
---     Reports r status n e           the status, number and error that the caller gets of an answer
+--     Tells r status e               the status and the error that the caller gets of an answer
+--     Reports r status n e           the same with the number that he gets
 use Rattle.std.specs.Prelude.{◌≡◌, ◌≤◌, ◌<◌, ◌⊎◌, ℕ, List, ◌++◌, length, drop, take}
 use Rattle.std.specs.Prelude.{Result, Ok, Err, IsUtf8, replicate}
 use Rattle.std.specs.Str.Lossy.{utf8_valid_len}
@@ -77,10 +78,17 @@ IsMessage text message =
 
 -- the status is 0 where there is an answer, and else the fault's number, which the error has too,
 -- with its place and its message
-abbrev pub Reports : Result ℕ Fault → ℕ → ℕ → ResbError → Type 0
-Reports (Ok n) status number e =
-    (status ≡ 0) × (number ≡ n) × (e.kind ≡ 0) × (e.place ≡ 0) × IsNoMessage e.message
-Reports (Err fault) status number e =
-    (status ≡ number_of fault) × (number ≡ needed_of fault)
-    × (e.kind ≡ number_of fault) × (e.place ≡ place_of fault)
+abbrev pub Tells : {A : Type 0} → Result A Fault → ℕ → ResbError → Type 0
+Tells (Ok x) status e = (status ≡ 0) × (e.kind ≡ 0) × (e.place ≡ 0) × IsNoMessage e.message
+Tells (Err fault) status e =
+    (status ≡ number_of fault) × (e.kind ≡ number_of fault) × (e.place ≡ place_of fault)
     × IsMessage (message_of fault) e.message
+
+-- the number that the caller gets of an answer: the answer, or the length that a fault has for him
+abbrev pub number_told : Result ℕ Fault → ℕ
+number_told (Ok n) = n
+number_told (Err fault) = needed_of fault
+
+-- the status and the error tell of the answer, and the number is the one that the caller gets
+abbrev pub Reports : Result ℕ Fault → ℕ → ℕ → ResbError → Type 0
+Reports r status number e = Tells r status e × (number ≡ number_told r)

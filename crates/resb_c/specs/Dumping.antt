@@ -2,7 +2,7 @@
 --     IsBundleToDump pool file name limit b  the bundle is the file's tree, under that name
 --     DumpsInto pool file name limit old new r   what printing it to a buffer answers, and leaves
 --                                            there
-use Rattle.std.specs.Prelude.{◌≡◌, ◌≤◌, ◌⊎◌, ℕ, List, length, Option, Some, Result, Ok, Err}
+use Rattle.std.specs.Prelude.{◌≡◌, ◌≤◌, ◌⊎◌, ℕ, List, length, Some, Result, Ok, Err}
 use Rattle.std.specs.Prelude.{IsUtf8}
 use Rattle.resb_tree.specs.Bundle.{name_of, root_of}
 use Rattle.resb_tree.specs.declared.bundle.ResourceBundle.{ResourceBundle}

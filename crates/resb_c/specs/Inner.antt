@@ -1,3 +1,3 @@
 -- The words of the contracts of private functions.
 pub mod Heads
-pub mod Texts
+pub mod Leaves

@@ -54,8 +54,3 @@ pub record IsNothing (c : ResbMeasured) : Type 0 where
 abbrev pub ShowsSums : Result Measured Fault → ResbMeasured → Type 0
 ShowsSums (Ok m) c = IsShown m c
 ShowsSums (Err fault) c = IsNothing c
-
--- an answer's number of resources
-abbrev pub resources_of : Result Measured Fault → Result ℕ Fault
-resources_of (Ok m) = Ok m.resources
-resources_of (Err fault) = Err fault

@@ -5,7 +5,6 @@ ghost use Rattle.resb_format.specs.declared.error.ReadingError.{ReadingError};
 ghost use Rattle.resb_pool_bundle.specs.Pool.{pool_in};
 ghost use Rattle.resb_c.specs.Calls.{CompilesInto, CompilesWithin, CountsFile, Fills, IsNotUtf8};
 ghost use Rattle.resb_c.specs.Dumping.{DumpsInto, HasNoBundle, IsBundleToDump};
-ghost use Rattle.resb_c.specs.Measures as measures;
 ghost use Rattle.resb_c.specs.Measures.{MeasuresFile};
 ghost use Rattle.resb_c.specs.Pools.{given, IsGiven, RefusesPool};
 
@@ -125,16 +124,6 @@ pub(crate) fn measure_file(alloc: Global, input: Input<'_>) -> Result<Measured, 
         Err(FileError::Larger { .. }) => Err(Fault::Larger),
         Err(FileError::LongKeys { .. }) => Err(Fault::LongKeys),
         Err(FileError::Reading(e)) => Err(Fault::Reading(e)),
-    }
-}
-
-/// The number of resources of what was measured.
-pub(crate) fn count_measured(answer: Result<Measured, Fault>) -> Result<usize, Fault>
-    ensures { result ≡ measures.resources_of answer }
-{
-    match answer {
-        Ok(measured) => Ok(measured.resources),
-        Err(fault) => Err(fault),
     }
 }
 

@@ -1,65 +1,59 @@
 //! Where a path leads in a file, and what is told of what stands there. Nothing else in the file is
-//! looked at. What stands at a spot is found in `there`, the names of a path in `path`.
+//! looked at. What stands at a place is found in `there`, the names of a path in `path`.
 ghost use Rattle.std.specs.Prelude.{◌≡◌, Some, option_map, IfOk, IfErr};
-ghost use Rattle.resb_format.specs.Parts.{parts_in};
 ghost use Rattle.resb_pool_bundle.specs.Pool.{pool_in};
-ghost use Rattle.resb_program.specs.Files.{LacksPool};
-ghost use Rattle.resb_read.specs.Places.{Place};
-ghost use Rattle.resb_read.specs.WithPool.{over};
+ghost use Rattle.resb_read.specs.Places.{place_of};
 ghost use Rattle.resb_c.specs.AtPaths.{FailsToLead, GivesBytes, GivesString, Leads};
 ghost use Rattle.resb_c.specs.AtPaths.{TellsInteger, TellsKind};
-ghost use Rattle.resb_c.specs.Inner.Heads.{HasNoParts};
-ghost use Rattle.resb_c.specs.Pools.{given};
+ghost use Rattle.resb_c.specs.Inner.Heads.{IsToldAs};
 
 use crate::fault::Fault;
 use crate::files::{Input, fill, pool_of, text_of};
 use crate::path::names_of;
-use crate::there::{bytes_there, integer_there, kind_there, text_there};
-use resb_format::{BinaryDeserializerError, FileBlocks};
+use crate::there::{bytes_there, integer_there, kind_there, units_there};
+use resb_format::BinaryDeserializerError;
 use resb_path::find_with_pool;
 use resb_pool_bundle::{FileHead, PoolBundle};
-use resb_read::Spot;
+use resb_read::Cursor;
+use resb_walk::text_of_units;
 use std::alloc::Global;
 
-/// The parts of a file beside the pool bundle that is given, if one is.
-fn parts_of<'a>(file: &'a [u8], pool: Option<PoolBundle<'a>>) -> Result<FileBlocks<'a>, Fault>
-    ensures ok { let given = option_map pool_in pool.entry in
-        IfOk result (λ f. (LacksPool given file.now → ⊥)
-        × (parts_in f ≡ (over given file.now).parts)) }
-    ensures err { IfErr result (HasNoParts (option_map pool_in pool.entry) file.now) }
+/// Why a file isn't read beside the pool bundle that is given, if one is: that it lacks one, or the
+/// reader's refusal.
+fn fault_of(file: &[u8], pool: Option<PoolBundle<'_>>, refusal: BinaryDeserializerError) -> Fault
+    ensures { IsToldAs (option_map pool_in pool.entry) file.now refusal.entry result }
 {
-    let head = match FileHead::read(file) {
-        Ok(head) => head,
-        Err(e) => return Err(Fault::Reading(e)),
-    };
-    if head.uses_pool() && pool.is_none() {
-        return Err(Fault::UsesPool);
-    }
-    match head.beside(pool) {
-        Ok(parts) => Ok(parts.file),
-        Err(e) => Err(Fault::Reading(e)),
+    match FileHead::read(file) {
+        Ok(head) => {
+            if head.uses_pool() && pool.is_none() {
+                return Fault::UsesPool;
+            }
+            Fault::Reading(refusal)
+        }
+        Err(_) => Fault::Reading(refusal),
     }
 }
 
-/// The parts of a file, and the spot in them to which a path leads.
-fn find<'a>(alloc: Global, input: Input<'a>, path: &[u8]) -> Result<(FileBlocks<'a>, Spot), Fault>
-    ensures ok { let pool = input.entry.pool.now in let file = input.entry.file.now in
-        IfOk result (λ f. (p : Place) × Leads pool file path.now (Some p) × (f.1 ≡ p.at)
-        × (parts_in f.0 ≡ (over (given pool) file).parts)) }
+/// Where a path leads in a file.
+fn find<'a>(alloc: Global, input: Input<'a>, path: &[u8]) -> Result<Cursor<'a>, Fault>
+    ensures ok { IfOk result (λ c.
+        Leads input.entry.pool.now input.entry.file.now path.now (Some (place_of c))) }
     ensures err { IfErr result
         (FailsToLead input.entry.pool.now input.entry.file.now path.now) }
 {
     let path = text_of(path)?;
     let pool = pool_of(input.pool)?;
-    let parts = parts_of(input.file, pool)?;
     let names = match names_of(alloc, path) {
         Ok(names) => names,
-        Err(_) => return Err(Fault::Reading(BinaryDeserializerError::out_of_memory())),
+        Err(_) => {
+            let wanting = BinaryDeserializerError::out_of_memory();
+            return Err(fault_of(input.file, pool, wanting));
+        }
     };
     match find_with_pool(input.file, pool, names.as_slice()) {
-        Ok(Some(found)) => Ok((parts, found.spot())),
+        Ok(Some(found)) => Ok(found),
         Ok(None) => Err(Fault::NotFound),
-        Err(e) => Err(Fault::Reading(e)),
+        Err(refusal) => Err(fault_of(input.file, pool, refusal)),
     }
 }
 
@@ -67,8 +61,8 @@ fn find<'a>(alloc: Global, input: Input<'a>, path: &[u8]) -> Result<(FileBlocks<
 pub(crate) fn tell_kind(alloc: Global, input: Input<'_>, path: &[u8]) -> Result<(u32, usize), Fault>
     ensures { TellsKind input.entry.pool.now input.entry.file.now path.now result }
 {
-    let (file, at) = find(alloc, input, path)?;
-    match kind_there(file, at) {
+    let found = find(alloc, input, path)?;
+    match kind_there(found) {
         Ok(told) => Ok(told),
         Err(e) => Err(Fault::Reading(e)),
     }
@@ -78,8 +72,8 @@ pub(crate) fn tell_kind(alloc: Global, input: Input<'_>, path: &[u8]) -> Result<
 pub(crate) fn tell_integer(alloc: Global, input: Input<'_>, path: &[u8]) -> Result<i32, Fault>
     ensures { TellsInteger input.entry.pool.now input.entry.file.now path.now result }
 {
-    let (_, at) = find(alloc, input, path)?;
-    match integer_there(at) {
+    let found = find(alloc, input, path)?;
+    match integer_there(found) {
         Some(number) => Ok(number),
         None => Err(Fault::OtherKind),
     }
@@ -95,11 +89,11 @@ pub(crate) fn string_into(
     ensures { GivesString input.entry.pool.now input.entry.file.now path.now out.old out.new
         result }
 {
-    let (file, at) = find(alloc, input, path)?;
-    let text = text_there(alloc, file, at)?;
-    match fill(text.as_bytes(), out) {
-        Ok(count) => Ok(count),
-        Err(needed) => Err(Fault::TooShort(needed)),
+    let found = find(alloc, input, path)?;
+    let units = units_there(found)?;
+    match text_of_units(alloc, units) {
+        Ok(text) => fill(text.as_bytes(), out).map_err(Fault::TooShort),
+        Err(_) => Err(Fault::Reading(BinaryDeserializerError::out_of_memory())),
     }
 }
 
@@ -113,10 +107,7 @@ pub(crate) fn bytes_into(
     ensures { GivesBytes input.entry.pool.now input.entry.file.now path.now out.old out.new
         result }
 {
-    let (file, at) = find(alloc, input, path)?;
-    let bytes = bytes_there(file, at)?;
-    match fill(bytes, out) {
-        Ok(count) => Ok(count),
-        Err(needed) => Err(Fault::TooShort(needed)),
-    }
+    let found = find(alloc, input, path)?;
+    let bytes = bytes_there(found)?;
+    fill(bytes, out).map_err(Fault::TooShort)
 }

@@ -7,10 +7,10 @@ ghost use Rattle.std.specs.Prelude.{◌≡◌, ℕ, ℤ, [], Result, length, min
 ghost use Rattle.resb_read.specs.declared.measuring.Measured.{Measured};
 ghost use Rattle.resb_diagnostics.specs.Location.{line_at, column_at};
 ghost use Rattle.resb_c.specs.AtPaths.{GivesBytes, GivesString, TellsInteger, TellsKind};
-ghost use Rattle.resb_c.specs.AtPaths.{integer_told, kind_told, size_told, status_told};
-ghost use Rattle.resb_c.specs.Calls.{CompilesInto, CompilesWithin, CountsFile, Reports};
+ghost use Rattle.resb_c.specs.AtPaths.{integer_told, kind_told};
+ghost use Rattle.resb_c.specs.Calls.{CompilesInto, CompilesWithin, CountsFile, Reports, Tells};
 ghost use Rattle.resb_c.specs.Dumping.{DumpsInto};
-ghost use Rattle.resb_c.specs.Measures.{MeasuresFile, ShowsSums, resources_of};
+ghost use Rattle.resb_c.specs.Measures.{MeasuresFile, ShowsSums};
 
 mod fault;
 mod files;
@@ -20,11 +20,9 @@ mod path;
 mod report;
 mod there;
 
-use crate::files::{
-    Input, compile_into, compile_within_into, count_file, count_measured, dump_into, measure_file,
-};
+use crate::files::{Input, compile_into, compile_within_into, count_file, dump_into, measure_file};
 use crate::found::{bytes_into, string_into, tell_integer, tell_kind};
-use crate::report::report;
+use crate::report::{report, tell};
 pub use fault::Fault;
 pub use measured::ResbMeasured;
 pub use report::ResbError;
@@ -118,8 +116,8 @@ pub extern "C" fn resb_measure(
     measured: &mut ResbMeasured,
     error: &mut ResbError,
 ) -> u32
-    ensures { (r : Result Measured Fault) × (n : ℕ) × MeasuresFile [] file.now r
-        × ShowsSums r measured.new × Reports (resources_of r) result n error.new }
+    ensures { (r : Result Measured Fault) × MeasuresFile [] file.now r
+        × ShowsSums r measured.new × Tells r result error.new }
 {
     resb_measure_with_pool(alloc, file, &[], measured, error)
 }
@@ -134,13 +132,12 @@ pub extern "C" fn resb_measure_with_pool(
     measured: &mut ResbMeasured,
     error: &mut ResbError,
 ) -> u32
-    ensures { (r : Result Measured Fault) × (n : ℕ) × MeasuresFile pool.now file.now r
-        × ShowsSums r measured.new × Reports (resources_of r) result n error.new }
+    ensures { (r : Result Measured Fault) × MeasuresFile pool.now file.now r
+        × ShowsSums r measured.new × Tells r result error.new }
 {
     let answer = measure_file(alloc, Input { file, pool });
     *measured = ResbMeasured::of(&answer);
-    let mut resources = 0;
-    report(alloc, count_measured(answer), &mut resources, error)
+    tell(alloc, &answer, error)
 }
 
 /// Prints a file's tree to the front of `out`, as the text of a bundle of that name. `length` gets
@@ -196,18 +193,14 @@ pub extern "C" fn resb_kind(
     error: &mut ResbError,
 ) -> u32
     ensures { (r : Result (ℕ × ℕ) Fault) × TellsKind pool.now file.now path.now r
-        × (kind.new ≡ kind_told r) × Reports (size_told r) result size.new error.new }
+        × ((kind.new, size.new) ≡ kind_told r) × Tells r result error.new }
 {
-    match tell_kind(alloc, Input { file, pool }, path) {
-        Ok((found, count)) => {
-            *kind = found;
-            report(alloc, Ok(count), size, error)
-        }
-        Err(fault) => {
-            *kind = 0;
-            report(alloc, Err(fault), size, error)
-        }
-    }
+    let answer = tell_kind(alloc, Input { file, pool }, path);
+    (*kind, *size) = match &answer {
+        Ok(told) => *told,
+        Err(_) => (0, 0),
+    };
+    tell(alloc, &answer, error)
 }
 
 /// Tells the number at a path in a file, with its sign, as `resb_kind` tells of kinds: an integer
@@ -221,20 +214,15 @@ pub extern "C" fn resb_get_integer(
     value: &mut i32,
     error: &mut ResbError,
 ) -> u32
-    ensures { (r : Result ℤ Fault) × (n : ℕ) × TellsInteger pool.now file.now path.now r
-        × (value.new ≡ integer_told r) × Reports (status_told r) result n error.new }
+    ensures { (r : Result ℤ Fault) × TellsInteger pool.now file.now path.now r
+        × (value.new ≡ integer_told r) × Tells r result error.new }
 {
-    let mut nothing = 0;
-    match tell_integer(alloc, Input { file, pool }, path) {
-        Ok(found) => {
-            *value = found;
-            report(alloc, Ok(0), &mut nothing, error)
-        }
-        Err(fault) => {
-            *value = 0;
-            report(alloc, Err(fault), &mut nothing, error)
-        }
-    }
+    let answer = tell_integer(alloc, Input { file, pool }, path);
+    *value = match &answer {
+        Ok(told) => *told,
+        Err(_) => 0,
+    };
+    tell(alloc, &answer, error)
 }
 
 /// Copies the UTF-8 text of the string at a path in a file to the front of `out`, as `resb_kind`

@@ -1,6 +1,6 @@
 //! What the caller is told: a status, a number, and an error with its message.
 //! Which fault there is, is found in `files`.
-ghost use Rattle.resb_c.specs.Calls.{IsMessage, Reports};
+ghost use Rattle.resb_c.specs.Calls.{IsMessage, Reports, Tells};
 ghost use Rattle.resb_c.specs.Faults.{message_of};
 
 use crate::fault::Fault;
@@ -29,7 +29,22 @@ fn write_message(alloc: Global, fault: &Fault, message: &mut [u8; 256])
     }
 }
 
-/// Writes the answer of a call where the caller wants it, and gives its status.
+/// Writes why a call failed, if it did, where the caller wants it, and gives the call's status.
+pub(crate) fn tell<T>(alloc: Global, answer: &Result<T, Fault>, error: &mut ResbError) -> u32
+    ensures { Tells answer.now result error.new }
+{
+    error.kind = 0;
+    error.place = 0;
+    error.message = [0; 256];
+    if let Err(fault) = answer {
+        error.kind = fault.number();
+        error.place = fault.place();
+        write_message(alloc, fault, &mut error.message);
+    }
+    error.kind
+}
+
+/// The same of an answer that is a number, or an error that has one, which is written too.
 pub(crate) fn report(
     alloc: Global,
     answer: Result<usize, Fault>,
@@ -38,20 +53,10 @@ pub(crate) fn report(
 ) -> u32
     ensures { Reports answer result number.new error.new }
 {
-    error.kind = 0;
-    error.place = 0;
-    error.message = [0; 256];
-    match answer {
-        Ok(found) => *number = found,
-        Err(fault) => {
-            *number = match fault {
-                Fault::TooShort(needed) => needed,
-                _ => 0,
-            };
-            error.kind = fault.number();
-            error.place = fault.place();
-            write_message(alloc, &fault, &mut error.message);
-        }
-    }
-    error.kind
+    *number = match &answer {
+        Ok(found) => *found,
+        Err(Fault::TooShort(needed)) => *needed,
+        Err(_) => 0,
+    };
+    tell(alloc, &answer, error)
 }

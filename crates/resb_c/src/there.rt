@@ -1,35 +1,31 @@
 //! What stands at a place of a file: its kind, and how much is in it.
 //! Where a path leads is found in `resb_path`, what the caller is told is said in `report`.
-ghost use Rattle.std.specs.Prelude.{◌≡◌, ◌≢◌, Some, None, IfOk, IfErr, MatchResult};
-ghost use Rattle.std.specs.Prelude.{MatchOption};
-ghost use Rattle.std.specs.String.{string_bytes};
+ghost use Rattle.std.specs.Prelude.{◌≡◌, Some, None, IfOk, IfErr, MatchResult};
 ghost use Rattle.resb_tree.specs.Tree.{binary, string};
 ghost use Rattle.resb_format.specs.Content.{leaf};
-ghost use Rattle.resb_c.specs.Inner.Texts.{HasNoBytes, HasNoText};
-ghost use Rattle.resb_format.specs.Parts.{parts_in};
+ghost use Rattle.resb_walk.specs.BlockRefusals.{Says};
 ghost use Rattle.resb_walk.specs.Inner.Members.{content_of, leaf_tree, text_of_bytes};
+ghost use Rattle.resb_read.specs.Places.{place_of};
 ghost use Rattle.resb_c.specs.AtPlaces.{content_from, integer_from, kind_from, kind_number};
 ghost use Rattle.resb_c.specs.AtPlaces.{leaf_size, size_in, spot_refusal, tree_kind};
-ghost use Rattle.resb_walk.specs.BlockRefusals.{Says};
+ghost use Rattle.resb_c.specs.Inner.Leaves.{HasNoLeaf};
 
 use crate::fault::Fault;
-use resb_format::{BinaryDeserializerError, FileBlocks, Int28};
-use resb_read::Spot;
+use resb_format::{BinaryDeserializerError, Int28, ResourceReprType};
+use resb_read::{Cursor, Spot};
 use resb_walk::faults::past_end;
 use resb_walk::places::index_of;
-use resb_walk::{Leaf, Standing, standing_at, text_at, text_of_units};
-use std::alloc::Global;
+use resb_walk::types::readable;
+use resb_walk::{Leaf, Standing, standing_at, text_at};
 
-/// What stands at a spot of a resource. A number of a vector and a key are none.
-pub(crate) fn standing_there(
-    file: FileBlocks<'_>,
-    at: Spot,
-) -> Result<Standing<'_>, BinaryDeserializerError>
-    ensures { let there = content_from (parts_in file.entry) at in
+/// What stands at a place of a resource. A number of a vector and a key are none.
+fn standing_there(found: Cursor<'_>) -> Result<Standing<'_>, BinaryDeserializerError>
+    ensures { let p = place_of found.entry in let there = content_from p.parts p.at in
         MatchResult result (λ s. there ≡ Some (content_of s))
-        (λ e. (there ≡ None) × Says (spot_refusal (parts_in file.entry) at) e) }
+        (λ e. (there ≡ None) × Says (spot_refusal p.parts p.at) e) }
 {
-    match at {
+    let file = found.file();
+    match found.spot() {
         Spot::Descriptor(word) => standing_at(file, word),
         Spot::Unit(unit) => {
             let text = text_at(file, index_of(file, unit))?;
@@ -65,7 +61,7 @@ fn leaf_length(leaf: Leaf<'_>) -> usize
 }
 
 /// The number of the kind of what stands there.
-pub(crate) fn kind_of(there: Standing<'_>) -> u32
+fn kind_of(there: Standing<'_>) -> u32
     ensures { result ≡ kind_number (content_of there.entry) }
 {
     match there {
@@ -76,7 +72,7 @@ pub(crate) fn kind_of(there: Standing<'_>) -> u32
 }
 
 /// How many members, entries, bytes or numbers are there.
-pub(crate) fn size_of(there: Standing<'_>) -> usize
+fn size_of(there: Standing<'_>) -> usize
     ensures { result ≡ size_in (content_of there.entry) }
 {
     match there {
@@ -86,131 +82,79 @@ pub(crate) fn size_of(there: Standing<'_>) -> usize
     }
 }
 
-/// The kind of what stands at a spot, and how much is in it. A number of a vector is an integer.
-pub(crate) fn kind_there(
-    file: FileBlocks<'_>,
-    at: Spot,
-) -> Result<(u32, usize), BinaryDeserializerError>
-    ensures { let there = kind_from (parts_in file.entry) at in
+/// The kind of what stands at a place, and how much is in it. A number of a vector is an integer.
+pub(crate) fn kind_there(found: Cursor<'_>) -> Result<(u32, usize), BinaryDeserializerError>
+    ensures { let p = place_of found.entry in let there = kind_from p.parts p.at in
         MatchResult result (λ k. there ≡ Some (k.0, k.1))
-        (λ e. (there ≡ None) × Says (spot_refusal (parts_in file.entry) at) e) }
+        (λ e. (there ≡ None) × Says (spot_refusal p.parts p.at) e) }
 {
-    if let Spot::Word(_) = at {
+    if let Spot::Word(_) = found.spot() {
         return Ok((4, 0));
     }
-    let there = standing_there(file, at)?;
+    let there = standing_there(found)?;
     Ok((kind_of(there), size_of(there)))
 }
 
-/// The number at a spot, with its sign: an integer of 28 bits, or a number of a vector.
-pub(crate) fn integer_there(at: Spot) -> Option<i32>
-    ensures { result ≡ integer_from at }
+/// The number at a place, with its sign: an integer of 28 bits, or a number of a vector.
+#[tactic(auto, using(resb_format::proofs::Apart::type_apart))]
+pub(crate) fn integer_there(found: Cursor<'_>) -> Option<i32>
+    ensures { result ≡ integer_from found.entry.at }
 {
-    match at {
+    match found.spot() {
         Spot::Descriptor(word) => {
-            if word / 0x1000_0000 == 7 {
-                Some(i32::from(Int28::from(word % 0x1000_0000)))
-            } else {
-                None
+            let Ok((kind, value)) = readable(found.file(), word) else {
+                return None;
+            };
+            if kind != ResourceReprType::Int {
+                return None;
             }
+            Some(i32::from(Int28::from(value)))
         }
         Spot::Word(word) => Some(word.cast_signed()),
         Spot::Unit(_) | Spot::Key(_) => None,
     }
 }
 
-/// The units of a string's leaf.
+/// What stands at a place, where that is a leaf. A number of a vector is none.
+fn leaf_there(found: Cursor<'_>) -> Result<Leaf<'_>, Fault>
+    ensures ok { let p = place_of found.entry in
+        IfOk result (λ l. content_from p.parts p.at ≡ Some (leaf (leaf_tree l))) }
+    ensures err { let p = place_of found.entry in
+        IfErr result (λ e. HasNoLeaf 1 p e × HasNoLeaf 6 p e) }
+{
+    if let Spot::Word(_) = found.spot() {
+        return Err(Fault::OtherKind);
+    }
+    match standing_there(found) {
+        Ok(Standing::Leaf(leaf)) => Ok(leaf),
+        Ok(Standing::List(_)) => Err(Fault::OtherKind),
+        Ok(Standing::Table(_)) => Err(Fault::OtherKind),
+        Err(e) => Err(Fault::Reading(e)),
+    }
+}
+
+/// The UTF-16 units of the string at a place, two bytes for each.
 #[tactic(auto, using(crate::proofs::ThereLemmas::empty_text))]
-fn units_of_leaf(leaf: Leaf<'_>) -> Option<&[u8]>
-    ensures { MatchOption result (tree_kind (leaf_tree leaf.entry) ≢ 1)
-        (λ units. leaf_tree leaf.entry ≡ string (text_of_bytes units.now)) }
+pub(crate) fn units_there(found: Cursor<'_>) -> Result<&[u8], Fault>
+    ensures ok { let p = place_of found.entry in IfOk result (λ units.
+        content_from p.parts p.at ≡ Some (leaf (string (text_of_bytes units.now)))) }
+    ensures err { IfErr result (HasNoLeaf 1 (place_of found.entry)) }
 {
-    match leaf {
-        Leaf::Text(units) => Some(units),
-        Leaf::Empty => Some(&[]),
-        Leaf::Integer(_) => None,
-        Leaf::Numbers(_) => None,
-        Leaf::Binary(_) => None,
-        Leaf::Alias(_) => None,
+    match leaf_there(found)? {
+        Leaf::Text(units) => Ok(units),
+        Leaf::Empty => Ok(&[]),
+        _ => Err(Fault::OtherKind),
     }
 }
 
-/// The units of a string that stands there.
-fn units_in(there: Standing<'_>) -> Option<&[u8]>
-    ensures { MatchOption result (kind_number (content_of there.entry) ≢ 1)
-        (λ units. content_of there.entry ≡ leaf (string (text_of_bytes units.now))) }
+/// The bytes of the binary at a place.
+pub(crate) fn bytes_there(found: Cursor<'_>) -> Result<&[u8], Fault>
+    ensures ok { let p = place_of found.entry in
+        IfOk result (λ bytes. content_from p.parts p.at ≡ Some (leaf (binary bytes.now))) }
+    ensures err { IfErr result (HasNoLeaf 6 (place_of found.entry)) }
 {
-    match there {
-        Standing::Leaf(leaf) => units_of_leaf(leaf),
-        Standing::List(_) => None,
-        Standing::Table(_) => None,
+    match leaf_there(found)? {
+        Leaf::Binary(bytes) => Ok(bytes),
+        _ => Err(Fault::OtherKind),
     }
-}
-
-/// The text of the string at a spot.
-pub(crate) fn text_there(alloc: Global, file: FileBlocks<'_>, at: Spot) -> Result<String, Fault>
-    ensures ok { IfOk result (λ s. content_from (parts_in file.entry) at
-        ≡ Some (leaf (string (string_bytes s)))) }
-    ensures err { IfErr result (HasNoText (parts_in file.entry) at) }
-{
-    if let Spot::Word(_) = at {
-        return Err(Fault::OtherKind);
-    }
-    let there = match standing_there(file, at) {
-        Ok(there) => there,
-        Err(e) => return Err(Fault::Reading(e)),
-    };
-    let Some(units) = units_in(there) else {
-        return Err(Fault::OtherKind);
-    };
-    match text_of_units(alloc, units) {
-        Ok(text) => Ok(text),
-        Err(_) => Err(Fault::Reading(BinaryDeserializerError::out_of_memory())),
-    }
-}
-
-/// The bytes of a binary's leaf.
-fn bytes_of_leaf(leaf: Leaf<'_>) -> Option<&[u8]>
-    ensures { MatchOption result (tree_kind (leaf_tree leaf.entry) ≢ 6)
-        (λ bytes. leaf_tree leaf.entry ≡ binary bytes.now) }
-{
-    match leaf {
-        Leaf::Binary(bytes) => Some(bytes),
-        Leaf::Text(_) => None,
-        Leaf::Empty => None,
-        Leaf::Integer(_) => None,
-        Leaf::Numbers(_) => None,
-        Leaf::Alias(_) => None,
-    }
-}
-
-/// The bytes of a binary that stands there.
-fn bytes_in(there: Standing<'_>) -> Option<&[u8]>
-    ensures { MatchOption result (kind_number (content_of there.entry) ≢ 6)
-        (λ bytes. content_of there.entry ≡ leaf (binary bytes.now)) }
-{
-    match there {
-        Standing::Leaf(leaf) => bytes_of_leaf(leaf),
-        Standing::List(_) => None,
-        Standing::Table(_) => None,
-    }
-}
-
-/// The bytes of the binary at a spot.
-pub(crate) fn bytes_there(file: FileBlocks<'_>, at: Spot) -> Result<&[u8], Fault>
-    ensures ok { IfOk result (λ bytes. content_from (parts_in file.entry) at
-        ≡ Some (leaf (binary bytes.now))) }
-    ensures err { IfErr result (HasNoBytes (parts_in file.entry) at) }
-{
-    if let Spot::Word(_) = at {
-        return Err(Fault::OtherKind);
-    }
-    let there = match standing_there(file, at) {
-        Ok(there) => there,
-        Err(e) => return Err(Fault::Reading(e)),
-    };
-    let Some(bytes) = bytes_in(there) else {
-        return Err(Fault::OtherKind);
-    };
-    Ok(bytes)
 }

@@ -1,15 +1,10 @@
-use Rattle.resb_format.specs.Parts.{parts_in}
-use Rattle.resb_walk.specs.Inner.Members.{content_of}
-use Rattle.resb_c.proofs.ThereLemmas.{number_is_no_binary, stands_other}
+use Rattle.resb_read.specs.Places.{place_of}
+use Rattle.resb_c.proofs.ThereLemmas.{no_binary}
 use Rattle.resb_c.proofs.there.bytes_there.Goals as goal
 
-pub returns-in-Word-clause-err : goal.returns-in-Word-clause-err
-returns-in-Word-clause-err c =
-    number_is_no_binary (parts_in c.args.file) c.args.at c.in-Word.field-0 c.in-Word.is
-
-pub returns-in_default-bytes_in : goal.returns-in_default-bytes_in
-returns-in_default-bytes_in c = record {
+pub returns-in_default : goal.returns-in_default
+returns-in_default c = record {
   ok = tt;
-  err = stands_other 6 (parts_in c.args.file) c.args.at (content_of c.in-Ok.there) c.in-Ok.ensures
-      c.in_default-bytes_in.ensures;
+  err = no_binary (place_of c.args.found) c.in_ok-bytes.field-0 c.in_ok-bytes.ensures.ok
+      c.in_default.not-Binary;
 }

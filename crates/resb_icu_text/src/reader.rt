@@ -63,10 +63,10 @@ impl IcuReader {
     /// The bundle and the keys as `read` gives them, where reading makes no more bytes than the
     /// limit. Counted are 72 for the `{` of the root, of a group without a type, of an array and of
     /// a table, and for a string among members; 192 for each key, 1024 for the first key of a
-    /// table; 3 more for each byte of a key and of a string that names no type, and 32 and 1 more
-    /// for each where one is put together; for a group of another type 72, and 32 for all but a
-    /// number; 4 for each byte of its string or path, 3 for each of a binary, 8 for each number of a
-    /// vector. The reading stops before the first step by which more would be made: the text is
+    /// table; 3 more for each byte of a key and of a string that names no type, and 32, and 1 more
+    /// for each, where one is put together; for a group of another type 72, and 32 for all but a
+    /// number; 4 for each byte of its string or path, 3 for each of a binary, 8 for each number of
+    /// a vector. The reading stops before the first step by which more would be made: the text is
     /// larger than the limit then, whatever follows. So a text is refused for a fault of its own
     /// only where no more is made before that fault.
     pub fn read_within<'a>(

@@ -27,7 +27,7 @@ pub fn text_of(bytes: &[u8]) -> Result<&str, usize>
     ensures ok { IfOk result (λ text. (text.now ≡ bytes.entry.now) × IsUtf8 bytes.entry.now) }
     ensures err { IfErr result (IsNotUtf8 bytes.entry.now) }
 {
-    match str::from_utf8(bytes) {
+    match simdutf8::compat::from_utf8(bytes) {
         Ok(text) => Ok(text),
         Err(e) => Err(e.valid_up_to()),
     }

@@ -11,7 +11,8 @@ in a temporary folder, never in place, and the copy takes over what out/ keeps, 
 than the changed function is proved. First each crate is checked as it stands. N checks run side by
 side (1 if left out); --logs keeps what each of them printed.
 With --gate each is tried by a check of the one function that tests/gate_bodies.txt names beside it,
-over the libraries that `rt ci` has built, which has proved each crate as it stands.
+and of those that it calls, over the libraries that `rt ci` has built; that has proved each crate as
+it stands.
 
 A line for each wrong body has the crate, the edit, the kind of the goal, the goal, and how it was
 refused. The kinds:
@@ -152,16 +153,18 @@ class Room:
                 copy(f'crates/{name}/{part}', folder)
 
     def hold(self, crate):
-        """Has the crate with its kept proofs, and its libraries as they are built. What is proved
-        of the crate in the room stays there until another crate comes."""
+        """Has the crate with its kept proofs, and its libraries as they are built."""
         for name in all_below(crate, self.below) - self.made:
             copy(f'crates/{name}/out/rlib', self.folder)
             self.made.add(name)
         for part in PARTS:
             restore(f'{ROOT}/crates/{crate}/{part}', f'{self.folder}/crates/{crate}/{part}')
         kept = f'crates/{crate}/out/incremental'
-        if os.path.isdir(f'{ROOT}/{kept}'):
-            restore(f'{ROOT}/{kept}', f'{self.folder}/{kept}')
+        restore(f'{ROOT}/{kept}', f'{self.folder}/{kept}')
+
+    def words(self, crate, paths):
+        """The command that checks the crate, or these modules and functions of it alone."""
+        return ['rt', 'check', '--jobs', '1', '--allow-holes', *only(paths)]
 
     def check(self, crate, texts, paths):
         """What a check of the crate prints with these texts, and whether it is proved; of all of
@@ -170,9 +173,7 @@ class Room:
         for file, text in texts.items():
             with open(f'{self.folder}/crates/{crate}/{file}', 'w', encoding='utf-8') as it:
                 it.write(text)
-        words = ['rt', 'check', '--jobs', '1', '--allow-holes']
-        for it in paths:
-            words += ['--only', it]
+        words = self.words(crate, paths)
         ran = subprocess.run(words, cwd=f'{self.folder}/crates/{crate}', text=True,
                              stdin=subprocess.DEVNULL, stdout=subprocess.PIPE,
                              stderr=subprocess.STDOUT, errors='replace', check=False)
@@ -180,6 +181,47 @@ class Room:
         for part in PARTS:
             restore(f'{ROOT}/crates/{crate}/{part}', f'{self.folder}/crates/{crate}/{part}')
         return ran.stdout, ran.returncode == 0
+
+
+class GateRoom(Room):
+    """A copy of the sources, which are checked over the libraries that stand in the repository, by
+    the compiler itself: `rt` takes no library for built that it has itself kept for `rt ci`."""
+
+    def __init__(self, folder, below, kit):
+        super().__init__(folder, below)
+        self.kit = kit
+
+    def hold(self, crate):
+        """Has the crate as it stands, and what was proved of it in the room."""
+        for part in PARTS:
+            restore(f'{ROOT}/crates/{crate}/{part}', f'{self.folder}/crates/{crate}/{part}')
+
+    def words(self, crate, paths):
+        """The command that checks these functions of the crate."""
+        built = {it: f'{ROOT}/crates/{it}/out/rlib' for it in sorted(all_below(crate, self.below))}
+        links = [f'{it}={at}/{it}.rlib' for it, at in built.items()]
+        links += [f'{it}={self.kit}/rlibs/{it}.rlib' for it in ('std', *kit_libraries(crate))]
+        words = [f'{self.kit}/bin/rattle', 'check', '--crate-name', crate, 'src/lib.rt',
+                 '--antt-project', f'{self.kit}/rattle/logic/antt-project.json',
+                 '--logic-built', f'{self.kit}/logic_built', '--incremental', 'out/incremental',
+                 '--jobs', '1', '--allow-holes', *only(paths)]
+        for it in links:
+            words += ['--extern', it]
+        for it in (f'{self.kit}/rlibs', *built.values()):
+            words += ['-L', f'dependency={it}']
+        return words
+
+
+def only(paths):
+    """The words by which a check is of these modules and functions alone."""
+    return [word for path in paths for word in ('--only', path)]
+
+
+def kit_libraries(crate):
+    """The toolchain's libraries that a crate names."""
+    with open(f'{ROOT}/crates.txt', encoding='utf-8') as lines:
+        needs = [it.partition(':')[2].split() for it in lines if it.startswith(f'{crate}:')]
+    return [it for it in needs[0] if not os.path.isdir(f'{ROOT}/crates/{it}')]
 
 
 def copy(part, to):
@@ -376,6 +418,12 @@ def standing(edits):
     return 1 if failed else 0
 
 
+def kit():
+    """The toolchain's folder, where its first page stands."""
+    page = subprocess.run(['rt', 'doc'], text=True, stdout=subprocess.PIPE, check=True).stdout
+    return os.path.dirname(page.strip())
+
+
 def checked_first(crates):
     """Checks each crate as it stands, so that out/ keeps its proofs, and gives those not proved."""
     bad = []
@@ -414,7 +462,8 @@ def main():
     with tempfile.TemporaryDirectory(prefix='wrong-bodies-') as folder:
         rooms = queue.Queue()
         for number in range(given.jobs):
-            rooms.put(Room(f'{folder}/{number}', below))
+            place = f'{folder}/{number}'
+            rooms.put(GateRoom(place, below, kit()) if given.gate else Room(place, below))
 
         def tried(edit):
             room = rooms.get()

@@ -115,6 +115,7 @@ fn enter<'s, F: Form, S: Shown<'s>>(
         (looks_in S.members S.entries pending.new.items) (S.tree shown) found) }
 {
     match shown.node() {
+        Node::String if !form.has_string_causes() => Ok(false),
         Node::String => {
             room.clear();
             shown.push_text(room)?;

@@ -1,6 +1,6 @@
 //! The two forms of texts, by what differs in them.
 //! What a line is made of else is said in `text`.
-ghost use Rattle.std.specs.Prelude.{◌≡◌, OnOk};
+ghost use Rattle.std.specs.Prelude.{◌≡◌, ℕ, List, false, OnOk};
 ghost use Rattle.resb_print.specs.Inner.Jobs.{Appends};
 ghost use Rattle.resb_lines.specs.Spelling.{Spelling};
 ghost use Rattle.resb_lines.specs.Causes.{Tests};
@@ -37,6 +37,10 @@ pub trait Form: Copy {
     /// Whether a key does, by itself or where a table stands under it.
     fn is_entry_cause(self, key: &str, is_table: bool) -> bool
         ensures { result ≡ tests.of_entry key.now is_table };
+
+    /// Whether some string may. Where none does, no string needs to be read for it.
+    fn has_string_causes(self) -> bool
+        ensures { result ≡ false → (text : List ℕ) → tests.of_string text ≡ false };
 
     /// Whether a string does.
     fn is_string_cause(self, text: &str) -> bool
@@ -78,6 +82,10 @@ impl Form for Plain {
         has_quote(key)
     }
 
+    fn has_string_causes(self) -> bool {
+        true
+    }
+
     fn is_string_cause(self, text: &str) -> bool {
         has_quote(text)
     }
@@ -116,6 +124,10 @@ impl Form for Icu {
 
     fn is_entry_cause(self, key: &str, is_table: bool) -> bool {
         !is_key(key) || is_collation(key) && is_table
+    }
+
+    fn has_string_causes(self) -> bool {
+        false
     }
 
     fn is_string_cause(self, _text: &str) -> bool {

@@ -25,7 +25,7 @@ pub struct ResbMeasured {
     pub binary_bytes: u64,
     /// The numbers of the vectors.
     pub numbers: u64,
-    /// The bytes that the tree takes in memory, as `tree_from_bytes_within` counts them.
+    /// The bytes that the tree takes in memory, as `Measured::tree_bytes` counts them.
     pub tree_bytes: u64,
 }
 

@@ -1,11 +1,12 @@
 //! What is said beside a refusal of a text, where what stands at its place tells more.
-//! What is expected there is said in `say`; which places are to blame is told by `resb_program`.
+//! What is expected there is said in `say`; which places are to blame is told by `resb_program` and
+//! `resb_diagnostics`.
 use resb_compile::{CompileError, IcuCompileError};
-use resb_diagnostics::{Reason, repeated_icu_keys};
+use resb_diagnostics::{Reason, Warning, repeated_icu_keys};
 use resb_grammar::Expected;
 use resb_icu_grammar::IcuExpected;
 use resb_program::SourceError;
-use std::alloc::Global;
+use std::alloc::{AllocError, Global};
 use std::fmt;
 use strsim::osa_distance;
 
@@ -84,24 +85,23 @@ pub(crate) fn hint_at(
     source: &[u8],
     place: usize,
     error: &SourceError,
-) -> Option<Hint> {
-    let (before, behind) = source.split_at_checked(place)?;
+) -> Result<Option<Hint>, AllocError> {
+    let Some((before, behind)) = source.split_at_checked(place) else {
+        return Ok(None);
+    };
     match error {
         SourceError::Refused(CompileError::Reading(e)) => {
-            let hint = plain_hint(alloc, before, behind, e.expected());
-            hint.or(if may_be_icu(source, before, behind) {
+            let hint = plain_hint(alloc, before, behind, e.expected())?;
+            Ok(hint.or(if may_be_icu(source, before, behind) {
                 Some(Hint::IcuForm)
             } else {
                 None
-            })
+            }))
         }
-        SourceError::IcuRefused(IcuCompileError::Reading(e)) => match e.expected() {
-            IcuExpected::GroupType => Some(types(alloc, &ICU_TYPES, behind)),
-            IcuExpected::Number | IcuExpected::NumberOrRightBrace => number_hint(behind),
-            IcuExpected::Entry if behind.starts_with(b",") => Some(Hint::NoCommas),
-            _ => None,
-        },
-        _ => None,
+        SourceError::IcuRefused(IcuCompileError::Reading(e)) => {
+            icu_hint(alloc, behind, e.expected())
+        }
+        _ => Ok(None),
     }
 }
 
@@ -121,13 +121,21 @@ pub(crate) fn repeated_key(
     source: &[u8],
     end: usize,
     error: &SourceError,
-) -> Option<RepeatedKey> {
+) -> Result<Option<RepeatedKey>, AllocError> {
+    let Some((before, _)) = source.split_at_checked(end) else {
+        return Ok(None);
+    };
     if !is_of_keys(error) {
-        return None;
+        return Ok(None);
     }
-    let (before, _) = source.split_at_checked(end)?;
-    let found = repeated_icu_keys(alloc, before).ok()?;
-    let repeated = found.first()?;
+    match repeated_icu_keys(alloc, before)?.first() {
+        Some(repeated) => Ok(again_of(*repeated)),
+        None => Ok(None),
+    }
+}
+
+/// The two places of which a warning tells, where it is of a key.
+fn again_of(repeated: Warning) -> Option<RepeatedKey> {
     match repeated.reason {
         Reason::RepeatedKey(first) => Some(RepeatedKey {
             place: repeated.place,
@@ -148,18 +156,37 @@ fn is_of_keys(error: &SourceError) -> bool {
 }
 
 /// What is said of a text of the plain form.
-fn plain_hint(alloc: Global, before: &[u8], behind: &[u8], expected: Expected) -> Option<Hint> {
-    match expected {
+fn plain_hint(
+    alloc: Global,
+    before: &[u8],
+    behind: &[u8],
+    expected: Expected,
+) -> Result<Option<Hint>, AllocError> {
+    Ok(match expected {
         Expected::TypeName if !before.contains(&b'{') => Some(Hint::RootType),
         Expected::TypeName if behind.starts_with(b":alias") => Some(Hint::IcuForm),
-        Expected::TypeName => Some(types(alloc, &TYPES, behind)),
+        Expected::TypeName => Some(types(alloc, &TYPES, behind)?),
         Expected::Number if is_number(behind) => Some(Hint::Range),
         Expected::RightBrace if is_fraction(before, behind) => Some(Hint::Whole),
         Expected::RightBrace if behind.starts_with(b",") && ends_group(before) => {
             Some(Hint::NoCommas)
         }
         _ => None,
-    }
+    })
+}
+
+/// What is said of a text of ICU's form.
+fn icu_hint(
+    alloc: Global,
+    behind: &[u8],
+    expected: IcuExpected,
+) -> Result<Option<Hint>, AllocError> {
+    Ok(match expected {
+        IcuExpected::GroupType => Some(types(alloc, &ICU_TYPES, behind)?),
+        IcuExpected::Number | IcuExpected::NumberOrRightBrace => number_hint(behind),
+        IcuExpected::Entry if behind.starts_with(b",") => Some(Hint::NoCommas),
+        _ => None,
+    })
 }
 
 /// Whether a text that is refused looks like one of ICU's own form: it begins with a byte order
@@ -209,12 +236,12 @@ fn ends_group(bytes: &[u8]) -> bool {
 }
 
 /// Which types there are, and the one that is nearest to the word behind the colon.
-fn types(alloc: Global, names: &'static [&'static str], behind: &[u8]) -> Hint {
+fn types(alloc: Global, names: &'static [&'static str], behind: &[u8]) -> Result<Hint, AllocError> {
     let nearest = match word_behind(behind) {
-        Some(word) => nearest(alloc, names, word),
+        Some(word) => nearest(alloc, names, word)?,
         None => None,
     };
-    Hint::Types { names, nearest }
+    Ok(Hint::Types { names, nearest })
 }
 
 /// The word behind a colon, or its beginning, if it is longer than any name.
@@ -231,18 +258,22 @@ fn word_behind(bytes: &[u8]) -> Option<&str> {
 
 /// The first of the names to which the fewest edits lead from a word, if few do: a letter more,
 /// less or another, or two that change places.
-fn nearest(alloc: Global, names: &[&'static str], word: &str) -> Option<&'static str> {
+fn nearest(
+    alloc: Global,
+    names: &[&'static str],
+    word: &str,
+) -> Result<Option<&'static str>, AllocError> {
     let mut found = None;
     let mut least = word.len().min(MOST_EDITS + 1);
     for name in names.iter().copied() {
         if word.eq_ignore_ascii_case(name) {
-            return Some(name);
+            return Ok(Some(name));
         }
-        let edits = osa_distance(alloc, word, name).ok()?;
+        let edits = osa_distance(alloc, word, name)?;
         if edits < least {
             least = edits;
             found = Some(name);
         }
     }
-    found
+    Ok(found)
 }

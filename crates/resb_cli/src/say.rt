@@ -141,7 +141,7 @@ pub(crate) fn refuse<R: Eprint + AllocGlobal>(
         Blame::Open(place) => {
             say_at(rt, name, location_of(source, place), Unclosed(error));
             point(rt, name, source, place);
-            if let Ok(Some(line)) = outdent(rt.alloc(), source, error) {
+            if let Some(line) = or_no_memory(rt, name, outdent(rt.alloc(), source, error)) {
                 say_at(rt, name, location_of(source, line), OUTDENT);
             }
         }
@@ -159,15 +159,30 @@ fn refuse_at<R: Eprint + AllocGlobal>(
 ) {
     say_at(rt, name, location_of(source, place), error);
     point(rt, name, source, place);
-    if let Some(hint) = hint_at(rt.alloc(), source, place, error) {
+    if let Some(hint) = or_no_memory(rt, name, hint_at(rt.alloc(), source, place, error)) {
         complain(rt, name, hint);
     }
     if let Some(quote) = long_string(source, place, error) {
         say_at(rt, name, location_of(source, quote), LONG_STRING);
     }
-    if let Some(key) = repeated_key(rt.alloc(), source, place, error) {
+    if let Some(key) = or_no_memory(rt, name, repeated_key(rt.alloc(), source, place, error)) {
         let first = Repeated(location_of(source, key.first));
         say_at(rt, name, location_of(source, key.place), first);
+    }
+}
+
+/// What was found, or nothing, once it is said that memory for it was refused.
+fn or_no_memory<R: Eprint, T: Drop>(
+    rt: &R,
+    name: &str,
+    found: Result<Option<T>, AllocError>,
+) -> Option<T> {
+    match found {
+        Ok(found) => found,
+        Err(_) => {
+            complain(rt, name, NO_MEMORY);
+            None
+        }
     }
 }
 

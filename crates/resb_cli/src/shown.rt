@@ -1,6 +1,6 @@
 //! Names, keys and paths as messages show them: nothing of them moves the mark of a terminal or
 //! turns its text, and none fills the screen; and the same of JSON that says something of files.
-//! Lines of texts are shown by `resb_program`.
+//! Lines of texts are shown by `resb_diagnostics`.
 use crate::words::MARK;
 use resb_diagnostics::is_hidden;
 use std::alloc::{AllocError, Global};

@@ -1,6 +1,6 @@
 //! What is said on standard error of a text that is compiled, though something in it may not be
 //! meant so.
-//! Where a warning is due is told by `resb_program`; refusals are said in `say`.
+//! Where a warning is due is told by `resb_diagnostics`; refusals are said in `say`.
 use crate::say::{Repeated, fail, say_at};
 use crate::shown::Shown;
 use resb_diagnostics::{Location, Locations, Reason, Warning, icu_warnings, warnings};

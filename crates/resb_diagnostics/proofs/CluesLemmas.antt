@@ -3,7 +3,8 @@ use Rattle.std.proofs.Common.{◌≡◌, ℕ, ◌+◌, ◌-◌, Bool, List, leng
 use Rattle.std.proofs.Common.{ap, ◌∙◌}
 use Rattle.std.specs.Prelude.{slice_index, slice_get, ◌&&◌}
 use Rattle.resb_diagnostics.specs.Braces.{Form, mode_in}
-use Rattle.resb_diagnostics.specs.Clues.{is_first, first_behind, indent_at, indent_behind, indents_at}
+use Rattle.resb_diagnostics.specs.Clues.{is_first, first_behind, indent_at, indent_behind}
+use Rattle.resb_diagnostics.specs.Clues.{indents_at}
 use Rattle.resb_diagnostics.specs.Clues.{open_behind, stands_out, is_outdent, outdent_in, or_else}
 use native.Mathlib.Numerals.{unary_clauses}
 

@@ -4,7 +4,8 @@ use Rattle.std.proofs.Common.{◌==◌, List, [], length, refl, sym, ap, subst, 
 use Rattle.std.proofs.Common.{None, inl, inr}
 use Rattle.std.specs.Prelude.{slice_index, if◌then◌else◌, ◌⊎◌}
 use Rattle.std.proofs.lemmas.Bool.{cases_lt}
-use Rattle.resb_diagnostics.specs.Braces.{mode_at, mode_behind, behind_token, behind_block, has_tokens}
+use Rattle.resb_diagnostics.specs.Braces.{mode_at, mode_behind, behind_token, behind_block}
+use Rattle.resb_diagnostics.specs.Braces.{has_tokens}
 use Rattle.resb_diagnostics.specs.Pieces.{token_at, word_start}
 use Rattle.resb_diagnostics.specs.Inner.Tokens.{IsBetween, IsQuiet, Passes, IsLineRest}
 use Rattle.resb_diagnostics.specs.Inner.Tokens.{IsBlockRest}

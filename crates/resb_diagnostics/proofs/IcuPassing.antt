@@ -7,8 +7,10 @@ use Rattle.std.proofs.lemmas.Bool.{cases_lt, false≢true}
 use Rattle.resb_grammar.specs.ByteRuns.{is_line_end}
 use Rattle.resb_icu_grammar.specs.Bytes.{is_word}
 use Rattle.resb_diagnostics.specs.Braces.{icu_mode_behind, has_icu_tokens}
-use Rattle.resb_diagnostics.specs.IcuWarnings.{is_icu_quoted, line_ended, icu_word_start, icu_last_at}
-use Rattle.resb_diagnostics.specs.IcuWarnings.{icu_warned, icu_token_of, icu_token_at, of_some_token}
+use Rattle.resb_diagnostics.specs.IcuWarnings.{is_icu_quoted, line_ended, icu_word_start}
+use Rattle.resb_diagnostics.specs.IcuWarnings.{icu_last_at}
+use Rattle.resb_diagnostics.specs.IcuWarnings.{icu_warned, icu_token_of, icu_token_at}
+use Rattle.resb_diagnostics.specs.IcuWarnings.{of_some_token}
 use Rattle.resb_diagnostics.specs.IcuWarnings.{and_one, behind_icu_word}
 use Rattle.resb_diagnostics.specs.IcuKeys.{icu_word_piece}
 use Rattle.resb_diagnostics.specs.Groups.{behind_piece}

@@ -14,7 +14,8 @@ use Rattle.resb_icu_grammar.specs.Bytes.{is_word}
 use Rattle.resb_diagnostics.specs.Braces.{icu_mode_behind, has_icu_tokens, behind_token}
 use Rattle.resb_diagnostics.specs.IcuWarnings.{line_ended, icu_word_start, icu_token_of}
 use Rattle.resb_diagnostics.specs.IcuWarnings.{goes_on}
-use Rattle.resb_diagnostics.specs.Inner.IcuTokens.{icu_sign, icu_mode_at, IsIcuBetween, IcuPasses, IsIn}
+use Rattle.resb_diagnostics.specs.Inner.IcuTokens.{icu_sign, icu_mode_at, IsIcuBetween, IcuPasses}
+use Rattle.resb_diagnostics.specs.Inner.IcuTokens.{IsIn}
 use Rattle.resb_diagnostics.specs.Inner.IcuTokens.{IsUnquoted, IsIcuQuiet, IsIcuStep}
 use Rattle.resb_diagnostics.specs.Inner.IcuTokens.{IsQuotedRest}
 use Rattle.resb_diagnostics.specs.declared.braces.IcuMode.TheVariants.{As}

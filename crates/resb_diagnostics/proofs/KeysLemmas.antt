@@ -12,7 +12,8 @@ use Rattle.resb_diagnostics.specs.Warnings.{first_place, of_key, of_keys, of_som
 use Rattle.resb_diagnostics.specs.Warnings.{is_array, is_nothing, behind_pairs, lone_string}
 use Rattle.resb_diagnostics.specs.Warnings.{of_lone, of_some_lone}
 use Rattle.resb_diagnostics.specs.Warnings.{of_comma, of_comma_behind, warning_at}
-use Rattle.resb_diagnostics.specs.Inner.Looks.{Pairing, pairs, key, other, pairing_of, pairing_behind}
+use Rattle.resb_diagnostics.specs.Inner.Looks.{Pairing, pairs, key, other, pairing_of}
+use Rattle.resb_diagnostics.specs.Inner.Looks.{pairing_behind}
 use Rattle.resb_diagnostics.specs.Inner.Looks.{level_of, is_pairs}
 use Rattle.resb_diagnostics.specs.Inner.Looks.{code_may_be_table, code_has_pairs, code_lone, is_nil}
 use Rattle.resb_diagnostics.specs.declared.warning.Reason.TheVariants as reason

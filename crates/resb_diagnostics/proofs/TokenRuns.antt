@@ -13,7 +13,8 @@ use Rattle.resb_diagnostics.specs.Inner.Tokens.{IsAmong, IsBetween, Passes, Goes
 use Rattle.resb_diagnostics.specs.declared.braces.Mode.TheVariants as modes
 use Rattle.resb_grammar.specs.ByteRuns.{is_white, is_word, Run}
 use Rattle.resb_grammar.specs.Ascii.{quote, slash, left_brace, right_brace, comma}
-use Rattle.resb_diagnostics.proofs.Passing.{up, still, one_token, further, then_piece, between_behind}
+use Rattle.resb_diagnostics.proofs.Passing.{up, still, one_token, further, then_piece}
+use Rattle.resb_diagnostics.proofs.Passing.{between_behind}
 
 -- the byte is one of the four blanks
 pub white_cases : (P : ℕ → Type 0) → P 32 → P 9 → P 13 → P 10 → (b : ℕ) → is_white b ≡ true → P b

@@ -9,7 +9,8 @@ use Rattle.std.specs.Cmp.Lexicographic.{pointwise}
 use Rattle.resb_diagnostics.specs.Braces.{mode_at, backslash}
 use Rattle.resb_diagnostics.specs.Pieces.{PlacedText, TextPiece, a_string, closing, a_comma}
 use Rattle.resb_diagnostics.specs.Pieces.{piece_at}
-use Rattle.resb_diagnostics.specs.Groups.{GroupItem, string_item, OpenGroup, Nesting, is_string_piece}
+use Rattle.resb_diagnostics.specs.Groups.{GroupItem, string_item, OpenGroup, Nesting}
+use Rattle.resb_diagnostics.specs.Groups.{is_string_piece}
 use Rattle.resb_diagnostics.specs.Groups.{pair_keys, groups_at}
 use Rattle.resb_diagnostics.specs.declared.braces.Mode.{Mode}
 use Rattle.resb_diagnostics.specs.declared.braces.Mode.TheVariants as mode

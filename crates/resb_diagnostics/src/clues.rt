@@ -1,6 +1,6 @@
 //! Where a person may look for the cause of a refusal that shows far behind it: a string whose end
 //! is missing, and a line that a missing `}` left in a group.
-//! Where a text is refused is in `sources`, and which brace is open at its end in `braces`.
+//! Which brace is open at a text's end is in `braces`; where a text is refused isn't found here.
 ghost use Rattle.std.specs.Prelude.{◌≡◌, ◌<◌, ◌≤◌, ◌+◌, ◌-◌, ◌^◌, ◌&&◌, Some, None};
 ghost use Rattle.std.specs.Prelude.{if◌then◌else◌, length, min, IfOk, OnOk, slice_get};
 ghost use Rattle.resb_diagnostics.specs.Braces.{plain_form, icu_form};

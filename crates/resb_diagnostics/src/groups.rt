@@ -1,5 +1,5 @@
-//! The groups of a text that are open while warnings are looked for, and their keys.
-//! Which bytes are strings and braces is found in `text_pieces`.
+//! The groups of a text that are open at a place, and their keys.
+//! Which bytes are strings and braces is found in `text_pieces`, and for ICU's form in `icu_keys`.
 ghost use Rattle.std.specs.Prelude.{◌≡◌, ◌++◌, OnOk, [], ◌&&◌, map, nat_lt, length, IsTrue};
 ghost use Rattle.resb_diagnostics.specs.Groups as spec;
 ghost use Rattle.resb_diagnostics.specs.Groups.{with_one_more, string_item, group_item, comma_item};

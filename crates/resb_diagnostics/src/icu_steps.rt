@@ -1,6 +1,6 @@
 //! What stands from place to place in a text of ICU's form: a token, a comment, or a byte that is
 //! nothing by itself.
-//! Where it ends is found in `icu_runs`; blanks are passed, and tokens told of, in `icu_warning`.
+//! Where it ends is found in `icu_runs`; blanks are passed in `icu_walk`.
 ghost use Rattle.std.specs.Prelude.{◌≡◌, ◌<◌, length, slice_index, true, false};
 ghost use Rattle.resb_grammar.specs.Ascii as ascii;
 ghost use Rattle.resb_grammar.specs.ByteRuns as bytes;

@@ -1,5 +1,7 @@
-//! The tokens of a text of ICU's form, as far as its warnings ask for them, and the last of them.
-//! Where each stands is found in `icu_steps`; what is told of tokens is in `icu_warning`.
+//! The tokens of a text of ICU's form, as far as warnings and keys ask for them, and the last of
+//! them.
+//! Where each stands is found in `icu_steps`; what is told of them is in `icu_warning` and
+//! `icu_keys`.
 ghost use Rattle.std.specs.Prelude.{◌≡◌, ◌≤◌, ◌<◌, length};
 ghost use Rattle.resb_diagnostics.specs.IcuWarnings as spec;
 ghost use Rattle.resb_diagnostics.specs.Inner.IcuTokens.{Fits};

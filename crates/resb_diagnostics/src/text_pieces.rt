@@ -7,7 +7,8 @@ ghost use Rattle.resb_grammar.specs.Ascii as ascii;
 ghost use Rattle.resb_grammar.specs.ByteRuns as bytes;
 ghost use Rattle.resb_diagnostics.specs.Pieces.{is_behind_colon};
 ghost use Rattle.resb_diagnostics.specs.Braces as braces;
-ghost use Rattle.resb_diagnostics.specs.Inner.Tokens.{IsBetween, IsToken, IsQuiet, IsFirst, IsFound};
+ghost use Rattle.resb_diagnostics.specs.Inner.Tokens.{IsBetween, IsToken, IsQuiet, IsFirst};
+ghost use Rattle.resb_diagnostics.specs.Inner.Tokens.{IsFound};
 ghost use Rattle.resb_diagnostics.specs.Inner.Tokens.{one_byte_piece};
 ghost use Rattle.resb_diagnostics.specs.Inner.Looks.{text_piece_of};
 

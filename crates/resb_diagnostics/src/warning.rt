@@ -1,4 +1,5 @@
-//! What another reader of bundles, ICU's `genrb`, takes otherwise in a text that is a bundle here.
+//! What a person may not have meant in a text that is a bundle: most of it is taken otherwise by
+//! another reader, ICU's `genrb`.
 //! A warning changes nothing about what is made. Why a text is refused isn't found here.
 ghost use Rattle.std.specs.Prelude.{◌≡◌, ◌++◌, ◌<◌, length, option_map, IfOk, OnOk};
 ghost use Rattle.std.specs.Prelude.{IsPermutation};
@@ -14,13 +15,13 @@ use crate::groups::Groups;
 use crate::text_pieces::{Piece, next_token};
 use std::alloc::{AllocError, Global};
 
-/// What another reader takes otherwise. Places are in bytes from the text's start.
+/// What a person may not have meant. Places are in bytes from the text's start.
 #[derive(Clone, Copy, Debug, PartialEq, Eq, PartialOrd, Ord)]
 pub struct Warning {
-    /// Where it stands: at a string's first byte, its quote included, at a backslash, a comma or a
-    /// `}`.
+    /// Where it stands: at the first byte of a string, its quote included, or of a number, or at a
+    /// backslash, a comma or a brace.
     pub place: usize,
-    /// What is taken otherwise.
+    /// What it is.
     pub reason: Reason,
 }
 

@@ -84,8 +84,8 @@ FitsIn w limit =
     (xs : List Piece) × HoldsPieces w xs × IfSome limit (λ most. tree_bytes xs ≤ most)
     × (key_bytes xs ≤ key_limit limit)
 
--- in this sum the pieces of the file's tree have so many bytes, more than the limit; none stands for
--- 2^64 and more
+-- in this sum the pieces of the file's tree have so many bytes, more than the limit; none stands
+-- for 2^64 and more
 pub record IsOver (sum : List Piece → ℕ) (w : Whole) (limit : ℕ) (taken : Option ℕ) : Type 0 where
   pub more : TakesMoreOf sum w limit
   pub said : taken ≡ fitting (sum more.holding)

@@ -1,6 +1,6 @@
 -- The words of the contracts: a text's file and why there is none, and what is had of a file; what
--- the program is asked, what it writes, and why it fails; and what the crates below say of files and
--- texts.
+-- the program is asked, what it writes, and why it fails; and what the crates below say of files
+-- and texts.
 pub use Rattle.hex.specs.Hex
 pub use Rattle.resb_compile.specs.Compiling
 pub use Rattle.resb_tree.specs.View

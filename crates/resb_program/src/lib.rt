@@ -1,7 +1,7 @@
-//! What programs do with bundles: a text's file and where to look in one that is refused, and what is
-//! had of a file; and the streams and words of the program `resb_tool`. How a program keeps the
-//! memory that it gives back is in `memory`. The process's own streams, words and files are named in
-//! the programs alone.
+//! What programs do with bundles: a text's file and where to look in one that is refused, and what
+//! is had of a file; and the streams and words of the program `resb_tool`. How a program keeps the
+//! memory that it gives back is in `memory`. The process's own streams, words and files are named
+//! in the programs alone.
 #![tactic(auto)]
 
 mod command;

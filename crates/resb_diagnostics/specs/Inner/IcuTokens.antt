@@ -6,7 +6,8 @@ use Rattle.resb_grammar.specs.ByteRuns.{is_line_end}
 use Rattle.resb_icu_grammar.specs.Bytes.{is_word}
 use Rattle.resb_diagnostics.specs.Braces.{mode_in, icu_form, icu_mode_behind, has_icu_tokens}
 use Rattle.resb_diagnostics.specs.Braces.{behind_token}
-use Rattle.resb_diagnostics.specs.IcuWarnings.{is_icu_quoted, line_ended, icu_word_start, icu_last_at}
+use Rattle.resb_diagnostics.specs.IcuWarnings.{is_icu_quoted, line_ended, icu_word_start}
+use Rattle.resb_diagnostics.specs.IcuWarnings.{icu_last_at}
 use Rattle.resb_diagnostics.specs.IcuWarnings.{icu_warned, behind_some, of_some_token, and_one}
 use Rattle.resb_diagnostics.specs.declared.braces.IcuMode.{IcuMode}
 use Rattle.resb_diagnostics.specs.declared.braces.IcuMode.TheVariants.{As}

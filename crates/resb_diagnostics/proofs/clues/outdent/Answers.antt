@@ -2,7 +2,8 @@
 use Rattle.std.proofs.Common.{rules, ◌∙◌, ap, arith}
 use Rattle.std.specs.Prelude.{slice_index}
 use Rattle.resb_diagnostics.specs.Clues as clues
-use Rattle.resb_diagnostics.proofs.CluesLemmas.{first_on, indent_on, indents_on, outdent_by, outdent_on}
+use Rattle.resb_diagnostics.proofs.CluesLemmas.{first_on, indent_on, indents_on, outdent_by}
+use Rattle.resb_diagnostics.proofs.CluesLemmas.{outdent_on}
 use Rattle.resb_diagnostics.proofs.clues.outdent.Goals as goal
 
 pub bytes-preserved : goal.bytes-preserved

@@ -1,7 +1,8 @@
 -- Up to a stop, and behind a backslash and the byte that it hides.
 use Rattle.std.proofs.Common.{arith, length}
 use Rattle.resb_diagnostics.proofs.Stops.{not_quote}
-use Rattle.resb_diagnostics.proofs.IcuQuotes.{plain_on, hidden_on, open_rest, last_rest, closed_rest}
+use Rattle.resb_diagnostics.proofs.IcuQuotes.{plain_on, hidden_on, open_rest, last_rest}
+use Rattle.resb_diagnostics.proofs.IcuQuotes.{closed_rest}
 use Rattle.resb_diagnostics.proofs.icu_runs.quotes_end.Goals as goal
 
 pub stops-preserved : goal.stops-preserved

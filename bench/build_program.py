@@ -47,7 +47,7 @@ def copy_libraries(libraries, copy):
         if not (TOP / 'crates' / name / 'out').exists():
             print('%s is not proved here, so it is proved first' % name, file=sys.stderr)
         shutil.copytree(TOP / 'crates' / name, copy / 'crates' / name,
-                        ignore=shutil.ignore_patterns('must-fail'))
+                        ignore=shutil.ignore_patterns('must-fail', 'wrong-bodies'))
 
 
 def build(name, program):

@@ -85,6 +85,7 @@ class Edit:
     def __init__(self, crate, path):
         self.crate, self.path = crate, path
         self.name = os.path.basename(path).removesuffix('.edit')
+        self.label = f'{crate}/{self.name}'
         self.steps, self.same, self.function = [], False, None
         file = old = None
         with open(path, encoding='utf-8') as lines:
@@ -189,7 +190,17 @@ class GateRoom(Room):
 
     def __init__(self, folder, below, kit):
         super().__init__(folder, below)
-        self.kit = kit
+        self.kit, self.right = kit, set()
+
+    def check(self, crate, texts, paths):
+        """What a check prints of these functions, which are first proved as they stand."""
+        for path in paths:
+            if (crate, path) not in self.right:
+                said, is_proved = super().check(crate, {}, [path])
+                if not is_proved:
+                    return f'error: {path} is not proved as it stands\n{said}', True
+                self.right.add((crate, path))
+        return super().check(crate, texts, paths)
 
     def hold(self, crate):
         """Has the crate as it stands, and what was proved of it in the room."""
@@ -328,7 +339,7 @@ def tried_without_answers(edit, room, refusal):
 
 def judged(edit, room, without=False):
     """Whether a wrong body is refused as it must be, and the line that says so."""
-    label = f'{edit.crate}/{edit.name}'
+    label = edit.label
     try:
         texts = edit.texts()
     except (OSError, ValueError) as error:
@@ -386,9 +397,10 @@ def chosen(words, below):
     return kept
 
 
-def of_gate(edits):
+def of_gate(below):
     """The wrong bodies that tests/gate_bodies.txt names, each with the function that is checked."""
-    by_name = {f'{it.crate}/{it.name}': it for it in edits}
+    edits = chosen([], below)
+    by_name = {it.label: it for it in edits}
     found = []
     with open(f'{ROOT}/{GATE_LIST}', encoding='utf-8') as lines:
         for name, function in (it.split() for it in lines if it.strip() and not it.startswith('#')):
@@ -399,7 +411,7 @@ def of_gate(edits):
     return found
 
 
-def standing(edits):
+def standing(edits, below):
     """Whether each wrong body can be applied, and no more are in the gate than its budget has."""
     passed, failed = 0, 0
     for edit in edits:
@@ -410,7 +422,7 @@ def standing(edits):
             print(f'FAILED: {edit.crate}/{edit.name}: cannot be applied: {error}')
             failed += 1
     in_gate = sum(os.path.basename(os.path.dirname(it.path)) == FOLDERS[0] for it in edits)
-    in_gate += len(of_gate(edits))
+    in_gate += len(of_gate(below))
     if in_gate > MOST_IN_GATE:
         print(f'FAILED: {in_gate} wrong bodies are in the gate, of at most {MOST_IN_GATE}')
         failed += 1
@@ -450,9 +462,9 @@ def main():
     below = libraries()
     edits = chosen(given.names, below)
     if given.standing:
-        return standing(edits)
+        return standing(edits, below)
     if given.gate:
-        bad, edits = [], of_gate(edits)
+        bad, edits = [], [it for it in of_gate(below) if it.label in {e.label for e in edits}]
     else:
         bad = checked_first(dict.fromkeys(it.crate for it in edits))
         edits = [it for it in edits if it.crate not in bad]

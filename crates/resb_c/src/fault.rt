@@ -3,9 +3,8 @@
 ghost use Rattle.std.specs.Prelude.{◌≡◌, Some};
 ghost use Rattle.resb_c.specs.Faults.{message_of, number_of, place_of};
 
-use resb_compile::CompileError;
+use crate::compiling::CompilingFault;
 use resb_format::{BinaryDeserializerError, ErrorKind};
-use resb_grammar::Expected;
 use resb_print::PrintError;
 use std::error::Error;
 use std::fmt;
@@ -18,7 +17,7 @@ pub enum Fault {
     /// The bytes that should be a text, or a name, aren't UTF-8 from this place on.
     NotUtf8(usize),
     /// The text has no file.
-    Compiling(CompileError),
+    Compiling(CompilingFault),
     /// The bytes are no file of a tree within its budget.
     Reading(BinaryDeserializerError),
     /// The tree takes more bytes than the limit.
@@ -49,13 +48,7 @@ impl Fault {
         match self {
             Fault::TooShort(_) => 1,
             Fault::NotUtf8(_) => 2,
-            Fault::Compiling(CompileError::Reading(e)) => match e.expected() {
-                Expected::Memory => 8,
-                _ => 3,
-            },
-            Fault::Compiling(CompileError::Writing(e)) => {
-                if e.is_out_of_memory() { 8 } else { 4 }
-            }
+            Fault::Compiling(e) => e.number(),
             Fault::Reading(e) => match e.kind() {
                 ErrorKind::OutOfMemory => 8,
                 ErrorKind::UnsupportedFormat => 6,
@@ -77,7 +70,7 @@ impl Fault {
     {
         match self {
             Fault::NotUtf8(place) => *place,
-            Fault::Compiling(CompileError::Reading(e)) => e.position(),
+            Fault::Compiling(e) => e.place(),
             _ => 0,
         }
     }

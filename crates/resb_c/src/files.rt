@@ -1,15 +1,14 @@
-//! What the calls for C do over bytes: their answers go to the front of the caller's buffer.
-//! What the caller is told beside that is in `report`.
+//! What the calls for C do over files: their answers go to the front of the caller's buffer.
+//! What is done over texts is in `compiling`, what the caller is told beside in `report`.
 ghost use Rattle.std.specs.Prelude.{◌≡◌, ℕ, IfOk, IfErr, IsUtf8, option_map};
 ghost use Rattle.resb_format.specs.declared.error.ReadingError.{ReadingError};
 ghost use Rattle.resb_pool_bundle.specs.Pool.{pool_in};
-ghost use Rattle.resb_c.specs.Calls.{CompilesInto, CompilesWithin, CountsFile, Fills, IsNotUtf8};
+ghost use Rattle.resb_c.specs.Calls.{CountsFile, Fills, IsNotUtf8};
 ghost use Rattle.resb_c.specs.Dumping.{DumpsInto, HasNoBundle, IsBundleToDump};
 ghost use Rattle.resb_c.specs.Measures.{MeasuresFile};
 ghost use Rattle.resb_c.specs.Pools.{given, IsGiven, RefusesPool};
 
 use crate::fault::Fault;
-use resb_compile::{CompileWithinError, compile, compile_within};
 use resb_pool_bundle::PoolBundle;
 use resb_print::print_text_within;
 use resb_program::{FileError, read_bundle};
@@ -46,40 +45,6 @@ pub(crate) fn text_of(bytes: &[u8]) -> Result<&str, Fault>
     match resb_program::text_of(bytes) {
         Ok(text) => Ok(text),
         Err(place) => Err(Fault::NotUtf8(place)),
-    }
-}
-
-/// Compiles a text to the front of the buffer.
-pub(crate) fn compile_into(alloc: Global, text: &[u8], out: &mut [u8]) -> Result<usize, Fault>
-    ensures { CompilesInto text.now out.old out.new result }
-{
-    let text = text_of(text)?;
-    match compile(alloc, text) {
-        Ok(file) => match fill(&file, out) {
-            Ok(count) => Ok(count),
-            Err(needed) => Err(Fault::TooShort(needed)),
-        },
-        Err(e) => Err(Fault::Compiling(e)),
-    }
-}
-
-/// Compiles a text to the front of the buffer, where reading it makes no more bytes than the limit.
-pub(crate) fn compile_within_into(
-    alloc: Global,
-    text: &[u8],
-    limit: u64,
-    out: &mut [u8],
-) -> Result<usize, Fault>
-    ensures { CompilesWithin text.now limit out.old out.new result }
-{
-    let text = text_of(text)?;
-    match compile_within(alloc, text, limit) {
-        Ok(file) => match fill(&file, out) {
-            Ok(count) => Ok(count),
-            Err(needed) => Err(Fault::TooShort(needed)),
-        },
-        Err(CompileWithinError::Text(e)) => Err(Fault::Compiling(e)),
-        Err(CompileWithinError::Larger) => Err(Fault::LargerText),
     }
 }
 

@@ -8,10 +8,13 @@ ghost use Rattle.resb_read.specs.declared.measuring.Measured.{Measured};
 ghost use Rattle.resb_program.specs.Location.{line_at, column_at};
 ghost use Rattle.resb_c.specs.AtPaths.{GivesBytes, GivesString, TellsInteger, TellsKind};
 ghost use Rattle.resb_c.specs.AtPaths.{integer_told, kind_told};
-ghost use Rattle.resb_c.specs.Calls.{CompilesInto, CompilesWithin, CountsFile, Reports, Tells};
+ghost use Rattle.resb_c.specs.declared.compiling.Form.TheVariants.{Plain, Icu};
+ghost use Rattle.resb_c.specs.Calls.{CountsFile, Reports, Tells};
+ghost use Rattle.resb_c.specs.Compiling.{CompilesInto, CompilesWithin};
 ghost use Rattle.resb_c.specs.Dumping.{DumpsInto};
 ghost use Rattle.resb_c.specs.Measures.{MeasuresFile, ShowsSums};
 
+mod compiling;
 mod fault;
 mod files;
 mod found;
@@ -20,9 +23,11 @@ mod path;
 mod report;
 mod there;
 
-use crate::files::{Input, compile_into, compile_within_into, count_file, dump_into, measure_file};
+use crate::compiling::{compile_into, compile_within_into};
+use crate::files::{Input, count_file, dump_into, measure_file};
 use crate::found::{bytes_into, string_into, tell_integer, tell_kind};
 use crate::report::{report, tell};
+pub use compiling::{CompilingFault, Form};
 pub use fault::Fault;
 pub use measured::ResbMeasured;
 pub use report::ResbError;
@@ -39,10 +44,10 @@ pub extern "C" fn resb_compile(
     length: &mut usize,
     error: &mut ResbError,
 ) -> u32
-    ensures { (r : Result ℕ Fault) × CompilesInto text.now out.old out.new r
+    ensures { (r : Result ℕ Fault) × CompilesInto Plain text.now out.old out.new r
         × Reports r result length.new error.new }
 {
-    let answer = compile_into(alloc, text, out);
+    let answer = compile_into(alloc, Form::Plain, text, out);
     report(alloc, answer, length, error)
 }
 
@@ -57,10 +62,44 @@ pub extern "C" fn resb_compile_within(
     length: &mut usize,
     error: &mut ResbError,
 ) -> u32
-    ensures { (r : Result ℕ Fault) × CompilesWithin text.now limit out.old out.new r
+    ensures { (r : Result ℕ Fault) × CompilesWithin Plain text.now limit out.old out.new r
         × Reports r result length.new error.new }
 {
-    let answer = compile_within_into(alloc, text, limit, out);
+    let answer = compile_within_into(alloc, Form::Plain, text, limit, out);
+    report(alloc, answer, length, error)
+}
+
+/// Compiles a bundle's text of ICU's own form as `resb_compile` does a text of the plain form.
+#[unsafe(no_mangle)]
+pub extern "C" fn resb_compile_icu(
+    alloc: Global,
+    text: &[u8],
+    out: &mut [u8],
+    length: &mut usize,
+    error: &mut ResbError,
+) -> u32
+    ensures { (r : Result ℕ Fault) × CompilesInto Icu text.now out.old out.new r
+        × Reports r result length.new error.new }
+{
+    let answer = compile_into(alloc, Form::Icu, text, out);
+    report(alloc, answer, length, error)
+}
+
+/// Compiles a bundle's text of ICU's own form as `resb_compile_icu` does, within a limit as
+/// `resb_compile_within` does.
+#[unsafe(no_mangle)]
+pub extern "C" fn resb_compile_icu_within(
+    alloc: Global,
+    text: &[u8],
+    limit: u64,
+    out: &mut [u8],
+    length: &mut usize,
+    error: &mut ResbError,
+) -> u32
+    ensures { (r : Result ℕ Fault) × CompilesWithin Icu text.now limit out.old out.new r
+        × Reports r result length.new error.new }
+{
+    let answer = compile_within_into(alloc, Form::Icu, text, limit, out);
     report(alloc, answer, length, error)
 }
 

@@ -8,8 +8,8 @@ use Rattle.resb_icu_grammar.specs.Limit.{IcuMadeWithin, IcuMakesMore}
 use Rattle.resb_compile.specs.Compiling.{IsCompiled, IsRefused, IsWithinLimit}
 use Rattle.resb_compile.specs.CompilingIcu.{IsIcuCompiled, IsIcuRefused, IsIcuWithinLimit}
 use Rattle.resb_c.specs.Calls.{Fills, IsNotUtf8}
-use Rattle.resb_c.specs.declared.compiling.Form.{Form}
-use Rattle.resb_c.specs.declared.compiling.Form.TheVariants.{Plain, Icu}
+use Rattle.resb_c.specs.declared.form.Form.{Form}
+use Rattle.resb_c.specs.declared.form.Form.TheVariants.{Plain, Icu}
 use Rattle.resb_c.specs.declared.compiling.CompilingFault.{CompilingFault}
 use Rattle.resb_c.specs.declared.compiling.CompilingFault.TheVariants as fault
 use Rattle.resb_c.specs.declared.fault.Fault.{Fault}

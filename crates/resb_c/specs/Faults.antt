@@ -13,15 +13,18 @@ use Rattle.resb_format.specs.declared.error.ErrorKind.{ErrorKind}
 use Rattle.resb_format.specs.declared.error.ErrorKind.TheVariants as kind
 use Rattle.resb_layout.specs.WritingFault as fault
 use Rattle.resb_write.specs.FaultOf.{fault_of}
-use Rattle.resb_print.specs.Message as printing
-use Rattle.resb_print.specs.declared.error.PrintError.{PrintError}
-use Rattle.resb_print.specs.declared.error.PrintError.TheVariants as print
+use Rattle.resb_print.specs.Message as print
+use Rattle.resb_print.specs.declared.error.PrintError.TheVariants.{NotPrintable, OutOfMemory}
+use Rattle.resb_icu_print.specs.Message as print_icu
+use Rattle.resb_icu_print.specs.declared.error.IcuPrintError.TheVariants as icu_print
 use Rattle.resb_compile.specs.declared.compiling.CompileError.TheVariants.{Reading, Writing}
 use Rattle.resb_compile.specs.declared.compiling_icu.IcuCompileError.TheVariants as icu
 use Rattle.resb_compile.specs.Compiling as compile
 use Rattle.resb_compile.specs.CompilingIcu as compile_icu
 use Rattle.resb_c.specs.declared.compiling.CompilingFault.{CompilingFault}
 use Rattle.resb_c.specs.declared.compiling.CompilingFault.TheVariants.{Plain, Icu}
+use Rattle.resb_c.specs.declared.printing.PrintingFault.{PrintingFault}
+use Rattle.resb_c.specs.declared.printing.PrintingFault.TheVariants as printing
 use Rattle.resb_c.specs.declared.fault.Fault.{Fault}
 use Rattle.resb_c.specs.declared.fault.Fault.TheVariants as the
 use Rattle.resb_c.specs.declared.fault.Fault.TheVariants.{TooShort, NotUtf8, Compiling}
@@ -51,9 +54,11 @@ file_number kind.OutOfMemory = 8
 file_number _ = 5
 
 -- a tree that has no text is 7, want of memory 8
-abbrev pub print_number : PrintError → ℕ
-print_number (print.NotPrintable cause) = 7
-print_number print.OutOfMemory = 8
+abbrev pub print_number : PrintingFault → ℕ
+print_number (printing.Plain (NotPrintable cause)) = 7
+print_number (printing.Plain OutOfMemory) = 8
+print_number (printing.Icu (icu_print.NotPrintable cause)) = 7
+print_number (printing.Icu icu_print.OutOfMemory) = 8
 
 -- why a text isn't compiled: the number of the reader's fault, or of the writer's
 abbrev pub compile_number : CompilingFault → ℕ
@@ -108,6 +113,11 @@ abbrev pub compile_message : CompilingFault → List ℕ
 compile_message (Plain e) = compile.message_of e
 compile_message (Icu e) = compile_icu.message_of e
 
+-- what the printer's error of its form prints
+abbrev pub print_message : PrintingFault → List ℕ
+print_message (printing.Plain e) = print.message_of e
+print_message (printing.Icu e) = print_icu.message_of e
+
 -- the length that was wanted, the place, or what the error inside prints
 abbrev pub message_of : Fault → List ℕ
 message_of (TooShort n) =
@@ -121,6 +131,6 @@ message_of Larger = codes "the tree takes more bytes than the limit"
 message_of LongKeys = codes "the keys of the entries take more bytes than the limit"
 message_of LongText = codes "the text takes more bytes than the limit"
 message_of LargerText = codes "reading the text takes more bytes than the limit"
-message_of (Printing e) = printing.message_of e
+message_of (Printing e) = print_message e
 message_of NotFound = codes "nothing stands at the path"
 message_of OtherKind = codes "what stands at the path is of another kind"

@@ -9,6 +9,7 @@ ghost use Rattle.resb_c.specs.Faults.{compile_message, compile_number, compile_p
 
 use crate::fault::Fault;
 use crate::files::{fill, text_of};
+use crate::form::Form;
 use resb_compile::{
     CompileError, CompileWithinError, IcuCompileError, IcuCompileWithinError, compile, compile_icu,
     compile_icu_within, compile_within,
@@ -19,15 +20,6 @@ use resb_write::BinarySerializerError;
 use std::alloc::Global;
 use std::error::Error;
 use std::fmt;
-
-/// The form of a text.
-#[derive(Clone, Copy)]
-pub enum Form {
-    /// The text form of the Rust crate.
-    Plain,
-    /// ICU's own form, which `genrb` reads.
-    Icu,
-}
 
 /// Why a text of a form has no file.
 #[derive(Debug, Drop)]

@@ -4,8 +4,8 @@ ghost use Rattle.std.specs.Prelude.{◌≡◌, Some};
 ghost use Rattle.resb_c.specs.Faults.{message_of, number_of, place_of};
 
 use crate::compiling::CompilingFault;
+use crate::printing::PrintingFault;
 use resb_format::{BinaryDeserializerError, ErrorKind};
-use resb_print::PrintError;
 use std::error::Error;
 use std::fmt;
 
@@ -37,7 +37,7 @@ pub enum Fault {
     /// What stands at the path is of another kind.
     OtherKind,
     /// The tree has no text.
-    Printing(PrintError),
+    Printing(PrintingFault),
 }
 
 impl Fault {
@@ -56,8 +56,7 @@ impl Fault {
             },
             Fault::UsesPool => 9,
             Fault::Larger | Fault::LongKeys | Fault::LongText | Fault::LargerText => 10,
-            Fault::Printing(PrintError::NotPrintable(_)) => 7,
-            Fault::Printing(PrintError::OutOfMemory) => 8,
+            Fault::Printing(e) => e.number(),
             Fault::Pool(_) => 11,
             Fault::NotFound => 12,
             Fault::OtherKind => 13,

@@ -45,7 +45,8 @@ extern "C" {
  * format that isn't known at all is RESB_NOT_A_FILE. */
 #define RESB_UNSUPPORTED 6u
 /* The file's tree has no text: its root is no table, it has an alias, or a name, key or string
- * holds a '"'. */
+ * holds a '"'. In ICU's form: its root is no table, its name is no word, a key has a character that
+ * may not stand in one, or a table stands under "collations" or "CollationElements". */
 #define RESB_NOT_PRINTABLE 7u
 /* A request for memory was refused. The input may be sound. */
 #define RESB_NO_MEMORY 8u
@@ -90,6 +91,23 @@ uint32_t resb_compile(const uint8_t *text, size_t text_length, uint8_t *out, siz
  * beside that is not within the limit. */
 uint32_t resb_compile_within(const uint8_t *text, size_t text_length, uint64_t limit, uint8_t *out,
                              size_t out_length, size_t *length, resb_error *error);
+
+/* Compiles a text of ICU's own form, which genrb reads; docs/ICU_TEXTS.md says what that form is.
+ * Arguments and answers are those of resb_compile, but RESB_NOT_A_BUNDLE says that the text is no
+ * bundle of that form: it can't be read on as one at the error's place. */
+uint32_t resb_compile_icu(const uint8_t *text, size_t text_length, uint8_t *out, size_t out_length,
+                          size_t *length, resb_error *error);
+
+/* Compiles a stranger's text of ICU's own form: as resb_compile_icu does, but a text is refused by
+ * RESB_OVER_LIMIT whose reading would take more bytes of memory than the limit. Counted are 72 for
+ * each resource, 192 for each entry, 1024 for each table that has entries, 3 for each byte of a
+ * key, a string or a path, 1 for each byte of a binary, 8 for each number of a vector, 32 for each
+ * binary and vector, and, for each string that is put together or stands behind a type, 32 and 1
+ * for each of its bytes. The reading stops before the step by which there would be more. What the
+ * file takes beside that is not within the limit. */
+uint32_t resb_compile_icu_within(const uint8_t *text, size_t text_length, uint64_t limit,
+                                 uint8_t *out, size_t out_length, size_t *length,
+                                 resb_error *error);
 
 /* Writes the line and the column of a place of a text, such as that of a resb_error, or of the
  * text's end if that comes first. Both count from 1; a column is a character of UTF-8. */
@@ -171,6 +189,20 @@ uint32_t resb_dump_with_pool(const uint8_t *file, size_t file_length, const uint
                              size_t pool_length, const uint8_t *name, size_t name_length,
                              uint64_t limit, uint8_t *out, size_t out_length, size_t *length,
                              resb_error *error);
+
+/* Prints a file's tree as a text of ICU's own form, which genrb reads. Arguments and answers are
+ * those of resb_dump, but RESB_NOT_PRINTABLE has the reasons of that form: an alias is printed, and
+ * so is a string with a '"'. */
+uint32_t resb_dump_icu(const uint8_t *file, size_t file_length, const uint8_t *name,
+                       size_t name_length, uint64_t limit, uint8_t *out, size_t out_length,
+                       size_t *length, resb_error *error);
+
+/* Prints a file's tree as resb_dump_icu does, beside a pool bundle of pool_length bytes. Arguments
+ * and answers are those of resb_dump_with_pool. */
+uint32_t resb_dump_icu_with_pool(const uint8_t *file, size_t file_length, const uint8_t *pool,
+                                 size_t pool_length, const uint8_t *name, size_t name_length,
+                                 uint64_t limit, uint8_t *out, size_t out_length, size_t *length,
+                                 resb_error *error);
 
 /* Paths. The calls below look at what stands at a path in a file, beside a pool bundle of
  * pool_length bytes; a length of 0 says that there is none. Nothing is kept between two calls: each

@@ -1,8 +1,8 @@
 #!/usr/bin/env bash
 # The examples of the library for C, built and run: a bundle's text, a text that is none, bytes that
-# are no UTF-8, a text over the limit; and files beside pool bundles. Then what each call of the
-# library that takes a file answers to one that is none. Where the library isn't built, `rt lib`
-# builds it. A missing compiler is no failure.
+# are no UTF-8, a text over the limit, texts of ICU's form; and files beside pool bundles. Then what
+# each call of the library that takes a file answers to one that is none. Where the library isn't
+# built, `rt lib` builds it. A missing compiler is no failure.
 # RATTLE_C is the folder of the toolchain's liblibc_c.a.
 set -uo pipefail
 top=$(cd "$(dirname "$(readlink -f "$0")")/.." && pwd)
@@ -41,6 +41,13 @@ at byte 6: expected '}'" 'a {\n  ' "$@"
   expect "$language: over the limit" 1 \
     '1:1: fault 10: reading the text takes more bytes than the limit' \
     "a {$(printf 'k {%.0s' {1..9000})" "$@"
+  expect "$language: a bundle of ICU's form" 0 '80 bytes, 2 resources, 1 entries
+bundle{
+    b{"\""}
+}' 'a { b { "" "\\"" } } // of two pieces' "$@" --icu
+  expect "$language: no bundle of ICU's form" 1 \
+    "1:10: fault 3: Parse error while reading ICU text:
+at byte 9: expected a known escape" 'a { b { "\\q" } }' "$@" --icu
 }
 
 # path_rows LANGUAGE COMMAND..: the rows of the built example that prints what stands at paths: a
@@ -87,8 +94,8 @@ bundle{
 }
 
 # write_statuses FILE: the program that asks each call that takes a file about the bytes of standard
-# input: check, measure and dump; the same beside no pool bundle, and what stands at the root; and
-# where these are the pool too
+# input: check, measure and dump, in either form; the same beside no pool bundle, and what stands at
+# the root; and where these are the pool too
 write_statuses() {
   cat > "$1" << 'C'
 #include "resb.h"
@@ -103,17 +110,21 @@ int main(void) {
   size_t number, count = 0;
   resb_measured measured;
   resb_error error;
-  uint32_t kind, got[17];
+  uint32_t kind, got[20];
   int32_t value;
   got[count++] = resb_check(bytes, length, &number, &error);
   got[count++] = resb_measure(bytes, length, &measured, &error);
   got[count++] = resb_dump(bytes, length, name, 1, UINT64_MAX, out, sizeof out, &number, &error);
+  got[count++] =
+      resb_dump_icu(bytes, length, name, 1, UINT64_MAX, out, sizeof out, &number, &error);
   for (size_t pools = 0; pools < 2; pools++) {
     size_t pool = pools * length;
     got[count++] = resb_check_with_pool(bytes, length, bytes, pool, &number, &error);
     got[count++] = resb_measure_with_pool(bytes, length, bytes, pool, &measured, &error);
     got[count++] = resb_dump_with_pool(bytes, length, bytes, pool, name, 1, UINT64_MAX, out,
                                        sizeof out, &number, &error);
+    got[count++] = resb_dump_icu_with_pool(bytes, length, bytes, pool, name, 1, UINT64_MAX, out,
+                                           sizeof out, &number, &error);
     got[count++] = resb_kind(bytes, length, bytes, pool, name, 0, &kind, &number, &error);
     got[count++] = resb_get_integer(bytes, length, bytes, pool, name, 0, &value, &error);
     got[count++] = resb_get_string(bytes, length, bytes, pool, name, 0, out, sizeof out, &number,
@@ -133,9 +144,9 @@ C
 status_rows() {
   local front='\030\000\332\047\024\000\000\000\000\000'
   local back='\000ResB\002\000\000\000\001\004\000\000'
-  expect 'C: characters of another size' 0 '6 6 6 6 6 6 6 6 6 6 11 11 11 11 11 11 11' \
+  expect 'C: characters of another size' 0 '6 6 6 6 6 6 6 6 6 6 6 6 11 11 11 11 11 11 11 11' \
     "$front\020$back" "$@"
-  expect 'C: no body' 0 '5 5 5 5 5 5 5 5 5 5 11 11 11 11 11 11 11' "$front\002$back" "$@"
+  expect 'C: no body' 0 '5 5 5 5 5 5 5 5 5 5 5 5 11 11 11 11 11 11 11 11' "$front\002$back" "$@"
 }
 
 # built NAME COMMAND..: whether the example is built, which counts only where it fails

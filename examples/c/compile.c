@@ -1,8 +1,10 @@
-/* Compiles the text on standard input, says how large the file is, and prints it back as a text. */
+/* Compiles the text on standard input, says how large the file is, and prints it back as a text.
+ * With --icu both texts have ICU's form. */
 #include "resb.h"
 
 #include <stdio.h>
 #include <stdlib.h>
+#include <string.h>
 
 /* the most bytes that reading a text may make, and that a tree may take */
 #define LIMIT 1000000u
@@ -20,17 +22,35 @@ static int fail_at(const uint8_t *text, size_t length, const resb_error *error) 
   return fail(error);
 }
 
+/* whether the texts have ICU's form */
+static int is_icu = 0;
+
+/* Prints a file to out. */
+static uint32_t dump(const uint8_t *file, size_t file_length, uint8_t *out, size_t out_length,
+                     size_t *length, resb_error *error) {
+  static const uint8_t name[] = "bundle";
+  const size_t name_length = sizeof name - 1;
+  if (is_icu)
+    return resb_dump_icu(file, file_length, name, name_length, LIMIT, out, out_length, length,
+                         error);
+  return resb_dump(file, file_length, name, name_length, LIMIT, out, out_length, length, error);
+}
+
+/* Compiles a text to out. */
+static uint32_t compile(const uint8_t *text, size_t text_length, uint8_t *out, size_t out_length,
+                        size_t *length, resb_error *error) {
+  if (is_icu)
+    return resb_compile_icu_within(text, text_length, LIMIT, out, out_length, length, error);
+  return resb_compile_within(text, text_length, LIMIT, out, out_length, length, error);
+}
+
 /* The text of a file, of *length bytes, or null. */
 static uint8_t *text_of(const uint8_t *file, size_t file_length, size_t *length,
                         resb_error *error) {
-  static const uint8_t name[] = "bundle";
   uint8_t none;
-  if (resb_dump(file, file_length, name, sizeof name - 1, LIMIT, &none, 0, length, error) !=
-      RESB_TOO_SHORT)
-    return NULL;
+  if (dump(file, file_length, &none, 0, length, error) != RESB_TOO_SHORT) return NULL;
   uint8_t *text = malloc(*length);
-  if (text != NULL)
-    resb_dump(file, file_length, name, sizeof name - 1, LIMIT, text, *length, length, error);
+  if (text != NULL) dump(file, file_length, text, *length, length, error);
   return text;
 }
 
@@ -49,22 +69,22 @@ static int show(const uint8_t *file, size_t length) {
   return 0;
 }
 
-int main(void) {
+int main(int count, char **words) {
   static uint8_t text[65536];
   uint8_t none;
   size_t length;
   resb_error error;
   size_t text_length = fread(text, 1, sizeof text, stdin);
+  is_icu = count > 1 && strcmp(words[1], "--icu") == 0;
 
   /* the first call tells how much room the file needs */
-  if (resb_compile_within(text, text_length, LIMIT, &none, 0, &length, &error) != RESB_TOO_SHORT)
+  if (compile(text, text_length, &none, 0, &length, &error) != RESB_TOO_SHORT)
     return fail_at(text, text_length, &error);
   uint8_t *file = malloc(length);
   if (file == NULL) return 1;
-  int status =
-      resb_compile_within(text, text_length, LIMIT, file, length, &length, &error) == RESB_OK
-          ? show(file, length)
-          : fail_at(text, text_length, &error);
+  int status = compile(text, text_length, file, length, &length, &error) == RESB_OK
+                   ? show(file, length)
+                   : fail_at(text, text_length, &error);
   free(file);
   return status;
 }

@@ -1,22 +1,17 @@
 -- What the calls for C answer, and what the caller gets of it.
---     CompilesInto text old new r    what compiling to a buffer answers, and leaves there
---     CompilesWithin text limit old new r   the same of a text whose reading keeps within a limit
 --     CountsFile pool file r         what checking a file answers, beside the pool's bytes
 --     Tells r status e               the status and the error that the caller gets of an answer
 --     Reports r status n e           the same with the number that he gets
 use Rattle.std.specs.Prelude.{◌≡◌, ◌≤◌, ◌<◌, ◌⊎◌, ℕ, List, ◌++◌, length, drop, take}
 use Rattle.std.specs.Prelude.{Result, Ok, Err, IsUtf8, replicate}
 use Rattle.std.specs.Str.Lossy.{utf8_valid_len}
-use Rattle.resb_grammar.specs.Limit.{MadeWithin, MakesMore}
-use Rattle.resb_compile.specs.Compiling.{IsCompiled, IsRefused, IsWithinLimit}
 use Rattle.resb_read.specs.Roots.{AnswersCountOf}
 use Rattle.resb_read.specs.WithPool.{over}
 use Rattle.resb_program.specs.Files.{LacksPool, RefusesReading}
 use Rattle.resb_c.specs.Faults.{number_of, place_of, message_of}
 use Rattle.resb_c.specs.Pools.{given, IsGiven, RefusesPool}
 use Rattle.resb_c.specs.declared.fault.Fault.{Fault}
-use Rattle.resb_c.specs.declared.fault.Fault.TheVariants.{TooShort, NotUtf8, Compiling, Reading}
-use Rattle.resb_c.specs.declared.fault.Fault.TheVariants.{UsesPool, Pool, LargerText}
+use Rattle.resb_c.specs.declared.fault.Fault.TheVariants.{TooShort, Reading, UsesPool, Pool}
 use Rattle.resb_c.specs.declared.report.ResbError.{ResbError}
 
 -- where the buffer has room, the answer stands at its front, what is behind stays, and its length
@@ -29,29 +24,6 @@ Fills answer old new (Err n) = (n ≡ length answer) × (length old < n) × (new
 -- the bytes aren't UTF-8, and this is how long their longest front is that is
 abbrev pub IsNotUtf8 : List ℕ → ℕ → Type 0
 IsNotUtf8 bytes n = (IsUtf8 bytes → ⊥) × (n ≡ utf8_valid_len bytes)
-
--- the text's file is in the buffer, or would be if it had room, or the text has no file
-abbrev pub CompilesInto : List ℕ → List ℕ → List ℕ → Result ℕ Fault → Type 0
-CompilesInto text old new (Ok n) =
-    (file : List ℕ) × IsUtf8 text × IsCompiled text file × Fills file old new (Ok n)
-CompilesInto text old new (Err (TooShort n)) =
-    (file : List ℕ) × IsUtf8 text × IsCompiled text file × Fills file old new (Err n)
-CompilesInto text old new (Err (NotUtf8 n)) = IsNotUtf8 text n × (new ≡ old)
-CompilesInto text old new (Err (Compiling e)) = IsUtf8 text × IsRefused text e × (new ≡ old)
-CompilesInto text old new (Err _) = ⊥
-
--- the same where reading the text makes no more bytes than a limit, unless memory was wanted to
--- read it; or more are made at some token of a reading, and the whole reading is not within it
-abbrev pub CompilesWithin : List ℕ → ℕ → List ℕ → List ℕ → Result ℕ Fault → Type 0
-CompilesWithin text limit old new (Ok n) =
-    MadeWithin text limit × CompilesInto text old new (Ok n)
-CompilesWithin text limit old new (Err LargerText) =
-    IsUtf8 text × MakesMore text limit × (MadeWithin text limit → ⊥) × (new ≡ old)
-CompilesWithin text limit old new (Err (TooShort n)) =
-    MadeWithin text limit × CompilesInto text old new (Err (TooShort n))
-CompilesWithin text limit old new (Err (Compiling e)) =
-    CompilesInto text old new (Err (Compiling e)) × IsWithinLimit text limit e
-CompilesWithin text limit old new (Err fault) = CompilesInto text old new (Err fault)
 
 -- the number of resources of the file's tree, beside the pool bundle of these bytes; the reader's
 -- refusal; that the bytes are no pool bundle; or that the file lacks one

@@ -1,24 +1,21 @@
 -- What printing a file's tree to a buffer answers, beside the bytes of a pool bundle.
 --     IsBundleToDump pool file name limit b  the bundle is the file's tree, under that name
---     DumpsInto pool file name limit old new r   what printing it to a buffer answers, and leaves
---                                            there
-use Rattle.std.specs.Prelude.{◌≡◌, ◌≤◌, ◌⊎◌, ℕ, List, length, Some, Result, Ok, Err}
+--     DumpsInto form pool file name limit old new r
+--                                            what printing it in this form to a buffer answers, and
+--                                            leaves there
+use Rattle.std.specs.Prelude.{◌≡◌, ◌≤◌, ℕ, List, length, Some, Result, Ok, Err}
 use Rattle.std.specs.Prelude.{IsUtf8}
 use Rattle.resb_tree.specs.Bundle.{name_of, root_of}
 use Rattle.resb_tree.specs.declared.bundle.ResourceBundle.{ResourceBundle}
-use Rattle.resb_grammar.specs.BundleText.{BundleText}
-use Rattle.resb_print.specs.Laws.{HasNoText}
-use Rattle.resb_print.specs.Printed.{IsBundleText, IsLongBundle}
-use Rattle.resb_print.specs.Quotes.{first_cause}
-use Rattle.resb_print.specs.Inner.Jobs.{SaysCause}
-use Rattle.resb_print.specs.declared.error.PrintError.{PrintError}
-use Rattle.resb_print.specs.declared.error.PrintError.TheVariants.{OutOfMemory}
 use Rattle.resb_walk.specs.TreeBytes.{tree_bytes}
 use Rattle.resb_read.specs.Measuring.{TakesMoreOf, key_bytes}
 use Rattle.resb_read.specs.WithPool.{over}
 use Rattle.resb_program.specs.Files.{LacksPool, RefusesReading, IsBundleBeside}
 use Rattle.resb_c.specs.Calls.{Fills, IsNotUtf8}
 use Rattle.resb_c.specs.Pools.{given, IsGiven, RefusesPool}
+use Rattle.resb_c.specs.Printing.{IsTextOf, IsPrintOf, IsLongPrint, IsUnprintable}
+use Rattle.resb_c.specs.declared.form.Form.{Form}
+use Rattle.resb_c.specs.declared.printing.PrintingFault.{PrintingFault}
 use Rattle.resb_c.specs.declared.fault.Fault.{Fault}
 use Rattle.resb_c.specs.declared.fault.Fault.TheVariants.{TooShort, NotUtf8, Reading, UsesPool}
 use Rattle.resb_c.specs.declared.fault.Fault.TheVariants.{Pool, Larger, LongKeys, LongText}
@@ -44,47 +41,49 @@ HasNoBundle pool file limit LongKeys =
 HasNoBundle pool file limit _ = ⊥
 
 -- the text is what the file's bundle is printed as under this name, which is UTF-8, so that it is a
--- text of that bundle; and it has no more bytes than the limit
-pub record IsDump (pool file name : List ℕ) (limit : ℕ) (text : List ℕ) : Type 0 where
+-- text of that bundle in this form; and it has no more bytes than the limit
+pub record IsDump (form : Form) (pool file name : List ℕ) (limit : ℕ) (text : List ℕ)
+    : Type 0 where
   pub bundle : ResourceBundle
   pub keys : List (List ℕ)
   pub named : IsUtf8 name
   pub of_file : IsBundleToDump pool file name limit bundle
-  pub printed : IsBundleText text (name_of bundle) bundle.is_locale_fallback_enabled
+  pub printed : IsPrintOf form text (name_of bundle) bundle.is_locale_fallback_enabled
       (root_of bundle)
-  pub texts : BundleText text (name_of bundle) bundle.is_locale_fallback_enabled (root_of bundle)
-      keys
+  pub texts : IsTextOf form text (name_of bundle) bundle.is_locale_fallback_enabled
+      (root_of bundle) keys
   pub fits : length text ≤ limit
 
 -- the file's bundle under this name, which is UTF-8, is printed as more bytes than the limit
-pub record HasLongDump (pool file name : List ℕ) (limit : ℕ) : Type 0 where
+pub record HasLongDump (form : Form) (pool file name : List ℕ) (limit : ℕ) : Type 0 where
   pub bundle : ResourceBundle
   pub named : IsUtf8 name
   pub of_file : IsBundleToDump pool file name limit bundle
-  pub long : IsLongBundle limit (name_of bundle) bundle.is_locale_fallback_enabled (root_of bundle)
+  pub long : IsLongPrint form limit (name_of bundle) bundle.is_locale_fallback_enabled
+      (root_of bundle)
 
--- memory was wanted, or no text is that of the file's bundle under this name, which is UTF-8; then
--- the first cause of that is named
-pub record HasNoDump (pool file name : List ℕ) (limit : ℕ) (e : PrintError) : Type 0 where
+-- memory was wanted, or no text of this form is that of the file's bundle under this name, which is
+-- UTF-8; then the first cause of that is named
+pub record HasNoDump (form : Form) (pool file name : List ℕ) (limit : ℕ) (e : PrintingFault)
+    : Type 0 where
   pub bundle : ResourceBundle
   pub named : IsUtf8 name
   pub of_file : IsBundleToDump pool file name limit bundle
-  pub says : SaysCause e (first_cause (name_of bundle) (root_of bundle))
-  pub none : (e ≡ OutOfMemory)
-      ⊎ HasNoText (name_of bundle) bundle.is_locale_fallback_enabled (root_of bundle)
+  pub none : IsUnprintable form e (name_of bundle) bundle.is_locale_fallback_enabled
+      (root_of bundle)
 
 -- a text of the file's bundle is in the buffer, or would be if it had room, or there is none within
 -- the limit; a name that isn't UTF-8 is told before pool and file are looked at
 abbrev pub DumpsInto
-    : List ℕ → List ℕ → List ℕ → ℕ → List ℕ → List ℕ → Result ℕ Fault → Type 0
-DumpsInto pool file name limit old new (Ok n) =
-    (text : List ℕ) × IsDump pool file name limit text × Fills text old new (Ok n)
-DumpsInto pool file name limit old new (Err (TooShort n)) =
-    (text : List ℕ) × IsDump pool file name limit text × Fills text old new (Err n)
-DumpsInto pool file name limit old new (Err (NotUtf8 n)) = IsNotUtf8 name n × (new ≡ old)
-DumpsInto pool file name limit old new (Err (Printing e)) =
-    HasNoDump pool file name limit e × (new ≡ old)
-DumpsInto pool file name limit old new (Err LongText) =
-    HasLongDump pool file name limit × (new ≡ old)
-DumpsInto pool file name limit old new (Err fault) =
+    : Form → List ℕ → List ℕ → List ℕ → ℕ → List ℕ → List ℕ → Result ℕ Fault → Type 0
+DumpsInto form pool file name limit old new (Ok n) =
+    (text : List ℕ) × IsDump form pool file name limit text × Fills text old new (Ok n)
+DumpsInto form pool file name limit old new (Err (TooShort n)) =
+    (text : List ℕ) × IsDump form pool file name limit text × Fills text old new (Err n)
+DumpsInto form pool file name limit old new (Err (NotUtf8 n)) = IsNotUtf8 name n × (new ≡ old)
+DumpsInto form pool file name limit old new (Err (Printing e)) =
+    HasNoDump form pool file name limit e × (new ≡ old)
+DumpsInto form pool file name limit old new (Err LongText) =
+    HasLongDump form pool file name limit × (new ≡ old)
+DumpsInto form pool file name limit old new (Err fault) =
     IsUtf8 name × HasNoBundle pool file limit fault × (new ≡ old)

@@ -5,20 +5,29 @@
 use Rattle.std.specs.Prelude.{ℕ, List, ◌++◌, codes, decimal}
 use Rattle.resb_grammar.specs.declared.expected.Expected.{Expected}
 use Rattle.resb_grammar.specs.declared.expected.Expected.TheVariants as expect
+use Rattle.resb_icu_grammar.specs.declared.expected.IcuExpected.{IcuExpected}
+use Rattle.resb_icu_grammar.specs.declared.expected.IcuExpected.TheVariants as icu_expect
 use Rattle.resb_format.specs.Error.{kind_of, description_of}
 use Rattle.resb_format.specs.Error as reading
 use Rattle.resb_format.specs.declared.error.ErrorKind.{ErrorKind}
 use Rattle.resb_format.specs.declared.error.ErrorKind.TheVariants as kind
 use Rattle.resb_layout.specs.WritingFault as fault
 use Rattle.resb_write.specs.FaultOf.{fault_of}
-use Rattle.resb_print.specs.Message as printing
-use Rattle.resb_print.specs.declared.error.PrintError.{PrintError}
-use Rattle.resb_print.specs.declared.error.PrintError.TheVariants as print
-use Rattle.resb_compile.specs.declared.compiling.CompileError.{CompileError}
-use Rattle.resb_compile.specs.declared.compiling.CompileError.TheVariants as compiling
+use Rattle.resb_print.specs.Message as print
+use Rattle.resb_print.specs.declared.error.PrintError.TheVariants.{NotPrintable, OutOfMemory}
+use Rattle.resb_icu_print.specs.Message as print_icu
+use Rattle.resb_icu_print.specs.declared.error.IcuPrintError.TheVariants as icu_print
+use Rattle.resb_compile.specs.declared.compiling.CompileError.TheVariants.{Reading, Writing}
+use Rattle.resb_compile.specs.declared.compiling_icu.IcuCompileError.TheVariants as icu
 use Rattle.resb_compile.specs.Compiling as compile
+use Rattle.resb_compile.specs.CompilingIcu as compile_icu
+use Rattle.resb_c.specs.declared.compiling.CompilingFault.{CompilingFault}
+use Rattle.resb_c.specs.declared.compiling.CompilingFault.TheVariants.{Plain, Icu}
+use Rattle.resb_c.specs.declared.printing.PrintingFault.{PrintingFault}
+use Rattle.resb_c.specs.declared.printing.PrintingFault.TheVariants as printing
 use Rattle.resb_c.specs.declared.fault.Fault.{Fault}
-use Rattle.resb_c.specs.declared.fault.Fault.TheVariants.{TooShort, NotUtf8, Compiling, Reading}
+use Rattle.resb_c.specs.declared.fault.Fault.TheVariants as the
+use Rattle.resb_c.specs.declared.fault.Fault.TheVariants.{TooShort, NotUtf8, Compiling}
 use Rattle.resb_c.specs.declared.fault.Fault.TheVariants.{UsesPool, Pool, Larger, LongKeys}
 use Rattle.resb_c.specs.declared.fault.Fault.TheVariants.{LongText, LargerText, Printing}
 use Rattle.resb_c.specs.declared.fault.Fault.TheVariants.{NotFound, OtherKind}
@@ -27,6 +36,11 @@ use Rattle.resb_c.specs.declared.fault.Fault.TheVariants.{NotFound, OtherKind}
 abbrev pub text_number : Expected → ℕ
 text_number expect.Memory = 8
 text_number _ = 3
+
+-- the same of a text of ICU's form
+abbrev pub icu_text_number : IcuExpected → ℕ
+icu_text_number icu_expect.Memory = 8
+icu_text_number _ = 3
 
 -- a tree that isn't written is 4, want of memory 8
 abbrev pub tree_number : fault.WritingFault → ℕ
@@ -40,14 +54,18 @@ file_number kind.OutOfMemory = 8
 file_number _ = 5
 
 -- a tree that has no text is 7, want of memory 8
-abbrev pub print_number : PrintError → ℕ
-print_number (print.NotPrintable cause) = 7
-print_number print.OutOfMemory = 8
+abbrev pub print_number : PrintingFault → ℕ
+print_number (printing.Plain (NotPrintable cause)) = 7
+print_number (printing.Plain OutOfMemory) = 8
+print_number (printing.Icu (icu_print.NotPrintable cause)) = 7
+print_number (printing.Icu icu_print.OutOfMemory) = 8
 
 -- why a text isn't compiled: the number of the reader's fault, or of the writer's
-abbrev pub compile_number : CompileError → ℕ
-compile_number (compiling.Reading e) = text_number e.expected
-compile_number (compiling.Writing e) = tree_number (fault_of e)
+abbrev pub compile_number : CompilingFault → ℕ
+compile_number (Plain (Reading e)) = text_number e.expected
+compile_number (Plain (Writing e)) = tree_number (fault_of e)
+compile_number (Icu (icu.Reading e)) = icu_text_number e.expected
+compile_number (Icu (icu.Writing e)) = tree_number (fault_of e)
 
 -- a buffer that is too short is 1, bytes that aren't UTF-8 are 2, a file that lacks its pool bundle
 -- is 9, a tree, its keys or a text over the limit 10, a pool's bytes that are no pool bundle 11,
@@ -56,7 +74,7 @@ abbrev pub number_of : Fault → ℕ
 number_of (TooShort n) = 1
 number_of (NotUtf8 n) = 2
 number_of (Compiling e) = compile_number e
-number_of (Reading e) = file_number (kind_of e)
+number_of (the.Reading e) = file_number (kind_of e)
 number_of UsesPool = 9
 number_of (Pool e) = 11
 number_of Larger = 10
@@ -68,16 +86,18 @@ number_of NotFound = 12
 number_of OtherKind = 13
 
 -- the reader's place in the text, and 0 for a tree that isn't written
-abbrev pub compile_place : CompileError → ℕ
-compile_place (compiling.Reading e) = e.position
-compile_place (compiling.Writing e) = 0
+abbrev pub compile_place : CompilingFault → ℕ
+compile_place (Plain (Reading e)) = e.position
+compile_place (Plain (Writing e)) = 0
+compile_place (Icu (icu.Reading e)) = e.position
+compile_place (Icu (icu.Writing e)) = 0
 
 -- the byte at which the text is no UTF-8 or isn't read on, and 0 for any other fault
 abbrev pub place_of : Fault → ℕ
 place_of (TooShort n) = 0
 place_of (NotUtf8 n) = n
 place_of (Compiling e) = compile_place e
-place_of (Reading e) = 0
+place_of (the.Reading e) = 0
 place_of UsesPool = 0
 place_of (Pool e) = 0
 place_of Larger = 0
@@ -88,19 +108,29 @@ place_of (Printing e) = 0
 place_of NotFound = 0
 place_of OtherKind = 0
 
+-- what the error of its form prints
+abbrev pub compile_message : CompilingFault → List ℕ
+compile_message (Plain e) = compile.message_of e
+compile_message (Icu e) = compile_icu.message_of e
+
+-- what the printer's error of its form prints
+abbrev pub print_message : PrintingFault → List ℕ
+print_message (printing.Plain e) = print.message_of e
+print_message (printing.Icu e) = print_icu.message_of e
+
 -- the length that was wanted, the place, or what the error inside prints
 abbrev pub message_of : Fault → List ℕ
 message_of (TooShort n) =
     codes "the buffer is too short, " ++ (decimal n ++ codes " bytes are needed")
 message_of (NotUtf8 n) = codes "not UTF-8 from byte " ++ (decimal n ++ codes " on")
-message_of (Compiling e) = compile.message_of e
-message_of (Reading e) = description_of (kind_of e) ++ (codes ": " ++ reading.message_of e)
+message_of (Compiling e) = compile_message e
+message_of (the.Reading e) = description_of (kind_of e) ++ (codes ": " ++ reading.message_of e)
 message_of UsesPool = codes "the file uses a pool bundle, and none was given"
 message_of (Pool e) = description_of (kind_of e) ++ (codes ": " ++ reading.message_of e)
 message_of Larger = codes "the tree takes more bytes than the limit"
 message_of LongKeys = codes "the keys of the entries take more bytes than the limit"
 message_of LongText = codes "the text takes more bytes than the limit"
 message_of LargerText = codes "reading the text takes more bytes than the limit"
-message_of (Printing e) = printing.message_of e
+message_of (Printing e) = print_message e
 message_of NotFound = codes "nothing stands at the path"
 message_of OtherKind = codes "what stands at the path is of another kind"

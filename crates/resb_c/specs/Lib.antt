@@ -2,6 +2,8 @@
 pub mod Faults
 pub mod Pools
 pub mod Calls
+pub mod Compiling
+pub mod Printing
 pub mod Dumping
 pub mod Measures
 pub mod AtPlaces

@@ -3,10 +3,9 @@
 ghost use Rattle.std.specs.Prelude.{◌≡◌, Some};
 ghost use Rattle.resb_c.specs.Faults.{message_of, number_of, place_of};
 
-use resb_compile::CompileError;
+use crate::compiling::CompilingFault;
+use crate::printing::PrintingFault;
 use resb_format::{BinaryDeserializerError, ErrorKind};
-use resb_grammar::Expected;
-use resb_print::PrintError;
 use std::error::Error;
 use std::fmt;
 
@@ -18,7 +17,7 @@ pub enum Fault {
     /// The bytes that should be a text, or a name, aren't UTF-8 from this place on.
     NotUtf8(usize),
     /// The text has no file.
-    Compiling(CompileError),
+    Compiling(CompilingFault),
     /// The bytes are no file of a tree within its budget.
     Reading(BinaryDeserializerError),
     /// The tree takes more bytes than the limit.
@@ -38,7 +37,7 @@ pub enum Fault {
     /// What stands at the path is of another kind.
     OtherKind,
     /// The tree has no text.
-    Printing(PrintError),
+    Printing(PrintingFault),
 }
 
 impl Fault {
@@ -49,13 +48,7 @@ impl Fault {
         match self {
             Fault::TooShort(_) => 1,
             Fault::NotUtf8(_) => 2,
-            Fault::Compiling(CompileError::Reading(e)) => match e.expected() {
-                Expected::Memory => 8,
-                _ => 3,
-            },
-            Fault::Compiling(CompileError::Writing(e)) => {
-                if e.is_out_of_memory() { 8 } else { 4 }
-            }
+            Fault::Compiling(e) => e.number(),
             Fault::Reading(e) => match e.kind() {
                 ErrorKind::OutOfMemory => 8,
                 ErrorKind::UnsupportedFormat => 6,
@@ -63,8 +56,7 @@ impl Fault {
             },
             Fault::UsesPool => 9,
             Fault::Larger | Fault::LongKeys | Fault::LongText | Fault::LargerText => 10,
-            Fault::Printing(PrintError::NotPrintable(_)) => 7,
-            Fault::Printing(PrintError::OutOfMemory) => 8,
+            Fault::Printing(e) => e.number(),
             Fault::Pool(_) => 11,
             Fault::NotFound => 12,
             Fault::OtherKind => 13,
@@ -77,7 +69,7 @@ impl Fault {
     {
         match self {
             Fault::NotUtf8(place) => *place,
-            Fault::Compiling(CompileError::Reading(e)) => e.position(),
+            Fault::Compiling(e) => e.place(),
             _ => 0,
         }
     }

@@ -1,17 +1,17 @@
-//! What the calls for C do over bytes: their answers go to the front of the caller's buffer.
-//! What the caller is told beside that is in `report`.
+//! What the calls for C do over files: their answers go to the front of the caller's buffer.
+//! What is done over texts is in `compiling`, what the caller is told beside in `report`.
 ghost use Rattle.std.specs.Prelude.{◌≡◌, ℕ, IfOk, IfErr, IsUtf8, option_map};
 ghost use Rattle.resb_format.specs.declared.error.ReadingError.{ReadingError};
 ghost use Rattle.resb_pool_bundle.specs.Pool.{pool_in};
-ghost use Rattle.resb_c.specs.Calls.{CompilesInto, CompilesWithin, CountsFile, Fills, IsNotUtf8};
+ghost use Rattle.resb_c.specs.Calls.{CountsFile, Fills, IsNotUtf8};
 ghost use Rattle.resb_c.specs.Dumping.{DumpsInto, HasNoBundle, IsBundleToDump};
 ghost use Rattle.resb_c.specs.Measures.{MeasuresFile};
 ghost use Rattle.resb_c.specs.Pools.{given, IsGiven, RefusesPool};
 
 use crate::fault::Fault;
-use resb_compile::{CompileWithinError, compile, compile_within};
+use crate::form::Form;
+use crate::printing::print_within;
 use resb_pool_bundle::PoolBundle;
-use resb_print::print_text_within;
 use resb_program::{FileError, read_bundle};
 use resb_read::Measured;
 use resb_tree::ResourceBundle;
@@ -22,6 +22,15 @@ use std::alloc::Global;
 pub(crate) struct Input<'a> {
     pub(crate) file: &'a [u8],
     pub(crate) pool: &'a [u8],
+}
+
+/// The text that is wanted of a file: its form, the name of its bundle, and the most bytes that the
+/// tree and the text may take.
+#[derive(Clone, Copy)]
+pub(crate) struct Wanted<'a> {
+    pub(crate) form: Form,
+    pub(crate) name: &'a [u8],
+    pub(crate) limit: u64,
 }
 
 /// Copies an answer to the front of the buffer where it has room, and gives its length, which is
@@ -46,40 +55,6 @@ pub(crate) fn text_of(bytes: &[u8]) -> Result<&str, Fault>
     match resb_program::text_of(bytes) {
         Ok(text) => Ok(text),
         Err(place) => Err(Fault::NotUtf8(place)),
-    }
-}
-
-/// Compiles a text to the front of the buffer.
-pub(crate) fn compile_into(alloc: Global, text: &[u8], out: &mut [u8]) -> Result<usize, Fault>
-    ensures { CompilesInto text.now out.old out.new result }
-{
-    let text = text_of(text)?;
-    match compile(alloc, text) {
-        Ok(file) => match fill(&file, out) {
-            Ok(count) => Ok(count),
-            Err(needed) => Err(Fault::TooShort(needed)),
-        },
-        Err(e) => Err(Fault::Compiling(e)),
-    }
-}
-
-/// Compiles a text to the front of the buffer, where reading it makes no more bytes than the limit.
-pub(crate) fn compile_within_into(
-    alloc: Global,
-    text: &[u8],
-    limit: u64,
-    out: &mut [u8],
-) -> Result<usize, Fault>
-    ensures { CompilesWithin text.now limit out.old out.new result }
-{
-    let text = text_of(text)?;
-    match compile_within(alloc, text, limit) {
-        Ok(file) => match fill(&file, out) {
-            Ok(count) => Ok(count),
-            Err(needed) => Err(Fault::TooShort(needed)),
-        },
-        Err(CompileWithinError::Text(e)) => Err(Fault::Compiling(e)),
-        Err(CompileWithinError::Larger) => Err(Fault::LargerText),
     }
 }
 
@@ -148,21 +123,20 @@ fn bundle_of<'a>(
     }
 }
 
-/// Prints a file's tree to the front of the buffer, as the text of a bundle of that name, which has
-/// no more bytes than the limit.
+/// Prints a file's tree to the front of the buffer, as the text that is wanted, which has no more
+/// bytes than the limit.
 pub(crate) fn dump_into(
     alloc: Global,
     input: Input<'_>,
-    name: &[u8],
-    limit: u64,
+    wanted: Wanted<'_>,
     out: &mut [u8],
 ) -> Result<usize, Fault>
-    ensures { DumpsInto input.entry.pool.now input.entry.file.now name.now limit out.old out.new
-        result }
+    ensures { DumpsInto wanted.entry.form input.entry.pool.now input.entry.file.now
+        wanted.entry.name.now wanted.entry.limit out.old out.new result }
 {
-    let name = text_of(name)?;
-    let bundle = bundle_of(alloc, name, input, limit)?;
-    match print_text_within(alloc, &bundle, limit) {
+    let name = text_of(wanted.name)?;
+    let bundle = bundle_of(alloc, name, input, wanted.limit)?;
+    match print_within(alloc, wanted.form, &bundle, wanted.limit) {
         Ok(Some(text)) => match fill(text.as_bytes(), out) {
             Ok(count) => Ok(count),
             Err(needed) => Err(Fault::TooShort(needed)),

@@ -6,25 +6,34 @@
 ghost use Rattle.std.specs.Prelude.{◌≡◌, ℕ, ℤ, [], Result, length, min};
 ghost use Rattle.resb_read.specs.declared.measuring.Measured.{Measured};
 ghost use Rattle.resb_diagnostics.specs.Location.{line_at, column_at};
+ghost use Rattle.resb_c.specs.declared.form.Form.TheVariants.{Plain, Icu};
 ghost use Rattle.resb_c.specs.AtPaths.{GivesBytes, GivesString, TellsInteger, TellsKind};
 ghost use Rattle.resb_c.specs.AtPaths.{integer_told, kind_told};
-ghost use Rattle.resb_c.specs.Calls.{CompilesInto, CompilesWithin, CountsFile, Reports, Tells};
+ghost use Rattle.resb_c.specs.Calls.{CountsFile, Reports, Tells};
+ghost use Rattle.resb_c.specs.Compiling.{CompilesInto, CompilesWithin};
 ghost use Rattle.resb_c.specs.Dumping.{DumpsInto};
 ghost use Rattle.resb_c.specs.Measures.{MeasuresFile, ShowsSums};
 
+mod compiling;
 mod fault;
 mod files;
+mod form;
 mod found;
 mod measured;
 mod path;
+mod printing;
 mod report;
 mod there;
 
-use crate::files::{Input, compile_into, compile_within_into, count_file, dump_into, measure_file};
+use crate::compiling::{compile_into, compile_within_into};
+use crate::files::{Input, Wanted, count_file, dump_into, measure_file};
 use crate::found::{bytes_into, string_into, tell_integer, tell_kind};
 use crate::report::{report, tell};
+pub use compiling::CompilingFault;
 pub use fault::Fault;
+pub use form::Form;
 pub use measured::ResbMeasured;
+pub use printing::PrintingFault;
 pub use report::ResbError;
 use resb_diagnostics::location_of;
 use std::alloc::Global;
@@ -39,10 +48,10 @@ pub extern "C" fn resb_compile(
     length: &mut usize,
     error: &mut ResbError,
 ) -> u32
-    ensures { (r : Result ℕ Fault) × CompilesInto text.now out.old out.new r
+    ensures { (r : Result ℕ Fault) × CompilesInto Plain text.now out.old out.new r
         × Reports r result length.new error.new }
 {
-    let answer = compile_into(alloc, text, out);
+    let answer = compile_into(alloc, Form::Plain, text, out);
     report(alloc, answer, length, error)
 }
 
@@ -57,10 +66,44 @@ pub extern "C" fn resb_compile_within(
     length: &mut usize,
     error: &mut ResbError,
 ) -> u32
-    ensures { (r : Result ℕ Fault) × CompilesWithin text.now limit out.old out.new r
+    ensures { (r : Result ℕ Fault) × CompilesWithin Plain text.now limit out.old out.new r
         × Reports r result length.new error.new }
 {
-    let answer = compile_within_into(alloc, text, limit, out);
+    let answer = compile_within_into(alloc, Form::Plain, text, limit, out);
+    report(alloc, answer, length, error)
+}
+
+/// Compiles a bundle's text of ICU's own form as `resb_compile` does a text of the plain form.
+#[unsafe(no_mangle)]
+pub extern "C" fn resb_compile_icu(
+    alloc: Global,
+    text: &[u8],
+    out: &mut [u8],
+    length: &mut usize,
+    error: &mut ResbError,
+) -> u32
+    ensures { (r : Result ℕ Fault) × CompilesInto Icu text.now out.old out.new r
+        × Reports r result length.new error.new }
+{
+    let answer = compile_into(alloc, Form::Icu, text, out);
+    report(alloc, answer, length, error)
+}
+
+/// Compiles a bundle's text of ICU's own form as `resb_compile_icu` does, within a limit as
+/// `resb_compile_within` does.
+#[unsafe(no_mangle)]
+pub extern "C" fn resb_compile_icu_within(
+    alloc: Global,
+    text: &[u8],
+    limit: u64,
+    out: &mut [u8],
+    length: &mut usize,
+    error: &mut ResbError,
+) -> u32
+    ensures { (r : Result ℕ Fault) × CompilesWithin Icu text.now limit out.old out.new r
+        × Reports r result length.new error.new }
+{
+    let answer = compile_within_into(alloc, Form::Icu, text, limit, out);
     report(alloc, answer, length, error)
 }
 
@@ -153,8 +196,8 @@ pub extern "C" fn resb_dump(
     length: &mut usize,
     error: &mut ResbError,
 ) -> u32
-    ensures { (r : Result ℕ Fault) × DumpsInto [] file.now name.now limit out.old out.new r
-        × Reports r result length.new error.new }
+    ensures { (r : Result ℕ Fault) × DumpsInto Plain [] file.now name.now limit out.old out.new
+        r × Reports r result length.new error.new }
 {
     resb_dump_with_pool(alloc, file, &[], name, limit, out, length, error)
 }
@@ -172,10 +215,58 @@ pub extern "C" fn resb_dump_with_pool(
     length: &mut usize,
     error: &mut ResbError,
 ) -> u32
-    ensures { (r : Result ℕ Fault) × DumpsInto pool.now file.now name.now limit out.old out.new r
+    ensures { (r : Result ℕ Fault) × DumpsInto Plain pool.now file.now name.now limit out.old
+        out.new r × Reports r result length.new error.new }
+{
+    let form = Form::Plain;
+    let answer = dump_into(
+        alloc,
+        Input { file, pool },
+        Wanted { form, name, limit },
+        out,
+    );
+    report(alloc, answer, length, error)
+}
+
+/// Prints a file's tree as `resb_dump` does, in ICU's own form.
+#[unsafe(no_mangle)]
+pub extern "C" fn resb_dump_icu(
+    alloc: Global,
+    file: &[u8],
+    name: &[u8],
+    limit: u64,
+    out: &mut [u8],
+    length: &mut usize,
+    error: &mut ResbError,
+) -> u32
+    ensures { (r : Result ℕ Fault) × DumpsInto Icu [] file.now name.now limit out.old out.new r
         × Reports r result length.new error.new }
 {
-    let answer = dump_into(alloc, Input { file, pool }, name, limit, out);
+    resb_dump_icu_with_pool(alloc, file, &[], name, limit, out, length, error)
+}
+
+/// Prints a file's tree as `resb_dump_with_pool` does, in ICU's own form.
+#[unsafe(no_mangle)]
+pub extern "C" fn resb_dump_icu_with_pool(
+    alloc: Global,
+    file: &[u8],
+    pool: &[u8],
+    name: &[u8],
+    limit: u64,
+    out: &mut [u8],
+    length: &mut usize,
+    error: &mut ResbError,
+) -> u32
+    ensures { (r : Result ℕ Fault) × DumpsInto Icu pool.now file.now name.now limit out.old
+        out.new r × Reports r result length.new error.new }
+{
+    let form = Form::Icu;
+    let answer = dump_into(
+        alloc,
+        Input { file, pool },
+        Wanted { form, name, limit },
+        out,
+    );
     report(alloc, answer, length, error)
 }
 

@@ -1,4 +1,5 @@
 //! Compiles the text on standard input, says how large its file is, and prints it back as a text.
+//! With `--icu` both texts have ICU's form.
 //! Where paths are given, what stands at each is printed alone: a string or a number as it is, a
 //! binary in hexadecimal, and of all else its kind and size.
 mod resb;
@@ -9,13 +10,13 @@ use std::process::ExitCode;
 /// The most bytes that reading a text may make, and that a tree may take.
 const LIMIT: u64 = 1_000_000;
 
-fn show(text: &[u8]) -> Result<(), resb::Error> {
-    let file = resb::compile_within(text, LIMIT)?;
+fn show(form: resb::Form, text: &[u8]) -> Result<(), resb::Error> {
+    let file = resb::compile_within(form, text, LIMIT)?;
     let input = resb::Input { file: &file, pool: &[] };
     let count = resb::check(input)?;
     let entries = resb::measure(input)?.entries;
     println!("{} bytes, {count} resources, {entries} entries", file.len());
-    print!("{}", resb::dump(input, "bundle", LIMIT)?);
+    print!("{}", resb::dump(form, input, "bundle", LIMIT)?);
     Ok(())
 }
 
@@ -40,7 +41,7 @@ fn said(input: resb::Input<'_>, path: &str) -> Result<String, resb::Error> {
 
 /// Prints what stands at each path, and gives whether something does at all of them.
 fn show_paths(text: &[u8], paths: &[String]) -> Result<bool, resb::Error> {
-    let file = resb::compile_within(text, LIMIT)?;
+    let file = resb::compile_within(resb::Form::Plain, text, LIMIT)?;
     let input = resb::Input { file: &file, pool: &[] };
     let mut is_all = true;
     for path in paths {
@@ -58,10 +59,11 @@ fn show_paths(text: &[u8], paths: &[String]) -> Result<bool, resb::Error> {
 fn main() -> ExitCode {
     let mut text = Vec::new();
     std::io::stdin().read_to_end(&mut text).expect("standard input");
-    let paths: Vec<String> = std::env::args().skip(1).collect();
-    let answer = match paths.is_empty() {
-        true => show(&text).map(|()| true),
-        false => show_paths(&text, &paths),
+    let words: Vec<String> = std::env::args().skip(1).collect();
+    let answer = match words.first().map(String::as_str) {
+        None => show(resb::Form::Plain, &text).map(|()| true),
+        Some("--icu") => show(resb::Form::Icu, &text).map(|()| true),
+        Some(_) => show_paths(&text, &words),
     };
     match answer {
         Ok(true) => ExitCode::SUCCESS,

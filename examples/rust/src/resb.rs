@@ -53,6 +53,15 @@ extern "C" {
         length: *mut usize,
         error: *mut Error,
     ) -> u32;
+    fn resb_compile_icu_within(
+        text: *const u8,
+        text_length: usize,
+        limit: u64,
+        out: *mut u8,
+        out_length: usize,
+        length: *mut usize,
+        error: *mut Error,
+    ) -> u32;
     fn resb_location(
         text: *const u8,
         text_length: usize,
@@ -77,6 +86,19 @@ extern "C" {
         error: *mut Error,
     ) -> u32;
     fn resb_dump_with_pool(
+        file: *const u8,
+        file_length: usize,
+        pool: *const u8,
+        pool_length: usize,
+        name: *const u8,
+        name_length: usize,
+        limit: u64,
+        out: *mut u8,
+        out_length: usize,
+        length: *mut usize,
+        error: *mut Error,
+    ) -> u32;
+    fn resb_dump_icu_with_pool(
         file: *const u8,
         file_length: usize,
         pool: *const u8,
@@ -136,11 +158,28 @@ extern "C" {
     ) -> u32;
 }
 
+/// The form of a text.
+#[derive(Clone, Copy)]
+pub enum Form {
+    Plain,
+    /// ICU's own, which `genrb` reads.
+    Icu,
+}
+
 /// Compiles to the buffer: the file's length, and whether it fitted.
-fn compile_to(text: &[u8], limit: u64, out: &mut [u8]) -> Result<(usize, bool), Error> {
+fn compile_to(
+    form: Form,
+    text: &[u8],
+    limit: u64,
+    out: &mut [u8],
+) -> Result<(usize, bool), Error> {
     let (mut length, mut error) = (0, Error::none());
+    let compile = match form {
+        Form::Plain => resb_compile_within,
+        Form::Icu => resb_compile_icu_within,
+    };
     let status = unsafe {
-        resb_compile_within(
+        compile(
             text.as_ptr(),
             text.len(),
             limit,
@@ -157,12 +196,12 @@ fn compile_to(text: &[u8], limit: u64, out: &mut [u8]) -> Result<(usize, bool), 
     }
 }
 
-/// The file of a bundle's text, which is UTF-8. A text whose reading makes more bytes than the
-/// limit is refused.
-pub fn compile_within(text: &[u8], limit: u64) -> Result<Vec<u8>, Error> {
-    let (length, _) = compile_to(text, limit, &mut [])?;
+/// The file of a bundle's text of this form, which is UTF-8. A text whose reading makes more bytes
+/// than the limit is refused.
+pub fn compile_within(form: Form, text: &[u8], limit: u64) -> Result<Vec<u8>, Error> {
+    let (length, _) = compile_to(form, text, limit, &mut [])?;
     let mut file = vec![0; length];
-    compile_to(text, limit, &mut file)?;
+    compile_to(form, text, limit, &mut file)?;
     Ok(file)
 }
 
@@ -222,6 +261,7 @@ pub fn measure(input: Input<'_>) -> Result<Measured, Error> {
 
 /// Dumps to the buffer: the text's length, and whether it fitted.
 fn dump_to(
+    form: Form,
     input: Input<'_>,
     name: &str,
     limit: u64,
@@ -229,8 +269,12 @@ fn dump_to(
 ) -> Result<(usize, bool), Error> {
     let Input { file, pool } = input;
     let (mut length, mut error) = (0, Error::none());
+    let dump = match form {
+        Form::Plain => resb_dump_with_pool,
+        Form::Icu => resb_dump_icu_with_pool,
+    };
     let status = unsafe {
-        resb_dump_with_pool(
+        dump(
             file.as_ptr(),
             file.len(),
             pool.as_ptr(),
@@ -251,12 +295,12 @@ fn dump_to(
     }
 }
 
-/// The text of a file's tree as a bundle of that name. A tree of more bytes than the limit, as
-/// `Measured::tree_bytes` counts them, is refused.
-pub fn dump(input: Input<'_>, name: &str, limit: u64) -> Result<String, Error> {
-    let (length, _) = dump_to(input, name, limit, &mut [])?;
+/// The text of a file's tree in this form, as a bundle of that name. A tree of more bytes than the
+/// limit, as `Measured::tree_bytes` counts them, is refused.
+pub fn dump(form: Form, input: Input<'_>, name: &str, limit: u64) -> Result<String, Error> {
+    let (length, _) = dump_to(form, input, name, limit, &mut [])?;
     let mut text = vec![0; length];
-    dump_to(input, name, limit, &mut text)?;
+    dump_to(form, input, name, limit, &mut text)?;
     Ok(String::from_utf8_lossy(&text).into_owned())
 }
 

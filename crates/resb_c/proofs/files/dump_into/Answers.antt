@@ -1,22 +1,25 @@
 -- The text that was printed is that of the file's bundle.
 use Rattle.std.proofs.Common.{ℕ, List, refl, subst, sym}
+use Rattle.resb_c.specs.declared.form.Form.{Form}
 use Rattle.resb_c.specs.Dumping.{IsBundleToDump, IsDump, HasNoDump, HasLongDump}
 use Rattle.resb_c.proofs.files.dump_into.Goals as goal
 
 pub returns-in-Ok : goal.returns-in-Ok
 returns-in-Ok c =
+    let form : Form = c.args.wanted.form in
+    let limit : ℕ = c.args.wanted.limit in
     let pool : List ℕ = c.args.input.pool.now in
     let file : List ℕ = c.args.input.file.now in
-    let name : List ℕ = c.args.name.now in
+    let name : List ℕ = c.args.wanted.name.now in
     let at = rw c.in-Ok-Some.field-0-is at c.in-Ok-Some.ensures in
-    let dump : IsDump pool file name c.args.limit c.as_bytes.result.now =
-    subst (IsDump pool file name c.args.limit) (sym c.as_bytes.ensures.value)
+    let dump : IsDump form pool file name limit c.as_bytes.result.now =
+    subst (IsDump form pool file name limit) (sym c.as_bytes.ensures.value)
     record {
       bundle = c.in_ok-bundle.bundle;
       keys = at.text.0;
       named = c.in_ok-name.ensures.ok.1;
       of_file = subst
-          (λ (n : List ℕ). IsBundleToDump pool file n c.args.limit c.in_ok-bundle.bundle)
+          (λ (n : List ℕ). IsBundleToDump pool file n limit c.in_ok-bundle.bundle)
           c.in_ok-name.ensures.ok.0 c.in_ok-bundle.ensures.ok;
       printed = at.exact;
       texts = at.text.1;
@@ -26,18 +29,20 @@ returns-in-Ok c =
 
 pub returns-in-Ok-Some : goal.returns-in-Ok-Some
 returns-in-Ok-Some c =
+    let form : Form = c.args.wanted.form in
+    let limit : ℕ = c.args.wanted.limit in
     let pool : List ℕ = c.args.input.pool.now in
     let file : List ℕ = c.args.input.file.now in
-    let name : List ℕ = c.args.name.now in
+    let name : List ℕ = c.args.wanted.name.now in
     let at = rw c.in-Ok-Some.field-0-is at c.in-Ok-Some.ensures in
-    let dump : IsDump pool file name c.args.limit c.as_bytes.result.now =
-    subst (IsDump pool file name c.args.limit) (sym c.as_bytes.ensures.value)
+    let dump : IsDump form pool file name limit c.as_bytes.result.now =
+    subst (IsDump form pool file name limit) (sym c.as_bytes.ensures.value)
     record {
       bundle = c.in_ok-bundle.bundle;
       keys = at.text.0;
       named = c.in_ok-name.ensures.ok.1;
       of_file = subst
-          (λ (n : List ℕ). IsBundleToDump pool file n c.args.limit c.in_ok-bundle.bundle)
+          (λ (n : List ℕ). IsBundleToDump pool file n limit c.in_ok-bundle.bundle)
           c.in_ok-name.ensures.ok.0 c.in_ok-bundle.ensures.ok;
       printed = at.exact;
       texts = at.text.1;
@@ -47,15 +52,17 @@ returns-in-Ok-Some c =
 
 pub returns-in-Ok-None : goal.returns-in-Ok-None
 returns-in-Ok-None c =
+    let form : Form = c.args.wanted.form in
+    let limit : ℕ = c.args.wanted.limit in
     let pool : List ℕ = c.args.input.pool.now in
     let file : List ℕ = c.args.input.file.now in
     let at = rw c.in-Ok-None.field-0-is at c.in-Ok-None.ensures in
-    let long : HasLongDump pool file c.args.name.now c.args.limit =
+    let long : HasLongDump form pool file c.args.wanted.name.now limit =
     record {
       bundle = c.in_ok-bundle.bundle;
       named = c.in_ok-name.ensures.ok.1;
       of_file = subst
-          (λ (n : List ℕ). IsBundleToDump pool file n c.args.limit c.in_ok-bundle.bundle)
+          (λ (n : List ℕ). IsBundleToDump pool file n limit c.in_ok-bundle.bundle)
           c.in_ok-name.ensures.ok.0 c.in_ok-bundle.ensures.ok;
       long = at.exact;
     } in
@@ -63,16 +70,17 @@ returns-in-Ok-None c =
 
 pub returns : goal.returns
 returns c =
+    let form : Form = c.args.wanted.form in
+    let limit : ℕ = c.args.wanted.limit in
     let pool : List ℕ = c.args.input.pool.now in
     let file : List ℕ = c.args.input.file.now in
-    let none : HasNoDump pool file c.args.name.now c.args.limit c.in-Err.e =
+    let none : HasNoDump form pool file c.args.wanted.name.now limit c.in-Err.e =
     record {
       bundle = c.in_ok-bundle.bundle;
       named = c.in_ok-name.ensures.ok.1;
       of_file = subst
-          (λ (n : List ℕ). IsBundleToDump pool file n c.args.limit c.in_ok-bundle.bundle)
+          (λ (n : List ℕ). IsBundleToDump pool file n limit c.in_ok-bundle.bundle)
           c.in_ok-name.ensures.ok.0 c.in_ok-bundle.ensures.ok;
-      says = c.in-Err.ensures.refusal;
       none = c.in-Err.ensures.none;
     } in
     (none, refl)

@@ -1,6 +1,6 @@
 //! The library for C, whose header is `include/resb.h`: each call hands the caller's buffers on,
 //! and writes its status, a length and an error where the caller wants them. What is done over the
-//! bytes is in `files`, why a call fails in `fault`.
+//! bytes is in `compiling`, `files` and `found`, why a call fails in `fault`.
 #![tactic(auto)]
 
 ghost use Rattle.std.specs.Prelude.{◌≡◌, ℕ, ℤ, [], Result, length, min};

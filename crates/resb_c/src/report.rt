@@ -1,5 +1,5 @@
 //! What the caller is told: a status, a number, and an error with its message.
-//! Which fault there is, is found in `files`.
+//! Which fault there is, is found in `compiling`, `files` and `found`.
 ghost use Rattle.resb_c.specs.Calls.{IsMessage, Reports, Tells};
 ghost use Rattle.resb_c.specs.Faults.{message_of};
 

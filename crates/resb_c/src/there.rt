@@ -1,4 +1,4 @@
-//! What stands at a place of a file: its kind, and how much is in it.
+//! What stands at a place of a file: its kind, how much is in it, and a number or a leaf itself.
 //! Where a path leads is found in `resb_path`, what the caller is told is said in `report`.
 ghost use Rattle.std.specs.Prelude.{◌≡◌, Some, None, IfOk, IfErr, MatchResult};
 ghost use Rattle.resb_tree.specs.Tree.{binary, string};

@@ -11,8 +11,8 @@ in a temporary folder, never in place, and the copy takes over what out/ keeps, 
 than the changed function is proved. First each crate is checked as it stands. N checks run side by
 side (1 if left out); --logs keeps what each of them printed.
 With --gate each is tried by a check of the one function that tests/gate_bodies.txt names beside it,
-and of those that it calls, over the libraries that `rt ci` has built; that has proved each crate as
-it stands.
+and of those that it calls, over the libraries that `rt ci` has built. First these functions are
+checked as they stand. N crates are tried side by side.
 
 A line for each wrong body has the crate, the edit, the kind of the goal, the goal, and how it was
 refused. The kinds:
@@ -36,6 +36,7 @@ The last line is 'N passed, M failed'.
 """
 import argparse
 import concurrent.futures
+import itertools
 import os
 import queue
 import re
@@ -190,17 +191,7 @@ class GateRoom(Room):
 
     def __init__(self, folder, below, kit):
         super().__init__(folder, below)
-        self.kit, self.right = kit, set()
-
-    def check(self, crate, texts, paths):
-        """What a check prints of these functions, which are first proved as they stand."""
-        for path in paths:
-            if (crate, path) not in self.right:
-                said, is_proved = super().check(crate, {}, [path])
-                if not is_proved:
-                    return f'error: {path} is not proved as it stands\n{said}', True
-                self.right.add((crate, path))
-        return super().check(crate, texts, paths)
+        self.kit = kit
 
     def hold(self, crate):
         """Has the crate as it stands, and what was proved of it in the room."""
@@ -430,6 +421,19 @@ def standing(edits, below):
     return 1 if failed else 0
 
 
+def of_crates(edits):
+    """The wrong bodies of each crate, the most first: what they share is proved once."""
+    found = {}
+    for edit in edits:
+        found.setdefault(edit.crate, []).append(edit)
+    return sorted(found.values(), key=lambda it: -len(it))
+
+
+def is_right(group, room):
+    """Whether the functions that a crate's wrong bodies change are proved as they stand."""
+    return room.check(group[0].crate, {}, sorted({it.function for it in group}))[1]
+
+
 def kit():
     """The toolchain's folder, where its first page stands."""
     page = subprocess.run(['rt', 'doc'], text=True, stdout=subprocess.PIPE, check=True).stdout
@@ -477,15 +481,19 @@ def main():
             place = f'{folder}/{number}'
             rooms.put(GateRoom(place, below, kit()) if given.gate else Room(place, below))
 
-        def tried(edit):
+        def tried(group):
             room = rooms.get()
             try:
-                return (edit, *judged(edit, room, given.without_answers))
+                if given.gate and not is_right(group, room):
+                    return [(it, False, f'{it.label}: is not proved as it stands', '')
+                            for it in group]
+                return [(it, *judged(it, room, given.without_answers)) for it in group]
             finally:
                 rooms.put(room)
 
         with concurrent.futures.ThreadPoolExecutor(given.jobs) as pool:
-            for edit, is_well, line, said in pool.map(tried, edits):
+            groups = of_crates(edits) if given.gate else [[it] for it in edits]
+            for edit, is_well, line, said in itertools.chain.from_iterable(pool.map(tried, groups)):
                 print(line if is_well else f'FAILED: {line}', flush=True)
                 passed, failed = passed + is_well, failed + (not is_well)
                 if given.logs:

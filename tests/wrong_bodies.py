@@ -222,8 +222,9 @@ def only(paths):
 def kit_libraries(crate):
     """The toolchain's libraries that a crate names."""
     with open(f'{ROOT}/crates.txt', encoding='utf-8') as lines:
-        needs = [it.partition(':')[2].split() for it in lines if it.startswith(f'{crate}:')]
-    return [it for it in needs[0] if not os.path.isdir(f'{ROOT}/crates/{it}')]
+        pairs = [it.partition('#')[0].partition(':') for it in lines]
+    needs = next(it for name, colon, it in pairs if colon and name.split()[0] == crate)
+    return [it for it in needs.split() if not os.path.isdir(f'{ROOT}/crates/{it}')]
 
 
 def copy(part, to):

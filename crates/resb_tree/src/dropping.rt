@@ -1,8 +1,9 @@
 //! The drop of a resource by a list of what is still to be dropped, so that no depth of a tree ends
 //! the process.
-//! A resource is dropped by a call of its own only where that list can't grow.
-ghost use Rattle.std.specs.Prelude.{◌≡◌, ◌+◌, ◌≤◌, None, [], MatchOption, MatchResult, OnOk, IfErr, IfSome};
-ghost use Rattle.std.specs.Prelude.{IsTrue, ◌<◌, max};
+//! A resource is dropped by a call of its own only where it has no others inside, where a table
+//! of such goes as a whole, or where that list can't grow.
+ghost use Rattle.std.specs.Prelude.{◌≡◌, ◌+◌, ◌≤◌, None, [], MatchOption, MatchResult, OnOk};
+ghost use Rattle.std.specs.Prelude.{IfErr, IfSome, IsTrue, ◌<◌, max};
 ghost use Rattle.resb_tree.specs.Inner.Dropping.{count, counts, table_count, depth, depth_of};
 ghost use Rattle.std.specs.BTreeMap.{get, values};
 ghost use Rattle.std.specs.Ordering.{nat_cmp};

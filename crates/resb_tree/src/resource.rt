@@ -1,9 +1,10 @@
 //! Resources and tables, which stand for trees.
 //! How a text or a file spells them is not said here.
-ghost use Rattle.std.specs.Prelude.{◌≡◌, IfOk};
-ghost use Rattle.std.specs.BTreeMap.{IsFromIterResult};
+ghost use Rattle.std.specs.Prelude.{◌≡◌, ◌≤◌, IsTrue, IfOk};
+ghost use Rattle.std.specs.BTreeMap.{IsFromIterResult, values};
 ghost use Rattle.std.specs.Cmp.Lexicographic.{slice_cmp};
 ghost use Rattle.std.specs.Ordering.{nat_cmp};
+ghost use Rattle.resb_tree.specs.Inner.Dropping.{depth_of};
 
 use crate::dropping::{drop_all, list_beside, move_values};
 use crate::equality::same;
@@ -100,10 +101,11 @@ impl Drop for Resource<'_> {
 }
 
 impl<'a> Resource<'a> {
-    ghost use Rattle.std.specs.Prelude.{◌≡◌, [], MatchResult};
+    ghost use Rattle.std.specs.Prelude.{◌≡◌, ◌≤◌, [], IfOk, MatchResult};
+    ghost use Rattle.std.specs.BTreeMap.{values};
     ghost use Rattle.resb_tree.specs.Tree.{no_trees, array};
     ghost use Rattle.resb_tree.specs.View.{tree_of};
-    ghost use Rattle.resb_tree.specs.Inner.Dropping.{count};
+    ghost use Rattle.resb_tree.specs.Inner.Dropping.{count, depth_of};
     ghost use Rattle.resb_tree.specs.declared.resource.Resource.{Table};
 
     /// Drops a resource that has no others inside.
@@ -125,7 +127,8 @@ impl<'a> Resource<'a> {
     /// The table, if no value of it is an array or a table, so that it can be dropped as a whole.
     /// Any other resource is handed back.
     pub(crate) fn into_table_of_leaves(self) -> Result<Table<'a>, Resource<'a>>
-        ensures { MatchResult result (λ m. self.entry ≡ Table m) (λ r. r ≡ self.entry) }
+        ensures kind { MatchResult result (λ m. self.entry ≡ Table m) (λ r. r ≡ self.entry) }
+        ensures flat { IfOk result (λ m. depth_of (values m) ≤ 1) }
     {
         match self {
             Resource::Table(table) if has_leaves_alone(&table) => Ok(table),
@@ -146,8 +149,16 @@ impl<'a> Resource<'a> {
 }
 
 /// Whether no value of the table is an array or a table.
-fn has_leaves_alone(table: &Table<'_>) -> bool {
-    table.values().all(|value| !matches!(value, Resource::Array(_) | Resource::Table(_)))
+#[tactic(auto, using(crate::proofs::DroppingLemmas::drop_steps))]
+fn has_leaves_alone(table: &Table<'_>) -> bool
+    ensures { IsTrue result → depth_of (values table.now) ≤ 1 }
+{
+    for value in table.values() {
+        if matches!(value, Resource::Array(_) | Resource::Table(_)) {
+            return false;
+        }
+    }
+    true
 }
 
 /// Equality of trees. It takes no stack for their depth, as `equality` says.

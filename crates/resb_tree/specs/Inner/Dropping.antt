@@ -1,4 +1,5 @@
--- How many resources are still to be dropped, how deep they are, and which trees are no collections.
+-- How many resources are still to be dropped, how deep they are, and which trees are no
+-- collections.
 use Rattle.std.specs.Prelude.{ℕ, List}
 use Rattle.std.specs.BTreeMap.{BTreeMap}
 use Rattle.resb_tree.specs.Tree.{Tree, array, table, tree_count, trees_count, entries_count}

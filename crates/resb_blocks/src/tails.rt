@@ -1,5 +1,5 @@
 //! Long tails of keys, which are texts up to a zero byte.
-ghost use Rattle.std.specs.Prelude.{◌≡◌, ◌+◌, ◌-◌, ◌<◌, ◌≤◌, length, take, drop, All};
+ghost use Rattle.std.specs.Prelude.{◌≡◌, ◌+◌, ◌-◌, ◌<◌, ◌≤◌, length, drop, All};
 ghost use Rattle.std.specs.Prelude.{ℕ, IfOk, IfSome, Some, position, ◌==◌};
 ghost use Rattle.std.specs.Str.{IsUtf8};
 ghost use Rattle.resb_format.specs.Strings.{key_at};

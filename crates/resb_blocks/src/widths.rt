@@ -1,6 +1,6 @@
 //! How many bytes of UTF-8 the units of a 16-bit block take, summed once, so that the length of any
 //! text in it is known by few looks. Whether units are a text is found in `breaks`.
-ghost use Rattle.std.specs.Prelude.{◌≡◌, ◌+◌, ◌*◌, ◌/◌, ◌<◌, ◌≤◌, length, take, drop, sum_by, IfOk};
+ghost use Rattle.std.specs.Prelude.{◌≡◌, ◌+◌, ◌*◌, ◌/◌, ◌<◌, ◌≤◌, length, take, drop, IfOk};
 ghost use Rattle.resb_format.specs.Bytes.{units_of};
 ghost use Rattle.resb_blocks.specs.Wide.{width_of, text_width, AreSummed};
 

@@ -1,6 +1,6 @@
 //! Where a path leads in a file, and what is told of what stands there. Nothing else in the file is
 //! looked at. What stands at a place is found in `there`, the names of a path in `path`.
-ghost use Rattle.std.specs.Prelude.{◌≡◌, Some, option_map, IfOk, IfErr};
+ghost use Rattle.std.specs.Prelude.{Some, option_map, IfOk, IfErr};
 ghost use Rattle.resb_pool_bundle.specs.Pool.{pool_in};
 ghost use Rattle.resb_read.specs.Places.{place_of};
 ghost use Rattle.resb_c.specs.AtPaths.{FailsToLead, GivesBytes, GivesString, Leads};

@@ -1,6 +1,6 @@
 //! Paths into a tree. Each is kept once, as the one that it goes on from and its last step, so
 //! that a path takes no room for those before it.
-ghost use Rattle.std.specs.Prelude.{◌≡◌, ◌<◌, ◌++◌, ℕ, List, [], ◌∷◌, length, map, OnOk, IfOk};
+ghost use Rattle.std.specs.Prelude.{◌≡◌, ◌<◌, ◌++◌, List, [], ◌∷◌, length, map, OnOk, IfOk};
 ghost use Rattle.std.specs.Prelude.{slice_index_or, MatchOption};
 ghost use Rattle.resb_diff.specs.Differences.{Step};
 ghost use Rattle.resb_diff.specs.Paths.{step_of, paths_of, GoOn};

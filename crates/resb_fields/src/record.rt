@@ -1,7 +1,6 @@
 //! A struct that is made of the fields of a table.
 //! How the fields are read is said in `fields`.
-ghost use Rattle.std.specs.Prelude.{◌≡◌, ◌≤◌, ◌+◌, ℕ, List, map, length, IfOk, IfErr};
-ghost use Rattle.resb_read.specs.Reading.{LacksOrMemory};
+ghost use Rattle.std.specs.Prelude.{◌≡◌, ◌+◌, ℕ, List, map, length};
 ghost use Rattle.resb_fields.specs.Fields.{ReadsRecord, CountsRecord, RefusesRecord};
 ghost use Rattle.resb_fields.specs.FieldLaws.{record_counted, record_one};
 

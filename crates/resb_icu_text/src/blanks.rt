@@ -5,7 +5,6 @@ ghost use Rattle.std.specs.Prelude.{slice_index};
 ghost use Rattle.std.specs.Prelude.{IfSome, IfNone};
 ghost use Rattle.resb_grammar.specs.Ascii as ascii;
 ghost use Rattle.resb_grammar.specs.ByteRuns as spec;
-ghost use Rattle.resb_grammar.specs.ByteRuns.{Run};
 ghost use Rattle.resb_grammar.specs.Lexical.{FirstCloser};
 ghost use Rattle.resb_icu_grammar.specs.Blanks.{LineRest, Comment, Skip};
 ghost use Rattle.resb_icu_grammar.specs.Blanks.{IsParagraphEnd};

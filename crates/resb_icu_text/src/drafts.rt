@@ -1,6 +1,6 @@
 //! Closed groups as pieces of a draft, members first.
 //! What a draft stands for is said in `resb_draft`, which makes it; trees are made in `trees`.
-ghost use Rattle.std.specs.Prelude.{◌≡◌, ◌++◌, map, OnOk};
+ghost use Rattle.std.specs.Prelude.{◌≡◌, ◌++◌, OnOk};
 ghost use Rattle.resb_draft.specs.Drafts.{Keeps};
 ghost use Rattle.resb_icu_text.specs.Inner.Build.{PutsBehind, says_table};
 

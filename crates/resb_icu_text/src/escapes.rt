@@ -1,6 +1,6 @@
 //! Escapes: what a backslash and the bytes behind it stand for.
 //! Where quoted pieces end, and what they say, is in `pieces`.
-ghost use Rattle.std.specs.Prelude.{◌≡◌, ◌≢◌, ℕ, ◌+◌, ◌-◌, ◌^◌, ◌<◌, ◌≤◌, true, false, List};
+ghost use Rattle.std.specs.Prelude.{◌≡◌, ◌≢◌, ℕ, ◌+◌, ◌-◌, ◌<◌, ◌≤◌, true, false, List};
 ghost use Rattle.std.specs.Prelude.{length, Some, None};
 ghost use Rattle.std.specs.Prelude.{slice_index, IfSome, IfNone};
 ghost use Rattle.resb_grammar.specs.Group.{is_hex, hex_value};

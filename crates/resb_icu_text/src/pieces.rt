@@ -1,13 +1,12 @@
 //! Quoted pieces: where one ends or has a fault, and what it says.
 //! Strings of several pieces, and words, are in `strings`.
 ghost use Rattle.std.specs.Prelude.{◌≡◌, ℕ, ◌+◌, ◌-◌, ◌<◌, ◌≤◌, ◌++◌, true, false, List};
-ghost use Rattle.std.specs.Prelude.{length, slice_index, slice_range, IfSome, IfNone, IfOk, IfErr};
+ghost use Rattle.std.specs.Prelude.{length, slice_index, IfSome, IfNone};
 ghost use Rattle.std.specs.Prelude.{OnOk, MatchResult};
 ghost use Rattle.std.specs.String.{string_bytes};
 ghost use Rattle.resb_grammar.specs.Ascii as ascii;
 ghost use Rattle.resb_icu_grammar.specs.Faults.{PieceFault};
 ghost use Rattle.resb_icu_grammar.specs.Pieces.{QuotedBytes};
-ghost use Rattle.resb_icu_grammar.specs.Words.{HasNoEscape};
 ghost use Rattle.resb_icu_text.specs.Inner.Escaped.{bytes_of};
 ghost use Rattle.resb_icu_text.specs.Inner.Stops.{FirstStop, HasNoStop, IsPiece};
 

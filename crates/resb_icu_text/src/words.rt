@@ -2,12 +2,12 @@
 //! Which bytes a word and a key may hold is said in `resb_icu_grammar`; types are read in `types`,
 //! quoted strings in `strings`. Places count bytes of the text from its start.
 ghost use Rattle.std.specs.Prelude.{ℕ, ◌+◌, ◌*◌, ◌<◌, ◌≤◌};
-ghost use Rattle.std.specs.Prelude.{List, length, slice_index, slice_range, IfSome, IfNone};
+ghost use Rattle.std.specs.Prelude.{List, length, IfSome, IfNone};
 ghost use Rattle.resb_grammar.specs.Ascii as ascii;
-ghost use Rattle.resb_grammar.specs.ByteRuns.{Run, is_digit};
+ghost use Rattle.resb_grammar.specs.ByteRuns.{Run};
 ghost use Rattle.resb_grammar.specs.Lexical as plain;
 ghost use Rattle.resb_icu_grammar.specs.Bytes as spec;
-ghost use Rattle.resb_icu_grammar.specs.Words.{Word, Digits, Number, GroupType, RootType};
+ghost use Rattle.resb_icu_grammar.specs.Words.{Word, Digits, Number};
 ghost use Rattle.resb_icu_text.specs.Inner.Numbers.{DigitsInRange};
 ghost use Rattle.resb_grammar.specs.Inner.Reach.{reach};
 

@@ -1,5 +1,4 @@
 //! An opened file as it is shown, without a tree of it. What is shown is said in `resb_shown`.
-ghost use Rattle.std.specs.Prelude.{◌≡◌};
 ghost use Rattle.resb_opened.specs.Shown.{shown_tree, members_ahead, entries_ahead};
 
 use crate::ahead::{EntriesAhead, MembersAhead};

@@ -1,8 +1,6 @@
 //! A tree as it is shown: a handle is a reference to a resource.
 //! What is shown is said in `shown`.
-ghost use Rattle.std.specs.Prelude.{map};
 ghost use Rattle.std.specs.Slice.Iter.{iter_rest};
-ghost use Rattle.resb_tree.specs.Tree.{trees_of, entries_of};
 ghost use Rattle.resb_tree.specs.View.{tree_of, items_view, entries_view};
 
 use crate::node::Node;

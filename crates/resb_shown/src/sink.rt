@@ -1,6 +1,6 @@
 //! Where a text goes that is made a block at a time: into any writer.
 //! What the text is, its maker says.
-ghost use Rattle.std.specs.Prelude.{◌≡◌, ◌≢◌, ◌<◌, ◌≤◌, ◌++◌, ℕ, List, [], OnOk, OnErr, IfOk, Ok};
+ghost use Rattle.std.specs.Prelude.{◌≡◌, ◌<◌, ◌≤◌, ◌++◌, ℕ, List, [], OnOk, OnErr, IfOk, Ok};
 ghost use Rattle.std.specs.Prelude.{true, false, length, MatchBool};
 ghost use Rattle.std.specs.Io.KnownBytes.{Appends};
 ghost use Rattle.resb_shown.specs.Sink.{AppendsPart};

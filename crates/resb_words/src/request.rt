@@ -1,6 +1,5 @@
 //! What words ask for: the command, the files, and what is wished of them.
 //! The words that the program knows are in `command`, and why they may be refused in `error`.
-ghost use Rattle.std.specs.Prelude.{◌≡◌};
 
 use crate::command::program;
 use crate::error::WordsError;

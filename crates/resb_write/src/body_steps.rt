@@ -1,7 +1,7 @@
 //! Lays one resource over a stack of words, which holds those of its members.
 //! What is laid for a body is said in `resource_bodies`.
 ghost use Rattle.std.specs.Prelude.{◌≡◌, ◌++◌, ◌∷◌, ◌+◌, ◌-◌, ◌/◌, ◌^◌, ◌<◌, ◌≤◌};
-ghost use Rattle.std.specs.Prelude.{ℕ, List, Some, [], length, map, take, OnOk};
+ghost use Rattle.std.specs.Prelude.{ℕ, List, Some, [], length, take, OnOk};
 ghost use Rattle.resb_tree.specs.Tree.{Entries, Trees, alias, array, binary, int_vector, integer};
 ghost use Rattle.resb_tree.specs.Tree.{string, table};
 ghost use Rattle.resb_format.specs.Units.{units};

@@ -1,7 +1,7 @@
 //! What the resources of a tree hold, gathered in one pass: the texts of strings, and what is
 //! tested before anything is laid. Where things come to stand is not said here.
 ghost use Rattle.std.specs.Prelude.{◌≡◌, ◌++◌, ◌∷◌, ◌+◌, ◌-◌, ◌*◌, ◌/◌, ◌^◌, ◌||◌, ◌≤◌, [], List};
-ghost use Rattle.std.specs.Prelude.{length, true};
+ghost use Rattle.std.specs.Prelude.{length};
 ghost use Rattle.std.specs.Prelude.{min, max, nat_lt, IfOk, OnOk};
 ghost use Rattle.std.specs.Option.{option_or};
 ghost use Rattle.resb_tree.specs.Tree.{Tree};

@@ -5,7 +5,6 @@ ghost use Rattle.std.specs.Prelude.{length, get_or};
 ghost use Rattle.std.specs.Map.{keys_of};
 ghost use Rattle.std.specs.Option.{is_some};
 ghost use Rattle.resb_pool.specs.Plan.{nows, at_text};
-ghost use Rattle.resb_layout.specs.KeyBlock.{is_among};
 ghost use Rattle.resb_write.specs.Inner.Numbered.{AreNumberedKeys, NumbersKeys};
 
 use indexmap::IndexMap;

@@ -1,13 +1,12 @@
 //! Lays a whole tree, its resources in laying order over a stack of words.
 //! What is laid for one resource is said in `body_steps`. No function calls itself.
-ghost use Rattle.std.specs.Prelude.{ℕ, ◌≡◌, ◌+◌, ◌%◌, ◌≤◌, [], ◌∷◌, List, All, length, IfOk, OnOk};
-ghost use Rattle.std.specs.List.{sum_by};
+ghost use Rattle.std.specs.Prelude.{◌≡◌, ◌+◌, ◌%◌, ◌≤◌, [], ◌∷◌, List, length, IfOk, OnOk};
 ghost use Rattle.resb_tree.specs.Tree.{Tree};
 ghost use Rattle.resb_layout.specs.Laid.{Given, Lays};
 ghost use Rattle.resb_tree.specs.LayingOrder.{laying_order, children};
 ghost use Rattle.resb_write.specs.Inner.StackSteps.{LaysNext, LaysRow};
 ghost use Rattle.resb_write.specs.Inner.Room.{laid_of, own_size, GivesInTurn};
-ghost use Rattle.resb_write.specs.Inner.Room.{HasRoomFor, HasRoomBehind, tail_base, most_units};
+ghost use Rattle.resb_write.specs.Inner.Room.{HasRoomFor, HasRoomBehind, tail_base};
 ghost use Rattle.resb_write.specs.Inner.Seen.{Anywhere, HasRoom, TakesNoMore, CanLay};
 ghost use Rattle.resb_write.specs.Inner.Nodes.{IsNode};
 

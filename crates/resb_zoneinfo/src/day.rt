@@ -1,6 +1,6 @@
 //! Which day of a month a rule names, and which one that is in a given year.
 //! The rules are in `rule`.
-ghost use Rattle.std.specs.Prelude.{◌≡◌, ◌+◌, ◌<◌, ◌≤◌, ◌^◌, IsTrue};
+ghost use Rattle.std.specs.Prelude.{◌+◌, ◌<◌, ◌≤◌, ◌^◌, IsTrue};
 ghost use Rattle.resb_zoneinfo.specs.Civil.{year_start};
 ghost use Rattle.resb_zoneinfo.specs.RuleDays.{is_real, IsRuleDay};
 

@@ -1,6 +1,6 @@
 //! Names as 16-bit units, and where one stands in a list of them.
 //! Which zone a name stands for is said in `info`.
-ghost use Rattle.std.specs.Prelude.{◌≡◌, ◌<◌, ◌↔◌, IsTrue, MatchOption};
+ghost use Rattle.std.specs.Prelude.{◌<◌, ◌↔◌, IsTrue, MatchOption};
 ghost use Rattle.resb.specs.Views.{view_units};
 ghost use Rattle.resb_zoneinfo.specs.Names.{IsSame, IsNumberOf, HasNoName};
 

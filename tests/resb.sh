@@ -42,13 +42,13 @@ holds() {
 [ -x "$program" ] || { echo "$program isn't built"; echo '0 passed, 1 failed'; exit 1; }
 
 # each part goes on in the folder of those before it
-for part in files refusals icu several scripts; do
+for part in files refusals icu several scripts genrb; do
   # shellcheck disable=SC1090
   . "$top/tests/sessions/$part.bash"
 done
 
 told 0 'resb 0.2.0' '' --version
-for command in compile check dump get diff list extract; do
+for command in compile check dump get diff list extract genrb; do
   (exec -a resb "$program" help "$command") > help.txt \
     && grep -q "^Example: resb $command" help.txt \
     && passed=$((passed + 1)) || { failed=$((failed + 1)); echo "help $command"; }

@@ -1,4 +1,4 @@
-//! The program `resb` that people call: compile, check, dump, get, diff, list, extract.
+//! The program `resb` that people call: compile, check, dump, get, diff, list, extract, genrb.
 //! What its words ask for is in `resb_words`, and what it does with bytes in `resb_program`.
 #![tactic(auto)]
 
@@ -8,6 +8,7 @@ mod diff;
 mod dump;
 mod encoding;
 mod folders;
+mod genrb;
 mod get;
 mod hints;
 mod input;
@@ -44,7 +45,10 @@ fn perform(rt: &HostRuntime) -> u8 {
     };
     match request_of(rt.alloc(), words.as_slice()) {
         Ok(request) => perform_request(rt, &request),
-        Err(e) => answer(rt, &e),
+        Err(e) => match answer(rt, &e) {
+            2 if words::is_of_genrb(words.as_slice()) => genrb::ILLEGAL_ARGUMENT,
+            status => status,
+        },
     }
 }
 
@@ -72,5 +76,6 @@ fn perform_request(rt: &HostRuntime, request: &Request<'_>) -> u8 {
             say::fail(rt, words.item, words::NO_UTF8)
         }
         Request::Extract(words) => packages::extract(rt, words),
+        Request::Genrb(words) => genrb::genrb(rt, words),
     }
 }

@@ -1,5 +1,6 @@
 //! The words that the program knows: its commands, their arguments and their help.
 //! What is read from words that were given is in `request`.
+use crate::icu_command::genrb;
 use clap::{Arg, ArgAction, Command};
 use std::alloc::{AllocError, Global};
 
@@ -26,7 +27,8 @@ pub(crate) fn program<'a>(alloc: Global) -> Result<Command<'a>, AllocError> {
     let program = with(program, get(alloc))?;
     let program = with(program, diff(alloc))?;
     let program = with(program, list(alloc))?;
-    with(program, extract(alloc))
+    let program = with(program, extract(alloc))?;
+    with(program, genrb(alloc))
 }
 
 /// A command with one more below it.
@@ -38,7 +40,7 @@ fn with<'a>(
 }
 
 /// A command with one argument more.
-fn with_arg<'a>(
+pub(crate) fn with_arg<'a>(
     command: Command<'a>,
     arg: Result<Arg<'a>, AllocError>,
 ) -> Result<Command<'a>, AllocError> {
@@ -186,7 +188,7 @@ fn file<'a>(alloc: Global, help: &'a str) -> Arg<'a> {
 }
 
 /// The argument of several files.
-fn several<'a>(alloc: Global, help: &'a str) -> Arg<'a> {
+pub(crate) fn several<'a>(alloc: Global, help: &'a str) -> Arg<'a> {
     file(alloc, help).action(ArgAction::Append).num_args(1..)
 }
 
@@ -226,7 +228,7 @@ fn by_name<'a>(alloc: Global) -> Result<Arg<'a>, AllocError> {
 }
 
 /// An argument that is there or not.
-fn flag<'a>(alloc: Global, name: &'a str, help: &'a str) -> Arg<'a> {
+pub(crate) fn flag<'a>(alloc: Global, name: &'a str, help: &'a str) -> Arg<'a> {
     Arg::new(alloc, name)
         .long(name)
         .help(help)

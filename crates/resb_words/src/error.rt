@@ -21,6 +21,12 @@ pub enum WordsError {
     SeveralTexts,
     /// The texts of several files are asked for, and no folder for them is named.
     SeveralFiles,
+    /// The words of ICU's compiler ask for this, which isn't done.
+    NotDone(&'static str),
+    /// `--encoding` names one that isn't read.
+    NoEncoding,
+    /// `--formatVersion` names one that isn't written.
+    NoVersion,
     /// A request for memory was refused.
     Memory,
 }
@@ -52,6 +58,12 @@ impl fmt::Display for WordsError {
                 f,
                 "resb: the texts of several files go to a folder, named by --directory"
             ),
+            WordsError::NotDone(word) => write!(f, "resb: --{word} isn't done here"),
+            WordsError::NoEncoding => write!(
+                f,
+                "resb: --encoding is UTF-8, or UTF-16 by the mark that a text begins with"
+            ),
+            WordsError::NoVersion => write!(f, "resb: --formatVersion is 2 or 3"),
             WordsError::Memory => write!(f, "resb: out of memory"),
         }
     }

@@ -4,9 +4,12 @@
 
 mod command;
 mod error;
+mod icu_command;
+mod icu_request;
 mod request;
 
 pub use error::WordsError;
+pub use icu_request::GenrbWords;
 pub use request::{
     CheckWords, CompileWords, DiffWords, DumpWords, ExtractWords, GetWords, Request, request_of,
 };

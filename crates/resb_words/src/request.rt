@@ -3,6 +3,7 @@
 
 use crate::command::program;
 use crate::error::WordsError;
+use crate::icu_request::{GenrbWords, genrb};
 use clap::ArgMatches;
 use std::alloc::Global;
 
@@ -23,6 +24,8 @@ pub enum Request<'w> {
     List(&'w str),
     /// `extract`: one item of a package.
     Extract(ExtractWords<'w>),
+    /// `genrb`: what ICU's compiler is asked in its own words.
+    Genrb(GenrbWords<'w>),
 }
 
 /// What is asked of texts. The name `-` is standard input, and standard output.
@@ -132,6 +135,7 @@ fn asked<'w>(alloc: Global, matches: &ArgMatches<'w>) -> Result<Request<'w>, Wor
         Some(("diff", matches)) => diff(matches),
         Some(("list", matches)) => Ok(Request::List(word(matches, "FILE"))),
         Some(("extract", matches)) => Ok(extract(matches)),
+        Some(("genrb", matches)) => genrb(alloc, matches),
         Some((_, matches)) => get(alloc, matches),
         None => Err(WordsError::NoCommand),
     }
@@ -224,7 +228,7 @@ fn word<'w>(matches: &ArgMatches<'w>, name: &str) -> &'w str {
 }
 
 /// The words of an argument that may have several.
-fn names<'w>(
+pub(crate) fn names<'w>(
     alloc: Global,
     matches: &ArgMatches<'w>,
     argument: &str,

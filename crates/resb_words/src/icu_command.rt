@@ -1,0 +1,79 @@
+//! The words of ICU's own compiler, `genrb`, as a command of the program.
+//! What is read from such words is in `icu_request`.
+use crate::command::{flag, several, with_arg};
+use clap::{Arg, ArgAction, Command};
+use std::alloc::{AllocError, Global};
+
+/// The words of ICU's compiler that ask for what isn't done, without the dashes.
+pub(crate) const NOT_DONE: [&str; 3] = ["write-java", "write-xliff", "filterDir"];
+
+/// ICU's compiler, by its own words.
+pub(crate) fn genrb<'a>(alloc: Global) -> Result<Command<'a>, AllocError> {
+    let command = Command::new(alloc, "genrb")
+        .about("Compiles texts in ICU's own form, by the words of ICU's compiler")
+        .after_help("Example: resb genrb -s curr -d out/curr root.txt de.txt")
+        .arg(several(alloc, "The names of texts, below the source folder"))?;
+    let command = with_places(alloc, command)?;
+    let command = with_pools(alloc, command)?;
+    let command = with_manners(alloc, command)?;
+    with_not_done(alloc, command)
+}
+
+/// The command with where the texts are, where the files go, and how the texts are spelled.
+fn with_places<'a>(alloc: Global, command: Command<'a>) -> Result<Command<'a>, AllocError> {
+    command
+        .arg(lettered(alloc, 's', "sourcedir").help("The folder of the texts, else the current one"))?
+        .arg(lettered(alloc, 'd', "destdir").help("The folder for the files, else the current one"))?
+        .arg(lettered(alloc, 'i', "icudatadir").help("Is not looked at"))?
+        .arg(lettered(alloc, 'e', "encoding").help("UTF-8, or UTF-16 by a mark"))
+}
+
+/// The command with what becomes of the pool bundle.
+fn with_pools<'a>(alloc: Global, command: Command<'a>) -> Result<Command<'a>, AllocError> {
+    let used = at_most_one(alloc, "usePoolBundle")
+        .help("Is not looked at: each file holds all of its keys and strings");
+    let written = at_most_one(alloc, "writePoolBundle")
+        .help("Writes a pool.res that lends nothing, there or beside the files")
+        .conflicts_with("usePoolBundle");
+    with_arg(command.arg(used)?, written)
+}
+
+/// The command with how all is done and said.
+fn with_manners<'a>(alloc: Global, command: Command<'a>) -> Result<Command<'a>, AllocError> {
+    command
+        .arg(flag(alloc, "quiet", "Says no warnings").short('q'))?
+        .arg(flag(alloc, "verbose", "Is not looked at").short('v'))?
+        .arg(flag(alloc, "strict", "Is not looked at").short('k'))?
+        .arg(flag(alloc, "copyright", "Is not looked at").short('c'))?
+        .arg(flag(alloc, "omitCollationRules", "Is not looked at").short('R'))?
+        .arg(flag(alloc, "noBinaryCollation", "Is not looked at").short('C'))?
+        .arg(
+            Arg::new(alloc, "formatVersion")
+                .long("formatVersion")
+                .help("2 or 3; the files are of version 2 with both"),
+        )
+}
+
+/// The command with the words that ask for what isn't done.
+fn with_not_done<'a>(
+    alloc: Global,
+    mut command: Command<'a>,
+) -> Result<Command<'a>, AllocError> {
+    for word in NOT_DONE {
+        command = command.arg(at_most_one(alloc, word).help("Is refused").hide(true))?;
+    }
+    Ok(command)
+}
+
+/// An argument with a value, by a letter and a word.
+fn lettered<'a>(alloc: Global, letter: char, word: &'a str) -> Arg<'a> {
+    Arg::new(alloc, word).short(letter).long(word)
+}
+
+/// An argument that may have a value.
+fn at_most_one<'a>(alloc: Global, word: &'a str) -> Arg<'a> {
+    Arg::new(alloc, word)
+        .long(word)
+        .num_args(0..=1)
+        .action(ArgAction::Append)
+}

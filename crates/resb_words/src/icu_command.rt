@@ -55,14 +55,16 @@ fn with_manners<'a>(alloc: Global, command: Command<'a>) -> Result<Command<'a>, 
 }
 
 /// The command with the words that ask for what isn't done.
-fn with_not_done<'a>(
-    alloc: Global,
-    mut command: Command<'a>,
-) -> Result<Command<'a>, AllocError> {
-    for word in NOT_DONE {
-        command = command.arg(at_most_one(alloc, word).help("Is refused").hide(true))?;
-    }
-    Ok(command)
+fn with_not_done<'a>(alloc: Global, command: Command<'a>) -> Result<Command<'a>, AllocError> {
+    command
+        .arg(refused(alloc, "write-java").short('j'))?
+        .arg(refused(alloc, "write-xliff").short('x'))?
+        .arg(refused(alloc, "filterDir"))
+}
+
+/// An argument that asks for what isn't done.
+fn refused<'a>(alloc: Global, word: &'a str) -> Arg<'a> {
+    at_most_one(alloc, word).help("Is refused").hide(true)
 }
 
 /// An argument with a value, by a letter and a word.

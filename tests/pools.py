@@ -4,7 +4,7 @@
 The words of the files are those that ICU's `genrb` writes for the texts beside them. Each file is
 read beside the `pool.res` of its folder, beside the pool bundle that `--pool` names, and as an item
 of a package; then come files and pools with one damage each, with the refusal that the
-checks of `crates/resb_pool_bundle/specs` give. The last line is 'N passed, M failed'.
+checks of `crates/resb_pool_bundle/specs` give; last a small file over a large pool, by its time. The last line is 'N passed, M failed'.
 """
 import json
 import os
@@ -389,12 +389,38 @@ def read_hostile():
             'dump', '--limit', '1000000', 'hostile/strings.res')
 
 
+def seconds(*words):
+    """The least seconds of processor, the system's left out, that three calls of the program take."""
+    least = float('inf')
+    for _ in range(3):
+        child = subprocess.Popen([RESB, *words], stdout=subprocess.DEVNULL)
+        _, status, usage = os.wait4(child.pid, 0)
+        child.returncode = status
+        least = min(least, usage.ru_utime)
+    return least
+
+
+def read_lightly():
+    """A small file over a pool of 64 MB takes the time in which the pool's bytes come in: a
+    nanosecond for each byte would be 64 ms more. That time is what `check` of the pool itself takes,
+    which is a bundle whose root is empty."""
+    keys, units = b'k\0' * 16_000_000, b'x\0\0\0' * 8_000_000
+    write('large/pool.res', pool_of(keys, units))
+    write('large/a.res', made([0x4000000a, 0, 2, 1 << 31, 1 << 31 | 4, 0x60000000, 0x60000004], 5))
+    shows({'k': 'x'}, 'large/a.res')
+    most = seconds('check', 'large/pool.res') + 0.03
+    for words in (('check',), ('dump',), ('dump', '--json')):
+        taken = seconds(*words, 'large/a.res')
+        seen(True, taken <= most, f'{" ".join(words)} over a large pool: {taken} s of {most}')
+
+
 def main():
     """All of it, in a folder of its own."""
     with tempfile.TemporaryDirectory() as folder:
         os.chdir(folder)
         for group in (read_beside, check_lines, tell_differences, refuse_pools, refuse_files,
-                      read_attributes, read_older, read_items, read_far, read_hostile):
+                      read_attributes, read_older, read_items, read_far, read_hostile,
+                      read_lightly):
             group()
     print(f'{counts[True]} passed, {counts[False]} failed')
     return counts[False] > 0

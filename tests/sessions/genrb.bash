@@ -30,4 +30,5 @@ told 0 '' '' genrb -q -s source -d built --writePoolBundle -k root.txt
 printf '%s' 2000da271400000000000200526573420200000001040000000000000000000000000020080000000900 \
   00000a0000000a00000000000000030000000a000000951eeb620000aaaa | xxd -r -p > wanted.res
 same built/pool.res wanted.res
-told 0 'built/pool.res: a pool bundle of format 2.0: 0 bytes of keys, 2 units' '' check built/pool.res
+told 0 'built/pool.res: 1 resources, format 2.0, no fallback, largest table 0, pool bundle' '' \
+  check built/pool.res

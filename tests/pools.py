@@ -4,7 +4,8 @@
 The words of the files are those that ICU's `genrb` writes for the texts beside them. Each file is
 read beside the `pool.res` of its folder, beside the pool bundle that `--pool` names, and as an item
 of a package; then come files and pools with one damage each, with the refusal that the
-checks of `crates/resb_pool_bundle/specs` give; last a small file over a large pool, by its time. The last line is 'N passed, M failed'.
+checks of `crates/resb_pool_bundle/specs` give; last the time that a small file over a large pool
+takes. The last line is 'N passed, M failed'.
 """
 import json
 import os

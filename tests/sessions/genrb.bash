@@ -27,8 +27,10 @@ told 1 '' 'resb: --encoding is UTF-8, or UTF-16 by the mark that a text begins w
 told 1 '' 'resb: --formatVersion is 2 or 3' genrb --formatVersion 1 -s source root.txt
 # the pool bundle that ICU 72's compiler writes for texts without a key and a string
 told 0 '' '' genrb -q -s source -d built --writePoolBundle -k root.txt
-printf '%s' 2000da271400000000000200526573420200000001040000000000000000000000000020080000000900 \
-  00000a0000000a00000000000000030000000a000000951eeb620000aaaa | xxd -r -p > wanted.res
+printf '%b' '\x20\x00\xda\x27\x14\x00\x00\x00\x00\x00\x02\x00\x52\x65\x73\x42\x02\x00\x00\x00' \
+  '\x01\x04\x00\x00\x00\x00\x00\x00\x00\x00\x00\x00\x00\x00\x00\x20\x08\x00\x00\x00' \
+  '\x09\x00\x00\x00\x0a\x00\x00\x00\x0a\x00\x00\x00\x00\x00\x00\x00\x03\x00\x00\x00' \
+  '\x0a\x00\x00\x00\x95\x1e\xeb\x62\x00\x00\xaa\xaa' > wanted.res
 same built/pool.res wanted.res
 told 0 'built/pool.res: 1 resources, format 2.0, no fallback, largest table 0, pool bundle' '' \
   check built/pool.res

@@ -19,6 +19,7 @@ use Rattle.resb_format.specs.Units.{units, size, length_marker}
 use Rattle.resb_pool.specs.Records.{IsRecord, IsRecords}
 use Rattle.resb_pool.specs.Container.{IsContainer}
 use Rattle.resb_pool.specs.Pool.{LiesIn, SizeIn, Saved, Precedes, record_units, ClosesAt, Off}
+use Rattle.resb_pool.specs.Pool.{IsPool}
 use Rattle.resb_pool.specs.Pool.{off_empty, off_within}
 use Rattle.resb_pool.specs.Plan.{nows, texts_size, IsPlan}
 use Rattle.resb_pool.specs.Inner.Placing.{indexed_text, copies, AreTexts, AreContainers, AreSums}
@@ -116,7 +117,7 @@ module _ (S T : TextList) (ms : List Measure) (given : AreTexts S T ms)
 
       module _ (v : List Record) (records : IsRecords T (record_texts T v))
           (each : All (IsRecordOf T sums) v) where
-        in_given : IsRecords S (record_texts T v)
+        pub in_given : IsRecords S (record_texts T v)
         in_given = records_from T S given.same (record_texts T v) records
 
         pub laid_within : sum_by size (record_texts T v) ≤ sum_by size S
@@ -137,7 +138,7 @@ module _ (S T : TextList) (ms : List Measure) (given : AreTexts S T ms)
           get_or-map (record_text T) v i d (record_text T (get_or v i d)) l,
         )
 
-        saved_at : (i : ℕ) (d : Record) → i < length v
+        pub saved_at : (i : ℕ) (d : Record) → i < length v
             → Saved S (record_text T (get_or v i d)) (get_or v i d).saved
         saved_at i d l =
             let r = get_or v i d in
@@ -145,6 +146,38 @@ module _ (S T : TextList) (ms : List Measure) (given : AreTexts S T ms)
             subst (SizeIn S (record_text T r) S)
             (sym (lying.each r.index (omega (arith, e.within, placed.len))) ∙ sym e.saved_is)
             (record_in r.index e.within (is_record i d l))
+
+        -- each record stands before the next
+        precedes : IsSorted (record_cmp T) v → (k : ℕ) → k + 1 < length (record_texts T v)
+            → Precedes S (get_or (record_texts T v) k []) (get_or (record_texts T v) (k + 1) [])
+        precedes sorted k lt =
+            let Q = record_texts T v in
+            let n = length-map v (record_text T) in
+            let next : suc k ≡ k + 1 = omega arith in
+            let a : k < length v = omega (arith, n) in
+            let b : k + 1 < length v = omega (arith, n) in
+            let here = record_text_at k no_record a in
+            let there = record_text_at (k + 1) no_record b in
+            let x = get_or v k no_record in
+            let y = get_or v (k + 1) no_record in
+            let ne : record_text T x ≡ record_text T y
+            → ⊥ = λ q. neighbours_differ Q k records.once (omega arith) (here ∙ q
+            ∙ sym there ∙ ap (λ i. get_or Q i []) (sym next)) in
+            subst (λ z. Precedes S z (get_or Q (k + 1) [])) (sym here)
+            (subst (Precedes S (record_text T x)) (sym there)
+            (in_order S T x y (each k no_record a).units_is
+            (each (k + 1) no_record b).units_is
+            (saved_at k no_record a) (saved_at (k + 1) no_record b)
+            (sorted k no_record (omega arith) b) ne))
+
+        pub pool_is : IsSorted (record_cmp T) v → (us : List ℕ)
+            → us ≡ 0 ∷ flat_map record_units (record_texts T v)
+            → IsPool S (record_texts T v) us
+        pool_is sorted us u = record {
+          records = in_given;
+          ordered = λ k lt. precedes sorted k lt;
+          units = u;
+        }
 
         module _ (es : List ℕ) (count : length es ≡ length hs) (ends : AreEnds T v v es) where
           closed : (q : ℕ) → q < length T → IsRecord T (indexed_text T q)
@@ -268,11 +301,7 @@ module _ (S T : TextList) (ms : List Measure) (given : AreTexts S T ms)
               short = short;
               room = omega (arith, ap length u, length-records (record_texts T v), laid_small);
               records = record_texts T v;
-              pool = record {
-                records = in_given;
-                ordered = λ k lt. precedes k lt;
-                units = u;
-              };
+              pool = pool_is sorted us u;
               offsets = λ s. by s (offset s) (f s);
             }
               where
@@ -286,28 +315,6 @@ module _ (S T : TextList) (ms : List Measure) (given : AreTexts S T ms)
                   subst (λ z. Off S (record_texts T v) z k) e
                       (subst (Off S (record_texts T v) (indexed_text T i)) (sym q) (stands i l)),
                 )
-
-                precedes : (k : ℕ) → k + 1 < length (record_texts T v) → Precedes S
-                    (get_or (record_texts T v) k []) (get_or (record_texts T v) (k + 1) [])
-                precedes k lt =
-                    let Q = record_texts T v in
-                    let n = length-map v (record_text T) in
-                    let next : suc k ≡ k + 1 = omega arith in
-                    let a : k < length v = omega (arith, n) in
-                    let b : k + 1 < length v = omega (arith, n) in
-                    let here = record_text_at k no_record a in
-                    let there = record_text_at (k + 1) no_record b in
-                    let x = get_or v k no_record in
-                    let y = get_or v (k + 1) no_record in
-                    let ne : record_text T x ≡ record_text T y
-                    → ⊥ = λ q. neighbours_differ Q k records.once (omega arith) (here ∙ q
-                    ∙ sym there ∙ ap (λ i. get_or Q i []) (sym next)) in
-                    subst (λ z. Precedes S z (get_or Q (k + 1) [])) (sym here)
-                    (subst (Precedes S (record_text T x)) (sym there)
-                    (in_order S T x y (each k no_record a).units_is
-                    (each (k + 1) no_record b).units_is
-                    (saved_at k no_record a) (saved_at (k + 1) no_record b)
-                    (sorted k no_record (omega arith) b) ne))
 
 -- the place of a text among keys
 module _ (s : List ℕ) where

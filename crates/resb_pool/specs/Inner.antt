@@ -8,3 +8,4 @@ pub mod LaidRecords
 pub mod ToldApart
 pub mod Firsts
 pub mod Listing
+pub mod Ranked

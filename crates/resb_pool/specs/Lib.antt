@@ -9,5 +9,6 @@ pub mod Order
 pub mod Container
 pub mod Pool
 pub mod Plan
+pub mod Shared
 pub mod Laws
 pub mod Inner

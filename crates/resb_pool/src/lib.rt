@@ -11,6 +11,7 @@ mod measure;
 mod offsets;
 pub mod pool;
 mod records;
+pub mod shared_pool;
 mod suffix_order;
 mod texts;
 

@@ -57,7 +57,7 @@ fn place(
 }
 
 /// The distinct texts of strings. Refused is what `plan` refuses.
-fn texts_of<'a>(alloc: Global, strings: &[&'a str]) -> Result<Texts<'a>, PlanError>
+pub(crate) fn texts_of<'a>(alloc: Global, strings: &[&'a str]) -> Result<Texts<'a>, PlanError>
     ensures ok { IfOk result (λ t. ToldApart (nows strings.now) (nows t.distinct.keys)
         t.measures.items t.order.items) }
     ensures err { IfErr result (NotPlanned (nows strings.now)) }

@@ -1,9 +1,9 @@
 //! The checksum of a pool bundle, bit by bit.
-//! Which bytes and units it is made of is said in `pool_bundle`.
+//! Where a pool bundle has its keys and units is said in `pool_bundle`.
 ghost use Rattle.std.specs.Prelude.{◌≡◌};
 ghost use Rattle.std.specs.List.{fold};
 ghost use Rattle.resb_format.specs.Bytes.{units_of};
-ghost use Rattle.resb_pool_bundle.specs.Checksum.{bit_step, byte_step, unit_step};
+ghost use Rattle.resb_pool_bundle.specs.Checksum.{bit_step, byte_step, unit_step, checksum_of};
 
 use resb_format::bytes::unit_at;
 
@@ -55,4 +55,17 @@ pub(crate) fn after_units(crc: u32, block: &[u8]) -> u32
         crc = after_byte(crc, (unit % 0x100) as u8);
     }
     crc
+}
+
+/// The checksum of a pool bundle with these keys, which are filled to a word, and with this 16-bit
+/// block, two bytes for each unit. The time grows with both.
+#[tactic(auto, unfolding(crate::specs::Checksum::checksum_of))]
+pub fn pool_checksum(keys: &[u8], block: &[u8]) -> u32
+    ensures { result ≡ checksum_of (record {
+      keys = keys.now;
+      block = units_of block.now;
+      checksum = 0;
+    }) }
+{
+    after_units(after_bytes(0, keys), block)
 }

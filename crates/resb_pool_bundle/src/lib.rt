@@ -8,5 +8,6 @@ mod index;
 pub mod laws;
 mod pool_bundle;
 
+pub use checksum::pool_checksum;
 pub use head::{FileHead, read_with_pool};
 pub use pool_bundle::PoolBundle;

@@ -1,0 +1,17 @@
+use Rattle.std.proofs.Common.{sym, ◌∙◌, ap, subst}
+use Rattle.std.proofs.lemmas.Result.{IfOk-weaker}
+use Rattle.resb_pool.specs.Plan.{nows}
+use Rattle.resb_pool.specs.Records.{IsRecords}
+use Rattle.resb_pool.specs.Inner.Placing.{record_texts}
+use Rattle.resb_pool.proofs.Ranking.{records_of}
+use Rattle.resb_pool.proofs.shared_pool.ranked_texts.Goals as goal
+
+pub returns : goal.returns
+returns c =
+    let T = nows c.args.texts.now in
+    let ms = c.args.measures.now in
+    let rows = c.in_ok-rows.rows.items in
+    IfOk-weaker c.texts_of_rows.result _ _
+    (λ v h S small given. subst (IsRecords S)
+    (sym (h ∙ ap (record_texts T) c.deref.ensures.value))
+    (records_of S T ms given small rows c.in_ok-rows.ensures)) c.texts_of_rows.ensures

@@ -1,0 +1,111 @@
+//! What a pool that many bundles share takes of strings: the records of each bundle, and of all
+//! these together the records that save enough.
+//! How strings are told apart and laid is said in `pool` and in the steps below it.
+ghost use Rattle.std.specs.Prelude.{◌≡◌, ℕ, ◌<◌, ◌^◌, List, IfOk, IfErr, All};
+ghost use Rattle.resb_pool.specs.Plan.{nows, texts_size, NotPlanned};
+ghost use Rattle.resb_pool.specs.Records.{IsRecords};
+ghost use Rattle.resb_pool.specs.Shared.{IsSharedPool};
+ghost use Rattle.resb_pool.specs.Inner.Placing.{AreTexts, record_texts};
+ghost use Rattle.resb_pool.specs.Inner.Ranked.{AreRanked, saving};
+
+use crate::containers::{find_containers, find_sums};
+use crate::error::PlanError;
+use crate::measure::Measure;
+use crate::pool::texts_of;
+use crate::records::{Record, lay, ordered};
+use crate::texts::indexed_text;
+use std::alloc::{AllocError, Global};
+
+/// The records of distinct texts, in their order.
+fn rank(alloc: Global, texts: &[&str], measures: &[Measure]) -> Result<Vec<Record>, AllocError>
+    requires given { (strings : List (List ℕ)) × (texts_size strings < 2 ^ 28)
+        × AreTexts strings (nows texts.now) measures.now }
+    ensures { IfOk result (λ v. AreRanked (nows texts.now) measures.now v.items) }
+{
+    let containers = find_containers(alloc, texts)?;
+    let sums = find_sums(alloc, &containers, measures)?;
+    ordered(alloc, texts, &containers, measures, &sums)
+}
+
+/// The texts of records.
+fn texts_of_rows<'a>(
+    alloc: Global,
+    texts: &[&'a str],
+    rows: &[Record],
+) -> Result<Vec<&'a str>, AllocError>
+    ensures { IfOk result (λ v. nows v.items ≡ record_texts (nows texts.now) rows.now) }
+{
+    let mut found = Vec::with_capacity(alloc, rows.len())?;
+    for row in rows {
+        found.push(indexed_text(texts, row.index))?;
+    }
+    Ok(found)
+}
+
+/// The records that save so many units or more.
+fn saving_rows(alloc: Global, rows: &[Record], least: u32) -> Result<Vec<Record>, AllocError>
+    ensures { IfOk result (λ v. v.items ≡ saving least rows.now) }
+{
+    let mut kept = Vec::new(alloc);
+    for row in rows {
+        if row.saved >= least {
+            kept.push(*row)?;
+        }
+    }
+    Ok(kept)
+}
+
+/// The texts of the records of distinct texts, in their order.
+fn ranked_texts<'a>(
+    alloc: Global,
+    texts: &[&'a str],
+    measures: &[Measure],
+) -> Result<Vec<&'a str>, AllocError>
+    requires given { (strings : List (List ℕ)) × (texts_size strings < 2 ^ 28)
+        × AreTexts strings (nows texts.now) measures.now }
+    ensures { IfOk result (λ v. (strings : List (List ℕ)) → texts_size strings < 2 ^ 28
+        → AreTexts strings (nows texts.now) measures.now → IsRecords strings (nows v.items)) }
+{
+    let rows = rank(alloc, texts, measures)?;
+    texts_of_rows(alloc, texts, &rows)
+}
+
+/// Unit 0 and those records of distinct texts that save so many units or more, in their order.
+fn lay_saving(
+    alloc: Global,
+    texts: &[&str],
+    measures: &[Measure],
+    least: u32,
+) -> Result<Vec<u16>, AllocError>
+    requires given { (strings : List (List ℕ)) × (texts_size strings < 2 ^ 28)
+        × AreTexts strings (nows texts.now) measures.now }
+    ensures { IfOk result (λ v. (strings : List (List ℕ)) → texts_size strings < 2 ^ 28
+        → AreTexts strings (nows texts.now) measures.now
+        → IsSharedPool strings least v.items) }
+{
+    let rows = rank(alloc, texts, measures)?;
+    let kept = saving_rows(alloc, &rows, least)?;
+    let block = lay(alloc, texts, &kept)?;
+    Ok(block.units)
+}
+
+/// The texts that get a record in the plan of strings (`plan`), each once, in the order in which
+/// their records stand there. Refused is what `plan` refuses.
+pub fn records<'a>(alloc: Global, strings: &[&'a str]) -> Result<Vec<&'a str>, PlanError>
+    ensures ok { IfOk result (λ v. IsRecords (nows strings.now) (nows v.items)) }
+    ensures err { IfErr result (NotPlanned (nows strings.now)) }
+{
+    let texts = texts_of(alloc, strings)?;
+    Ok(ranked_texts(alloc, texts.distinct.as_slice(), &texts.measures)?)
+}
+
+/// Unit 0, and of the records that strings have in their plan (`plan`) those of which sharing each
+/// saves so many units or more, in the same order. Refused is what `plan` refuses.
+/// (ICU's `reslist.cpp`: the strings of a pool bundle.)
+pub fn units_saving(alloc: Global, strings: &[&str], least: u32) -> Result<Vec<u16>, PlanError>
+    ensures ok { IfOk result (λ v. IsSharedPool (nows strings.now) least v.items) }
+    ensures err { IfErr result (NotPlanned (nows strings.now)) }
+{
+    let texts = texts_of(alloc, strings)?;
+    Ok(lay_saving(alloc, texts.distinct.as_slice(), &texts.measures, least)?)
+}

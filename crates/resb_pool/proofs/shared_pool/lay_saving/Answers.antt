@@ -1,4 +1,4 @@
-use Rattle.std.proofs.Common.{◌≡◌, ◌<◌, ◌^◌, ◌∷◌, ℕ, List, sym, ◌∙◌, ap, subst, arith, All}
+use Rattle.std.proofs.Common.{◌≡◌, ◌<◌, ◌^◌, ◌∷◌, List, sym, ◌∙◌, ap, subst, arith, All}
 use Rattle.std.specs.List.{sum_by, flat_map}
 use Rattle.resb_format.specs.Units.{size}
 use Rattle.resb_pool.specs.Plan.{nows}

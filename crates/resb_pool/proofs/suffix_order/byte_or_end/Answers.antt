@@ -1,5 +1,5 @@
 -- A byte counted from the last one is that of the bytes backwards.
-use Rattle.std.proofs.Common.{◌≡◌, ◌-◌, ◌<◌, ℕ, List, length, get_or, reverse, sym, ◌∙◌, ap, arith}
+use Rattle.std.proofs.Common.{◌≡◌, ◌-◌, ◌<◌, ℕ, List, length, get_or, reverse, sym, ◌∙◌, arith}
 use Rattle.std.proofs.lemmas.List.{get_or-reverse, get_or_past, get_or_default, length-reverse}
 use Rattle.resb_pool.proofs.suffix_order.byte_or_end.Goals as goal
 

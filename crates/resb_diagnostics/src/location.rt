@@ -1,9 +1,12 @@
 //! The line and the column of a place in a text, and of several one after another.
 //! Which places are told of is decided by those who ask.
 ghost use Rattle.std.specs.Prelude.{◌≡◌, ◌≤◌, length, min};
+ghost use Rattle.resb_grammar.specs.Ascii.{line_feed};
+ghost use Rattle.resb_diagnostics.specs.Inner.Tokens.{NoByte};
 ghost use Rattle.resb_diagnostics.specs.Location as location;
 ghost use Rattle.resb_diagnostics.specs.Location.{line_at, column_at};
 
+use memchr::{memchr_iter, memrchr};
 use std::marker::Model;
 
 /// A place in a text as a person counts: lines from 1, and characters of the line from 1.
@@ -80,7 +83,8 @@ pub fn location_of(text: &[u8], place: usize) -> Location
     location_behind(text, 0, start, place.min(text.len()))
 }
 
-/// Where a place is that doesn't stand before another one, of which that is known.
+/// Where a place is that doesn't stand before another one, of which that is known. Line feeds are
+/// looked for many bytes at a time, and the characters of the last line alone are counted.
 #[tactic(auto, using(crate::proofs::LocationLemmas::few_places))]
 fn location_behind(text: &[u8], from: usize, known: Location, place: usize) -> Location
     requires order { from ≤ place }
@@ -90,20 +94,31 @@ fn location_behind(text: &[u8], from: usize, known: Location, place: usize) -> L
     ensures line { result.line ≡ line_at text.now place }
     ensures column { result.column ≡ column_at text.now place }
 {
-    let Location {
-        mut line,
-        mut column,
-    } = known;
+    let part = &text[from..place];
+    let line = known.line + memchr_iter(b'\n', part).count();
+    let column = match memrchr(b'\n', part) {
+        Some(feed) => column_behind(text, from + feed + 1, 1, place),
+        None => column_behind(text, from, known.column, place),
+    };
+    Location { line, column }
+}
+
+/// The column of a place before which no line ends behind another one, whose column is known.
+#[tactic(auto, using(crate::proofs::LocationLemmas::few_places))]
+fn column_behind(text: &[u8], from: usize, known: usize, place: usize) -> usize
+    requires order { from ≤ place }
+    requires fits { place ≤ length text.now }
+    requires column { known ≡ column_at text.now from }
+    requires none { NoByte line_feed text.now from place }
+    ensures { result ≡ column_at text.now place }
+{
+    let mut column = known;
     'bytes: for at in from..place {
-        let byte = text[at];
-        if byte == b'\n' {
-            line += 1;
-            column = 1;
-        } else if begins_character(byte) {
+        if begins_character(text[at]) {
             column += 1;
         }
     }
-    Location { line, column }
+    column
 }
 
 /// Whether a byte begins a character of UTF-8, and doesn't go on with one.

@@ -1,9 +1,0 @@
--- Line and column are those of the place, and no more than the bytes before it and 1.
-use Rattle.std.proofs.Common.{◌≡◌, ◌≤◌, suc}
-use Rattle.resb_diagnostics.specs.Location.{line_at, column_at}
-use Rattle.resb_diagnostics.proofs.location.location_behind.Given as goal
-
-abbrev pub invariant-bytes : goal.invariant-bytes
-invariant-bytes l =
-    (l.line ≡ line_at l.text l.at) × (l.column ≡ column_at l.text l.at)
-    × (l.line ≤ suc l.at) × (l.column ≤ suc l.at)

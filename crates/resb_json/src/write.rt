@@ -4,11 +4,11 @@ ghost use Rattle.std.specs.Prelude.{◌≡◌, ◌<◌, ◌≤◌, OnOk, OnErr, 
 ghost use Rattle.std.specs.String.{string_bytes};
 ghost use Rattle.std.specs.Io.KnownBytes.{Appends};
 ghost use Rattle.serde_json.specs.Written.{compact_text};
-ghost use Rattle.resb_shown.specs.Sink.{AppendsPart};
+ghost use Rattle.resb_shown.specs.Sink.{AppendsPart, IsLengthWithin};
 ghost use Rattle.resb_json.specs.Json.{json_of};
 
 use crate::text::JsonText;
-use resb_shown::{Shown, fits_within, write_blocks};
+use resb_shown::{Shown, length_within, write_blocks};
 use std::alloc::{AllocError, Global};
 use std::io;
 use std::io::Write;
@@ -30,14 +30,29 @@ pub fn write_json<'s, S: Shown<'s>, W: Write>(
     write_blocks(alloc, writer, &mut text)
 }
 
+/// How many bytes the JSON of what is shown has, if those are no more than a limit. It is made as
+/// far as that shows, a block at a time, and not kept.
+pub fn json_length_within<'s, S: Shown<'s>>(
+    alloc: Global,
+    shown: S,
+    limit: u64,
+) -> Result<Option<u64>, AllocError>
+    ensures { IfOk result (IsLengthWithin limit (compact_text (json_of (S.tree shown)))) }
+{
+    let mut text = JsonText::new(alloc, shown)?;
+    length_within(alloc, &mut text, limit)
+}
+
 /// Whether the JSON of what is shown has no more bytes than a limit. It is made as far as that
 /// shows, a block at a time, and not kept.
 pub fn json_fits<'s, S: Shown<'s>>(alloc: Global, shown: S, limit: u64) -> Result<bool, AllocError>
     ensures { let text = compact_text (json_of (S.tree shown)) in
         IfOk result (λ fits. MatchBool fits (length text ≤ limit) (limit < length text)) }
 {
-    let mut text = JsonText::new(alloc, shown)?;
-    fits_within(alloc, &mut text, limit)
+    match json_length_within(alloc, shown, limit)? {
+        Some(_) => Ok(true),
+        None => Ok(false),
+    }
 }
 
 /// The JSON of what is shown, without blanks.

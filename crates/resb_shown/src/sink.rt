@@ -3,7 +3,7 @@
 ghost use Rattle.std.specs.Prelude.{◌≡◌, ◌<◌, ◌≤◌, ◌++◌, ℕ, List, [], OnOk, OnErr, IfOk, Ok};
 ghost use Rattle.std.specs.Prelude.{true, false, length, MatchBool};
 ghost use Rattle.std.specs.Io.KnownBytes.{Appends};
-ghost use Rattle.resb_shown.specs.Sink.{AppendsPart};
+ghost use Rattle.resb_shown.specs.Sink.{AppendsPart, IsLengthWithin};
 
 use std::alloc::{AllocError, Global};
 use std::io;
@@ -70,20 +70,38 @@ pub fn write_blocks<B: Blocks, W: Write>(
     write_whole(writer, block.as_slice())
 }
 
+/// How many bytes a text has, if those are no more than a limit. It is gone through as far as that
+/// shows, and not kept.
+pub fn length_within<B: Blocks>(
+    alloc: Global,
+    text: &mut B,
+    limit: u64,
+) -> Result<Option<u64>, AllocError>
+    ensures { IfOk result (IsLengthWithin limit (B.ahead text.old)) }
+{
+    let mut block = Vec::with_capacity(alloc, 2 * BLOCK_LEN)?;
+    let mut left = limit;
+    while text.push_block(&mut block)? {
+        let Some(rest) = left.checked_sub(block.len() as u64) else {
+            return Ok(None);
+        };
+        left = rest;
+        block.clear();
+    }
+    match left.checked_sub(block.len() as u64) {
+        Some(rest) => Ok(Some(limit - rest)),
+        None => Ok(None),
+    }
+}
+
 /// Whether a text has no more bytes than a limit. It is gone through as far as that shows, and not
 /// kept.
 pub fn fits_within<B: Blocks>(alloc: Global, text: &mut B, limit: u64) -> Result<bool, AllocError>
     ensures { IfOk result (λ fits. MatchBool fits (length (B.ahead text.old) ≤ limit)
         (limit < length (B.ahead text.old))) }
 {
-    let mut block = Vec::with_capacity(alloc, 2 * BLOCK_LEN)?;
-    let mut left = limit;
-    while text.push_block(&mut block)? {
-        let Some(rest) = left.checked_sub(block.len() as u64) else {
-            return Ok(false);
-        };
-        left = rest;
-        block.clear();
+    match length_within(alloc, text, limit)? {
+        Some(_) => Ok(true),
+        None => Ok(false),
     }
-    Ok(block.len() as u64 <= left)
 }

@@ -1,6 +1,6 @@
 -- What is left of the limit, with the whole text, is the limit with what is still to come.
 use Rattle.std.proofs.Common.{◌≡◌, ◌+◌, [], length}
-use Rattle.resb_shown.proofs.sink.fits_within.Given as goal
+use Rattle.resb_shown.proofs.sink.length_within.Given as goal
 
 abbrev pub invariant-loop-block : goal.invariant-loop-block
 invariant-loop-block g l = record {

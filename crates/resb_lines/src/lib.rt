@@ -13,4 +13,4 @@ mod write;
 
 pub use causes::has_text;
 pub use form::{Form, Icu, Plain};
-pub use write::{ShownBundle, lines_fit, write_lines};
+pub use write::{ShownBundle, lines_fit, lines_length_within, write_lines};

@@ -2,12 +2,12 @@
 //! What is written, and in which order, is said in `text`.
 ghost use Rattle.std.specs.Prelude.{◌<◌, ◌≤◌, OnOk, OnErr, IfOk, MatchBool, length};
 ghost use Rattle.std.specs.Io.KnownBytes.{Appends};
-ghost use Rattle.resb_shown.specs.Sink.{AppendsPart};
+ghost use Rattle.resb_shown.specs.Sink.{AppendsPart, IsLengthWithin};
 ghost use Rattle.resb_lines.specs.Lines.{lines_of};
 
 use crate::form::Form;
 use crate::text::LinesText;
-use resb_shown::{Node, Shown, fits_within, write_blocks};
+use resb_shown::{Node, Shown, length_within, write_blocks};
 use std::alloc::{AllocError, Global};
 use std::io;
 use std::io::Write;
@@ -53,6 +53,32 @@ pub fn write_lines<'s, F: Form, S: Shown<'s>, W: Write>(
     write_blocks(alloc, writer, &mut text)
 }
 
+/// How many bytes the lines of a bundle in a form have, if those are no more than a limit. They are
+/// made as far as that shows, a block at a time, and not kept.
+pub fn lines_length_within<'s, F: Form, S: Shown<'s>>(
+    alloc: Global,
+    form: F,
+    bundle: ShownBundle<'s, S>,
+    limit: u64,
+) -> Result<Option<u64>, AllocError>
+    ensures { let text = lines_of F.spelling bundle.entry.name.now
+        bundle.entry.is_locale_fallback_enabled (S.tree bundle.entry.root) in
+        IfOk result (IsLengthWithin limit text) }
+{
+    let Node::Table(entries) = bundle.root.node() else {
+        return Ok(Some(0));
+    };
+    let fallback = bundle.is_locale_fallback_enabled;
+    let mut text: LinesText<'s, F, S, S::Members, S::Entries> = LinesText::new(
+        alloc,
+        form,
+        bundle.name,
+        fallback,
+        entries,
+    )?;
+    length_within(alloc, &mut text, limit)
+}
+
 /// Whether the lines of a bundle in a form have no more bytes than a limit. They are made as far as
 /// that shows, a block at a time, and not kept.
 pub fn lines_fit<'s, F: Form, S: Shown<'s>>(
@@ -65,16 +91,8 @@ pub fn lines_fit<'s, F: Form, S: Shown<'s>>(
         bundle.entry.is_locale_fallback_enabled (S.tree bundle.entry.root) in
         IfOk result (λ fits. MatchBool fits (length text ≤ limit) (limit < length text)) }
 {
-    let Node::Table(entries) = bundle.root.node() else {
-        return Ok(true);
-    };
-    let fallback = bundle.is_locale_fallback_enabled;
-    let mut text: LinesText<'s, F, S, S::Members, S::Entries> = LinesText::new(
-        alloc,
-        form,
-        bundle.name,
-        fallback,
-        entries,
-    )?;
-    fits_within(alloc, &mut text, limit)
+    match lines_length_within(alloc, form, bundle, limit)? {
+        Some(_) => Ok(true),
+        None => Ok(false),
+    }
 }

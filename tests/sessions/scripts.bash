@@ -6,7 +6,7 @@ mkdir alone
 told 0 '' '' compile --quiet warn.txt -d alone
 holds alone warn.res
 warned="warn.txt:1:7: warning: this backslash is a character here, and an escape for genrb
-warn.txt:1:11: warning: this key stands at 1:3 too; genrb refuses that
+warn.txt:1:11: warning: the key \"a\" stands at 1:3 too; genrb refuses that
 warn.txt:1:29: warning: this string is an item of its own here; genrb joins it to the \
 one before"
 rm alone/warn.res
@@ -59,17 +59,23 @@ bits="bits.txt:2:9: warning: this number has more than 28 bits; 31564544 is kept
 bits.txt:2:39: warning: this number has more than 28 bits; 68435456 is kept
 bits.txt:2:58: warning: this number has more than 28 bits; 0 is kept"
 told 0 '' "$bits" compile --icu bits.txt
-# of one digit in braces with which a group begins
+# of one digit in braces with which a group begins, or behind the one word before it
 cat > braces.txt <<'END'
 b{
   a{{0} of {1}} b{"{0} of {1}"} c{ { 2 }, {3}} d{x{0} y{1}}
   e:array{{0}} f{{00}} g{{"0"}} h{{0, 1}}
+  i{Hello {0}} j{k{Hello { 1 }}} l:table{x{0}} m{"x"{0}} n{x{00}} o{x{"0"}} q{x{0, 1}}
+  r{x{0} y{z}} s{x:string{0}}
 }
 END
-braces="braces.txt:2:5: warning: this group is a string of its own; braces that are meant need \
-quotes
-braces.txt:2:36: warning: this group is a string of its own; braces that are meant need quotes"
+of_its_own='warning: this group is a string of its own; braces that are meant need quotes'
+braces="braces.txt:2:5: $of_its_own
+braces.txt:2:36: $of_its_own
+braces.txt:4:11: $of_its_own
+braces.txt:4:26: $of_its_own"
 told 0 '' "$braces" compile --icu braces.txt
+printf 'b:table{x{0}}' > root.txt
+told 0 '' '' compile --icu root.txt
 mkdir icu_texts
 cp joined.txt bits.txt icu_texts
 told 1 '' "$bits" compile --icu --strict bits.txt -d alone

@@ -1,5 +1,6 @@
 -- The warnings of a text of ICU's form: of pieces that are joined over a line's end to one member
--- of an array, of integers that lose bits, and of `{0}` where a group begins.
+-- of an array, of integers that lose bits, and of `{0}` where a group begins, and where it is all of
+-- a group but a word before it.
 --     icu_warned text n   those of the first n bytes
 -- A key is one piece alone. So in a text that is a bundle pieces in a row are a member of an array,
 -- but where they are all that stands in a group that is not `:array`.
@@ -69,36 +70,53 @@ abbrev pub is_behind_colon : List ℕ → ℕ → Bool
 is_behind_colon text zero = false
 is_behind_colon text (suc n) = slice_index text n == colon
 
--- the last token is a type of this name
-abbrev pub last_named : Named → IcuLast
-last_named named.Integer = last.IntegerType
-last_named named.Array = last.ArrayType
-last_named _ = last.Other
+-- the last token is a type of this name, that of the root or of another group
+abbrev pub last_named : Named → IcuLast → IcuLast
+last_named _ last.Start = last.Start
+last_named named.Integer _ = last.IntegerType
+last_named named.Array _ = last.ArrayType
+last_named _ _ = last.OtherType
 
 -- these bytes are one decimal digit
 abbrev pub is_digit : List ℕ → Bool
 is_digit (b ∷ []) = not (nat_lt b digit_0) && not (nat_lt digit_9 b)
 is_digit _ = false
 
--- behind a word that is no type, one digit or not: a digit is kept in mind where it stands first in
--- a group with which another begins
-abbrev pub behind_digit : Bool → IcuLast → IcuLast
-behind_digit true (last.Inner n) = last.Digit n
-behind_digit _ _ = last.Other
+-- behind a word that is no type, one digit or not: before the root's `{`; a digit that stands first
+-- in a group with which another begins, or in the value of the first key of another; or any other
+-- word that stands first in a group without a type, which is a key where a `{` follows
+abbrev pub behind_plain_word : Bool → IcuLast → IcuLast
+behind_plain_word _ last.Start = last.Start
+behind_plain_word true (last.Inner n) = last.Digit n
+behind_plain_word true (last.Value n) = last.ValueDigit n
+behind_plain_word false (last.Inner n) = last.Key
+behind_plain_word false (last.Value n) = last.Key
+behind_plain_word _ last.Open = last.Key
+behind_plain_word _ _ = last.Other
 
 -- behind a word: it is the name of a type right behind a `:`
 abbrev pub behind_icu_word : List ℕ → ℕ → ℕ → IcuLast → IcuLast
 behind_icu_word text from to l =
-    if is_behind_colon text from then last_named (named_by (slice_range text from to))
-    else behind_digit (is_digit (slice_range text from to)) l
+    if is_behind_colon text from then last_named (named_by (slice_range text from to)) l
+    else behind_plain_word (is_digit (slice_range text from to)) l
 
--- behind a `{` at a place: what group it begins
+-- behind a `{` at a place: what group it begins, be that the root or another one
 abbrev pub behind_open : ℕ → IcuLast → IcuLast
+behind_open n last.Start = last.Other
 behind_open n last.IntegerType = last.Integer
 behind_open n last.ArrayType = last.Array
+behind_open n last.OtherType = last.Typed
 behind_open n last.Open = last.Inner n
+behind_open n last.Typed = last.Inner n
 behind_open n (last.Inner m) = last.Inner n
+behind_open n (last.Value m) = last.Inner n
+behind_open n last.Key = last.Value n
 behind_open n _ = last.Open
+
+-- behind a `}`: that of a digit which is the value of the first key of a group, or any other
+abbrev pub behind_close : IcuLast → IcuLast
+behind_close (last.ValueDigit n) = last.Valued n
+behind_close _ = last.Other
 
 -- the first piece of a string before which a line ended: that one, or the one at this place
 abbrev pub first_joined : Option ℕ → Bool → ℕ → Option ℕ
@@ -112,7 +130,9 @@ abbrev pub behind_icu_piece : ℕ → Bool → IcuLast → IcuLast
 behind_icu_piece n ended (last.First joined) = last.First (first_joined joined ended n)
 behind_icu_piece n ended (last.Member joined) = last.Member (first_joined joined ended n)
 behind_icu_piece n ended last.Open = last.First None
+behind_icu_piece n ended last.Typed = last.First None
 behind_icu_piece n ended (last.Inner m) = last.First None
+behind_icu_piece n ended (last.Value m) = last.First None
 behind_icu_piece n ended _ = last.Member None
 
 -- the last token behind one more
@@ -120,7 +140,7 @@ abbrev pub behind_icu_token : List ℕ → IcuToken → Bool → IcuLast → Icu
 behind_icu_token text (token.Piece n) ended l = behind_icu_piece n ended l
 behind_icu_token text (token.Word from to) ended l = behind_icu_word text from to l
 behind_icu_token text (token.Open n) ended l = behind_open n l
-behind_icu_token text token.Close ended l = last.Other
+behind_icu_token text token.Close ended l = behind_close l
 behind_icu_token text token.Comma ended l = last.Other
 
 -- the same behind a place where a token may stand
@@ -130,7 +150,7 @@ behind_some text (Some t) ended l = behind_icu_token text t ended l
 
 -- the last token of so many bytes
 abbrev pub icu_last_at : List ℕ → ℕ → IcuLast
-icu_last_at text zero = last.Other
+icu_last_at text zero = last.Start
 icu_last_at text (suc n) =
     behind_some text (icu_token_at text n) (line_ended text n) (icu_last_at text n)
 
@@ -154,11 +174,13 @@ of_joined None = None
 of_joined (Some n) = Some (warning_at reason.JoinedOverLine n)
 
 -- the warning that a token brings out: of an integer; of `{0}` with which a group begins, at its
--- `}`; of a string among the members of an array, behind its last piece; and of one that is first
--- in a group, where a comma follows it
+-- `}`; of `{0}` behind a word, where both are all that stands in a group without a type which isn't
+-- the root, at that one's `}`; of a string among the members of an array, behind its last piece; and
+-- of one that is first in a group, where a comma follows it
 abbrev pub of_icu_token : List ℕ → IcuToken → IcuLast → Option Warning
 of_icu_token text (token.Word from to) last.Integer = of_integer from (slice_range text from to)
 of_icu_token text token.Close (last.Digit n) = Some (warning_at reason.UnquotedGroup n)
+of_icu_token text token.Close (last.Valued n) = Some (warning_at reason.UnquotedGroup n)
 of_icu_token text token.Comma (last.First joined) = of_joined joined
 of_icu_token text (token.Piece n) (last.Member joined) = None
 of_icu_token text _ (last.Member joined) = of_joined joined

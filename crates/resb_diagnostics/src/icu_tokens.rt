@@ -26,18 +26,32 @@ pub(crate) enum IcuToken {
 /// The last token before a place.
 #[derive(Clone, Copy, Debug, PartialEq, Eq)]
 pub(crate) enum IcuLast {
-    /// None, or any other one.
+    /// None, or one before the root's `{`.
+    Start,
+    /// Any other one.
     Other,
     /// The type `:int` or `:integer`.
     IntegerType,
     /// The type `:array`.
     ArrayType,
+    /// Another type.
+    OtherType,
     /// The `{` behind the type of integers.
     Integer,
     /// The `{` behind the type of arrays.
     Array,
-    /// Another `{`.
+    /// The `{` behind another type.
+    Typed,
+    /// Another `{`, but the root's.
     Open,
+    /// A word that is first in a group without a type, and not the root.
+    Key,
+    /// A `{` at this place, right behind such a word.
+    Value(usize),
+    /// One digit right behind such a `{`, which stands at this place.
+    ValueDigit(usize),
+    /// The `}` right behind such a digit, whose `{` stands at this place.
+    Valued(usize),
     /// A `{` at this place, right behind another one of a group that is not `:array`.
     Inner(usize),
     /// One digit right behind such a `{`, which stands at this place.
@@ -55,17 +69,6 @@ pub(crate) fn is_behind_colon(text: &[u8], place: usize) -> bool
     ensures { result ≡ spec.is_behind_colon text.now place }
 {
     0 < place && text[place - 1] == b':'
-}
-
-/// The last token, where it is a type of this name.
-fn last_named(named: Named) -> IcuLast
-    ensures { result ≡ spec.last_named named }
-{
-    match named {
-        Named::Integer => IcuLast::IntegerType,
-        Named::Array => IcuLast::ArrayType,
-        _ => IcuLast::Other,
-    }
 }
 
 /// Whether this is one decimal digit.
@@ -87,17 +90,32 @@ impl IcuLast {
     {
         let word = &text[from..to];
         if is_behind_colon(text, from) {
-            return last_named(named_by(word));
+            return self.behind_type(named_by(word));
         }
-        self.behind_digit(is_digit(word))
+        self.behind_plain_word(is_digit(word))
+    }
+
+    /// The last token behind a type of this name.
+    fn behind_type(self, named: Named) -> IcuLast
+        ensures { result ≡ spec.last_named named self }
+    {
+        match (self, named) {
+            (IcuLast::Start, _) => IcuLast::Start,
+            (_, Named::Integer) => IcuLast::IntegerType,
+            (_, Named::Array) => IcuLast::ArrayType,
+            _ => IcuLast::OtherType,
+        }
     }
 
     /// The last token behind a word that is no type, where it is one digit or not.
-    fn behind_digit(self, is_digit: bool) -> IcuLast
-        ensures { result ≡ spec.behind_digit is_digit self }
+    fn behind_plain_word(self, is_digit: bool) -> IcuLast
+        ensures { result ≡ spec.behind_plain_word is_digit self }
     {
-        match (is_digit, self) {
-            (true, IcuLast::Inner(place)) => IcuLast::Digit(place),
+        match self {
+            IcuLast::Start => IcuLast::Start,
+            IcuLast::Inner(place) if is_digit => IcuLast::Digit(place),
+            IcuLast::Value(place) if is_digit => IcuLast::ValueDigit(place),
+            IcuLast::Inner(_) | IcuLast::Value(_) | IcuLast::Open => IcuLast::Key,
             _ => IcuLast::Other,
         }
     }
@@ -107,10 +125,25 @@ impl IcuLast {
         ensures { result ≡ spec.behind_open place self }
     {
         match self {
+            IcuLast::Start => IcuLast::Other,
             IcuLast::IntegerType => IcuLast::Integer,
             IcuLast::ArrayType => IcuLast::Array,
-            IcuLast::Open | IcuLast::Inner(_) => IcuLast::Inner(place),
+            IcuLast::OtherType => IcuLast::Typed,
+            IcuLast::Open | IcuLast::Typed | IcuLast::Inner(_) | IcuLast::Value(_) => {
+                IcuLast::Inner(place)
+            }
+            IcuLast::Key => IcuLast::Value(place),
             _ => IcuLast::Open,
+        }
+    }
+
+    /// The last token behind a `}`.
+    fn behind_close(self) -> IcuLast
+        ensures { result ≡ spec.behind_close self }
+    {
+        match self {
+            IcuLast::ValueDigit(place) => IcuLast::Valued(place),
+            _ => IcuLast::Other,
         }
     }
 
@@ -121,7 +154,9 @@ impl IcuLast {
         match self {
             IcuLast::First(joined) => IcuLast::First(first_joined(joined, has_ended, place)),
             IcuLast::Member(joined) => IcuLast::Member(first_joined(joined, has_ended, place)),
-            IcuLast::Open | IcuLast::Inner(_) => IcuLast::First(None),
+            IcuLast::Open | IcuLast::Typed | IcuLast::Inner(_) | IcuLast::Value(_) => {
+                IcuLast::First(None)
+            }
             _ => IcuLast::Member(None),
         }
     }
@@ -135,7 +170,8 @@ impl IcuLast {
             IcuToken::Piece(place) => self.behind_piece(place, has_ended),
             IcuToken::Word(from, to) => self.behind_word(text, from, to),
             IcuToken::Open(place) => self.behind_open(place),
-            IcuToken::Close | IcuToken::Comma => IcuLast::Other,
+            IcuToken::Close => self.behind_close(),
+            IcuToken::Comma => IcuLast::Other,
         }
     }
 }

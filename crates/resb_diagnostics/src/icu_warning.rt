@@ -47,7 +47,7 @@ impl<'a> Look<'a> {
     {
         Look {
             walk: IcuWalk::new(text),
-            last: IcuLast::Other,
+            last: IcuLast::Start,
             found: Vec::new(alloc),
         }
     }
@@ -97,10 +97,10 @@ fn told(text: &[u8], token: IcuToken, last: IcuLast) -> Option<Warning>
 {
     match last {
         IcuLast::Integer => of_integer(text, token),
-        IcuLast::Digit(place) if matches!(token, IcuToken::Close) => Some(Warning {
-            place,
-            reason: Reason::UnquotedGroup,
-        }),
+        IcuLast::Digit(place) | IcuLast::Valued(place) if matches!(token, IcuToken::Close) => {
+            let reason = Reason::UnquotedGroup;
+            Some(Warning { place, reason })
+        }
         IcuLast::First(joined) if matches!(token, IcuToken::Comma) => of_joined(joined),
         IcuLast::Member(_) if matches!(token, IcuToken::Piece(_)) => None,
         IcuLast::Member(joined) => of_joined(joined),

@@ -50,7 +50,8 @@ pub enum Reason {
     /// A member of an array goes on with this piece, the first of its pieces before which a line
     /// ended, in a text of ICU's form: a comma may be missing.
     JoinedOverLine,
-    /// A group begins with a group of one digit without quotes, in a text of ICU's form.
+    /// A group begins with a group of one digit without quotes, in a text of ICU's form; or a word
+    /// without quotes and such a group are all of one that has no type and isn't the root.
     UnquotedGroup,
 }
 

@@ -1,8 +1,7 @@
 //! What a file's tree adds up to before any of it is made, and a tree within a limit of bytes.
 //! The sums themselves are found in `resb_walk`.
 ghost use Rattle.std.specs.Prelude.{◌≡◌, ◌≤◌, ℕ, List, IfOk, IsTrue, ◌↔◌};
-ghost use Rattle.resb_format.specs.Parts.{parts_in};
-ghost use Rattle.resb_walk.specs.Pieces.{Piece, Holds};
+ghost use Rattle.resb_walk.specs.Pieces.{Piece};
 ghost use Rattle.resb_walk.specs.Sums.{AddsUp, count_of, fitting};
 ghost use Rattle.resb_walk.specs.TreeBytes.{tree_bytes};
 ghost use Rattle.resb_read.specs.Inner.AtRoot.{IsRoot, MeasureHere, TreeWithinHere};

@@ -46,8 +46,8 @@ fn line_within(alloc: Global, bytes: &[u8], count: usize, limit: u64) -> Result<
     }
 }
 
-/// The line of what was measured. The tree is read within just its bytes, or those of its keys where
-/// these are more, and refused within fewer.
+/// The line of what was measured. The tree is read within just its bytes, or those of its keys
+/// where these are more, and refused within fewer.
 fn line_of_measured(alloc: Global, bytes: &[u8], measured: Measured) -> Result<String, Fail> {
     let count = measured.resources;
     let (taken, keys) = (fit(measured.tree_bytes())?, fit(measured.sums.key_bytes)?);

@@ -1,6 +1,6 @@
 -- Keys at positions, by their bytes up to the next zero byte.
 use Rattle.std.proofs.Common.{ℕ, List, ◌≡◌, ◌<◌, ◌≤◌, ◌∙◌, true, false, take, drop, Some, None}
-use Rattle.std.proofs.Common.{refl, length, get_or, nat_eq, arith, lit<, IsAscii}
+use Rattle.std.proofs.Common.{refl, length, get_or, nat_eq, arith, lit<}
 use Rattle.std.specs.Prelude.{position, ◌==◌}
 use Rattle.std.proofs.lemmas.Bool.{false_from_ne_true}
 use Rattle.std.proofs.lemmas.Bool.Decides.{nat_tests}
@@ -43,16 +43,21 @@ front_before_zero bs n inside h e =
     let inner : position_or_len (λ x. nat_eq x 0) bs < length bs = rw place inside in
     ends_at_zero bs inner ∙ rw place refl
 
+-- the bytes before a key's end are a text, if all are ASCII
+pub plain_valid : (tail : List ℕ) (n : ℕ)
+    → ((k : ℕ) → k < n → (0 < get_or tail k 0) × (get_or tail k 0 < 128)) → IsUtf8 (take n tail)
+plain_valid tail n h =
+    IsUtf8-from_ascii (take n tail) (front_below tail n 128 (lit< tt) (λ k l. (h k l).1))
+
 -- a key of ASCII, up to the 0 behind it
 pub plain_key : (keys tail : List ℕ) (at n : ℕ) → tail ≡ drop at keys → n < length tail
     → get_or tail n 0 ≡ 0
     → ((k : ℕ) → k < n → (0 < get_or tail k 0) × (get_or tail k 0 < 128))
-    → (key : List ℕ) × (key_at keys at ≡ Some key)
+    → key_at keys at ≡ Some (take n tail)
 unfolding key_at
 plain_key keys tail at n is inside ends h =
-    let ascii : IsAscii (take n tail) = front_below tail n 128 (lit< tt) (λ k l. (h k l).1) in
     let valid : is_utf8 (take n tail) ≡ true =
-    is_utf8-from_IsUtf8 (take n tail) (IsUtf8-from_ascii (take n tail) ascii) in
+    is_utf8-from_IsUtf8 (take n tail) (plain_valid tail n h) in
     let front : before_zero tail ≡ Some (take n tail) =
     front_before_zero tail n inside (λ k l. (h k l).0) ends in
-    (take n tail, rw (← is, front, valid) refl)
+    rw (← is, front, valid) refl

@@ -13,6 +13,8 @@ mod Made
 mod Surrogates
 mod Keys
 mod Plain
+mod Fronting
+mod Spelling
 pub mod Counted
 mod Marked
 mod Paths

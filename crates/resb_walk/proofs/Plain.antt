@@ -1,41 +1,31 @@
 -- Texts of ASCII units, and strings without markers and surrogates.
 use Rattle.std.proofs.Common.{ℕ, zero, suc, List, [], ◌∷◌, ◌≡◌, true, false, Some, inl, inr}
-use Rattle.std.proofs.Common.{refl, sym, ap, ◌∙◌, arith, ◌<◌, ◌≤◌, ◌+◌, ◌*◌, ◌/◌, min, length, take}
-use Rattle.std.proofs.Common.{drop, get_or, set, nat_le, ◌++◌, nat_eq, IsAscii, IsUtf8}
+use Rattle.std.proofs.Common.{refl, sym, ap, ◌∙◌, arith, ◌<◌, ◌≤◌, ◌+◌, ◌*◌, min, length, take}
+use Rattle.std.proofs.Common.{drop, get_or, set, nat_le, ◌++◌, nat_eq, IsAscii}
 use Rattle.std.proofs.Common.{lit<, add-zero}
 use Rattle.std.proofs.lemmas.Bool.{cases_lt}
 use Rattle.std.proofs.lemmas.Bool.Decides.{nat_tests}
 use Rattle.std.proofs.lemmas.List.{get_or-take, get_or-drop, length-take, take-take}
-use Rattle.std.proofs.lemmas.List.{length-set, take_more_set, take_more, take_all, take-append-drop}
+use Rattle.std.proofs.lemmas.List.{take_more_set, take_more, take-append-drop}
 use Rattle.std.proofs.lemmas.Option.{cond_some}
 use Rattle.std.proofs.lemmas.List.Sums.{position_or_len_is}
 use Rattle.std.proofs.lemmas.Str.Ascii.{encodes-IsAscii}
-use Rattle.std.proofs.lemmas.Str.{IsUtf8-from_ascii, encodes-append}
+use Rattle.std.proofs.lemmas.Str.{encodes-append}
 use Rattle.std.specs.Char.Utf16.{is_high_surrogate, is_low_surrogate, has_unpaired_surrogate}
 use Rattle.std.specs.Char.Utf16.{utf16_lossy_chars}
 use Rattle.std.specs.List.{position_or_len}
 use Rattle.resb_format.specs.Bytes.{units_of, part}
 use Rattle.resb_format.specs.Strings.{text_at, string_at, before_zero, is_no_marker}
-use Rattle.resb_format.proofs.Spelled.{units_drop, units_length}
+use Rattle.resb_format.proofs.Spelled.{units_drop}
 use Rattle.resb_format.proofs.StringsIn.{ends_at_zero}
 use Rattle.resb_walk.specs.Inner.Members.{text_of_bytes}
 use Rattle.resb_walk.proofs.Placed.{text_some}
-use Rattle.resb_walk.proofs.Surrogates.{char_alone, no_units_no_chars, plain_unit_first}
+use Rattle.resb_walk.proofs.Surrogates.{char_alone, plain_unit_first}
 use Rattle.resb_walk.proofs.Surrogates.{nothing_is_unpaired}
 use Rattle.resb_blocks.proofs.Surrogates.{lone_some}
 use Rattle.resb_walk.proofs.Lists.{front_below}
 
--- ASCII units are their characters
-ascii_chars : (us : List ℕ) → IsAscii us → utf16_lossy_chars us ≡ us
-ascii_chars [] h = no_units_no_chars [] refl
-ascii_chars (u ∷ us) h =
-    let small : u < 128 = h 0 in
-    let high : is_high_surrogate u ≡ false = grind (arith, nat_tests, small) in
-    let low : is_low_surrogate u ≡ false = grind (arith, nat_tests, small) in
-    let more : utf16_lossy_chars us ≡ us = ascii_chars us (λ k. h (suc k)) in
-    char_alone (u ∷ us) u us refl high ∙ rw (lone_some u high low, more) refl
-
--- and so they are in front of others
+-- ASCII units are their characters in front of others
 ascii_front : (us vs : List ℕ) → IsAscii us
     → utf16_lossy_chars (us ++ vs) ≡ us ++ utf16_lossy_chars vs
 ascii_front [] vs h = refl
@@ -46,33 +36,6 @@ ascii_front (u ∷ us) vs h =
     let more : utf16_lossy_chars (us ++ vs) ≡ us ++ utf16_lossy_chars vs =
     ascii_front us vs (λ k. h (suc k)) in
     char_alone ((u ∷ us) ++ vs) u (us ++ vs) refl high ∙ rw (lone_some u high low, more) refl
-
-pub ascii_text_is : (bs : List ℕ) → IsAscii (units_of bs) → text_of_bytes bs ≡ units_of bs
-ascii_text_is bs h = rw (ascii_chars (units_of bs) h) (encodes-IsAscii (units_of bs) h)
-
-pub ascii_valid : (us : List ℕ) → IsAscii us → IsUtf8 us
-ascii_valid us h = IsUtf8-from_ascii us h
-
--- one more unit is written
-pub ascii_more : (bs text : List ℕ) (k : ℕ) → length text ≡ length bs / 2 → k < length text
-    → take k text ≡ take k (units_of bs)
-    → (length (set text k (get_or (units_of bs) k 0)) ≡ length bs / 2)
-    × (take (k + 1) (set text k (get_or (units_of bs) k 0)) ≡ take (k + 1) (units_of bs))
-ascii_more bs text k same less e =
-    let u = get_or (units_of bs) k 0 in
-    let within : k < length (units_of bs) = omega (arith, units_length bs) in (
-      length-set text k u ∙ same,
-      take_more_set text k u less
-          ∙ ap (λ xs. xs ++ u ∷ []) e
-          ∙ sym (take_more (units_of bs) k 0 within),
-    )
-
-pub ascii_all : (bs text : List ℕ) (n : ℕ) → length text ≡ length bs / 2 → length bs / 2 ≤ n
-    → take n text ≡ take n (units_of bs) → text ≡ units_of bs
-ascii_all bs text n same most e =
-    let long : length text ≤ n = omega arith in
-    let as_long : length (units_of bs) ≤ n = omega (arith, units_length bs) in
-    sym (take_all n text long) ∙ e ∙ take_all n (units_of bs) as_long
 
 -- ASCII units and the text of those behind them are the text of all
 pub ascii_behind : (bs rest run : List ℕ) (n : ℕ) → run ≡ take n (units_of bs)
@@ -91,16 +54,6 @@ pub run_more : (us run : List ℕ) (k : ℕ) → k < length run → k < length u
 run_more us run k less within e =
     let u = get_or us k 0 in
     take_more_set run k u less ∙ ap (λ xs. xs ++ u ∷ []) e ∙ sym (take_more us k 0 within)
-
--- one more unit is ASCII
-pub ascii_further : (us : List ℕ) (n : ℕ) → get_or us n 0 < 128
-    → ((k : ℕ) → k < n → get_or us k 0 < 128) → (k : ℕ) → k < n + 1 → get_or us k 0 < 128
-ascii_further us n here h k less = elim (cases_lt k n) [
-  | inl before ↦ h k before
-  | inr behind ↦
-      let same : k ≡ n = omega arith in
-      rw same here
-]
 
 -- units below surrogates
 below_paired : (us : List ℕ) → ((k : ℕ) → get_or us k 0 < 0xd800)

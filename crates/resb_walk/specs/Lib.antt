@@ -12,6 +12,7 @@ pub use Rattle.resb_format.specs.StringMessage
 pub use Rattle.resb_tree.specs.Tree
 pub use Rattle.resb_tree.specs.View
 pub mod BlockRefusals
+pub mod Fronts
 pub mod Meets
 pub mod Refusals
 pub mod Borrows

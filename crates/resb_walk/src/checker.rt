@@ -1,6 +1,6 @@
 //! Looks at the keys and strings of a file, and at none of them, but short ones, again and again as
 //! a whole. What is known of its blocks and of its pool's is in `known`; the rounds are in `count`.
-ghost use Rattle.std.specs.Prelude.{◌≡◌, ◌<◌, ◌^◌, ℕ, List, Some, IfOk, IfSome, IsTrue};
+ghost use Rattle.std.specs.Prelude.{◌≡◌, ◌<◌, ◌^◌, ℕ, List, Some, IsTrue};
 ghost use Rattle.std.specs.Option.{ForSome};
 ghost use Rattle.resb_format.specs.Content as at;
 ghost use Rattle.resb_format.specs.Lookups.{key_in, text_in};

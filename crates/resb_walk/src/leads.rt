@@ -11,10 +11,10 @@ use crate::types::readable;
 use resb_format::{BinaryDeserializerError, FileBlocks, ResourceReprType};
 
 /// The upper bits of a string's word.
-const STRINGS: u32 = 6;
+const STRINGS: u32 = ResourceReprType::StringV2 as u32;
 
 /// The upper bits of a number's word.
-const INTEGERS: u32 = 7;
+const INTEGERS: u32 = ResourceReprType::Int as u32;
 
 /// What a member leads to.
 #[derive(Clone, Copy)]

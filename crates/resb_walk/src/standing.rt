@@ -12,7 +12,7 @@ ghost use Rattle.resb_walk.specs.BlockRefusals as refusals;
 ghost use Rattle.resb_walk.specs.BlockRefusals.{Says, block_text_refusal, block_key_refusal};
 ghost use Rattle.resb_walk.specs.BlockRefusals.{word_refusal, reads_type, counted_refusal};
 ghost use Rattle.resb_format.specs.Parts.{parts_in};
-ghost use Rattle.resb_format.specs.Lookups.{key_in, text_in, index_in};
+ghost use Rattle.resb_format.specs.Lookups.{key_in, text_in};
 ghost use Rattle.resb_walk.specs.BlockRefusals.{key_refusal_in, text_refusal_in};
 ghost use Rattle.resb_walk.specs.Inner.Members.{content_of, text_of_bytes, member_of};
 ghost use Rattle.resb_walk.specs.Inner.MemberContent.{member_content, content_refusal, IsPartOf};
@@ -64,31 +64,55 @@ pub(crate) fn is_plain_text(block: &[u8], unit: usize) -> bool
     plain_text(block, unit).is_some()
 }
 
-/// Whether a short key of ASCII stands at a byte of a block of keys, as most do: one look at each
+/// The key at a byte of a block of keys, where it is short and ASCII, as most are: one look at each
 /// byte finds the 0 behind it and that it is a text.
 #[inline(always)]
-pub(crate) fn is_plain_key(keys: &[u8], at: usize) -> bool
-    ensures { let keys = keys.now in IsTrue result
-        → (key : List ℕ) × (strings.key_at keys at ≡ Some key) }
+fn plain_key(keys: &[u8], at: usize) -> Option<&str>
+    ensures { IfSome result (λ s. strings.key_at keys.now at ≡ Some s.now) }
 {
-    let Some((_, tail)) = cut_at(keys, at) else {
-        return false;
-    };
+    let (_, tail) = cut_at(keys, at)?;
     let most = tail.len().min(SHORT_TAIL + 1);
     'bytes: for count in 0..most {
         let found = byte_at(tail, count);
         if found.wrapping_sub(1) < 0x7f {
             continue;
         }
-        return found == 0;
+        if found == 0 {
+            let (front, _) = cut_at(tail, count)?;
+            let key = unsafe { str::from_utf8_unchecked(front) };
+            return Some(key);
+        }
+        return None;
     }
-    false
+    None
+}
+
+/// Whether such a key stands at a byte of a block of keys.
+#[inline(always)]
+pub(crate) fn is_plain_key(keys: &[u8], at: usize) -> bool
+    ensures { let keys = keys.now in IsTrue result
+        → (key : List ℕ) × (strings.key_at keys at ≡ Some key) }
+{
+    plain_key(keys, at).is_some()
 }
 
 /// The key at a byte of a block of keys: what stands before the next zero byte.
 #[inline(always)]
-#[tactic(auto, using(crate::proofs::Keys::at), unfolding(resb_format::specs::Strings::key_at))]
 fn block_key(keys: &[u8], at: usize) -> Result<&str, BinaryDeserializerError>
+    ensures stands { MatchResult result (λ s. strings.key_at keys.now at ≡ Some s.now)
+        (λ e. (strings.key_at keys.now at ≡ None) × IsFault e) }
+    ensures says { IfErr result (Says (block_key_refusal keys.now at)) }
+{
+    match plain_key(keys, at) {
+        Some(key) => Ok(key),
+        None => any_key(keys, at),
+    }
+}
+
+/// The same of a key of any kind: first its end is found, and then it is tested.
+#[tactic(auto, using(crate::proofs::Keys::at), unfolding(resb_format::specs::Strings::key_at))]
+#[inline(never)]
+fn any_key(keys: &[u8], at: usize) -> Result<&str, BinaryDeserializerError>
     ensures stands { MatchResult result (λ s. strings.key_at keys.now at ≡ Some s.now)
         (λ e. (strings.key_at keys.now at ≡ None) × IsFault e) }
     ensures says { IfErr result (Says (block_key_refusal keys.now at)) }

@@ -1,7 +1,8 @@
 //! UTF-16 among bytes, two for each unit: whether each surrogate has its partner, and the text.
 //! Where a string's units stand is found in `standing`.
 ghost use Rattle.std.specs.Prelude.{◌≡◌, ◌∷◌, ◌++◌, ◌<◌, ◌≤◌, ◌*◌, ◌/◌, [], true, not, length};
-ghost use Rattle.std.specs.Prelude.{MatchOption, IfOk, IfSome, IsTrue, IsAscii};
+ghost use Rattle.std.specs.Prelude.{MatchOption, IfOk, IfSome, OnOk, OnErr, ◌+◌, take, ℕ, List};
+ghost use Rattle.std.specs.Char.{encode_utf8};
 ghost use Rattle.std.specs.Char.Utf16.{is_high_surrogate, is_low_surrogate, has_unpaired_surrogate};
 ghost use Rattle.std.specs.Char.Utf16.{utf16_lossy_chars, surrogate_pair_char};
 ghost use Rattle.std.specs.Char.Utf16.{lone_unit_char};
@@ -9,14 +10,19 @@ ghost use Rattle.std.specs.Option.{unwrap_or};
 ghost use Rattle.std.specs.String.{string_bytes};
 ghost use Rattle.resb_format.specs.Bytes.{units_of};
 ghost use Rattle.resb_walk.specs.Inner.Members.{text_of_bytes};
+ghost use Rattle.resb_walk.specs.Fronts.{PutsFront};
 
 use resb_blocks::{is_high, is_low};
+use resb_format::MAX_UNMARKED;
 use resb_format::bytes::{first_four_units, first_unit, unit_at};
 use resb_tree::NoMemory;
 use std::alloc::Global;
 
 /// The most ASCII units that are put behind a text at once.
 const RUN: usize = 64;
+
+/// Room for the bytes of a short string: three for each unit.
+const ROOM: usize = 3 * MAX_UNMARKED;
 
 /// The bytes behind the first four units, if so many stand there and none is a surrogate.
 #[tactic(auto, using(crate::proofs::Surrogates::four_plain))]
@@ -95,34 +101,51 @@ fn first_char(bytes: &[u8]) -> Option<(char, &[u8])>
     Some((lone_char(first), later))
 }
 
-/// Whether all units are ASCII.
-fn is_ascii(bytes: &[u8]) -> bool
-    ensures { IsTrue result → IsAscii (units_of bytes.now) }
+/// Spells a unit as a character of up to three bytes. Gives the place behind them.
+#[inline(always)]
+fn spell(spelled: &mut [u8], end: usize, unit: u16) -> usize
+    requires { end + 3 ≤ length spelled.old }
+    ensures text { take result spelled.new ≡ take end spelled.old ++ encode_utf8 unit }
+    ensures room { result ≤ end + 3 }
+    ensures whole { length spelled.new ≡ length spelled.old }
 {
-    let mut most = 0;
-    let mut rest = bytes;
-    'units: while let Some((unit, later)) = first_unit(rest) {
-        most = most.max(unit);
-        rest = later;
+    if unit < 0x80 {
+        spelled[end] = unit as u8;
+        return end + 1;
     }
-    most < 0x80
+    if unit < 0x800 {
+        spelled[end] = (0xc0 + unit / 0x40) as u8;
+        spelled[end + 1] = (0x80 + unit % 0x40) as u8;
+        return end + 2;
+    }
+    spelled[end] = (0xe0 + unit / 0x1000) as u8;
+    spelled[end + 1] = (0x80 + unit / 0x40 % 0x40) as u8;
+    spelled[end + 2] = (0x80 + unit % 0x40) as u8;
+    end + 3
 }
 
-/// The text of ASCII units: the lower byte of each.
-fn ascii_text(alloc: Global, bytes: &[u8]) -> Result<String, NoMemory>
-    requires { IsAscii (units_of bytes.now) }
-    ensures { IfOk result (λ s. string_bytes s ≡ units_of bytes.now) }
+/// The text of a short string's units where all stand below the surrogates, as in most: it is
+/// spelled in one place, and then copied as a whole.
+#[inline(always)]
+fn short_text(alloc: Global, bytes: &[u8]) -> Result<Option<String>, NoMemory>
+    ensures { IfOk result (λ found.
+        IfSome found (λ s. string_bytes s ≡ text_of_bytes bytes.now)) }
 {
     let count = bytes.len() / 2;
-    let mut text = Vec::with_capacity(alloc, count)?;
-    text.resize(count, 0u8)?;
-    'units: for number in 0..count {
-        text[number] = unit_at(bytes, number) as u8;
+    if count > MAX_UNMARKED {
+        return Ok(None);
     }
-    let Ok(text) = String::from_utf8(text) else {
-        unreachable!()
-    };
-    Ok(text)
+    let mut spelled = [0u8; ROOM];
+    let mut end = 0;
+    'units: for number in 0..count {
+        let unit = unit_at(bytes, number);
+        if unit >= 0xd800 {
+            return Ok(None);
+        }
+        end = spell(&mut spelled, end, unit);
+    }
+    let text = unsafe { str::from_utf8_unchecked(&spelled[..end]) };
+    Ok(Some(String::from_str(alloc, text)?))
 }
 
 /// How many bytes the text of some units has.
@@ -152,12 +175,11 @@ fn room_for(bytes: &[u8]) -> usize
 }
 
 /// The text of some units. U+FFFD stands for a surrogate without a partner.
-#[tactic(auto, using(crate::proofs::Plain::ascii_text_is))]
 pub fn text_of_units(alloc: Global, bytes: &[u8]) -> Result<String, NoMemory>
     ensures { IfOk result (λ s. string_bytes s ≡ text_of_bytes bytes.now) }
 {
-    if is_ascii(bytes) {
-        return ascii_text(alloc, bytes);
+    if let Some(text) = short_text(alloc, bytes)? {
+        return Ok(text);
     }
     let mut text = String::with_capacity(alloc, room_for(bytes))?;
     push_text_of_units(&mut text, bytes)?;
@@ -167,9 +189,10 @@ pub fn text_of_units(alloc: Global, bytes: &[u8]) -> Result<String, NoMemory>
 /// Puts the ASCII units at the front behind a text, as far as a run goes. Gives the bytes behind
 /// them.
 fn push_ascii<'b>(text: &mut String, bytes: &'b [u8]) -> Result<&'b [u8], NoMemory>
-    ensures { IfOk result (λ rest. (string_bytes text.new ++ text_of_bytes rest.now
-        ≡ string_bytes text.old ++ text_of_bytes bytes.now)
+    ensures all { IfOk result (λ rest. PutsFront (string_bytes text.old) (string_bytes text.new)
+        (text_of_bytes bytes.now) (text_of_bytes rest.now)
         × (length (units_of rest.now) ≤ length (units_of bytes.now))) }
+    ensures stays { OnErr result (string_bytes text.new ≡ string_bytes text.old) }
 {
     let mut run = [0u8; RUN];
     let most = (bytes.len() / 2).min(RUN);
@@ -191,10 +214,14 @@ fn push_ascii<'b>(text: &mut String, bytes: &'b [u8]) -> Result<&'b [u8], NoMemo
 }
 
 /// Puts the text of some units behind what stands. U+FFFD stands for a surrogate without a partner.
+/// Where memory is missing, a front of that text stands there.
 #[tactic(auto, using(crate::proofs::Surrogates::no_units_no_chars))]
 pub fn push_text_of_units(text: &mut String, bytes: &[u8]) -> Result<(), NoMemory>
-    ensures { IfOk result (λ _. string_bytes text.new
+    ensures all { OnOk result (string_bytes text.new
         ≡ string_bytes text.old ++ text_of_bytes bytes.now) }
+    ensures front { OnErr result ((rest : List ℕ)
+        × PutsFront (string_bytes text.old) (string_bytes text.new)
+        (text_of_bytes bytes.now) rest) }
 {
     let mut rest = bytes;
     'chars: while let Some((first, later)) = first_char(rest) {

@@ -1,13 +1,14 @@
 use Rattle.std.proofs.Common.{◌≡◌, ◌<◌, ◌≤◌, ◌++◌, ◌∙◌, ◌*◌, ap, arith, lit<}
 use Rattle.std.proofs.Common.{length, take, drop, IsUtf8, IsAscii}
-use Rattle.std.proofs.lemmas.List.{length-set, length-take, length-drop, append_assoc}
+use Rattle.std.proofs.lemmas.List.{length-set, length-take, length-drop}
 use Rattle.std.proofs.lemmas.Str.{IsUtf8-from_ascii}
 use Rattle.std.specs.String.{string_bytes}
 use Rattle.resb_format.specs.Bytes.{units_of}
 use Rattle.resb_format.proofs.Spelled.{units_length}
 use Rattle.resb_walk.specs.Inner.Members.{text_of_bytes}
 use Rattle.resb_walk.proofs.Lists.{front_below}
-use Rattle.resb_walk.proofs.Plain.{ascii_behind, ascii_further, run_more}
+use Rattle.resb_walk.proofs.Plain.{ascii_behind, run_more}
+use Rattle.resb_walk.proofs.Spelling.{further_below}
 use Rattle.resb_walk.proofs.units.push_ascii.Goals as goal
 
 pub units-preserved : goal.units-preserved
@@ -21,7 +22,7 @@ units-preserved c =
       within = omega arith;
       long = length-set c.units.run n c.unit_at-unit.result ∙ i.long;
       front = rw c.unit_at-unit.ensures (run_more us c.units.run n less inside i.front);
-      ascii = ascii_further us n (rw (← c.unit_at-unit.ensures) small) i.ascii;
+      ascii = further_below us n 128 (rw (← c.unit_at-unit.ensures) small) i.ascii;
     }
 
 pub slice_bounds-run-end : goal.slice_bounds-run-end
@@ -54,8 +55,8 @@ split_at-requires c =
     let i = c.units.invariant in
     omega (arith, c.min-most.ensures, i.within)
 
-pub returns : goal.returns
-returns c =
+pub returns-clause-all : goal.returns-clause-all
+returns-clause-all c =
     let i = c.units.invariant in
     let n = c.units.count in
     let bs = c.args.bytes.now in
@@ -68,7 +69,6 @@ returns c =
     let put : run ++ text_of_bytes rest ≡ text_of_bytes bs =
     ascii_behind bs rest run n front left ascii in
     let less : length rest ≤ length bs = omega (arith, ap length left, length-drop (2 * n) bs) in (
-      rw c.in_ok-push_str.ensures.bytes
-          (append_assoc old run (text_of_bytes rest) ∙ ap (λ text. old ++ text) put),
+      (run, c.in_ok-push_str.ensures.bytes, put),
       omega (arith, units_length rest, units_length bs),
     )

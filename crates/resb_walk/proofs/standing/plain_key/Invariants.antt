@@ -1,5 +1,5 @@
 use Rattle.std.proofs.Common.{ℕ, ◌<◌, get_or}
-use Rattle.resb_walk.proofs.standing.is_plain_key.Given as goal
+use Rattle.resb_walk.proofs.standing.plain_key.Given as goal
 
 abbrev pub invariant-bytes : goal.invariant-bytes
 invariant-bytes l =

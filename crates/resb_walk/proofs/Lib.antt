@@ -4,6 +4,7 @@ mod Entries
 mod Lift
 pub mod Meeting
 mod Waits
+mod Fillings
 mod Starts
 mod Chain
 mod RoundsLemmas

@@ -7,7 +7,7 @@ use Rattle.resb_format.specs.Parts.{Parts}
 use Rattle.resb_format.specs.Content.{Member, word}
 use Rattle.resb_format.specs.Denotes.{Den, DenMember, Reaches, ReachesMember}
 use Rattle.resb_format.specs.Error.{IsWantOfMemory}
-use Rattle.resb_walk.specs.Inner.Frames.{Opened, Waits}
+use Rattle.resb_walk.specs.Inner.Frames.{Opened, Waits, Fills}
 use Rattle.resb_walk.specs.Inner.Rounds.{PutsOrOpens, PutsMember}
 use Rattle.resb_walk.specs.Refusals.{DenotesNothing, Refuses, IsFault}
 use Rattle.resb_walk.specs.declared.frame.Open.{Open}
@@ -65,6 +65,22 @@ module _ {L T : Type 0} (lists : L → List Tree → Type 0)
     pub round_takes : left + 1 ≤ before
     round_takes =
         let paid : left + (round.outer + (1 + round.inner)) ≡ before = round.paid in omega arith
+
+    -- members of it are read where they stand
+    pub round_fills : (g : Open L T) (left' : ℕ) → Fills lists tables p f left g left'
+        → Round lists tables p root before fs g left'
+    round_fills g left' fills =
+        let paid : left + (round.outer + (1 + round.inner)) ≡ before = round.paid in
+        let filled = fills round.place round.inner round.opened in
+        let sum : left' + filled.0 ≡ left = filled.2 in
+        record {
+          place = round.place;
+          outer = round.outer;
+          inner = round.inner + filled.0;
+          chain = round.chain;
+          opened = filled.1;
+          paid = omega arith;
+        }
 
     -- memory is wanted, or the innermost collection has a fault of its own
     pub round_stuck : (d : ReadingError)

@@ -210,7 +210,7 @@ impl<'a> Checker<'a> {
                 self.text(alloc, index)?;
                 Ok(None)
             }
-            Glance::Integer => Ok(None),
+            Glance::Integer(_) => Ok(None),
             Glance::Other(word) => self.look_closer(alloc, word),
         }
     }

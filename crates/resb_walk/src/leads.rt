@@ -33,8 +33,8 @@ pub(crate) enum Lead<'a> {
 pub(crate) enum Glance {
     /// The string with this index.
     Text(usize),
-    /// A number.
-    Integer,
+    /// A number, in the lower 28 bits of this word.
+    Integer(u32),
     /// Any other resource, at this word.
     Other(u32),
 }
@@ -51,7 +51,7 @@ pub(crate) fn glance_at(file: FileBlocks<'_>, member: Member) -> Glance
     };
     match (word / 0x1000_0000, word % 0x1000_0000) {
         (STRINGS, value) if value != 0 => Glance::Text(value as usize),
-        (INTEGERS, _) => Glance::Integer,
+        (INTEGERS, _) => Glance::Integer(word),
         _ => Glance::Other(word),
     }
 }

@@ -9,6 +9,7 @@ mod filling;
 mod frame;
 mod known;
 mod leads;
+mod leaves;
 mod lengths;
 mod make;
 mod members;

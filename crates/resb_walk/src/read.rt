@@ -1,7 +1,8 @@
 //! The reader: it goes from frame to frame, and no function calls itself, so any depth is read.
 //! What stands at a word is found in `standing`, and what is made of it in `tree`. Where nothing is
 //! made, the resources are gone through in `count`.
-//! A round takes the innermost collection's next member, paid for as it begins, or closes it.
+//! A round makes the short strings and numbers that are next in the innermost collection, in
+//! `leaves`; then it takes the next member, paid for as it begins, or closes the collection.
 ghost use Rattle.std.specs.Prelude.{ℕ, IfOk, IfErr};
 ghost use Rattle.resb_format.specs.Content as at;
 ghost use Rattle.resb_format.specs.Denotes.{Den, Reaches, DenMember, ReachesMember};
@@ -14,6 +15,7 @@ ghost use Rattle.resb_walk.specs.Inner.Rounds.{Starts, ReadsMember, PutsOrOpens}
 
 use crate::count::count_word;
 use crate::frame::{Open, Progress, Read, Waiting, advance, put};
+use crate::leaves::fill;
 use crate::make::Make;
 use crate::members::{Member, Standing};
 use crate::room::can_be_paid;
@@ -121,7 +123,8 @@ pub fn read_word<'a, 'm, M: Make<'a>>(
     let mut frames = Vec::new(alloc);
     // twice what is left, plus the number of frames, falls in each round
     'rounds: loop {
-        frame = match advance::<M>(alloc, file, frame)? {
+        let filled = fill::<M>(alloc, file, frame, walk)?;
+        frame = match advance::<M>(alloc, file, filled)? {
             Progress::Wants(member, waiting) => {
                 enter::<M>(alloc, file, member, waiting, &mut frames, walk)?
             }

@@ -32,7 +32,7 @@ use resb_format::{BinaryDeserializerError, FileBlocks, MAX_UNMARKED, ResourceRep
 /// The units of the string at a unit of the block, where it has no marker and no surrogate, as most
 /// have: one look at each unit finds the 0 behind it and that it is a text.
 #[inline(always)]
-fn plain_text(block: &[u8], unit: usize) -> Option<&[u8]>
+pub(crate) fn plain_text(block: &[u8], unit: usize) -> Option<&[u8]>
     ensures { let units = units_of block.now in
         IfSome result (λ v. strings.text_at units unit ≡ Some (text_of_bytes v.now)) }
 {
@@ -67,7 +67,7 @@ pub(crate) fn is_plain_text(block: &[u8], unit: usize) -> bool
 /// The key at a byte of a block of keys, where it is short and ASCII, as most are: one look at each
 /// byte finds the 0 behind it and that it is a text.
 #[inline(always)]
-fn plain_key(keys: &[u8], at: usize) -> Option<&str>
+pub(crate) fn plain_key(keys: &[u8], at: usize) -> Option<&str>
     ensures { IfSome result (λ s. strings.key_at keys.now at ≡ Some s.now) }
 {
     let (_, tail) = cut_at(keys, at)?;

@@ -1,6 +1,6 @@
 //! The budget of a walk through a file, in resources.
 //! How much a file has of it is said where the crate above opens one.
-ghost use Rattle.std.specs.Prelude.{◌≡◌, ℕ, ◌+◌, MatchResult};
+ghost use Rattle.std.specs.Prelude.{◌≡◌, ◌<◌, ℕ, ◌+◌, MatchResult};
 ghost use Rattle.resb_walk.specs.Refusals.{IsSpent};
 
 use crate::faults::budget_spent;
@@ -32,6 +32,14 @@ impl Walk {
         ensures { result ≡ self.now }
     {
         self.left
+    }
+
+    /// Pays for one resource, where the budget isn't spent.
+    pub(crate) fn spend(&mut self)
+        requires { 0 < self.old }
+        ensures { self.new + 1 ≡ self.old }
+    {
+        self.left -= 1;
     }
 
     /// Pays for one resource.

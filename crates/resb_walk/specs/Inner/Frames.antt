@@ -2,7 +2,8 @@
 --     Opened f w n            the collection f stands at the word w, its members so far denote n
 --                             resources, and it has made what they denote
 --     Waits f w x n           the same, where the member x is being read
-use Rattle.std.specs.Prelude.{ℕ, List, ◌∷◌, ◌++◌, Some, ◌≡◌}
+--     Fills f left f' left'   some of its members were read and paid for
+use Rattle.std.specs.Prelude.{ℕ, List, ◌∷◌, ◌++◌, ◌+◌, Some, ◌≡◌}
 use Rattle.resb_tree.specs.Tree.{Tree}
 use Rattle.resb_format.specs.Lookups.{key_in}
 use Rattle.resb_format.specs.Parts.{Parts}
@@ -56,3 +57,20 @@ module _ {L T : Type 0} (lists : L → List Tree → Type 0)
   abbrev pub Waits : Waiting L T → ℕ → Member → ℕ → Type 0
   Waits (waiting.List rest made) w x n = ListWaits rest made w x n
   Waits (waiting.Table rest made key) w x n = TableWaits rest made key.now w x n
+
+  -- members of an array were read, k resources, and as many were paid for
+  abbrev pub FillsList : Members → L → ℕ → Members → L → ℕ → Type 0
+  FillsList r m left r' m' left' =
+      (w n : ℕ) → OpenedList r m w n
+      → (k : ℕ) × OpenedList r' m' w (n + k) × (left' + k ≡ left)
+
+  -- entries of a table were read, k resources, and as many were paid for
+  abbrev pub FillsTable : TableParts → T → ℕ → TableParts → T → ℕ → Type 0
+  FillsTable r m left r' m' left' =
+      (w n : ℕ) → OpenedTable r m w n
+      → (k : ℕ) × OpenedTable r' m' w (n + k) × (left' + k ≡ left)
+
+  -- members of a collection were read, k resources, and as many were paid for
+  abbrev pub Fills : Open L T → ℕ → Open L T → ℕ → Type 0
+  Fills f left f' left' =
+      (w n : ℕ) → Opened f w n → (k : ℕ) × Opened f' w (n + k) × (left' + k ≡ left)

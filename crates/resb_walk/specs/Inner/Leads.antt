@@ -1,8 +1,8 @@
 -- What a member leads to, as far as its word shows.
 --     LeadsTo p m r           the answer r says where the member m leads
 --     Shows p m g             g is what the member m is, as far as its word shows
-use Rattle.std.specs.Prelude.{◌≡◌, ◌<◌, ◌^◌, Result, Ok, Err, Some, None}
-use Rattle.resb_tree.specs.Tree.{Tree}
+use Rattle.std.specs.Prelude.{◌≡◌, ◌<◌, ◌%◌, ◌^◌, Result, Ok, Err, Some, None}
+use Rattle.resb_tree.specs.Tree.{integer}
 use Rattle.resb_format.specs.Content.{Member, word, leaf, text_leaf}
 use Rattle.resb_format.specs.Parts.{Parts}
 use Rattle.resb_format.specs.declared.error.ReadingError.{ReadingError}
@@ -24,9 +24,9 @@ LeadsTo p m (Ok (Counted v)) = LeadsToCounted p m v × (v < 2 ^ 28)
 LeadsTo p m (Ok (Plain s)) = member_content p m ≡ Some (content_of s)
 LeadsTo p m (Err e) = (member_content p m ≡ None) × IsFault e × Says (content_refusal p m) e
 
--- the string with an index; a number; or what stands at a word
+-- the string with an index; the number of a word; or what stands at a word
 abbrev pub Shows : Parts → Member → Glance → Type 0
 Shows p m (glance.Text u) =
     (member_content p m ≡ text_leaf p u) × (content_refusal p m ≡ text_refusal_in p u)
-Shows p m glance.Integer = (t : Tree) × (member_content p m ≡ Some (leaf t))
+Shows p m (glance.Integer w) = member_content p m ≡ Some (leaf (integer (w % 2 ^ 28)))
 Shows p m (glance.Other w) = m ≡ word w

@@ -7,7 +7,7 @@ use Rattle.resb_format.specs.Parts.{parts_in}
 use Rattle.resb_walk.specs.Inner.Members.{member_of}
 use Rattle.resb_walk.proofs.Lift.{word_den, word_refused}
 use Rattle.resb_walk.proofs.Meeting.{waits_meets, round_meets}
-use Rattle.resb_walk.proofs.RoundsLemmas.{round_first, round_falls, round_stuck, round_refused}
+use Rattle.resb_walk.proofs.RoundsLemmas.{round_first, round_fills, round_falls, round_stuck, round_refused}
 use Rattle.resb_walk.proofs.RoundsLemmas.{round_enters, enters_falls, round_last, round_outer}
 use Rattle.resb_walk.proofs.RoundsLemmas.{round_closes, round_takes}
 use Rattle.resb_walk.proofs.read.read_word.Goals as goal
@@ -37,69 +37,82 @@ pub returns-in_err-member-clause-answers : goal.returns-in_err-member-clause-ans
 returns-in_err-member-clause-answers g c =
     let e = err_from_is_err_and c.from_residual-in_err-member.result
     c.from_residual-in_err-member.ensures.1 in
-    let i = c.rounds.invariant in
+    let i = round_fills g.M.Make.lists g.M.Make.tables (parts_in c.args.file) c.args.word
+    c.args.walk.now c.rounds.frames.items c.rounds.frame c.rounds.walk c.rounds.invariant
+    c.in_ok-filled.filled c.fill.new.walk c.in_ok-filled.ensures.fills in
     let h = c.in_err-member.ensures.steps i.place i.inner i.opened in
     rw (e.1, e.2) (
       round_falls g.M.Make.lists g.M.Make.tables (parts_in c.args.file) c.args.word c.args.walk.now
-          c.rounds.frames.items c.rounds.frame c.rounds.walk i,
+          c.rounds.frames.items c.in_ok-filled.filled c.fill.new.walk i,
       round_stuck g.M.Make.lists g.M.Make.tables (parts_in c.args.file) c.args.word c.args.walk.now
-          c.rounds.frames.items c.rounds.frame c.rounds.walk i c.in_err-member.field-0.0 h,
+          c.rounds.frames.items c.in_ok-filled.filled c.fill.new.walk i c.in_err-member.field-0.0 h,
     )
 
 pub returns-in_err-frame-in-Wants-clause-answers : goal.returns-in_err-frame-in-Wants-clause-answers
 returns-in_err-frame-in-Wants-clause-answers g c =
     let e = err_from_is_err_and c.from_residual-in_err-frame-in-Wants.result
     c.from_residual-in_err-frame-in-Wants.ensures.1 in
-    let i = c.rounds.invariant in
+    let i = round_fills g.M.Make.lists g.M.Make.tables (parts_in c.args.file) c.args.word
+    c.args.walk.now c.rounds.frames.items c.rounds.frame c.rounds.walk c.rounds.invariant
+    c.in_ok-filled.filled c.fill.new.walk c.in_ok-filled.ensures.fills in
     let waits = rw c.in-Wants.is at c.in_ok-member.ensures.steps i.place i.inner i.opened in
     let h = c.in_err-frame-in-Wants.ensures.enters i.place i.inner waits in
-    let le : c.enter.new.walk ≤ c.rounds.walk = h.0 in
-    let falls : c.rounds.walk ≤ c.args.walk.now = round_falls g.M.Make.lists g.M.Make.tables
-    (parts_in c.args.file) c.args.word c.args.walk.now c.rounds.frames.items c.rounds.frame
-    c.rounds.walk i in
+    let le : c.enter.new.walk ≤ c.fill.new.walk = h.0 in
+    let falls : c.fill.new.walk ≤ c.args.walk.now = round_falls g.M.Make.lists g.M.Make.tables
+    (parts_in c.args.file) c.args.word c.args.walk.now c.rounds.frames.items c.in_ok-filled.filled
+    c.fill.new.walk i in
     rw (e.1, e.2) (
       omega arith,
       round_refused g.M.Make.lists g.M.Make.tables (parts_in c.args.file) c.args.word
-          c.args.walk.now c.rounds.frames.items c.rounds.frame c.rounds.walk i c.in-Wants.waiting
+          c.args.walk.now c.rounds.frames.items c.in_ok-filled.filled c.fill.new.walk i c.in-Wants.waiting
           (member_of c.in-Wants.member) c.in_err-frame-in-Wants.field-0.0 waits h.1,
     )
 
 pub rounds-smaller-in_ok-frame-in-Wants : goal.rounds-smaller-in_ok-frame-in-Wants
 rounds-smaller-in_ok-frame-in-Wants g c =
-    let i = c.rounds.invariant in
+    let i = round_fills g.M.Make.lists g.M.Make.tables (parts_in c.args.file) c.args.word
+    c.args.walk.now c.rounds.frames.items c.rounds.frame c.rounds.walk c.rounds.invariant
+    c.in_ok-filled.filled c.fill.new.walk c.in_ok-filled.ensures.fills in
     let waits = rw c.in-Wants.is at c.in_ok-member.ensures.steps i.place i.inner i.opened in
     let h = c.in_ok-frame-in-Wants.ensures.enters i.place i.inner waits in
-    enters_falls g.M.Make.lists g.M.Make.tables (parts_in c.args.file) c.in-Wants.waiting
-    (member_of c.in-Wants.member) c.in_ok-frame-in-Wants.frame i.place i.inner
-    c.rounds.frames.items c.enter.new.frames.items c.rounds.walk c.enter.new.walk h
+    let less = enters_falls g.M.Make.lists g.M.Make.tables (parts_in c.args.file)
+    c.in-Wants.waiting (member_of c.in-Wants.member) c.in_ok-frame-in-Wants.frame i.place i.inner
+    c.rounds.frames.items c.enter.new.frames.items c.fill.new.walk c.enter.new.walk h in
+    omega (arith, less, c.fill.ensures.falls)
 
 pub rounds-preserved-in_ok-frame-in-Wants : goal.rounds-preserved-in_ok-frame-in-Wants
 rounds-preserved-in_ok-frame-in-Wants g c =
-    let i = c.rounds.invariant in
+    let i = round_fills g.M.Make.lists g.M.Make.tables (parts_in c.args.file) c.args.word
+    c.args.walk.now c.rounds.frames.items c.rounds.frame c.rounds.walk c.rounds.invariant
+    c.in_ok-filled.filled c.fill.new.walk c.in_ok-filled.ensures.fills in
     let waits = rw c.in-Wants.is at c.in_ok-member.ensures.steps i.place i.inner i.opened in
     let h = c.in_ok-frame-in-Wants.ensures.enters i.place i.inner waits in
     round_enters g.M.Make.lists g.M.Make.tables (parts_in c.args.file) c.args.word c.args.walk.now
-    c.rounds.frames.items c.rounds.frame c.rounds.walk i c.in-Wants.waiting
+    c.rounds.frames.items c.in_ok-filled.filled c.fill.new.walk i c.in-Wants.waiting
     (member_of c.in-Wants.member) c.in_ok-frame-in-Wants.frame c.enter.new.frames.items
     c.enter.new.walk waits h
 
 pub returns-in-None-clause-answers : goal.returns-in-None-clause-answers
 returns-in-None-clause-answers g c =
-    let i = c.rounds.invariant in
+    let i = round_fills g.M.Make.lists g.M.Make.tables (parts_in c.args.file) c.args.word
+    c.args.walk.now c.rounds.frames.items c.rounds.frame c.rounds.walk c.rounds.invariant
+    c.in_ok-filled.filled c.fill.new.walk c.in_ok-filled.ensures.fills in
     let h = rw c.in-Done.is at c.in_ok-member.ensures.steps i.place i.inner i.opened in
     let empty : c.rounds.frames.items ≡ [] = grind (arith, c.in-None.ensures.cases) in
     let r = round_last g.M.Make.lists g.M.Make.tables (parts_in c.args.file) c.args.word
-    c.args.walk.now c.rounds.frames.items c.rounds.frame c.rounds.walk i h.0 empty h.1 in
+    c.args.walk.now c.rounds.frames.items c.in_ok-filled.filled c.fill.new.walk i h.0 empty h.1 in
     (h.0, r.0, r.1, h.2, r.2)
 
 pub returns-in_err-frame-in-Some-clause-answers : goal.returns-in_err-frame-in-Some-clause-answers
 returns-in_err-frame-in-Some-clause-answers g c =
     let e = err_from_is_err_and c.from_residual-in_err-frame-in-Some.result
     c.from_residual-in_err-frame-in-Some.ensures.1 in
-    let i = c.rounds.invariant in
+    let i = round_fills g.M.Make.lists g.M.Make.tables (parts_in c.args.file) c.args.word
+    c.args.walk.now c.rounds.frames.items c.rounds.frame c.rounds.walk c.rounds.invariant
+    c.in_ok-filled.filled c.fill.new.walk c.in_ok-filled.ensures.fills in
     let h = rw c.in-Done.is at c.in_ok-member.ensures.steps i.place i.inner i.opened in
     let outer = round_outer g.M.Make.lists g.M.Make.tables (parts_in c.args.file) c.args.word
-    c.args.walk.now c.rounds.frames.items c.rounds.frame c.rounds.walk i c.in-Some.waiting
+    c.args.walk.now c.rounds.frames.items c.in_ok-filled.filled c.fill.new.walk i c.in-Some.waiting
     c.pop.new.self.items c.in-Some.ensures.items in
     let memory = c.in_err-frame-in-Some.ensures (parts_in c.args.file) outer.place outer.inner
     (1 + i.inner) (word i.place) h.0 outer.waits (den_word h.1) h.2 in
@@ -108,21 +121,23 @@ returns-in_err-frame-in-Some-clause-answers g c =
       e.2,
     ) (
       round_falls g.M.Make.lists g.M.Make.tables (parts_in c.args.file) c.args.word
-          c.args.walk.now c.rounds.frames.items c.rounds.frame c.rounds.walk i,
+          c.args.walk.now c.rounds.frames.items c.in_ok-filled.filled c.fill.new.walk i,
       inl memory,
     )
 
 pub rounds-preserved : goal.rounds-preserved
 rounds-preserved g c =
-    let i = c.rounds.invariant in
+    let i = round_fills g.M.Make.lists g.M.Make.tables (parts_in c.args.file) c.args.word
+    c.args.walk.now c.rounds.frames.items c.rounds.frame c.rounds.walk c.rounds.invariant
+    c.in_ok-filled.filled c.fill.new.walk c.in_ok-filled.ensures.fills in
     let h = rw c.in-Done.is at c.in_ok-member.ensures.steps i.place i.inner i.opened in
     let outer = round_outer g.M.Make.lists g.M.Make.tables (parts_in c.args.file) c.args.word
-    c.args.walk.now c.rounds.frames.items c.rounds.frame c.rounds.walk i c.in-Some.waiting
+    c.args.walk.now c.rounds.frames.items c.in_ok-filled.filled c.fill.new.walk i c.in-Some.waiting
     c.pop.new.self.items c.in-Some.ensures.items in
     let next = c.in_ok-frame-in-Some.ensures (parts_in c.args.file) outer.place outer.inner
     (1 + i.inner) (word i.place) h.0 outer.waits (den_word h.1) h.2 in
     round_closes g.M.Make.lists g.M.Make.tables (parts_in c.args.file) c.args.word c.args.walk.now
-    c.rounds.frames.items c.rounds.frame c.rounds.walk i c.in-Some.waiting c.pop.new.self.items
+    c.rounds.frames.items c.in_ok-filled.filled c.fill.new.walk i c.in-Some.waiting c.pop.new.self.items
     c.in_ok-frame-in-Some.frame outer next
 
 pub returns-in_err-made-clause-meets : goal.returns-in_err-made-clause-meets
@@ -134,19 +149,23 @@ pub returns-in_err-member-clause-meets : goal.returns-in_err-member-clause-meets
 returns-in_err-member-clause-meets g c =
     let e = err_from_is_err_and c.from_residual-in_err-member.result
     c.from_residual-in_err-member.ensures.1 in
-    let i = c.rounds.invariant in
+    let i = round_fills g.M.Make.lists g.M.Make.tables (parts_in c.args.file) c.args.word
+    c.args.walk.now c.rounds.frames.items c.rounds.frame c.rounds.walk c.rounds.invariant
+    c.in_ok-filled.filled c.fill.new.walk c.in_ok-filled.ensures.fills in
     let met = c.in_err-member.ensures.meets i.place i.inner i.opened in
     rw (e.1, e.2) (λ f. round_meets (parts_in c.args.file) g.M.Make.lists g.M.Make.tables
-    c.args.word c.args.walk.now c.rounds.frames.items c.rounds.frame c.rounds.walk i _ (met f))
+    c.args.word c.args.walk.now c.rounds.frames.items c.in_ok-filled.filled c.fill.new.walk i _ (met f))
 
 pub returns-in_err-frame-in-Wants-clause-meets : goal.returns-in_err-frame-in-Wants-clause-meets
 returns-in_err-frame-in-Wants-clause-meets g c =
     let e = err_from_is_err_and c.from_residual-in_err-frame-in-Wants.result
     c.from_residual-in_err-frame-in-Wants.ensures.1 in
-    let i = c.rounds.invariant in
+    let i = round_fills g.M.Make.lists g.M.Make.tables (parts_in c.args.file) c.args.word
+    c.args.walk.now c.rounds.frames.items c.rounds.frame c.rounds.walk c.rounds.invariant
+    c.in_ok-filled.filled c.fill.new.walk c.in_ok-filled.ensures.fills in
     let waits = rw c.in-Wants.is at c.in_ok-member.ensures.steps i.place i.inner i.opened in
     rw (e.1, e.2) (λ h. round_meets (parts_in c.args.file) g.M.Make.lists g.M.Make.tables
-    c.args.word c.args.walk.now c.rounds.frames.items c.rounds.frame c.rounds.walk i _
+    c.args.word c.args.walk.now c.rounds.frames.items c.in_ok-filled.filled c.fill.new.walk i _
     (waits_meets (parts_in c.args.file) g.M.Make.lists g.M.Make.tables c.in-Wants.waiting i.place
     i.inner (member_of c.in-Wants.member) _ waits
     (c.in_err-frame-in-Wants.ensures.meets i.place i.inner waits h)))
@@ -155,10 +174,12 @@ pub returns-in_err-frame-in-Some-clause-meets : goal.returns-in_err-frame-in-Som
 returns-in_err-frame-in-Some-clause-meets g c =
     let e = err_from_is_err_and c.from_residual-in_err-frame-in-Some.result
     c.from_residual-in_err-frame-in-Some.ensures.1 in
-    let i = c.rounds.invariant in
+    let i = round_fills g.M.Make.lists g.M.Make.tables (parts_in c.args.file) c.args.word
+    c.args.walk.now c.rounds.frames.items c.rounds.frame c.rounds.walk c.rounds.invariant
+    c.in_ok-filled.filled c.fill.new.walk c.in_ok-filled.ensures.fills in
     let h = rw c.in-Done.is at c.in_ok-member.ensures.steps i.place i.inner i.opened in
     let outer = round_outer g.M.Make.lists g.M.Make.tables (parts_in c.args.file) c.args.word
-    c.args.walk.now c.rounds.frames.items c.rounds.frame c.rounds.walk i c.in-Some.waiting
+    c.args.walk.now c.rounds.frames.items c.in_ok-filled.filled c.fill.new.walk i c.in-Some.waiting
     c.pop.new.self.items c.in-Some.ensures.items in
     let memory = c.in_err-frame-in-Some.ensures (parts_in c.args.file) outer.place outer.inner
     (1 + i.inner) (word i.place) h.0 outer.waits (den_word h.1) h.2 in
@@ -174,20 +195,24 @@ returns-in_err-member-clause-takes g c =
     let e = err_from_is_err_and c.from_residual-in_err-member.result
     c.from_residual-in_err-member.ensures.1 in
     rw e.1 (inr (inr (round_takes g.M.Make.lists g.M.Make.tables (parts_in c.args.file)
-    c.args.word c.args.walk.now c.rounds.frames.items c.rounds.frame c.rounds.walk
-    c.rounds.invariant)))
+    c.args.word c.args.walk.now c.rounds.frames.items c.in_ok-filled.filled c.fill.new.walk
+    (round_fills g.M.Make.lists g.M.Make.tables (parts_in c.args.file) c.args.word
+    c.args.walk.now c.rounds.frames.items c.rounds.frame c.rounds.walk c.rounds.invariant
+    c.in_ok-filled.filled c.fill.new.walk c.in_ok-filled.ensures.fills))))
 
 pub returns-in_err-frame-in-Wants-clause-takes : goal.returns-in_err-frame-in-Wants-clause-takes
 returns-in_err-frame-in-Wants-clause-takes g c =
     let e = err_from_is_err_and c.from_residual-in_err-frame-in-Wants.result
     c.from_residual-in_err-frame-in-Wants.ensures.1 in
-    let i = c.rounds.invariant in
+    let i = round_fills g.M.Make.lists g.M.Make.tables (parts_in c.args.file) c.args.word
+    c.args.walk.now c.rounds.frames.items c.rounds.frame c.rounds.walk c.rounds.invariant
+    c.in_ok-filled.filled c.fill.new.walk c.in_ok-filled.ensures.fills in
     let waits = rw c.in-Wants.is at c.in_ok-member.ensures.steps i.place i.inner i.opened in
-    let le : c.enter.new.walk ≤ c.rounds.walk =
+    let le : c.enter.new.walk ≤ c.fill.new.walk =
     (c.in_err-frame-in-Wants.ensures.enters i.place i.inner waits).0 in
-    let taken : c.rounds.walk + 1 ≤ c.args.walk.now = round_takes g.M.Make.lists g.M.Make.tables
-    (parts_in c.args.file) c.args.word c.args.walk.now c.rounds.frames.items c.rounds.frame
-    c.rounds.walk i in
+    let taken : c.fill.new.walk + 1 ≤ c.args.walk.now = round_takes g.M.Make.lists g.M.Make.tables
+    (parts_in c.args.file) c.args.word c.args.walk.now c.rounds.frames.items c.in_ok-filled.filled
+    c.fill.new.walk i in
     rw e.1 (inr (inr (omega arith)))
 
 pub returns-in_err-frame-in-Some-clause-takes : goal.returns-in_err-frame-in-Some-clause-takes
@@ -195,5 +220,7 @@ returns-in_err-frame-in-Some-clause-takes g c =
     let e = err_from_is_err_and c.from_residual-in_err-frame-in-Some.result
     c.from_residual-in_err-frame-in-Some.ensures.1 in
     rw e.1 (inr (inr (round_takes g.M.Make.lists g.M.Make.tables (parts_in c.args.file)
-    c.args.word c.args.walk.now c.rounds.frames.items c.rounds.frame c.rounds.walk
-    c.rounds.invariant)))
+    c.args.word c.args.walk.now c.rounds.frames.items c.in_ok-filled.filled c.fill.new.walk
+    (round_fills g.M.Make.lists g.M.Make.tables (parts_in c.args.file) c.args.word
+    c.args.walk.now c.rounds.frames.items c.rounds.frame c.rounds.walk c.rounds.invariant
+    c.in_ok-filled.filled c.fill.new.walk c.in_ok-filled.ensures.fills))))

@@ -5,8 +5,8 @@ use Rattle.resb_walk.proofs.leaves.fill_list.Given as goal
 
 abbrev pub invariant-members : goal.invariant-members
 invariant-members g l = record {
-  fills : FillsList g.M.Make.lists g.M.Make.tables (parts_in l.fn.file) l.fn.rest l.fn.made l.fn.walk
-      l.rest l.made l.walk;
+  fills : FillsList g.M.Make.lists g.M.Make.tables (parts_in l.fn.file) l.fn.rest l.fn.made
+      l.fn.walk l.rest l.made l.walk;
   falls : l.walk ≤ l.fn.walk;
 }
 

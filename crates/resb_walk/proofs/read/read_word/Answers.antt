@@ -7,7 +7,8 @@ use Rattle.resb_format.specs.Parts.{parts_in}
 use Rattle.resb_walk.specs.Inner.Members.{member_of}
 use Rattle.resb_walk.proofs.Lift.{word_den, word_refused}
 use Rattle.resb_walk.proofs.Meeting.{waits_meets, round_meets}
-use Rattle.resb_walk.proofs.RoundsLemmas.{round_first, round_fills, round_falls, round_stuck, round_refused}
+use Rattle.resb_walk.proofs.RoundsLemmas.{round_first, round_fills, round_falls, round_stuck}
+use Rattle.resb_walk.proofs.RoundsLemmas.{round_refused}
 use Rattle.resb_walk.proofs.RoundsLemmas.{round_enters, enters_falls, round_last, round_outer}
 use Rattle.resb_walk.proofs.RoundsLemmas.{round_closes, round_takes}
 use Rattle.resb_walk.proofs.read.read_word.Goals as goal
@@ -64,8 +65,9 @@ returns-in_err-frame-in-Wants-clause-answers g c =
     rw (e.1, e.2) (
       omega arith,
       round_refused g.M.Make.lists g.M.Make.tables (parts_in c.args.file) c.args.word
-          c.args.walk.now c.rounds.frames.items c.in_ok-filled.filled c.fill.new.walk i c.in-Wants.waiting
-          (member_of c.in-Wants.member) c.in_err-frame-in-Wants.field-0.0 waits h.1,
+          c.args.walk.now c.rounds.frames.items c.in_ok-filled.filled c.fill.new.walk i
+          c.in-Wants.waiting (member_of c.in-Wants.member) c.in_err-frame-in-Wants.field-0.0 waits
+          h.1,
     )
 
 pub rounds-smaller-in_ok-frame-in-Wants : goal.rounds-smaller-in_ok-frame-in-Wants
@@ -137,8 +139,8 @@ rounds-preserved g c =
     let next = c.in_ok-frame-in-Some.ensures (parts_in c.args.file) outer.place outer.inner
     (1 + i.inner) (word i.place) h.0 outer.waits (den_word h.1) h.2 in
     round_closes g.M.Make.lists g.M.Make.tables (parts_in c.args.file) c.args.word c.args.walk.now
-    c.rounds.frames.items c.in_ok-filled.filled c.fill.new.walk i c.in-Some.waiting c.pop.new.self.items
-    c.in_ok-frame-in-Some.frame outer next
+    c.rounds.frames.items c.in_ok-filled.filled c.fill.new.walk i c.in-Some.waiting
+    c.pop.new.self.items c.in_ok-frame-in-Some.frame outer next
 
 pub returns-in_err-made-clause-meets : goal.returns-in_err-made-clause-meets
 returns-in_err-made-clause-meets g c =
@@ -154,7 +156,8 @@ returns-in_err-member-clause-meets g c =
     c.in_ok-filled.filled c.fill.new.walk c.in_ok-filled.ensures.fills in
     let met = c.in_err-member.ensures.meets i.place i.inner i.opened in
     rw (e.1, e.2) (λ f. round_meets (parts_in c.args.file) g.M.Make.lists g.M.Make.tables
-    c.args.word c.args.walk.now c.rounds.frames.items c.in_ok-filled.filled c.fill.new.walk i _ (met f))
+    c.args.word c.args.walk.now c.rounds.frames.items c.in_ok-filled.filled c.fill.new.walk i _
+    (met f))
 
 pub returns-in_err-frame-in-Wants-clause-meets : goal.returns-in_err-frame-in-Wants-clause-meets
 returns-in_err-frame-in-Wants-clause-meets g c =

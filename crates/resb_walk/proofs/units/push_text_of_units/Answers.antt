@@ -19,7 +19,8 @@ returns-in_err-rest-clause-front c =
       text_of_bytes c.in-Some.later.now,
       puts_more (string_bytes c.args.text.now)
           (string_bytes c.chars.text) (string_bytes c.push_ascii.new.text)
-          (text_of_bytes c.args.bytes.now) (encode c.in-Some.first) (text_of_bytes c.in-Some.later.now)
+          (text_of_bytes c.args.bytes.now) (encode c.in-Some.first)
+          (text_of_bytes c.in-Some.later.now)
           (text_of_bytes c.chars.rest.now) c.chars.invariant split put,
     )
 

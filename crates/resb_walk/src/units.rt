@@ -1,7 +1,7 @@
 //! UTF-16 among bytes, two for each unit: whether each surrogate has its partner, and the text.
 //! Where a string's units stand is found in `standing`.
 ghost use Rattle.std.specs.Prelude.{◌≡◌, ◌∷◌, ◌++◌, ◌<◌, ◌≤◌, ◌*◌, ◌/◌, [], true, not, length};
-ghost use Rattle.std.specs.Prelude.{MatchOption, IfOk, IfSome, OnOk, OnErr, ◌+◌, take, ℕ, List};
+ghost use Rattle.std.specs.Prelude.{MatchOption, IfOk, IfSome, OnErr, ◌+◌, take, ℕ, List};
 ghost use Rattle.std.specs.Char.{encode_utf8};
 ghost use Rattle.std.specs.Char.Utf16.{is_high_surrogate, is_low_surrogate, has_unpaired_surrogate};
 ghost use Rattle.std.specs.Char.Utf16.{utf16_lossy_chars, surrogate_pair_char};
@@ -217,7 +217,7 @@ fn push_ascii<'b>(text: &mut String, bytes: &'b [u8]) -> Result<&'b [u8], NoMemo
 /// Where memory is missing, a front of that text stands there.
 #[tactic(auto, using(crate::proofs::Surrogates::no_units_no_chars))]
 pub fn push_text_of_units(text: &mut String, bytes: &[u8]) -> Result<(), NoMemory>
-    ensures all { OnOk result (string_bytes text.new
+    ensures all { IfOk result (λ _. string_bytes text.new
         ≡ string_bytes text.old ++ text_of_bytes bytes.now) }
     ensures front { OnErr result ((rest : List ℕ)
         × PutsFront (string_bytes text.old) (string_bytes text.new)

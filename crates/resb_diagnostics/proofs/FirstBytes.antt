@@ -6,7 +6,7 @@ use Rattle.std.proofs.lemmas.List.{get_or-take, get_or-drop, length-take-le}
 use Rattle.resb_diagnostics.specs.Inner.Tokens.{NoByte, IsFirst}
 
 -- the byte at a place of the part
-pub at_part : (text : List ℕ) (from to k : ℕ) → k < to - from
+at_part : (text : List ℕ) (from to k : ℕ) → k < to - from
     → get_or (take (to - from) (drop from text)) k 0 ≡ get_or text (from + k) 0
 at_part text from to k lt =
     get_or-take (to - from) (drop from text) k 0 lt ∙ get_or-drop from text k 0
@@ -33,23 +33,6 @@ not_in_part b text from to n fits never k low high =
     by : (r : Bool) → (get_or text k 0 == b) ≡ r → r ≡ false
     by false e = refl
     by true e = absurd (never j (omega arith) (ap (λ x. x == b) same ∙ e))
-
--- what isn't in the part from a place on stands nowhere behind it in the text
-pub not_behind : (b : ℕ) (text : List ℕ) (from to start : ℕ)
-    → ((k : ℕ) → start ≤ k → k < to - from
-    → (get_or (take (to - from) (drop from text)) k 0 == b) ≡ true → ⊥)
-    → NoByte b text (from + start) to
-not_behind b text from to start never k low high = by (get_or text k 0 == b) refl
-  where
-    j : ℕ
-    j = k - from
-
-    same : get_or (take (to - from) (drop from text)) j 0 ≡ get_or text k 0
-    same = at_part text from to j (omega arith) ∙ ap (λ i. get_or text i 0) (omega arith)
-
-    by : (r : Bool) → (get_or text k 0 == b) ≡ r → r ≡ false
-    by false e = refl
-    by true e = absurd (never j (omega arith) (omega arith) (ap (λ x. x == b) same ∙ e))
 
 pub first_in_part : (b : ℕ) (text : List ℕ) (from to n : ℕ) → n < to - from
     → (get_or (take (to - from) (drop from text)) n 0 == b) ≡ true

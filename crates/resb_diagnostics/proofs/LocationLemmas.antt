@@ -1,10 +1,9 @@
--- Bounds of lines and columns, and how many lines begin in a part of a text.
-use Rattle.std.proofs.Common.{◌≡◌, ◌∙◌, ℕ, suc, ◌+◌, ◌<◌, ◌≤◌, Bool, true, false, List, ◌∷◌}
-use Rattle.std.proofs.Common.{◌-◌, length, get_or, take, drop, refl, sym, ap, arith}
-use Rattle.std.specs.Prelude.{zero, ◌==◌, slice_index, if◌then◌else◌}
-use Rattle.memchr.specs.Find.{is_byte, places_from, places}
+-- Bounds of lines and columns, and where no line begins.
+use Rattle.std.proofs.Common.{◌≡◌, ◌∙◌, ℕ, suc, ◌+◌, ◌≤◌, Bool, true, false, List}
+use Rattle.std.proofs.Common.{◌-◌, ap, arith}
+use Rattle.std.specs.Prelude.{zero, ◌==◌, slice_index}
 use Rattle.resb_grammar.specs.Ascii.{line_feed}
-use Rattle.resb_diagnostics.proofs.FirstBytes.{at_part, length_part}
+use Rattle.resb_diagnostics.specs.Inner.Tokens.{NoByte, IsFirst}
 use Rattle.resb_diagnostics.specs.Location.{line_behind, line_at, column_behind, column_at}
 use Rattle.resb_diagnostics.specs.Location.{begins_character}
 
@@ -32,42 +31,31 @@ few_columns text (suc n) =
 
 pub ruleset few_places = (few_lines, few_columns)
 
--- one byte more is a line more, if it is a line feed
-one_more : (b : Bool) (line i : ℕ) (later : List ℕ)
-    → line_behind b line + length later ≡ line + length (if b then i ∷ later else later)
-one_more true line i later = omega arith
-one_more false line i later = refl
+-- no line begins where no line feed stands
+pub same_line : (text : List ℕ) (from n : ℕ) → NoByte line_feed text from (from + n)
+    → line_at text (from + n) ≡ line_at text from
+same_line text from zero none =
+    let here : from + 0 ≡ from = omega arith in
+    ap (line_at text) here
+same_line text from (suc n) none =
+    let next : from + suc n ≡ suc (from + n) = omega arith in
+    ap (line_at text) next
+    ∙ ap (λ b. line_behind b (line_at text (from + n)))
+    (none (from + n) (omega arith) (omega arith))
+    ∙ same_line text from n (λ k low high. none k low (omega (arith, high)))
 
--- as many lines begin in a part of a text as it has line feeds
-pub lines_in : (text part : List ℕ) (from i n : ℕ)
-    → ((k : ℕ) → k < i + n → get_or part k 0 ≡ get_or text (from + k) 0)
-    → line_at text (from + (i + n))
-    ≡ line_at text (from + i) + length (places_from (is_byte line_feed) part i n)
-unfolding places_from
-lines_in text part from i zero same =
-    let here : from + (i + 0) ≡ from + i = omega arith in
-    let none : line_at text (from + i) ≡ line_at text (from + i) + 0 = omega arith in
-    ap (line_at text) here ∙ none
-lines_in text part from i (suc n) same =
-    let later = places_from (is_byte line_feed) part (i + 1) n in
-    let ends : from + (i + suc n) ≡ from + ((i + 1) + n) = omega arith in
-    let begins : from + (i + 1) ≡ suc (from + i) = omega arith in
-    ap (line_at text) ends ∙ lines_in text part from (i + 1) n (λ k lt. same k (omega arith))
-    ∙ ap (λ k. line_at text k + length later) begins
-    ∙ ap (λ x. line_behind (x == line_feed) (line_at text (from + i)) + length later)
-    (sym (same i (omega arith)))
-    ∙ one_more (get_or part i 0 == line_feed) (line_at text (from + i)) i later
+-- a line feed at a place, and none before it
+pub next_feed : (text : List ℕ) (from to at : ℕ) → IsFirst line_feed text from to at
+    → line_at text (suc at) ≡ suc (line_at text from)
+next_feed text from to at first =
+    let is : at ≡ from + (at - from) = omega (arith, first.order) in
+    let quiet = same_line text from (at - from)
+    (λ k low high. first.none k low (omega (arith, high, is))) in
+    ap (λ b. line_behind (b == line_feed) (line_at text at)) first.stands
+    ∙ ap (λ k. suc (line_at text k)) is ∙ ap suc quiet
 
--- the same from one place to another
-pub lines_between : (text : List ℕ) (from to : ℕ) → from ≤ to → to ≤ length text
-    → line_at text from + length (places (is_byte line_feed) (take (to - from) (drop from text)))
-    ≡ line_at text to
-lines_between text from to order fits =
-    let part = take (to - from) (drop from text) in
-    let size = length_part text from to fits in
-    let begins : from ≡ from + 0 = omega arith in
-    let ends : from + (0 + (length part - 0)) ≡ to = omega (arith, size, order) in
-    ap (λ k. line_at text k + length (places (is_byte line_feed) part)) begins
-    ∙ sym (lines_in text part from 0 (length part - 0)
-    (λ k lt. at_part text from to k (omega (arith, size, lt))))
-    ∙ ap (line_at text) ends
+-- the column behind a line feed
+pub behind_feed : (text : List ℕ) (at : ℕ) → slice_index text at ≡ line_feed
+    → column_at text (suc at) ≡ 1
+behind_feed text at is =
+    ap (λ b. column_behind (b == line_feed) (begins_character b) (column_at text at)) is

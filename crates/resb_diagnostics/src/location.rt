@@ -6,7 +6,7 @@ ghost use Rattle.resb_diagnostics.specs.Inner.Tokens.{NoByte};
 ghost use Rattle.resb_diagnostics.specs.Location as location;
 ghost use Rattle.resb_diagnostics.specs.Location.{line_at, column_at};
 
-use memchr::{memchr_iter, memrchr};
+use crate::runs::first_byte;
 use std::marker::Model;
 
 /// A place in a text as a person counts: lines from 1, and characters of the line from 1.
@@ -94,12 +94,17 @@ fn location_behind(text: &[u8], from: usize, known: Location, place: usize) -> L
     ensures line { result.line ≡ line_at text.now place }
     ensures column { result.column ≡ column_at text.now place }
 {
-    let part = &text[from..place];
-    let line = known.line + memchr_iter(b'\n', part).count();
-    let column = match memrchr(b'\n', part) {
-        Some(feed) => column_behind(text, from + feed + 1, 1, place),
-        None => column_behind(text, from, known.column, place),
-    };
+    let Location {
+        mut line,
+        mut column,
+    } = known;
+    let mut start = from;
+    'feeds: while let Some(feed) = first_byte(text, b'\n', start, place) {
+        line += 1;
+        column = 1;
+        start = feed + 1;
+    }
+    let column = column_behind(text, start, column, place);
     Location { line, column }
 }
 

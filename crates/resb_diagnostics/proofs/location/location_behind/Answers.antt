@@ -1,41 +1,33 @@
--- The line feeds of the part are those of the text between both places.
-use Rattle.std.proofs.Common.{◌∙◌, ap, arith, ◌+◌, length}
-use Rattle.resb_grammar.specs.Ascii.{line_feed}
-use Rattle.resb_diagnostics.specs.Location.{line_at}
-use Rattle.resb_diagnostics.proofs.FirstBytes.{not_behind, length_part}
-use Rattle.resb_diagnostics.proofs.LocationLemmas.{lines_between}
+-- A line more begins behind a line feed, and none where there is no other one.
+use Rattle.std.proofs.Common.{◌≡◌, ◌∙◌, ◌+◌, ◌-◌, suc, sym, ap, arith}
+use Rattle.resb_diagnostics.specs.Location.{line_at, column_at}
+use Rattle.resb_diagnostics.proofs.LocationLemmas.{same_line, next_feed, behind_feed}
 use Rattle.resb_diagnostics.proofs.location.location_behind.Goals as goal
 
-pub column_behind-column-requires-clause-none : goal.column_behind-column-requires-clause-none
-column_behind-column-requires-clause-none c =
-    let size = length_part c.args.text.now c.args.from c.args.place c.requires.fits in
-    λ k low high. not_behind line_feed c.args.text.now c.args.from c.args.place
-    (c.in-Some.feed + 1)
-    (λ n from to is. c.in-Some.ensures.0.after n from (omega (arith, size, to)) is)
-    k (omega (arith, low)) high
+pub feeds-preserved : goal.feeds-preserved
+feeds-preserved c =
+    let text = c.args.text.now in
+    let feed = c.in-Some.feed in
+    let first = c.in-Some.ensures in
+    let next : feed + 1 ≡ suc feed = omega arith in
+    let more : c.feeds.line + 1 ≡ suc c.feeds.line = omega arith in
+    let fits = first.fits in
+    let order = first.order in
+    let few = c.feeds.invariant.3 in (
+      omega (arith, fits),
+      more ∙ ap suc c.feeds.invariant.1 ∙ sym (next_feed text c.feeds.start c.args.place feed first)
+          ∙ sym (ap (line_at text) next),
+      sym (ap (column_at text) next ∙ behind_feed text feed first.stands),
+      omega (arith, few, order),
+    )
 
-pub column_behind-column-requires-in-None-clause-none :
-    goal.column_behind-column-requires-in-None-clause-none
-column_behind-column-requires-in-None-clause-none c =
-    let size = length_part c.args.text.now c.args.from c.args.place c.requires.fits in
-    λ k low high. not_behind line_feed c.args.text.now c.args.from c.args.place 0
-    (λ n from to is. c.in-None.ensures n from (omega (arith, size, to)) is)
-    k (omega (arith, low)) high
-
-pub returns-in-Some-clause-line : goal.returns-in-Some-clause-line
-returns-in-Some-clause-line c =
-    let lines = lines_between c.args.text.now c.args.from c.args.place c.requires.order
-    c.requires.fits in
-    ap (λ n. n + c.count.result) c.requires.line
-    ∙ ap (λ n. line_at c.args.text.now c.args.from + n)
-    (c.count.ensures ∙ ap length c.memchr_iter.ensures.value)
-    ∙ lines
-
-pub returns-in-None-clause-line : goal.returns-in-None-clause-line
-returns-in-None-clause-line c =
-    let lines = lines_between c.args.text.now c.args.from c.args.place c.requires.order
-    c.requires.fits in
-    ap (λ n. n + c.count.result) c.requires.line
-    ∙ ap (λ n. line_at c.args.text.now c.args.from + n)
-    (c.count.ensures ∙ ap length c.memchr_iter.ensures.value)
-    ∙ lines
+pub returns-clause-line : goal.returns-clause-line
+returns-clause-line c =
+    let text = c.args.text.now in
+    let start = c.feeds.start in
+    let order = c.feeds.invariant.0 in
+    let all : start + (c.args.place - start) ≡ c.args.place = omega (arith, order) in
+    c.feeds.invariant.1
+    ∙ sym (same_line text start (c.args.place - start)
+    (λ k low high. c.in_default.ensures k low (omega (arith, all, high))))
+    ∙ ap (line_at text) all

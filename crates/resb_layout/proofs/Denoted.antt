@@ -12,7 +12,7 @@ use Rattle.resb_tree.specs.Aliases.{has_alias, has_alias_in, has_alias_of}
 use Rattle.resb_tree.specs.Tree.{Tree, string, alias, array, table, binary, integer, int_vector}
 use Rattle.resb_tree.specs.Tree.{Trees, no_trees, more_trees, Entries, no_entries, entry, trees_of}
 use Rattle.resb_tree.specs.Tree.{map_of, tree_count, trees_count, entries_count}
-use Rattle.resb_tree.specs.Maps.{keyed_trees}
+use Rattle.resb_tree.specs.Maps.{keyed_trees, text_cmp}
 use Rattle.resb_format.specs.Lookups.{key_in, text_in}
 use Rattle.resb_format.specs.Parts.{Parts, reads_older}
 use Rattle.resb_format.specs.Content.{Member, word, unit, leaf, list, entry_list, content_at}
@@ -22,13 +22,14 @@ use Rattle.resb_format.specs.Denotes.{den_unit, DenEach, each_none as none_denot
 use Rattle.resb_format.specs.Denotes.{each_more as more_denoted, DenEntries, entries_none}
 use Rattle.resb_format.specs.Denotes.{entries_more}
 use Rattle.resb_layout.specs.Laid.{Given, Laid, here, more_units, to_data, words_body}
-use Rattle.resb_layout.specs.Laid.{near_table_body, wide_table_body, is_short_string, offsets_in}
-use Rattle.resb_layout.specs.Laid.{ClosesArray, short_array, long_array, ClosesTable, short_table}
-use Rattle.resb_layout.specs.Laid.{long_table, wide_table, entry_trees, ArePlaced, Lays}
+use Rattle.resb_layout.specs.Laid.{near_table_body, wide_table_body, is_short_by, are_short_by}
+use Rattle.resb_layout.specs.Laid.{offsets_by, nears_by, near_by, short_by, short_in}
+use Rattle.resb_layout.specs.Laid.{ClosesArrayBy, short_array, long_array, ClosesTableBy, short_table}
+use Rattle.resb_layout.specs.Laid.{long_table, wide_table, entry_trees, ArePlaced, LaysBy}
 use Rattle.resb_layout.specs.Laid.{lays_integer, lays_string, lays_no_path, lays_path}
 use Rattle.resb_layout.specs.Laid.{lays_no_bytes, lays_bytes, lays_no_numbers, lays_numbers}
 use Rattle.resb_layout.specs.Laid.{lays_no_members, lays_members, lays_no_entries, lays_entries}
-use Rattle.resb_layout.specs.Laid.{LaysEach, each_none, each_more}
+use Rattle.resb_layout.specs.Laid.{LaysEachBy, each_none, each_more}
 use Rattle.resb_tree.specs.LayingOrder.{entry_keys}
 use Rattle.resb_layout.specs.Laws.{IsRead, StandsIn, ReadsAliasesOf, LaidIsDenoted}
 use Rattle.resb_layout.proofs.BytesLemmas.{EachBelow}
@@ -39,7 +40,10 @@ use Rattle.resb_layout.proofs.Contents.{word_of_array, word_of_alias}
 use Rattle.resb_layout.proofs.Contents.{word_of_array16, word_of_table, word_of_table16}
 use Rattle.resb_layout.proofs.Contents.{word_of_table32, word_of_binary, word_of_vector}
 use Rattle.resb_tree.proofs.MapsLemmas.{map_of-keyed_trees}
+use Rattle.resb_layout.proofs.Forms.{offsets_many, nears_many, offsets_are, nears_are}
 use Rattle.resb_layout.proofs.Numbers.{some_with}
+use Rattle.std.proofs.Common.{Option}
+use Rattle.resb_layout.specs.Laid.{Lends}
 
 abbrev list_of : Trees → List Tree
 list_of no_trees = []
@@ -63,19 +67,19 @@ near_below n (p ∷ ps) h e =
     let both = and_parts _ _ e in
     (omega (arith, h, leb-true p 65535 both.0), near_below n ps h both.1)
 
-array_word : {g : Given} {s : Laid} {ws : List ℕ} {e : Laid} {w : ℕ} → ClosesArray g s ws e w
-    → (w < 2 ^ 32) × (0x6000_ffff < w)
+array_word : {lent : Option Lends} {g : Given} {s : Laid} {ws : List ℕ} {e : Laid} {w : ℕ}
+    → ClosesArrayBy lent g s ws e w → (w < 2 ^ 32) × (0x6fff_ffff < w)
 array_word (short_array k l) = (omega arith, omega arith)
 array_word (long_array at k e l n) = (omega arith, omega arith)
 
-table_word : {g : Given} {s : Laid} {ps ws : List ℕ} {e : Laid} {w : ℕ}
-    → ClosesTable g s ps ws e w → (w < 2 ^ 32) × (w < 0x6000_0000)
+table_word : {lent : Option Lends} {g : Given} {s : Laid} {ps ws : List ℕ} {e : Laid} {w : ℕ}
+    → ClosesTableBy lent g s ps ws e w → (w < 2 ^ 32) × (w < 0x6000_0000)
 table_word (short_table n k l) = (omega arith, omega arith)
 table_word (long_table at n k e l) = (omega arith, omega arith)
 table_word (wide_table at n e l q r) = (omega arith, omega arith)
 
 -- a word has 32 bits
-word_small : {g : Given} {s e : Laid} {t : Tree} {w : ℕ} → Lays g s t e w → w < 2 ^ 32
+word_small : {lent : Option Lends} {g : Given} {s e : Laid} {t : Tree} {w : ℕ} → LaysBy lent g s t e w → w < 2 ^ 32
 word_small (lays_integer h) = omega arith
 word_small (lays_string h l) = omega arith
 word_small lays_no_path = omega arith
@@ -89,27 +93,27 @@ word_small (lays_members h some c) = (array_word c).0
 word_small lays_no_entries = omega arith
 word_small (lays_entries ps p h some c) = (table_word c).0
 
-words_small : {g : Given} {s e : Laid} {ts : Trees} {ws : List ℕ} → LaysEach g s ts e ws
+words_small : {lent : Option Lends} {g : Given} {s e : Laid} {ts : Trees} {ws : List ℕ} → LaysEachBy lent g s ts e ws
     → EachBelow (2 ^ 32) ws
 words_small each_none = tt
 words_small (each_more h k) = (word_small h, words_small k)
 
 -- members and words are as many
-words_many : {g : Given} {s e : Laid} {ts : Trees} {ws : List ℕ} → LaysEach g s ts e ws
+words_many : {lent : Option Lends} {g : Given} {s e : Laid} {ts : Trees} {ws : List ℕ} → LaysEachBy lent g s ts e ws
     → length ws ≡ length (list_of ts)
 words_many each_none = refl
 words_many (each_more h k) = ap suc (words_many k)
 
-record IsShortString (g : Given) (t : Tree) (w : ℕ) : Type 0 where
+record IsString (g : Given) (t : Tree) (w : ℕ) : Type 0 where
   text : List ℕ
   is : t ≡ string text
   offset : g.offset text ≡ Some (w - 0x6000_0000)
 
 -- a word in this range is a string's
-string_word : {g : Given} {s e : Laid} {t : Tree} {w : ℕ} → Lays g s t e w → 0x6000_0000 ≤ w
-    → w ≤ 0x6000_ffff → IsShortString g t w
+string_word : {lent : Option Lends} {g : Given} {s e : Laid} {t : Tree} {w : ℕ}
+    → LaysBy lent g s t e w → 0x6000_0000 ≤ w → w ≤ 0x6fff_ffff → IsString g t w
 string_word (lays_integer h) a b = absurd (omega arith)
-string_word {g = g} (lays_string {text = text} {k = k} h l) a b =
+string_word {lent = lent} {g = g} (lays_string {text = text} {k = k} h l) a b =
     record { text = text; is = refl; offset = some_with (g.offset text) k h }
 string_word lays_no_path a b = absurd (omega arith)
 string_word (lays_path at some u n e l) a b = absurd (omega arith)
@@ -123,38 +127,103 @@ string_word lays_no_entries a b = absurd (omega arith)
 string_word (lays_entries ps p h some c) a b = let far =
     (table_word c).1 in absurd (omega (arith, far))
 
-module _ (p : Parts) (g : Given) (read : IsRead p g) where
-  short_member : {s e : Laid} {t : Tree} {w : ℕ} → Lays g s t e w → is_short_string w ≡ true
-      → DenMember p (unit (w - 0x6000_0000)) t (tree_count t)
+record IsShortWord (lent : Option Lends) (w : ℕ) : Type 0 where
+  low : 0x6000_0000 ≤ w
+  high : w ≤ 0x6fff_ffff
+  short : short_by lent (w - 0x6000_0000) ≤ 65535
+
+short_word : (lent : Option Lends) (w : ℕ) → is_short_by lent w ≡ true → IsShortWord lent w
+short_word None w e =
+    let both = and_parts _ _ e in
+    let low : 0x6000_0000 ≤ w = leb-true 0x6000_0000 w both.0 in
+    let high : w ≤ 0x6000_ffff = leb-true w 0x6000_ffff both.1 in
+    record { low = low; high = omega (arith, high); short = omega (arith, low, high) }
+short_word (Some l) w e =
+    let both = and_parts _ _ e in
+    let rest = and_parts _ _ both.1 in
+    record {
+      low = leb-true 0x6000_0000 w both.0;
+      high = leb-true w 0x6fff_ffff rest.0;
+      short = leb-true (short_in l (w - 0x6000_0000)) 65535 rest.1;
+    }
+
+all_short : (lent : Option Lends) (ws : List ℕ) → are_short_by lent ws ≡ true
+    → list_all (is_short_by lent) ws ≡ true
+all_short None ws e = (and_parts _ _ e).1
+all_short (Some l) ws e = (and_parts _ _ e).1
+
+module _ (p : Parts) (lent : Option Lends) (g : Given) (read : IsRead p lent g) where
+  short_member : {s e : Laid} {t : Tree} {w : ℕ} → LaysBy lent g s t e w
+      → is_short_by lent w ≡ true
+      → DenMember p (unit (short_by lent (w - 0x6000_0000))) t (tree_count t)
   short_member {w = w} h e =
-      let both = and_parts _ _ e in
-      let i = string_word h (leb-true 0x6000_0000 w both.0) (leb-true w 0x6000_ffff both.1) in
-      subst (λ t. DenMember p (unit (w - 0x6000_0000)) t (tree_count t)) (sym i.is)
-      (den_unit (ap (text_in p) (read.units (w - 0x6000_0000))
-      ∙ read.texts i.text (w - 0x6000_0000) i.offset))
+      let k = short_word lent w e in
+      let i = string_word h k.low k.high in
+      subst (λ t. DenMember p (unit (short_by lent (w - 0x6000_0000))) t (tree_count t)) (sym i.is)
+      (den_unit (read.short_texts i.text (w - 0x6000_0000) i.offset k.short))
 
   -- strings alone
-  short_each : {s e : Laid} {ts : Trees} {ws : List ℕ} → LaysEach g s ts e ws
-      → list_all is_short_string ws ≡ true
-      → DenEach p (map unit (offsets_in ws)) (list_of ts) (trees_count ts)
-  short_each each_none e = none_denoted
-  short_each (each_more h k) e = let both = and_parts _ _ e in
-      more_denoted (short_member h both.0) (short_each k both.1)
+  each_short : {s e : Laid} {ts : Trees} {ws : List ℕ} → LaysEachBy lent g s ts e ws
+      → list_all (is_short_by lent) ws ≡ true
+      → DenEach p (map unit (map (λ w. short_by lent (w - 0x6000_0000)) ws)) (list_of ts)
+      (trees_count ts)
+  each_short each_none e = none_denoted
+  each_short (each_more h k) e = let both = and_parts _ _ e in
+      more_denoted (short_member h both.0) (each_short k both.1)
 
+  short_each : {s e : Laid} {ts : Trees} {ws : List ℕ} → LaysEachBy lent g s ts e ws
+      → list_all (is_short_by lent) ws ≡ true
+      → DenEach p (map unit (offsets_by lent ws)) (list_of ts) (trees_count ts)
+  short_each {ts = ts'} {ws = ws'} h e =
+      subst (λ os. DenEach p (map unit os) (list_of ts') (trees_count ts'))
+      (sym (offsets_are lent ws')) (each_short h e)
+
+  -- the keys stand at their positions
+  keys_at : (ks : List (List ℕ)) (ps : List ℕ) → map g.position ks ≡ map Some ps
+      → map (key_in p) ps ≡ map Some ks
+  keys_at [] [] e = refl
+  keys_at [] (q ∷ ps) e = absurd (let no : ⊥ = cc in no)
+  keys_at (k ∷ ks) [] e = absurd (let no : ⊥ = cc in no)
+  keys_at (k ∷ ks) (q ∷ ps) e =
+      let first : g.position k ≡ Some q = cc in
+      let rest : map g.position ks ≡ map Some ps = cc in
+      λ i. read.keys k q first i ∷ keys_at ks ps rest i
+
+  near_at : (ks : List (List ℕ)) (ps : List ℕ) → map g.position ks ≡ map Some ps
+      → list_all (λ q. nat_le q 65535) (map (near_by lent) ps) ≡ true
+      → map (key_in p) (map (near_by lent) ps) ≡ map Some ks
+  near_at [] [] e h = refl
+  near_at [] (q ∷ ps) e h = absurd (let no : ⊥ = cc in no)
+  near_at (k ∷ ks) [] e h = absurd (let no : ⊥ = cc in no)
+  near_at (k ∷ ks) (q ∷ ps) e h =
+      let first : g.position k ≡ Some q = cc in
+      let rest : map g.position ks ≡ map Some ps = cc in
+      let both = and_parts _ _ h in
+      λ i. read.near_keys k q first (leb-true (near_by lent q) 65535 both.0) i
+      ∷ near_at ks ps rest both.1 i
+
+  nears_at : (ks : List (List ℕ)) (ps : List ℕ) → map g.position ks ≡ map Some ps
+      → list_all (λ q. nat_le q 65535) (nears_by lent ps) ≡ true
+      → map (key_in p) (nears_by lent ps) ≡ map Some ks
+  nears_at ks ps e h =
+      ap (map (key_in p)) (nears_are lent ps)
+      ∙ near_at ks ps e (ap (list_all (λ q. nat_le q 65535)) (sym (nears_are lent ps)) ∙ h)
+
+module _ (p : Parts) where
   none_keyed : (ms : List Member) (n : ℕ) → DenEach p ms [] n → DenEntries p (zip [] ms) [] n
   none_keyed ms n none_denoted = entries_none
 
   -- the texts of the keys at these positions
   keyed : (es : Entries) (ps : List ℕ) (ms : List Member) (n : ℕ)
-      → map g.position (entry_keys es) ≡ map Some ps → DenEach p ms (list_of (entry_trees es)) n
+      → map (key_in p) ps ≡ map Some (entry_keys es) → DenEach p ms (list_of (entry_trees es)) n
       → DenEntries p (zip ps ms) (keyed_trees es) n
   keyed no_entries [] ms n e d = none_keyed ms n d
   keyed no_entries (q ∷ ps) ms n e d = absurd (let no : ⊥ = cc in no)
   keyed (entry k t es) [] ms n e d = absurd (let no : ⊥ = cc in no)
   keyed (entry k t es) (q ∷ ps) ms n e d =
-      let first : g.position k ≡ Some q = cc in
-      let rest : map g.position (entry_keys es) ≡ map Some ps = cc in
-      one_and_more (read.keys k q first) (λ ms j h. keyed es ps ms j rest h) ms n d
+      let first : key_in p q ≡ Some k = cc in
+      let rest : map (key_in p) ps ≡ map Some (entry_keys es) = cc in
+      one_and_more first (λ ms j h. keyed es ps ms j rest h) ms n d
     where
       one_and_more : key_in p q ≡ Some k → ((ms : List Member) (j : ℕ)
           → DenEach p ms (list_of (entry_trees es)) j → DenEntries p (zip ps ms) (keyed_trees es) j)
@@ -167,9 +236,9 @@ positions_many : (g : Given) (ks : List (List ℕ)) (ps : List ℕ) → map g.po
     → length ks ≡ length ps
 positions_many g ks ps e = sym (length-map ks g.position) ∙ ap length e ∙ length-map ps Some
 
-none_placed : (g : Given) → ArePlaced g [] []
+none_ascend : IsStrictlySortedBy text_cmp []
 unfolding IsStrictlySortedBy
-none_placed g = record { ascend = tt; positions = refl }
+none_ascend = tt
 
 members_many : (es : Entries) → length (entry_keys es) ≡ length (list_of (entry_trees es))
 members_many no_entries = refl
@@ -206,7 +275,7 @@ values_read : (p : Parts) (es : Entries) → ReadsAliasesOf p (table es)
 values_read p es (inl none) = inl (values_alias es ∙ none)
 values_read p es (inr reads) = inr reads
 
-module _ (p : Parts) (g : Given) (read : IsRead p g) where
+module _ (p : Parts) (lent : Option Lends) (g : Given) (read : IsRead p lent g) where
   some_here : (s : Laid) (at : ℕ) → here g s ≡ 4 * at → 0 < at
   some_here s at e = omega (arith, e, read.base)
 
@@ -224,15 +293,16 @@ module _ (p : Parts) (g : Given) (read : IsRead p g) where
       (den_list e d))
 
   as_table : (w : ℕ) (ps : List ℕ) (ms : List Member) (es : Entries)
-      → ArePlaced g (entry_keys es) ps
+      → IsStrictlySortedBy text_cmp (entry_keys es)
+      → map (key_in p) ps ≡ map Some (entry_keys es)
       → content_at p w ≡ Some (entry_list (zip ps ms))
       → DenEach p ms (list_of (entry_trees es)) (trees_count (entry_trees es))
       → Den p w (table es) (entries_count es + 1)
-  as_table w ps ms es placed e d =
+  as_table w ps ms es ascend keys e d =
       let ds : DenEntries p (zip ps ms) (keyed_trees es) (entries_count es) =
       subst (λ n. DenEntries p (zip ps ms) (keyed_trees es) n) (members_count es)
-      (keyed p g read es ps ms (trees_count (entry_trees es)) placed.positions d) in
-      subst (λ fs. Den p w (table fs) (entries_count es + 1)) (map_of-keyed_trees es placed.ascend)
+      (keyed p es ps ms (trees_count (entry_trees es)) keys d) in
+      subst (λ fs. Den p w (table fs) (entries_count es + 1)) (map_of-keyed_trees es ascend)
       (subst (λ n. Den p w (table (map_of (keyed_trees es))) n) (one_and_more (entries_count es))
       (den_entries e ds))
 
@@ -274,9 +344,7 @@ module _ (p : Parts) (g : Given) (read : IsRead p g) where
   string_leaf : (text : List ℕ) (k : ℕ) → g.offset text ≡ Some k → k < 2 ^ 28
       → content_at p (0x6000_0000 + k) ≡ Some (leaf (string text))
   unfolding content_at
-  string_leaf text zero h l = let same : Some text ≡ Some [] =
-      sym (read.texts text 0 h) ∙ read.empty in let e : text ≡ [] =
-      cc in ap (λ s. Some (leaf (string s))) (sym e)
+  string_leaf text zero h l = ap (λ s. Some (leaf (string s))) (sym (read.empty text h))
   string_leaf text (suc k) h l =
       let e : (0x6000_0000 + suc k) / 2 ^ 28 ≡ 6 = omega arith in
       let f : (0x6000_0000 + suc k) % 2 ^ 28 ≡ suc k = omega arith in
@@ -287,60 +355,65 @@ module _ (p : Parts) (g : Given) (read : IsRead p g) where
       ∙ ap (option_map (λ s. leaf (string s))) (read.texts text (suc k) h)
 
   array_denoted : (s : Laid) (ts : Trees) (ws : List ℕ) (e : Laid) (w : ℕ) → 0 < length s.units
-      → ClosesArray g s ws e w → StandsIn p g e → EachBelow (2 ^ 32) ws
+      → ClosesArrayBy lent g s ws e w → StandsIn p g e → EachBelow (2 ^ 32) ws
       → (StandsIn p g s → DenEach p (map word ws) (list_of ts) (trees_count ts))
-      → (list_all is_short_string ws ≡ true
-      → DenEach p (map unit (offsets_in ws)) (list_of ts) (trees_count ts))
+      → (list_all (is_short_by lent) ws ≡ true
+      → DenEach p (map unit (offsets_by lent ws)) (list_of ts) (trees_count ts))
       → Den p w (array ts) (trees_count ts + 1)
   array_denoted s ts ws e w u (short_array h l) i small long short =
-      let both = and_parts _ _ h in
-      let os : List ℕ = offsets_in ws in
-      let n : length ws ≡ length os = sym (length-map ws (λ x. x - 0x6000_0000)) in
+      let os : List ℕ = offsets_by lent ws in
+      let n : length ws ≡ length os = sym (offsets_many lent ws) in
       let j : StandsIn p g (more_units s (length os ∷ os)) =
       subst (λ k. StandsIn p g (more_units s (k ∷ os))) n i in
       as_array (0x9000_0000
       + length s.units) (map unit os) ts (word_of_array16 p (length s.units) u l
-      ∙ array16_found p g s os j) (short both.1)
+      ∙ array16_found p g s os j) (short (all_short lent ws h))
   array_denoted s ts ws e w u (long_array at h f l n) i small long short =
       as_array (0x8000_0000 + at) (map word ws) ts
       (word_of_array p at (some_here s at f) l ∙ array_found p g s ws at f small n i)
       (long (parts_stood (by_bytes s (words_body ws)) i))
 
   table_denoted : (s : Laid) (es : Entries) (ps ws : List ℕ) (e : Laid) (w : ℕ)
-      → 0 < length s.units → ClosesTable g s ps ws e w → StandsIn p g e
+      → 0 < length s.units → ClosesTableBy lent g s ps ws e w → StandsIn p g e
       → ArePlaced g (entry_keys es) ps → length ps ≡ length ws → EachBelow (2 ^ 32) ws
       → (StandsIn p g s
       → DenEach p (map word ws) (list_of (entry_trees es)) (trees_count (entry_trees es)))
-      → (list_all is_short_string ws ≡ true
-      → DenEach p (map unit (offsets_in ws)) (list_of (entry_trees es))
+      → (list_all (is_short_by lent) ws ≡ true
+      → DenEach p (map unit (offsets_by lent ws)) (list_of (entry_trees es))
       (trees_count (entry_trees es)))
       → Den p w (table es) (entries_count es + 1)
   table_denoted s es ps ws e w u (short_table near h l) i q same small long short =
-      let both = and_parts _ _ h in
-      let os : List ℕ = offsets_in ws in
-      let n : length ws ≡ length os = sym (length-map ws (λ x. x - 0x6000_0000)) in
-      let j : StandsIn p g (more_units s (length os ∷ (ps ++ os))) =
-      subst (λ k. StandsIn p g (more_units s (k ∷ (ps ++ os)))) n i in
+      let qs : List ℕ = nears_by lent ps in
+      let os : List ℕ = offsets_by lent ws in
+      let n : length ws ≡ length os = sym (offsets_many lent ws) in
+      let j : StandsIn p g (more_units s (length os ∷ (qs ++ os))) =
+      subst (λ k. StandsIn p g (more_units s (k ∷ (qs ++ os)))) n i in
       as_table (0x5000_0000
-      + length s.units) ps (map unit os) es q (word_of_table16 p (length s.units) u l
-      ∙ table16_found p g s ps os (sym n ∙ sym same) j) (short both.1)
+      + length s.units) qs (map unit os) es q.ascend
+      (nears_at p lent g read (entry_keys es) ps q.positions (and_parts _ _ near).1)
+      (word_of_table16 p (length s.units) u l
+      ∙ table16_found p g s qs os (sym n ∙ sym same ∙ sym (nears_many lent ps)) j)
+      (short (all_short lent ws h))
   table_denoted s es ps ws e w u (long_table at near h f l) i q same small long short =
+      let qs : List ℕ = nears_by lent ps in
       let both = and_parts _ _ near in
-      let few : length ps < 2 ^ 16 = omega (arith, leb-true (length ps) 65535 both.0) in
-      as_table (0x2000_0000 + at) ps (map word ws) es q
+      let few : length qs < 2 ^ 16 = omega (arith, leb-true (length qs) 65535 both.0) in
+      as_table (0x2000_0000 + at) qs (map word ws) es q.ascend
+      (nears_at p lent g read (entry_keys es) ps q.positions both.1)
       (word_of_table p at (some_here s at f) l
-      ∙ table_found p g s ps ws at f (near_below (2 ^ 16) ps (omega arith) both.1) small few
-      same i)
-      (long (parts_stood (by_bytes s (near_table_body ps ws)) i))
+      ∙ table_found p g s qs ws at f (near_below (2 ^ 16) qs (omega arith) both.1) small few
+      (nears_many lent ps ∙ same) i)
+      (long (parts_stood (by_bytes s (near_table_body qs ws)) i))
   table_denoted s es ps ws e w u (wide_table at near f l n a) i q same small long short =
-      as_table (0x4000_0000 + at) ps (map word ws) es q
+      as_table (0x4000_0000 + at) ps (map word ws) es q.ascend
+      (keys_at p lent g read (entry_keys es) ps q.positions)
       (word_of_table32 p at (some_here s at f) l
       ∙ wide_found p g s ps ws at f (each_below (2 ^ 32) ps a) small n same i)
       (long (parts_stood (by_bytes s (wide_table_body ps ws)) i))
 
   mutual
     pub denoted : {s e : Laid} {t : Tree} {w : ℕ} → ReadsAliasesOf p t → 0 < length s.units
-        → Lays g s t e w → StandsIn p g e → Den p w t (tree_count t)
+        → LaysBy lent g s t e w → StandsIn p g e → Den p w t (tree_count t)
     denoted r u (lays_integer {n = n} h) i = den_leaf (integer_word n h)
     denoted r u (lays_string {text = text} {k = k} h l) i = den_leaf (string_leaf text k h l)
     denoted r u lays_no_path i = den_leaf (no_path (alias_read p [] r))
@@ -359,18 +432,18 @@ module _ (p : Parts) (g : Given) (read : IsRead p g) where
     denoted {e = e'} r u (lays_members {s = s'} {mid = m'} {ts = ts'} {ws = ws'} {w = w'} h some
         c) i =
         array_denoted m' ts' ws' e' w' (units_stay (grows_each h) u) c i (words_small h)
-        (λ k. denoted_each r u h k) (λ k. short_each p g read h k)
+        (λ k. denoted_each r u h k) (λ k. short_each p lent g read h k)
     denoted r u lays_no_entries i =
-        as_table 0x2000_0000 [] [] no_entries (none_placed g) empty_table_stands none_denoted
+        as_table 0x2000_0000 [] [] no_entries none_ascend refl empty_table_stands none_denoted
     denoted {e = e'} r u (lays_entries {s = s'} {mid = m'} {es = es'} {ws = ws'} {w =
         w'} ps q h some c) i =
         let same : length ps ≡ length ws' = sym (positions_many g (entry_keys es') ps q.positions)
         ∙ members_many es' ∙ sym (words_many h) in
         table_denoted m' es' ps ws' e' w' (units_stay (grows_each h) u) c i q same (words_small h)
-        (λ k. denoted_each (values_read p es' r) u h k) (λ k. short_each p g read h k)
+        (λ k. denoted_each (values_read p es' r) u h k) (λ k. short_each p lent g read h k)
 
     denoted_each : {s e : Laid} {ts : Trees} {ws : List ℕ} → EachReadsAliases p ts
-        → 0 < length s.units → LaysEach g s ts e ws → StandsIn p g e
+        → 0 < length s.units → LaysEachBy lent g s ts e ws → StandsIn p g e
         → DenEach p (map word ws) (list_of ts) (trees_count ts)
     denoted_each r u each_none i = none_denoted
     denoted_each r u (each_more {t = t'} {ts = ts'} h k) i =
@@ -380,4 +453,5 @@ module _ (p : Parts) (g : Given) (read : IsRead p g) where
 
 -- a tree that is laid is what its word denotes
 pub laid_is_denoted : LaidIsDenoted
-laid_is_denoted p g before after t w read aliases u h i = denoted p g read aliases u h i
+laid_is_denoted lent p g before after t w read aliases u h i =
+    denoted p lent g read aliases u h i

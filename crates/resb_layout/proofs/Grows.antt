@@ -3,13 +3,15 @@ use Rattle.std.proofs.Common.{ℕ, List, [], ◌++◌, ◌≡◌, ◌<◌, lengt
 use Rattle.std.proofs.Common.{ap, append_assoc, append-nil, length-append, arith}
 use Rattle.resb_tree.specs.Tree.{Tree, Trees}
 use Rattle.resb_format.specs.Parts.{Parts}
-use Rattle.resb_layout.specs.Laid.{Given, Laid, more_units, more_bytes, ClosesArray, short_array}
-use Rattle.resb_layout.specs.Laid.{long_array, ClosesTable, short_table, long_table, wide_table}
-use Rattle.resb_layout.specs.Laid.{Lays, lays_integer, lays_string, lays_no_path, lays_path}
+use Rattle.resb_layout.specs.Laid.{Given, Laid, more_units, more_bytes, ClosesArrayBy, short_array}
+use Rattle.resb_layout.specs.Laid.{long_array, ClosesTableBy, short_table, long_table, wide_table}
+use Rattle.resb_layout.specs.Laid.{LaysBy, lays_integer, lays_string, lays_no_path, lays_path}
 use Rattle.resb_layout.specs.Laid.{lays_no_bytes, lays_bytes, lays_no_numbers, lays_numbers}
 use Rattle.resb_layout.specs.Laid.{lays_no_members, lays_members, lays_no_entries, lays_entries}
-use Rattle.resb_layout.specs.Laid.{LaysEach, each_none, each_more}
+use Rattle.resb_layout.specs.Laid.{LaysEachBy, each_none, each_more}
 use Rattle.resb_layout.specs.Laws.{StandsIn}
+use Rattle.std.proofs.Common.{Option}
+use Rattle.resb_layout.specs.Laid.{Lends}
 
 pub record Grows (a b : Laid) : Type 0 where
   pub units : List ℕ
@@ -51,20 +53,20 @@ by_bytes s bs = record {
   bytes_are = refl;
 }
 
-pub array_grows : {g : Given} {s : Laid} {ws : List ℕ} {e : Laid} {w : ℕ}
-    → ClosesArray g s ws e w → Grows s e
+pub array_grows : {lent : Option Lends} {g : Given} {s : Laid} {ws : List ℕ} {e : Laid} {w : ℕ}
+    → ClosesArrayBy lent g s ws e w → Grows s e
 array_grows (short_array h l) = by_units _ _
 array_grows (long_array at h e l n) = by_bytes _ _
 
-pub table_grows : {g : Given} {s : Laid} {ps ws : List ℕ} {e : Laid} {w : ℕ}
-    → ClosesTable g s ps ws e w → Grows s e
+pub table_grows : {lent : Option Lends} {g : Given} {s : Laid} {ps ws : List ℕ} {e : Laid} {w : ℕ}
+    → ClosesTableBy lent g s ps ws e w → Grows s e
 table_grows (short_table n h l) = by_units _ _
 table_grows (long_table at n h e l) = by_bytes _ _
 table_grows (wide_table at n e l q r) = by_bytes _ _
 
 mutual
   -- laying a tree only appends
-  pub grows : {g : Given} {s e : Laid} {t : Tree} {w : ℕ} → Lays g s t e w → Grows s e
+  pub grows : {lent : Option Lends} {g : Given} {s e : Laid} {t : Tree} {w : ℕ} → LaysBy lent g s t e w → Grows s e
   grows (lays_integer h) = grows_by_nothing _
   grows (lays_string h l) = grows_by_nothing _
   grows lays_no_path = grows_by_nothing _
@@ -78,7 +80,7 @@ mutual
   grows lays_no_entries = grows_by_nothing _
   grows (lays_entries ps p h some c) = grows_onward (grows_each h) (table_grows c)
 
-  pub grows_each : {g : Given} {s e : Laid} {ts : Trees} {ws : List ℕ} → LaysEach g s ts e ws
+  pub grows_each : {lent : Option Lends} {g : Given} {s e : Laid} {ts : Trees} {ws : List ℕ} → LaysEachBy lent g s ts e ws
       → Grows s e
   grows_each each_none = grows_by_nothing _
   grows_each (each_more h k) = grows_onward (grows h) (grows_each k)

@@ -12,15 +12,15 @@ use Rattle.resb_tree.specs.LayingOrder.{laying_order, laying_each, laying_values
 use Rattle.resb_format.proofs.WordsBack.{written_length}
 use Rattle.resb_layout.specs.Laid.{Given, Laid, more_units, more_bytes, here, words, pad}
 use Rattle.resb_format.specs.Bytes.{units_as_bytes}
-use Rattle.resb_layout.specs.Laid.{to_data, to_word, fill, offsets_in, words_body, near_table_body}
+use Rattle.resb_layout.specs.Laid.{to_data, to_word, fill, offsets_by, nears_by, words_body, near_table_body}
 use Rattle.resb_layout.specs.Laid.{wide_table_body, binary_body, path_body, entry_trees}
 use Rattle.resb_format.specs.Units.{units}
-use Rattle.resb_layout.specs.Laid.{ClosesArray, short_array, long_array, ClosesTable}
-use Rattle.resb_layout.specs.Laid.{short_table, long_table, wide_table, Lays, lays_integer}
+use Rattle.resb_layout.specs.Laid.{ClosesArrayBy, short_array, long_array, ClosesTableBy}
+use Rattle.resb_layout.specs.Laid.{short_table, long_table, wide_table, LaysBy, lays_integer}
 use Rattle.resb_layout.specs.Laid.{lays_string, lays_no_path, lays_path, lays_no_bytes}
 use Rattle.resb_layout.specs.Laid.{lays_bytes, lays_no_numbers}
 use Rattle.resb_layout.specs.Laid.{lays_numbers, lays_no_members, lays_members, lays_no_entries}
-use Rattle.resb_layout.specs.Laid.{lays_entries, LaysEach, each_none, each_more}
+use Rattle.resb_layout.specs.Laid.{lays_entries, LaysEachBy, each_none, each_more}
 use Rattle.resb_layout.specs.InOrder.{TailBody, tail_path, tail_bytes, tail_numbers, tail_array}
 use Rattle.resb_layout.specs.InOrder.{tail_table}
 use Rattle.resb_layout.specs.InOrder.{tail_wide_table, FillsTail, tail_ends, tail_without}
@@ -28,6 +28,9 @@ use Rattle.resb_layout.specs.InOrder.{tail_with, BlockBody, block_array, block_t
 use Rattle.resb_layout.specs.InOrder.{block_ends, block_without, block_with}
 use Rattle.resb_layout.specs.Laws.{StandsInOrder, LaidInOrder}
 use Rattle.resb_layout.proofs.BytesLemmas.{halves_len}
+use Rattle.resb_layout.proofs.Forms.{offsets_many}
+use Rattle.std.proofs.Common.{Option}
+use Rattle.resb_layout.specs.Laid.{Lends}
 
 tail_join : {at : ℕ} {ts us : List Tree} {bs cs : List ℕ} → FillsTail at ts bs
     → FillsTail (at + length bs) us cs → FillsTail at (ts ++ us) (bs ++ cs)
@@ -208,22 +211,26 @@ binary_whole at bytes =
     ) in
     omega (arith, l)
 
-module _ (g : Given) where
+module _ (lent : Option Lends) (g : Given) where
   array_in_order : {s : Laid} {ws : List ℕ} {e : Laid} {w : ℕ} (ts : Trees) → here g s % 4 ≡ 0
-      → 0 < length ws → ClosesArray g s ws e w → StandsInOrder g s e (array ts ∷ [])
+      → 0 < length ws → ClosesArrayBy lent g s ws e w → StandsInOrder g s e (array ts ∷ [])
   array_in_order {s} {ws} ts word some (short_array h l) =
-      in_block g s (array ts) (length ws ∷ offsets_in ws) word (block_array ws some)
+      in_block g s (array ts) (length ws ∷ offsets_by lent ws) word
+      (block_array (length ws) (offsets_by lent ws) (sym (offsets_many lent ws)) some)
   array_in_order {s} {ws} ts word some (long_array at h k l n) =
       in_tail g s (array ts) (words_body ws) word (tail_array ws some)
       (words_whole (here g s) ws word)
 
   table_in_order : {s : Laid} {ps ws : List ℕ} {e : Laid} {w : ℕ} (es : Entries) → here g s % 4 ≡ 0
-      → 0 < length ws → ClosesTable g s ps ws e w → StandsInOrder g s e (table es ∷ [])
+      → 0 < length ws → ClosesTableBy lent g s ps ws e w → StandsInOrder g s e (table es ∷ [])
   table_in_order {s} {ps} {ws} es word some (short_table n h l) =
-      in_block g s (table es) (length ws ∷ (ps ++ offsets_in ws)) word (block_table ps ws some)
+      in_block g s (table es) (length ws ∷ (nears_by lent ps ++ offsets_by lent ws)) word
+      (block_table (length ws) (nears_by lent ps) (offsets_by lent ws)
+      (sym (offsets_many lent ws)) some)
   table_in_order {s} {ps} {ws} es word some (long_table at n h k l) =
-      in_tail g s (table es) (near_table_body ps ws) word (tail_table ps ws some)
-      (near_whole (here g s) ps ws word)
+      in_tail g s (table es) (near_table_body (nears_by lent ps) ws) word
+      (tail_table (nears_by lent ps) ws some)
+      (near_whole (here g s) (nears_by lent ps) ws word)
   table_in_order {s} {ps} {ws} es word some (wide_table at n k l q r) =
       in_tail g s (table es) (wide_table_body ps ws) word (tail_wide_table ps ws some)
       (wide_whole (here g s) ps ws word)
@@ -235,38 +242,38 @@ laying_each-entry_trees (entry k t es) = ap (λ ts. laying_order t
     ++ ts) (laying_each-entry_trees es)
 
 mutual
-  in_order : {g : Given} {s e : Laid} {t : Tree} {w : ℕ} → Lays g s t e w → here g s % 4 ≡ 0
+  in_order : {lent : Option Lends} {g : Given} {s e : Laid} {t : Tree} {w : ℕ} → LaysBy lent g s t e w → here g s % 4 ≡ 0
       → StandsInOrder g s e (laying_order t)
-  in_order {g = g} (lays_integer {s = s'} h) word = nothing g s' _ word
-  in_order {g = g} (lays_string {s = s'} h l) word = nothing g s' _ word
-  in_order {g = g} (lays_no_path {s = s'}) word = nothing g s' _ word
-  in_order {g = g} (lays_path {s = s'} {path = p'} at some u n e l) word =
+  in_order {lent = lent} {g = g} (lays_integer {s = s'} h) word = nothing g s' _ word
+  in_order {lent = lent} {g = g} (lays_string {s = s'} h l) word = nothing g s' _ word
+  in_order {lent = lent} {g = g} (lays_no_path {s = s'}) word = nothing g s' _ word
+  in_order {lent = lent} {g = g} (lays_path {s = s'} {path = p'} at some u n e l) word =
       in_tail g s' (alias p') (path_body (units p')) word (tail_path some)
       (path_whole (here g s') (units p') word)
-  in_order {g = g} (lays_no_bytes {s = s'}) word = nothing g s' _ word
-  in_order {g = g} (lays_bytes {s = s'} {bytes = b'} at some n e l) word =
+  in_order {lent = lent} {g = g} (lays_no_bytes {s = s'}) word = nothing g s' _ word
+  in_order {lent = lent} {g = g} (lays_bytes {s = s'} {bytes = b'} at some n e l) word =
       in_tail g s' (binary b') (binary_body (here g s') b') word (tail_bytes some)
       (binary_whole (here g s') b')
-  in_order {g = g} (lays_no_numbers {s = s'}) word = nothing g s' _ word
-  in_order {g = g} (lays_numbers {s = s'} {ns = n'} at some n a e l) word =
+  in_order {lent = lent} {g = g} (lays_no_numbers {s = s'}) word = nothing g s' _ word
+  in_order {lent = lent} {g = g} (lays_numbers {s = s'} {ns = n'} at some n a e l) word =
       in_tail g s' (int_vector n') (words_body n') word (tail_numbers some)
       (words_whole (here g s') n' word)
-  in_order {g = g} (lays_no_members {s = s'}) word = nothing g s' _ word
-  in_order {g = g} (lays_members {ts = ts'} h some c) word =
+  in_order {lent = lent} {g = g} (lays_no_members {s = s'}) word = nothing g s' _ word
+  in_order {lent = lent} {g = g} (lays_members {ts = ts'} h some c) word =
       let k = each_in_order h word in
-      joined_in_order g k (array_in_order g ts' k.whole some c)
-  in_order {g = g} (lays_no_entries {s = s'}) word = nothing g s' _ word
-  in_order {g = g} {s = s} (lays_entries {mid = m'} {es = es'} ps p h some c) word =
+      joined_in_order g k (array_in_order lent g ts' k.whole some c)
+  in_order {lent = lent} {g = g} (lays_no_entries {s = s'}) word = nothing g s' _ word
+  in_order {lent = lent} {g = g} {s = s} (lays_entries {mid = m'} {es = es'} ps p h some c) word =
       let k = each_in_order h word in
       joined_in_order g (subst (StandsInOrder g s m') (laying_each-entry_trees es') k)
-      (table_in_order g es' k.whole some c)
+      (table_in_order lent g es' k.whole some c)
 
-  each_in_order : {g : Given} {s e : Laid} {ts : Trees} {ws : List ℕ} → LaysEach g s ts e ws
+  each_in_order : {lent : Option Lends} {g : Given} {s e : Laid} {ts : Trees} {ws : List ℕ} → LaysEachBy lent g s ts e ws
       → here g s % 4 ≡ 0 → StandsInOrder g s e (laying_each ts)
-  each_in_order {g = g} (each_none {s = s'}) word = none g s' word
-  each_in_order {g = g} (each_more h k) word =
+  each_in_order {lent = lent} {g = g} (each_none {s = s'}) word = none g s' word
+  each_in_order {lent = lent} {g = g} (each_more h k) word =
       let first = in_order h word in joined_in_order g first (each_in_order k first.whole)
 
 -- the resources of a tree are laid in laying order
 pub laid_in_order : LaidInOrder
-laid_in_order g before after t w word h = in_order h word
+laid_in_order lent g before after t w word h = in_order h word

@@ -7,7 +7,7 @@ use Rattle.std.specs.Prelude.{◌≡◌, ℕ, ◌+◌, ◌%◌, ◌<◌, List, [
 use Rattle.resb_tree.specs.Tree.{Tree, alias, array, table, binary, int_vector, Trees, Entries}
 use Rattle.resb_format.specs.Units.{units}
 use Rattle.resb_layout.specs.Laid.{path_body, binary_body, words_body, near_table_body}
-use Rattle.resb_layout.specs.Laid.{wide_table_body, offsets_in}
+use Rattle.resb_layout.specs.Laid.{wide_table_body}
 
 -- the body of a tree in the tail; all fillings are bytes 0xaa: up to the place of a binary's bytes,
 -- behind these, and behind an even number of a table's 16-bit positions or of a path's units
@@ -38,10 +38,10 @@ pub data FillsTail : ℕ → List Tree → List ℕ → Type 0 where
 -- the body of a tree in the 16-bit block: a count, a table's key positions, and the strings'
 -- offsets
 pub data BlockBody : Tree → List ℕ → Type 0 where
-  block_array : {ts : Trees} (ws : List ℕ) → 0 < length ws
-      → BlockBody (array ts) (length ws ∷ offsets_in ws)
-  block_table : {es : Entries} (ps ws : List ℕ) → 0 < length ws
-      → BlockBody (table es) (length ws ∷ (ps ++ offsets_in ws))
+  block_array : {ts : Trees} (n : ℕ) (os : List ℕ) → n ≡ length os → 0 < n
+      → BlockBody (array ts) (n ∷ os)
+  block_table : {es : Entries} (n : ℕ) (ps os : List ℕ) → n ≡ length os → 0 < n
+      → BlockBody (table es) (n ∷ (ps ++ os))
 
 -- the bodies of the trees that have one in the 16-bit block are these units, without a gap
 pub data FillsBlock : List Tree → List ℕ → Type 0 where

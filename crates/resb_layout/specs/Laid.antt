@@ -4,9 +4,11 @@
 --     Lays g before t after w         from where before stands, the tree t takes what after has
 --                                     more, and its word is w
 --     LaysEach g before ts after ws   the same of trees in a row
+--     LaysBy lent g .., LaysEachBy lent g ..    the same of a file to which a pool bundle lends, or of one
+--                                     that uses none
 use Rattle.std.specs.Prelude.{◌≡◌, ℕ, ◌+◌, ◌-◌, ◌*◌, ◌^◌, ◌<◌, ◌%◌, List, [], ◌∷◌, ◌++◌}
-use Rattle.std.specs.Prelude.{length, map, replicate, All, Option, Some, Bool, true, false, ◌&&◌}
-use Rattle.std.specs.Prelude.{nat_le, nat_eq, if◌then◌else◌}
+use Rattle.std.specs.Prelude.{length, map, replicate, All, Option, Some, None, Bool, true, false}
+use Rattle.std.specs.Prelude.{◌&&◌, nat_le, nat_lt, nat_eq, if◌then◌else◌}
 use Rattle.std.specs.List.{flat_map, list_all}
 use Rattle.std.specs.List.Sorted.{IsStrictlySortedBy}
 use Rattle.std.specs.Int.{to_le_bytes, w16, w32}
@@ -24,6 +26,14 @@ pub record Given : Type 0 where
   pub position : List ℕ → Option ℕ
   pub offset : List ℕ → Option ℕ
   pub base : ℕ
+
+-- what a pool bundle lends to a file, as a short body of the file tells it: where the file's own
+-- keys end, in bytes of the body, and the first index of a string that is its own, as an index and
+-- as a unit
+pub record Lends : Type 0 where
+  pub own_end : ℕ
+  pub limit : ℕ
+  pub short_limit : ℕ
 
 -- what stands so far: the units of the 16-bit block, and the bytes of the tail
 pub record Laid : Type 0 where
@@ -103,26 +113,84 @@ are_near ps = nat_le (length ps) 65535 && list_all (λ p. nat_le p 65535) ps
 abbrev pub offsets_in : List ℕ → List ℕ
 offsets_in ws = map (λ w. w - 0x6000_0000) ws
 
+-- a position as 16 bits tell it, if they can: a place in a pool's keys, which a position of 2^31 and
+-- more tells, is counted from the end of the file's own
+abbrev pub near_in : Lends → ℕ → ℕ
+near_in l p = if nat_le (2 ^ 31) p then p - 2 ^ 31 + l.own_end else p
+
+-- an index as a unit tells it, if one can: that of a string of the pool tells itself below the short
+-- limit, and nothing from there on; the file's own follow from the short limit on
+abbrev pub short_in : Lends → ℕ → ℕ
+short_in l i =
+    if nat_le l.limit i then i - l.limit + l.short_limit
+    else if nat_lt i l.short_limit then i
+    else 65536
+
+-- the same, or the position itself where no pool is used
+abbrev pub near_by : Option Lends → ℕ → ℕ
+near_by None = λ p. p
+near_by (Some l) = near_in l
+
+-- the same, or the index itself where no pool is used
+abbrev pub short_by : Option Lends → ℕ → ℕ
+short_by None = λ i. i
+short_by (Some l) = short_in l
+
+-- these positions as 16 bits tell them
+abbrev pub nears_by : Option Lends → List ℕ → List ℕ
+nears_by None = λ ps. ps
+nears_by (Some l) = map (near_in l)
+
+-- the word of a string that a unit can tell
+abbrev pub is_short_by : Option Lends → ℕ → Bool
+is_short_by None = is_short_string
+is_short_by (Some l) =
+    λ w. nat_le 0x6000_0000 w
+    && (nat_le w 0x6fff_ffff && nat_le (short_in l (w - 0x6000_0000)) 65535)
+
+-- all words are those of strings that a unit can tell, and a unit can count them
+abbrev pub are_short_by : Option Lends → List ℕ → Bool
+are_short_by None = are_short
+are_short_by (Some l) = λ ws. nat_le (length ws) 65535 && list_all (is_short_by (Some l)) ws
+
+-- what units tell of the strings of these words
+abbrev pub offsets_by : Option Lends → List ℕ → List ℕ
+offsets_by None = offsets_in
+offsets_by (Some l) = map (λ w. short_in l (w - 0x6000_0000))
+
 -- behind its members, whose words are ws: an array's further units or bytes, and its word
-pub data ClosesArray (g : Given) (s : Laid) (ws : List ℕ) : Laid → ℕ → Type 0 where
-  short_array : are_short ws ≡ true → length s.units < 2 ^ 28
-      → ClosesArray g s ws (more_units s (length ws ∷ offsets_in ws)) (0x9000_0000 + length s.units)
-  long_array : (at : ℕ) → are_short ws ≡ false → here g s ≡ 4 * at → at < 2 ^ 28
+pub data ClosesArrayBy (lent : Option Lends) (g : Given) (s : Laid) (ws : List ℕ)
+    : Laid → ℕ → Type 0 where
+  short_array : are_short_by lent ws ≡ true → length s.units < 2 ^ 28
+      → ClosesArrayBy lent g s ws (more_units s (length ws ∷ offsets_by lent ws)) (0x9000_0000
+      + length s.units)
+  long_array : (at : ℕ) → are_short_by lent ws ≡ false → here g s ≡ 4 * at → at < 2 ^ 28
       → length ws < 2 ^ 32
-      → ClosesArray g s ws (more_bytes s (words_body ws)) (0x8000_0000 + at)
+      → ClosesArrayBy lent g s ws (more_bytes s (words_body ws)) (0x8000_0000 + at)
 
 -- behind its members, whose words are ws: a table's further units or bytes, and its word; its keys
 -- have the positions ps
-pub data ClosesTable (g : Given) (s : Laid) (ps ws : List ℕ) : Laid → ℕ → Type 0 where
-  short_table : are_near ps ≡ true → are_short ws ≡ true → length s.units < 2 ^ 28
-      → ClosesTable g s ps ws (more_units s (length ws ∷ (ps ++ offsets_in ws))) (0x5000_0000
-      + length s.units)
-  long_table : (at : ℕ) → are_near ps ≡ true → are_short ws ≡ false → here g s ≡ 4 * at
-      → at < 2 ^ 28
-      → ClosesTable g s ps ws (more_bytes s (near_table_body ps ws)) (0x2000_0000 + at)
-  wide_table : (at : ℕ) → are_near ps ≡ false → here g s ≡ 4 * at → at < 2 ^ 28
+pub data ClosesTableBy (lent : Option Lends) (g : Given) (s : Laid) (ps ws : List ℕ)
+    : Laid → ℕ → Type 0 where
+  short_table : are_near (nears_by lent ps) ≡ true → are_short_by lent ws ≡ true
+      → length s.units < 2 ^ 28
+      → ClosesTableBy lent g s ps ws (more_units s (length ws ∷ (nears_by lent ps ++ offsets_by lent ws)))
+      (0x5000_0000 + length s.units)
+  long_table : (at : ℕ) → are_near (nears_by lent ps) ≡ true → are_short_by lent ws ≡ false
+      → here g s ≡ 4 * at → at < 2 ^ 28
+      → ClosesTableBy lent g s ps ws (more_bytes s (near_table_body (nears_by lent ps) ws)) (0x2000_0000
+      + at)
+  wide_table : (at : ℕ) → are_near (nears_by lent ps) ≡ false → here g s ≡ 4 * at → at < 2 ^ 28
       → length ps < 2 ^ 32 → All (λ p. p < 2 ^ 32) ps
-      → ClosesTable g s ps ws (more_bytes s (wide_table_body ps ws)) (0x4000_0000 + at)
+      → ClosesTableBy lent g s ps ws (more_bytes s (wide_table_body ps ws)) (0x4000_0000 + at)
+
+-- the same of a file that uses no pool
+abbrev pub ClosesArray : Given → Laid → List ℕ → Laid → ℕ → Type 0
+ClosesArray = ClosesArrayBy None
+
+-- the same of a file that uses no pool
+abbrev pub ClosesTable : Given → Laid → List ℕ → List ℕ → Laid → ℕ → Type 0
+ClosesTable = ClosesTableBy None
 
 -- the trees of entries, in their order
 abbrev pub entry_trees : Entries → Trees
@@ -137,32 +205,40 @@ pub record ArePlaced (g : Given) (ks : List (List ℕ)) (ps : List ℕ) : Type 0
 mutual
   -- behind what is laid, what a tree takes in the 16-bit block and in the tail, members first, and
   -- its word: an empty collection, path, binary or vector is its type with value 0
-  pub data Lays (g : Given) : Laid → Tree → Laid → ℕ → Type 0 where
-    lays_integer : {s : Laid} {n : ℕ} → n < 2 ^ 28 → Lays g s (integer n) s (0x7000_0000 + n)
+  pub data LaysBy (lent : Option Lends) (g : Given) : Laid → Tree → Laid → ℕ → Type 0 where
+    lays_integer : {s : Laid} {n : ℕ} → n < 2 ^ 28 → LaysBy lent g s (integer n) s (0x7000_0000 + n)
     lays_string : {s : Laid} {text : List ℕ} {k : ℕ} → g.offset text ≡ Some k → k < 2 ^ 28
-        → Lays g s (string text) s (0x6000_0000 + k)
-    lays_no_path : {s : Laid} → Lays g s (alias []) s 0x3000_0000
+        → LaysBy lent g s (string text) s (0x6000_0000 + k)
+    lays_no_path : {s : Laid} → LaysBy lent g s (alias []) s 0x3000_0000
     lays_path : {s : Laid} {path : List ℕ} (at : ℕ) → 0 < length path → IsUtf8 path
         → length (units path) < 2 ^ 32 → here g s ≡ 4 * at → at < 2 ^ 28
-        → Lays g s (alias path) (more_bytes s (path_body (units path))) (0x3000_0000 + at)
-    lays_no_bytes : {s : Laid} → Lays g s (binary []) s 0x1000_0000
+        → LaysBy lent g s (alias path) (more_bytes s (path_body (units path))) (0x3000_0000 + at)
+    lays_no_bytes : {s : Laid} → LaysBy lent g s (binary []) s 0x1000_0000
     lays_bytes : {s : Laid} {bytes : List ℕ} (at : ℕ) → 0 < length bytes → length bytes < 2 ^ 32
         → here g s + to_data (here g s) ≡ 4 * at → at < 2 ^ 28
-        → Lays g s (binary bytes) (more_bytes s (binary_body (here g s) bytes)) (0x1000_0000 + at)
-    lays_no_numbers : {s : Laid} → Lays g s (int_vector []) s 0xe000_0000
+        → LaysBy lent g s (binary bytes) (more_bytes s (binary_body (here g s) bytes)) (0x1000_0000 + at)
+    lays_no_numbers : {s : Laid} → LaysBy lent g s (int_vector []) s 0xe000_0000
     lays_numbers : {s : Laid} {ns : List ℕ} (at : ℕ) → 0 < length ns → length ns < 2 ^ 32
         → All (λ n. n < 2 ^ 32) ns → here g s ≡ 4 * at → at < 2 ^ 28
-        → Lays g s (int_vector ns) (more_bytes s (words_body ns)) (0xe000_0000 + at)
-    lays_no_members : {s : Laid} → Lays g s (array no_trees) s 0x8000_0000
-    lays_members : {s mid end : Laid} {ts : Trees} {ws : List ℕ} {w : ℕ} → LaysEach g s ts mid ws
-        → 0 < length ws → ClosesArray g mid ws end w → Lays g s (array ts) end w
-    lays_no_entries : {s : Laid} → Lays g s (table no_entries) s 0x2000_0000
+        → LaysBy lent g s (int_vector ns) (more_bytes s (words_body ns)) (0xe000_0000 + at)
+    lays_no_members : {s : Laid} → LaysBy lent g s (array no_trees) s 0x8000_0000
+    lays_members : {s mid end : Laid} {ts : Trees} {ws : List ℕ} {w : ℕ} → LaysEachBy lent g s ts mid ws
+        → 0 < length ws → ClosesArrayBy lent g mid ws end w → LaysBy lent g s (array ts) end w
+    lays_no_entries : {s : Laid} → LaysBy lent g s (table no_entries) s 0x2000_0000
     lays_entries : {s mid end : Laid} {es : Entries} {ws : List ℕ} {w : ℕ} (ps : List ℕ)
-        → ArePlaced g (entry_keys es) ps → LaysEach g s (entry_trees es) mid ws → 0 < length ws
-        → ClosesTable g mid ps ws end w → Lays g s (table es) end w
+        → ArePlaced g (entry_keys es) ps → LaysEachBy lent g s (entry_trees es) mid ws → 0 < length ws
+        → ClosesTableBy lent g mid ps ws end w → LaysBy lent g s (table es) end w
 
   -- trees are laid one after another, each with its word
-  pub data LaysEach (g : Given) : Laid → Trees → Laid → List ℕ → Type 0 where
-    each_none : {s : Laid} → LaysEach g s no_trees s []
+  pub data LaysEachBy (lent : Option Lends) (g : Given) : Laid → Trees → Laid → List ℕ → Type 0 where
+    each_none : {s : Laid} → LaysEachBy lent g s no_trees s []
     each_more : {s mid end : Laid} {ws : List ℕ} {w : ℕ} {t : Tree} {ts : Trees}
-        → Lays g s t mid w → LaysEach g mid ts end ws → LaysEach g s (more_trees t ts) end (w ∷ ws)
+        → LaysBy lent g s t mid w → LaysEachBy lent g mid ts end ws → LaysEachBy lent g s (more_trees t ts) end (w ∷ ws)
+
+-- the same of a file that uses no pool
+abbrev pub Lays : Given → Laid → Tree → Laid → ℕ → Type 0
+Lays = LaysBy None
+
+-- the same of a file that uses no pool
+abbrev pub LaysEach : Given → Laid → Trees → Laid → List ℕ → Type 0
+LaysEach = LaysEachBy None

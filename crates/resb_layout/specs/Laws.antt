@@ -5,7 +5,7 @@
 --     LaidInOrder             what is laid are the bodies of the tree's resources in laying order,
 --                             without a gap
 --     LaidIsPaid              what was laid has two bytes for each resource but the root
-use Rattle.std.specs.Prelude.{◌≡◌, ℕ, ◌+◌, ◌*◌, ◌%◌, ◌<◌, ◌≤◌, List, [], ◌++◌, length, Some}
+use Rattle.std.specs.Prelude.{◌≡◌, ℕ, ◌+◌, ◌*◌, ◌%◌, ◌<◌, ◌≤◌, List, [], ◌++◌, length, Option, Some}
 use Rattle.std.specs.Prelude.{◌⊎◌, true, false}
 use Rattle.resb_tree.specs.Tree.{Tree, tree_count}
 use Rattle.resb_tree.specs.Aliases.{has_alias}
@@ -13,21 +13,26 @@ use Rattle.resb_format.specs.Lookups.{text_in, key_in, index_in}
 use Rattle.resb_format.specs.Parts.{Parts, reads_older}
 use Rattle.resb_format.specs.Denotes.{Den}
 use Rattle.resb_tree.specs.LayingOrder.{laying_order}
-use Rattle.resb_layout.specs.Laid.{Given, Laid, Lays, here}
+use Rattle.resb_layout.specs.Laid.{Given, Lends, Laid, LaysBy, near_by, short_by, here}
 use Rattle.resb_layout.specs.InOrder.{FillsTail, FillsBlock}
 
 -- from where it begins a tree is laid in one way, with one word
 abbrev pub OneLayout : Type 0
-OneLayout = (g : Given) (s a b : Laid) (t : Tree) (v w : ℕ) → Lays g s t a v → Lays g s t b w
-    → (a ≡ b) × (v ≡ w)
+OneLayout =
+    (lent : Option Lends) (g : Given) (s a b : Laid) (t : Tree) (v w : ℕ) → LaysBy lent g s t a v
+    → LaysBy lent g s t b w → (a ≡ b) × (v ≡ w)
 
--- the blocks read back what is given: each key at its position, each string at its offset
-pub record IsRead (p : Parts) (g : Given) : Type 0 where
+-- the blocks read back what is given: each key at its position, each string at its offset, and both
+-- as 16 bits tell them, where 16 bits can
+pub record IsRead (p : Parts) (lent : Option Lends) (g : Given) : Type 0 where
   pub keys : (k : List ℕ) (at : ℕ) → g.position k ≡ Some at → key_in p at ≡ Some k
+  pub near_keys : (k : List ℕ) (at : ℕ) → g.position k ≡ Some at → near_by lent at ≤ 65535
+      → key_in p (near_by lent at) ≡ Some k
   pub texts : (s : List ℕ) (k : ℕ) → g.offset s ≡ Some k → text_in p k ≡ Some s
-  -- a unit tells itself
-  pub units : (u : ℕ) → index_in p u ≡ u
-  pub empty : text_in p 0 ≡ Some []
+  pub short_texts : (s : List ℕ) (k : ℕ) → g.offset s ≡ Some k → short_by lent k ≤ 65535
+      → text_in p (index_in p (short_by lent k)) ≡ Some s
+  -- the empty text alone has the offset 0
+  pub empty : (s : List ℕ) → g.offset s ≡ Some 0 → s ≡ []
   pub base : 0 < g.base
   pub aligned : g.base % 4 ≡ 0
 
@@ -48,8 +53,9 @@ ReadsAliasesOf p t = (has_alias t ≡ false) ⊎ (reads_older p ≡ true)
 -- once, if the tree has no alias or aliases are read
 abbrev pub LaidIsDenoted : Type 0
 LaidIsDenoted =
-    (p : Parts) (g : Given) (before after : Laid) (t : Tree) (w : ℕ) → IsRead p g
-    → ReadsAliasesOf p t → 0 < length before.units → Lays g before t after w → StandsIn p g after
+    (lent : Option Lends) (p : Parts) (g : Given) (before after : Laid) (t : Tree) (w : ℕ)
+    → IsRead p lent g → ReadsAliasesOf p t → 0 < length before.units
+    → LaysBy lent g before t after w → StandsIn p g after
     → Den p w t (tree_count t)
 
 -- behind what stands before, what stands after has these bytes and units more
@@ -65,8 +71,8 @@ pub record StandsInOrder (g : Given) (before after : Laid) (ts : List Tree) : Ty
 -- a tail that begins at a word is filled in laying order
 abbrev pub LaidInOrder : Type 0
 LaidInOrder =
-    (g : Given) (before after : Laid) (t : Tree) (w : ℕ) → here g before % 4 ≡ 0
-    → Lays g before t after w → StandsInOrder g before after (laying_order t)
+    (lent : Option Lends) (g : Given) (before after : Laid) (t : Tree) (w : ℕ)
+    → here g before % 4 ≡ 0 → LaysBy lent g before t after w → StandsInOrder g before after (laying_order t)
 
 -- the bytes of what stands
 abbrev pub taken : Laid → ℕ
@@ -75,5 +81,6 @@ taken s = 2 * length s.units + length s.tail
 -- a file has at least two bytes for each resource of its tree but the root
 abbrev pub LaidIsPaid : Type 0
 LaidIsPaid =
-    (g : Given) (before after : Laid) (t : Tree) (w : ℕ) → Lays g before t after w
+    (lent : Option Lends) (g : Given) (before after : Laid) (t : Tree) (w : ℕ)
+    → LaysBy lent g before t after w
     → taken before + 2 * tree_count t ≤ taken after + 2

@@ -4,6 +4,7 @@ use Rattle.std.proofs.Common.{option_and_then, inl, inr, sym, ◌∙◌, ap, rul
 use Rattle.std.proofs.lemmas.Bool.{cases_lt, lt-ltb}
 use Rattle.std.proofs.lemmas.List.{drop_all}
 use Rattle.resb_format.specs.Lookups.{key_place_by, text_place_by, index_by, lent_position}
+use Rattle.resb_format.specs.Lookups.{key_in, text_in}
 use Rattle.resb_format.specs.Parts.{Parts, no_pool, beside_no_pool}
 use Rattle.resb_format.specs.Strings.{key_at, before_zero, if_utf8, text_at}
 use Rattle.resb_layout.specs.Laid.{Given, Laid}
@@ -39,15 +40,25 @@ module _ (body keys block : List ℕ) (g : Given) where
   abbrev alone : Parts
   alone = record { body = body; keys = keys; block = block; lent = None }
 
-  pub read_beside : IsRead alone g → IsRead (beside_no_pool alone) g
-  unfolding key_place_by text_place_by index_by
+  own_key : (k : List ℕ) (at : ℕ) → key_at keys at ≡ Some k
+      → key_in (beside_no_pool alone) at ≡ Some k
+  unfolding key_place_by
+  own_key k at here = ap (λ p. key_at p.0 p.1) (own_place keys at (key_inside keys at k here)) ∙ here
+
+  own_text_in : (s : List ℕ) (k : ℕ) → text_in alone k ≡ Some s
+      → text_in (beside_no_pool alone) k ≡ Some s
+  unfolding text_place_by
+  own_text_in s k here = ap (λ p. text_at p.0 p.1) (own_text block k) ∙ here
+
+  pub read_beside : IsRead alone None g → IsRead (beside_no_pool alone) None g
+  unfolding key_place_by index_by
   read_beside r = record {
-    keys = λ k at e.
-        let here : key_at keys at ≡ Some k = r.keys k at e in
-        ap (λ p. key_at p.0 p.1) (own_place keys at (key_inside keys at k here)) ∙ here;
-    texts = λ s k e. ap (λ p. text_at p.0 p.1) (own_text block k) ∙ r.texts s k e;
-    units = own_index;
-    empty = ap (λ p. text_at p.0 p.1) (own_text block 0) ∙ r.empty;
+    keys = λ k at e. own_key k at (r.keys k at e);
+    near_keys = λ k at e near. own_key k at (r.keys k at e);
+    texts = λ s k e. own_text_in s k (r.texts s k e);
+    short_texts = λ s k e short. ap (text_in (beside_no_pool alone)) (own_index k)
+        ∙ own_text_in s k (r.texts s k e);
+    empty = r.empty;
     base = r.base;
     aligned = r.aligned;
   }

@@ -19,7 +19,7 @@ use Rattle.resb_pool.proofs.IsRead.{pool_is_read}
 use Rattle.resb_pool.proofs.ReadBack.{text_at-zero}
 use Rattle.resb_layout.specs.Laid.{Given, Laid, Lays, fill}
 use Rattle.resb_format.specs.Bytes.{units_as_bytes}
-use Rattle.resb_format.specs.Lookups.{key_place_by, text_place_by, index_by}
+use Rattle.resb_format.specs.Lookups.{key_place_by, text_place_by, index_by, text_in}
 use Rattle.resb_layout.specs.Laws.{IsRead, StandsIn, ReadsAliasesOf}
 use Rattle.resb_layout.proofs.BytesLemmas.{EachBelow, halves_len}
 use Rattle.resb_layout.proofs.Grows.{grows}
@@ -196,17 +196,30 @@ module _ (t : Tree) (ks js : List (List ℕ)) (m : Made t ks js) (largest : ℕ)
           (no_nul (keys_of t) js m.faultless k (is_used (keys_of t) js m.faultless ks m.js_are k n
           h))
 
-  is_read : IsRead parts given
-  unfolding key_place_by text_place_by index_by
+  text_is_read : (s : List ℕ) (k : ℕ) → m.offset s ≡ Some k → text_in parts k ≡ Some s
+  unfolding text_place_by
+  text_is_read s k e = ap (λ l. text_at l k) block_begins
+      ∙ (pool_is_read (texts_of t) m.pool m.offset m.plan s k e).1 ((grows m.lays).units ++ more.0)
+
+  first_is_empty : text_in parts 0 ≡ Some []
+  unfolding text_place_by
+  first_is_empty = ap (λ l. text_at l 0) (block_begins
+      ∙ ap (λ l. l ++ ((grows m.lays).units ++ more.0)) pool_first.1)
+      ∙ text_at-zero (pool_first.0 ++ ((grows m.lays).units ++ more.0))
+
+  only_empty : (s : List ℕ) → m.offset s ≡ Some 0 → s ≡ []
+  only_empty s e =
+      let same : Some s ≡ Some [] = sym (text_is_read s 0 e) ∙ first_is_empty in
+      let is : s ≡ [] = cc in is
+
+  is_read : IsRead parts None given
+  unfolding index_by
   is_read = record {
     keys = key_is_read;
-    units = λ u. refl;
-    texts = λ s k e. ap (λ l. text_at l k) block_begins
-        ∙ (pool_is_read (texts_of t) m.pool m.offset m.plan s k e).1
-        ((grows m.lays).units ++ more.0);
-    empty = ap (λ l. text_at l 0) (block_begins
-        ∙ ap (λ l. l ++ ((grows m.lays).units ++ more.0)) pool_first.1)
-        ∙ text_at-zero (pool_first.0 ++ ((grows m.lays).units ++ more.0));
+    near_keys = λ k at e near. key_is_read k at e;
+    texts = text_is_read;
+    short_texts = λ s k e short. text_is_read s k e;
+    empty = only_empty;
     base = omega (arith, m.base_is);
     aligned = base_whole;
   }
@@ -239,10 +252,10 @@ module _ (t : Tree) (ks js : List (List ℕ)) (m : Made t ks js) (largest : ℕ)
   pool_long : 0 < length m.pool
   pool_long = omega (arith, ap length pool_first.1)
 
-  denoted_in : (p : Parts) → IsRead p given → StandsIn p given m.laid → ReadsAliasesOf p t
+  denoted_in : (p : Parts) → IsRead p None given → StandsIn p given m.laid → ReadsAliasesOf p t
       → Den p m.root t (tree_count t)
   denoted_in p read inside aliases =
-      laid_is_denoted p given (record { units = m.pool; tail = [] }) m.laid t m.root read aliases
+      laid_is_denoted None p given (record { units = m.pool; tail = [] }) m.laid t m.root read aliases
       pool_long m.lays inside
 
   -- what the root denotes in these parts, the file's root word does in those that are the same
@@ -255,7 +268,7 @@ module _ (t : Tree) (ks js : List (List ℕ)) (m : Made t ks js) (largest : ℕ)
   few : 2 * tree_count t ≤ 2 * length m.laid.units + length m.laid.tail
   few = omega (
     arith,
-    laid_is_paid given (record { units = m.pool; tail = [] }) m.laid t m.root m.lays,
+    laid_is_paid None given (record { units = m.pool; tail = [] }) m.laid t m.root m.lays,
     pool_long,
   )
 

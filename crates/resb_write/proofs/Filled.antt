@@ -1,6 +1,6 @@
 -- The tail of a written file is the bodies of its tree, one right behind another.
 use Rattle.std.proofs.Common.{◌≡◌, ◌+◌, ◌*◌, ◌%◌, [], length, drop, sym, ap, ◌∙◌}
-use Rattle.std.proofs.Common.{subst, arith}
+use Rattle.std.proofs.Common.{subst, arith, None}
 use Rattle.resb_tree.specs.LayingOrder.{laying_order}
 use Rattle.resb_head.specs.File.{body_of, block_end}
 use Rattle.resb_layout.specs.Laid.{Laid, Given, here}
@@ -23,7 +23,7 @@ written_in_order bytes t f ks w =
     let ends : 4 * block_end bytes ≡ base = w.block_end in
     let begins : here g s ≡ 4 * block_end bytes = omega (arith, ends) in
     let word : here g s % 4 ≡ 0 = omega (arith, begins) in
-    let h = laid_in_order g s b.laid t b.root word b.lays in
+    let h = laid_in_order None g s b.laid t b.root word b.lays in
     let long : base ≡ keys_start + length keys + length (units_as_bytes (even b.laid.units)) =
     omega (arith, halves_len (even b.laid.units)) in
     let behind : drop (4 * block_end bytes) (body_of bytes) ≡ b.laid.tail =

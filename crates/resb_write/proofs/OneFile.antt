@@ -1,7 +1,7 @@
 -- A bundle and a list of keys leave one file.
 use Rattle.std.proofs.Common.{◌≡◌, ℕ, zero, suc, ◌+◌, ◌*◌, ◌<◌, ◌≤◌, List, [], ◌++◌}
 use Rattle.std.proofs.Common.{length, get_or, take, drop, Bool, refl, sym, ◌∙◌, ap}
-use Rattle.std.proofs.Common.{subst, length-append, arith}
+use Rattle.std.proofs.Common.{subst, length-append, arith, None}
 use Rattle.std.specs.List.{flat_map}
 use Rattle.std.specs.Int.{to_le_bytes, w32}
 use Rattle.std.proofs.lemmas.List.{take-append-drop, length-take-le}
@@ -60,10 +60,10 @@ module _ (t : Tree) (ks : List (List ℕ)) (x y : Blocks t ks) where
       (subst (λ g. Lays g (start x) t x.laid x.root) given_is x.lays)
 
   laid_is : x.laid ≡ y.laid
-  laid_is = (one_layout (given y) (start y) x.laid y.laid t x.root y.root moved y.lays).0
+  laid_is = (one_layout None (given y) (start y) x.laid y.laid t x.root y.root moved y.lays).0
 
   pub root_same : x.root ≡ y.root
-  root_same = (one_layout (given y) (start y) x.laid y.laid t x.root y.root moved y.lays).1
+  root_same = (one_layout None (given y) (start y) x.laid y.laid t x.root y.root moved y.lays).1
 
   pub start_same : tail_start (key_block t ks) x.laid ≡ tail_start (key_block t ks) y.laid
   start_same = base_is

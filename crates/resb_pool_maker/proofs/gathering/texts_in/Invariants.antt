@@ -1,0 +1,9 @@
+use Rattle.std.proofs.Common.{◌≡◌, take}
+use Rattle.std.specs.List.{flat_map}
+use Rattle.resb_pool.specs.Plan.{nows}
+use Rattle.resb_tree.specs.LayingOrder.{text_in, trees_in}
+use Rattle.resb_pool_maker.proofs.gathering.texts_in.Given as goal
+
+abbrev pub invariant-loop-at : goal.invariant-loop-at
+invariant-loop-at l =
+    nows l.texts.items ≡ flat_map text_in (trees_in (take l.at l.order.items))

@@ -63,4 +63,5 @@ def main():
     print('%d pools of %d strings: no difference' % (count, strings))
 
 
-main()
+if __name__ == '__main__':
+    main()

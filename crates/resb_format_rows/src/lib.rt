@@ -1,7 +1,7 @@
-//! The worked rows of the bytes, the codecs, the views, the head and the parts of a file, and of
-//! packages: inputs with the answers that the format's rules ask for. Only tests stand here, so
-//! that no other crate is proved twice. Each kind of row has one helper, which is proved once; a
-//! row more is a line of its table.
+//! The worked rows of the bytes, the codecs, the views, the head and the parts of a file, of
+//! packages, and of pool bundles that are made: inputs with the answers that the format's rules ask
+//! for. Only tests stand here, so that no other crate is proved twice. Each kind of row has one
+//! helper, which is proved once; a row more is a line of its table.
 #![tactic(auto)]
 
 #[cfg(test)]
@@ -14,6 +14,8 @@ mod head_rows;
 mod package_rows;
 #[cfg(test)]
 mod parts_rows;
+#[cfg(test)]
+mod pool_maker_rows;
 #[cfg(test)]
 mod refusals;
 #[cfg(test)]

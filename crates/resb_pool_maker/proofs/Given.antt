@@ -1,10 +1,29 @@
 -- What gifts come to, of the bundles that gave them.
-use Rattle.std.proofs.Common.{◌≡◌, List, [], ◌∷◌, ◌++◌, refl}
-use Rattle.std.specs.List.{flat_map}
-use Rattle.resb_pool_maker.specs.Holding.{IsGift, AreGifts, no_gifts, more_gifts}
+use Rattle.std.proofs.Common.{◌≡◌, ℕ, List, [], ◌∷◌, ◌++◌, Bool, false, refl, ap, ◌∙◌}
+use Rattle.std.specs.List.{flat_map, list_any}
+use Rattle.std.specs.Prelude.{◌||◌}
+use Rattle.std.specs.String.{string_bytes}
+use Rattle.std.specs.declared.alloc.Global.{Global}
+use Rattle.std.specs.declared.string.String.{String}
+use Rattle.resb_layout.specs.TreeFaults.{has_nul}
+use Rattle.resb_pool_maker.specs.Holding.{bytes_each, IsGift, AreGifts, no_gifts, more_gifts}
 use Rattle.resb_pool_maker.specs.Inner.Given.{gift_keys, gift_records}
 use Rattle.resb_pool_maker.specs.PoolOf.{Bundle, used_keys, GiveRecords, give_none, give_more}
 use Rattle.resb_pool_maker.specs.declared.gathering.Gift.{Gift}
+use Rattle.resb_pool_maker.proofs.Joining.{or_false}
+
+none_appended : (p : List ℕ → Bool) (ks js : List (List ℕ)) → list_any p ks ≡ false
+    → list_any p js ≡ false → list_any p (ks ++ js) ≡ false
+none_appended p [] js h k = k
+none_appended p (i ∷ ks) js h k =
+    let both = or_false (p i) (list_any p ks) h in
+    ap (λ b. b || list_any p (ks ++ js)) both.0 ∙ none_appended p ks js both.1 k
+
+pub any_string : (ss : List (String Global))
+    → list_any (λ (s : String Global). has_nul (string_bytes s)) ss
+    ≡ list_any has_nul (bytes_each ss)
+any_string [] = refl
+any_string (s ∷ ss) = ap (λ b. has_nul (string_bytes s) || b) (any_string ss)
 
 pub keys_given : {bs : List Bundle} {gs : List Gift} → AreGifts bs gs
     → gift_keys gs ≡ flat_map used_keys bs
@@ -15,6 +34,13 @@ pub records_given : {bs : List Bundle} {gs : List Gift} → AreGifts bs gs
     → GiveRecords bs (gift_records gs)
 records_given no_gifts = give_none
 records_given (more_gifts g gs) = give_more g.records (records_given gs)
+
+-- no key that is given holds U+0000
+pub plain_given : {bs : List Bundle} {gs : List Gift} → AreGifts bs gs
+    → list_any has_nul (flat_map used_keys bs) ≡ false
+plain_given no_gifts = refl
+plain_given (more_gifts {b = b} {bs = bs} g gs) =
+    none_appended has_nul (used_keys b) (flat_map used_keys bs) g.plain (plain_given gs)
 
 -- a gift more
 pub gift_added : {bs : List Bundle} {gs : List Gift} (b : Bundle) (g : Gift) → AreGifts bs gs

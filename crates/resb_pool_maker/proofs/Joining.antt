@@ -41,6 +41,10 @@ or_assoc : (a b c : Bool) → ((a || b) || c) ≡ (a || (b || c))
 or_assoc true b c = refl
 or_assoc false b c = refl
 
+pub or_false : (a b : Bool) → (a || b) ≡ false → (a ≡ false) × (b ≡ false)
+or_false true b e = cc
+or_false false b e = (refl, e)
+
 or_end : (a b : Bool) → (b ≡ true → a ≡ true) → a ≡ (a || b)
 or_end true b h = refl
 or_end false true h = h refl
@@ -81,6 +85,28 @@ among_all (u ∷ us) ks k =
 -- the same keys are among keys, and among these each once
 pub among_once : (us : List (List ℕ)) (k : List ℕ) → is_among (each_once us) k ≡ is_among us k
 among_once us k = among_all us [] k
+
+-- what no key has, no joined key has
+none_joined : (p : List ℕ → Bool) (ks : List (List ℕ)) (u : List ℕ) → list_any p ks ≡ false
+    → p u ≡ false → list_any p (join_key ks u) ≡ false
+none_joined p ks u h k = by (is_among ks u)
+  where
+    push : (js : List (List ℕ)) → list_any p js ≡ false → list_any p (js ++ u ∷ []) ≡ false
+    push [] e = ap (λ b. b || false) k
+    push (j ∷ js) e =
+        let both = or_false (p j) (list_any p js) e in
+        ap (λ b. b || list_any p (js ++ u ∷ [])) both.0 ∙ push js both.1
+
+    by : (b : Bool) → list_any p (cond b ks (ks ++ u ∷ [])) ≡ false
+    by true = h
+    by false = push ks h
+
+pub none_once : (p : List ℕ → Bool) (us ks : List (List ℕ)) → list_any p ks ≡ false
+    → list_any p us ≡ false → list_any p (fold join_key ks us) ≡ false
+none_once p [] ks h k = h
+none_once p (u ∷ us) ks h k =
+    let both = or_false (p u) (list_any p us) k in
+    none_once p us (join_key ks u) (none_joined p ks u h both.0) both.1
 
 pub used_once : (us ks : List (List ℕ)) → used (each_once us) ks ≡ used us ks
 used_once us [] = refl

@@ -1,10 +1,12 @@
 -- What a maker holds of the bundles that were added to it.
 --     IsGift b g              the gift g is what the bundle b gives
 --     Holds m bs              the maker m holds what the bundles bs give, in their order
-use Rattle.std.specs.Prelude.{◌≡◌, ℕ, List, [], ◌∷◌, map}
+use Rattle.std.specs.Prelude.{◌≡◌, ℕ, List, [], ◌∷◌, map, false}
+use Rattle.std.specs.List.{list_any}
 use Rattle.std.specs.String.{string_bytes}
 use Rattle.std.specs.declared.string.String.{String}
 use Rattle.resb_tree.specs.LayingOrder.{texts_of}
+use Rattle.resb_layout.specs.TreeFaults.{has_nul}
 use Rattle.resb_pool.specs.Records.{IsRecords}
 use Rattle.resb_pool_maker.specs.PoolOf.{Bundle, used_keys}
 use Rattle.resb_pool_maker.specs.declared.gathering.Gift.{Gift}
@@ -14,9 +16,10 @@ use Rattle.resb_pool_maker.specs.declared.maker.PoolMaker.{PoolMaker}
 abbrev pub bytes_each : {A : Type 0} → List (String A) → List (List ℕ)
 bytes_each ss = map string_bytes ss
 
--- a bundle's used keys, and the texts of its records
+-- a bundle's used keys, of which none holds U+0000, and the texts of its records
 pub record IsGift (b : Bundle) (g : Gift) : Type 0 where
   pub keys : bytes_each g.keys.items ≡ used_keys b
+  pub plain : list_any has_nul (used_keys b) ≡ false
   pub records : IsRecords (texts_of b.tree) (bytes_each g.records.items)
 
 -- a gift for each bundle

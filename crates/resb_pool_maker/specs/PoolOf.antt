@@ -5,12 +5,13 @@
 --     GiveRecords bs S        S are the records that the bundles bs give
 --     IsPoolOf bytes bs       the bytes are the pool bundle of the bundles bs
 use Rattle.std.specs.Prelude.{◌≡◌, ℕ, ◌<◌, ◌≤◌, ◌^◌, List, [], ◌∷◌, ◌++◌, length, slice_index}
-use Rattle.std.specs.Prelude.{if◌then◌else◌}
-use Rattle.std.specs.List.{flat_map, fold}
+use Rattle.std.specs.Prelude.{if◌then◌else◌, false}
+use Rattle.std.specs.List.{flat_map, fold, list_any}
 use Rattle.resb_tree.specs.Tree.{Tree}
 use Rattle.resb_tree.specs.LayingOrder.{texts_of, keys_of}
 use Rattle.resb_layout.specs.KeyBlock.{is_among, used, key_bytes, padded}
 use Rattle.resb_layout.specs.Written.{even}
+use Rattle.resb_layout.specs.TreeFaults.{has_nul}
 use Rattle.resb_pool.specs.Records.{IsRecords}
 use Rattle.resb_pool.specs.Shared.{IsSharedPool}
 use Rattle.resb_pool_maker.specs.PoolFile.{pool_file, blocks_checksum}
@@ -47,12 +48,14 @@ pub data GiveRecords : List Bundle → List (List ℕ) → Type 0 where
 abbrev pub least_saved : ℕ
 least_saved = 10
 
--- the file of the bundles' keys, and of those records that save enough over all that are given
+-- the file of the bundles' keys, of which none holds U+0000, and of those records that save enough
+-- over all that are given
 pub record IsPoolOf (bytes : List ℕ) (bs : List Bundle) : Type 0 where
   pub given : List (List ℕ)
   pub gives : GiveRecords bs given
   pub units : List ℕ
   pub shared : IsSharedPool given least_saved units
+  pub plain : list_any has_nul (pool_keys bs) ≡ false
   -- each key has a position below 2^31, each unit 16 bits, and the checksum 32
   pub near : length (key_bytes (pool_keys bs)) ≤ 2 ^ 31
   pub units_fit : (k : ℕ) → slice_index units k < 2 ^ 16

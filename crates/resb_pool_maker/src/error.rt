@@ -17,6 +17,8 @@ pub enum PoolMakerError {
     StringTooLong(usize),
     /// The 16-bit units of strings, and 16 for each string, come to 2^28 or more.
     StringsTooLarge,
+    /// A used key holds U+0000.
+    KeyWithNul,
     /// The keys, each with a zero byte, come to more than 2^31 bytes.
     KeysTooLarge,
     /// A request for memory was refused.
@@ -32,6 +34,7 @@ impl fmt::Display for PoolMakerError {
                 write!(f, "string of {length} units, more than 4294967295")
             }
             PoolMakerError::StringsTooLarge => write!(f, "strings too large"),
+            PoolMakerError::KeyWithNul => write!(f, "key contains U+0000"),
             PoolMakerError::KeysTooLarge => write!(f, "keys too large"),
             PoolMakerError::OutOfMemory => write!(f, "out of memory"),
         }

@@ -2,14 +2,16 @@
 //! tables, and the texts of its strings that get a record.
 //! What a pool makes of them is said in `maker`.
 ghost use Rattle.std.specs.Prelude.{◌≡◌, ◌++◌, IfOk, IfErr, OnOk, filter, fold};
-ghost use Rattle.std.specs.List.{flat_map};
+ghost use Rattle.std.specs.List.{flat_map, list_any};
+ghost use Rattle.std.specs.String.{string_bytes};
 ghost use Rattle.resb_layout.specs.KeyBlock.{is_among, used};
+ghost use Rattle.resb_layout.specs.TreeFaults.{has_nul};
 ghost use Rattle.resb_pool.specs.Plan.{nows, NotPlanned};
 ghost use Rattle.resb_pool.specs.Records.{IsRecords};
 ghost use Rattle.resb_tree.specs.LayingOrder.{entry_keys, own_keys, text_in, trees_in};
-ghost use Rattle.resb_tree.specs.LayingOrder.{texts_of};
+ghost use Rattle.resb_tree.specs.LayingOrder.{texts_of, keys_of};
 ghost use Rattle.resb_tree.specs.View.{tree_of, entries_view};
-ghost use Rattle.resb_pool_maker.specs.Holding.{bytes_each, IsGift};
+ghost use Rattle.resb_pool_maker.specs.Holding.{bytes_each};
 ghost use Rattle.resb_pool_maker.specs.PoolOf.{each_once, join_key};
 
 use indexmap::IndexSet;
@@ -154,6 +156,13 @@ fn used_keys(
     keys_among(alloc, &set, list)
 }
 
+/// Whether some key holds U+0000.
+pub(crate) fn has_nul_key(keys: &[String]) -> bool
+    ensures { result ≡ list_any (λ k. has_nul (string_bytes k)) keys.now }
+{
+    keys.iter().any(|key| key.as_bytes().contains(&0))
+}
+
 /// The texts that get a record among the strings of resources.
 fn own_records(alloc: Global, order: &LayingOrder<'_, '_>) -> Result<Vec<String>, PlanError>
     ensures ok { IfOk result (λ v. IsRecords (flat_map text_in (trees_in order.now.items))
@@ -171,7 +180,10 @@ pub(crate) fn gift_of(
     root: &Resource<'_>,
     list: &[Key<'_>],
 ) -> Result<Gift, PlanError>
-    ensures ok { IfOk result (IsGift (record { tree = tree_of root.now; keys = list.now })) }
+    ensures keys { IfOk result (λ g.
+        bytes_each g.keys.items ≡ used (keys_of (tree_of root.now)) list.now) }
+    ensures records { IfOk result (λ g.
+        IsRecords (texts_of (tree_of root.now)) (bytes_each g.records.items)) }
     ensures err { IfErr result (NotPlanned (texts_of (tree_of root.now))) }
 {
     let order = in_laying_order(alloc, root)?;

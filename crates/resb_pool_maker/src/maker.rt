@@ -1,6 +1,7 @@
 //! A pool bundle in the making: what each bundle gives, and the file that is made of all of it.
 //! How a bundle's gift is found is said in `gathering`, and the file's form in `file`.
-ghost use Rattle.std.specs.Prelude.{◌≡◌, ◌++◌, ◌<◌, ◌≤◌, ◌^◌, List, IfOk, IfErr, OnOk, length, fold};
+ghost use Rattle.std.specs.Prelude.{◌≡◌, ◌++◌, ◌<◌, ◌≤◌, ◌^◌, List, IfOk, IfErr, OnOk, length};
+ghost use Rattle.std.specs.Prelude.{fold};
 ghost use Rattle.std.specs.List.{flat_map};
 ghost use Rattle.resb_layout.specs.KeyBlock.{key_bytes};
 ghost use Rattle.resb_pool.specs.Plan.{nows, NotPlanned};
@@ -12,7 +13,7 @@ ghost use Rattle.resb_pool_maker.specs.declared.error.PoolMakerError.TheVariants
 
 use crate::error::PoolMakerError;
 use crate::file::assemble;
-use crate::gathering::{Gift, KeySet, gift_of, join};
+use crate::gathering::{Gift, KeySet, gift_of, has_nul_key, join};
 use indexmap::IndexSet;
 use resb_pool::{PlanError, shared_pool};
 use resb_tree::{Key, Resource};
@@ -50,8 +51,8 @@ impl PoolMaker {
     /// Adds the bundle of a tree and of a list of its keys, of which those count that some table of
     /// the tree has. After an error the maker is as it was, and may be used on.
     ///
-    /// Refused are the first string of more than 4294967295 16-bit units, and strings whose units
-    /// and 16 for each come to 2^28 or more.
+    /// Refused are the first string of more than 4294967295 16-bit units; strings whose units and
+    /// 16 for each come to 2^28 or more; and a used key that holds U+0000.
     pub fn add(
         &mut self,
         alloc: Global,
@@ -71,6 +72,9 @@ impl PoolMaker {
         })) }
     {
         let gift = gift_of(alloc, root, keys_in_discovery_order)?;
+        if has_nul_key(&gift.keys) {
+            return Err(PoolMakerError::KeyWithNul);
+        }
         self.gifts.push(gift)?;
         Ok(())
     }

@@ -1,17 +1,21 @@
 -- The keys and records that are held are those of the bundles.
 use Rattle.std.proofs.Common.{◌≡◌, ℕ, ◌<◌, ◌≤◌, ◌^◌, List, length, get_or, ◌∙◌, ap, subst}
+use Rattle.std.proofs.Common.{[], refl}
+use Rattle.std.specs.List.{flat_map}
 use Rattle.std.proofs.lemmas.Result.{err_from_is_err_and}
 use Rattle.resb_layout.specs.KeyBlock.{key_bytes, padded}
 use Rattle.resb_layout.specs.Written.{even}
+use Rattle.resb_layout.specs.TreeFaults.{has_nul}
 use Rattle.resb_pool.specs.Plan.{nows, NotPlanned}
 use Rattle.resb_pool.specs.Shared.{IsSharedPool}
 use Rattle.resb_pool_maker.specs.Holding.{Holds}
 use Rattle.resb_pool_maker.specs.Inner.Given.{gift_keys, gift_records}
 use Rattle.resb_pool_maker.specs.PoolFault.{pool_memory, pool_strings, pool_keys_far}
 use Rattle.resb_pool_maker.specs.PoolFile.{pool_file, blocks_checksum}
-use Rattle.resb_pool_maker.specs.PoolOf.{Bundle, each_once, pool_keys, least_saved}
+use Rattle.resb_pool_maker.specs.PoolOf.{Bundle, used_keys, each_once, pool_keys, least_saved}
 use Rattle.resb_pool_maker.specs.declared.gathering.Gift.{Gift}
-use Rattle.resb_pool_maker.proofs.Given.{keys_given, records_given}
+use Rattle.resb_pool_maker.proofs.Given.{keys_given, records_given, plain_given}
+use Rattle.resb_pool_maker.proofs.Joining.{none_once}
 use Rattle.resb_pool_maker.proofs.maker.PoolMaker.finish.Goals as goal
 use Rattle.resb_pool_maker.proofs.maker.PoolMaker.finish.Goals.{In_ok-keys}
 
@@ -57,6 +61,7 @@ returns-clause-ok c = λ bs h.
       given = gift_records c.args.self.now.gifts.items;
       gives = records_given h;
       units = us;
+      plain = none_once has_nul (flat_map used_keys bs) [] refl (plain_given h);
       shared = subst (λ (g : List Gift). IsSharedPool (gift_records g) least_saved us)
           c.deref-3.ensures.value c.in_ok-units.ensures.ok;
       near = subst (λ ks. length (key_bytes ks) ≤ 2 ^ 31)

@@ -21,7 +21,7 @@ printf 'b={}' > word.txt
 told 1 '' "word.txt:1:2: expected '{'"$'\nb={}\n ^' compile word.txt
 printf 'b{a{x}\n a{y}}' > twice.txt
 told 1 '' $'twice.txt:2:6: expected each key once in the table that ends here\n a{y}}\n     ^
-twice.txt:2:2: this key stands at 1:3 too' \
+twice.txt:2:2: the key "a" stands at 1:3 too' \
   compile --icu twice.txt
 # the first of several, where quotes are hidden before, and other tables have these keys
 cat > keys.txt <<'END'
@@ -34,7 +34,7 @@ b{
 }
 END
 told 1 '' $'keys.txt:7:1: expected each key once in the table that ends here\n}\n^
-keys.txt:5:3: this key stands at 4:3 too' \
+keys.txt:5:3: the key "k_1.x" stands at 4:3 too' \
   compile --icu keys.txt
 printf 'b{a{"\\q"}}' > escape.txt
 told 1 '' $'escape.txt:1:6: expected a known escape\nb{a{"\\q"}}\n     ^' \
@@ -105,7 +105,7 @@ icu_row 'b{a{"\"" {}}}' 5 'a string that may be a key'
 icu_row 'b{a:array{"x" y}}' 15 'a comma between two strings'
 icu_row 'b{a{x} =}' 8 "a key or '}'"
 icu_row 'b{a{x} a{y}}' 12 'each key once in the table that ends here' \
-  '1:8: this key stands at 1:3 too'
+  '1:8: the key "a" stands at 1:3 too'
 icu_row 'b{collations{a{"x"}}}' 13 'no table with rules of collation'
 icu_row 'b{CollationElements :table{}}' 21 'no table with rules of collation'
 icu_row 'b{}x' 4 'the end of the text'

@@ -154,9 +154,16 @@ half.txt: this begins as UTF-16, and is none' compile odd.txt half.txt
 # warnings change nothing
 printf 'b{a{"x\\y"}a{"z"}l:array{"p" "q"}}' > warn.txt
 told 0 '' "warn.txt:1:7: warning: this backslash is a character here, and an escape for genrb
-warn.txt:1:11: warning: this key stands at 1:3 too; genrb refuses that
+warn.txt:1:11: warning: the key \"a\" stands at 1:3 too; genrb refuses that
 warn.txt:1:29: warning: this string is an item of its own here; genrb joins it to the one before" \
   compile warn.txt
+# a key is named with its hidden characters, and cut where it is long
+printf 'b{"a\033"{x}"a\033"{y}}' > hidden.txt
+told 0 '' 'hidden.txt:1:10: warning: the key "a\u{1b}" stands at 1:3 too; genrb refuses that' \
+  compile hidden.txt
+printf 'b{%02000d{x}%02000d{y}}' 0 0 > doubled.txt
+told 0 '' "doubled.txt:1:2006: warning: the key \"$(printf '%0500d..%0500d' 0 0)\" stands at 1:3 \
+too; genrb refuses that" compile doubled.txt
 # nor do those of what would be lost without a word
 printf 'b{a{}i:int{300000000}o:intvector{010,-07,0}c{x{"1"},y{"2"},}n:int{-200000000}' > lost.txt
 printf 'q{k{"1"}lone}z:table{}}' >> lost.txt
@@ -195,15 +202,26 @@ printf 'b{%02000d{x}}' 0 > key.txt
 told 0 '' '' compile key.txt
 told 1 '' 'key.res: the keys of its entries take 2000 bytes, more than the limit of 1999' \
   dump --limit 1999 key.res
-told 1 '' 'key.res: its text takes more than the limit of 2016 bytes' dump --limit 2016 key.res
-told 1 '' "key.res: its text in ICU's form takes more than the limit of 2016 bytes" \
+told 1 '' 'key.res: its text takes 2017 bytes, more than the limit of 2016' \
+  dump --limit 2016 key.res
+told 1 '' "key.res: its text in ICU's form takes 2017 bytes, more than the limit of 2016" \
   dump --icu --limit 2016 key.res
 told 0 "$(printf 'key{\n    %02000d{"x"}\n}' 0)" '' dump --limit 2017 key.res
 printf 'b{b:bin{"%06000d"}}' 0 > long.txt
 told 0 '' '' compile long.txt
 told 0 "$(printf '{"b":{"binary":"%06000d"}}' 0)" '' dump --json --limit 6019 long.res
-told 1 '' 'long.res: its JSON takes more than the limit of 6018 bytes' \
+told 1 '' 'long.res: its JSON takes 6019 bytes, more than the limit of 6018' \
   dump --json --limit 6018 long.res
+told 1 '' 'long.res: its JSON takes 6013 bytes, more than the limit of 6012' \
+  get --limit 6012 long.res b
+told 0 "$(printf '{"binary":"%06000d"}' 0)" '' get --limit 6013 long.res b
+# where keys and binaries alone are over the limit, no more is counted
+over='takes at least 6001 bytes, more than the limit of 6000'
+told 1 '' "long.res: its text $over" dump --limit 6000 long.res
+told 1 '' "long.res: its text in ICU's form $over" dump --icu --limit 6000 long.res
+told 1 '' "long.res: its JSON $over" dump --json --limit 6000 long.res
+told 1 '' 'long.res: its JSON takes at least 6000 bytes, more than the limit of 5999' \
+  get --limit 5999 long.res b
 
 # so may the reading of a text
 printf 'b{k{v}}' > small.txt

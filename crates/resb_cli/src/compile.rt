@@ -13,7 +13,7 @@ use crate::warn::warn;
 use crate::words::{NO_UTF8, is_marked};
 use resb_program::{
     SourceError, bundle_name, compile_icu_source, compile_icu_source_within, compile_source,
-    compile_source_within, icu_bundle_name,
+    compile_source_within, icu_bundle_name, text_of,
 };
 use resb_words::CompileWords;
 use std::alloc::Global;
@@ -88,7 +88,8 @@ fn compile_one(
     }
     let target = target_of(rt, name, output_of(rt.alloc(), name, wanted))?;
     let source = source_of(rt, name, wanted)?;
-    let (file, status) = file_of(rt, name, source.as_slice(), wanted)?;
+    let text = text_in(rt, name, source.as_slice())?;
+    let (file, status) = file_of(rt, name, text, wanted)?;
     or_fail(rt, name, taken.take(rt, name, &target.place))?;
     if !wanted.is_check {
         target.write(rt, file.as_slice())?;
@@ -104,8 +105,9 @@ fn compile_named(
     taken: &mut Taken,
 ) -> Result<u8, u8> {
     let source = source_of(rt, name, wanted)?;
-    let (file, status) = file_of(rt, name, source.as_slice(), wanted)?;
-    let target = named_target(rt, name, source.as_slice(), wanted)?;
+    let text = text_in(rt, name, source.as_slice())?;
+    let (file, status) = file_of(rt, name, text, wanted)?;
+    let target = named_target(rt, name, text, wanted)?;
     or_fail(rt, name, taken.take(rt, name, &target.place))?;
     if !wanted.is_check {
         target.write(rt, file.as_slice())?;
@@ -129,10 +131,10 @@ fn target_of(
 fn named_target(
     rt: &HostRuntime,
     name: &str,
-    source: &[u8],
+    text: &str,
     wanted: &CompileWords<'_>,
 ) -> Result<Target, u8> {
-    let bundle = bundle_of(rt, name, source, wanted.is_icu)?;
+    let bundle = bundle_of(rt, name, text, wanted.is_icu)?;
     let output = named_by_bundle(rt.alloc(), name, bundle.as_str(), wanted.folder);
     target_of(rt, name, output)
 }
@@ -145,7 +147,8 @@ impl Target {
     }
 }
 
-/// The bytes of a text in UTF-8, or the status, once it is said why there are none.
+/// The bytes of a text, made of UTF-16 where it is that, or the status, once it is said why there
+/// are none.
 fn source_of(rt: &HostRuntime, name: &str, wanted: &CompileWords<'_>) -> Result<Vec<u8>, u8> {
     let source = match read_input(rt, name, wanted.limit) {
         Ok(source) => source,
@@ -160,26 +163,34 @@ fn source_of(rt: &HostRuntime, name: &str, wanted: &CompileWords<'_>) -> Result<
     }
 }
 
+/// The text that bytes are, or the status, once it is said where they are no UTF-8.
+fn text_in<'s>(rt: &HostRuntime, name: &str, source: &'s [u8]) -> Result<&'s str, u8> {
+    match text_of(source) {
+        Ok(text) => Ok(text),
+        Err(place) => Err(refuse(rt, name, source, &SourceError::NotUtf8(place))),
+    }
+}
+
 /// The bytes of a text's file, and the status of its warnings; or the status, once it is said why
 /// there is none.
 fn file_of(
     rt: &HostRuntime,
     name: &str,
-    source: &[u8],
+    text: &str,
     wanted: &CompileWords<'_>,
 ) -> Result<(Vec<u8>, u8), u8> {
-    match compiled(rt.alloc(), source, wanted) {
-        Ok(file) => Ok((file, warned(rt, name, source, wanted))),
-        Err(e) => Err(refuse(rt, name, source, &e)),
+    match compiled(rt.alloc(), text, wanted) {
+        Ok(file) => Ok((file, warned(rt, name, text, wanted))),
+        Err(e) => Err(refuse(rt, name, text.as_bytes(), &e)),
     }
 }
 
 /// The status of a text's warnings, once they are said.
-fn warned(rt: &HostRuntime, name: &str, source: &[u8], wanted: &CompileWords<'_>) -> u8 {
+fn warned(rt: &HostRuntime, name: &str, text: &str, wanted: &CompileWords<'_>) -> u8 {
     if wanted.is_quiet && !wanted.is_strict {
         return 0;
     }
-    if may_pass(source.len(), wanted.limit) {
+    if may_pass(text.len(), wanted.limit) {
         if !wanted.is_quiet {
             complain(
                 rt,
@@ -189,7 +200,7 @@ fn warned(rt: &HostRuntime, name: &str, source: &[u8], wanted: &CompileWords<'_>
         }
         return u8::from(wanted.is_strict);
     }
-    match warn(rt, name, source, wanted.is_icu, wanted.is_quiet) {
+    match warn(rt, name, text, wanted.is_icu, wanted.is_quiet) {
         Ok(is_warned) => u8::from(is_warned && wanted.is_strict),
         Err(status) => status,
     }
@@ -205,16 +216,12 @@ fn may_pass(length: usize, limit: Option<u64>) -> bool {
 }
 
 /// The bytes of a text's file, where reading the text keeps within the limit, if there is one.
-fn compiled(
-    alloc: Global,
-    source: &[u8],
-    wanted: &CompileWords<'_>,
-) -> Result<Vec<u8>, SourceError> {
+fn compiled(alloc: Global, text: &str, wanted: &CompileWords<'_>) -> Result<Vec<u8>, SourceError> {
     match (wanted.is_icu, wanted.limit) {
-        (true, Some(limit)) => compile_icu_source_within(alloc, source, limit),
-        (true, None) => compile_icu_source(alloc, source),
-        (false, Some(limit)) => compile_source_within(alloc, source, limit),
-        (false, None) => compile_source(alloc, source),
+        (true, Some(limit)) => compile_icu_source_within(alloc, text, limit),
+        (true, None) => compile_icu_source(alloc, text),
+        (false, Some(limit)) => compile_source_within(alloc, text, limit),
+        (false, None) => compile_source(alloc, text),
     }
 }
 
@@ -274,14 +281,14 @@ fn file_named(
 }
 
 /// The name of a text's bundle, or the status, once it is said why it isn't known.
-fn bundle_of(rt: &HostRuntime, name: &str, source: &[u8], is_icu: bool) -> Result<String, u8> {
+fn bundle_of(rt: &HostRuntime, name: &str, text: &str, is_icu: bool) -> Result<String, u8> {
     let bundle = if is_icu {
-        icu_bundle_name(rt.alloc(), source)
+        icu_bundle_name(rt.alloc(), text)
     } else {
-        bundle_name(rt.alloc(), source)
+        bundle_name(rt.alloc(), text)
     };
     match bundle {
         Ok(bundle) => Ok(bundle),
-        Err(e) => Err(refuse(rt, name, source, &e)),
+        Err(e) => Err(refuse(rt, name, text.as_bytes(), &e)),
     }
 }

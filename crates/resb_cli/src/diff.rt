@@ -1,9 +1,10 @@
 //! The command `diff`: what differs between the trees of two files, a line each.
 //! What a difference is, is in `resb_diff`; how files are read is in `show`.
 use crate::input::Input;
+use crate::least::least_bytes;
 use crate::paths::Name;
 use crate::say::{fail, refuse_memory};
-use crate::show::{bundle_of, refuse_long, show};
+use crate::show::{Length, TooLong, bundle_of, refuse_long, show};
 use crate::shown::{Shown, shown_bytes, shown_json};
 use resb_diff::{Change, ChangeAt, PathStep, differences_between};
 use resb_json::{json_fits, json_text};
@@ -21,7 +22,8 @@ const MOST_BYTES: u64 = 1 << 28;
 #[derive(Clone, Copy)]
 enum Unsaid {
     Memory,
-    Long,
+    /// The lines take at least so many bytes.
+    Long(u64),
 }
 
 impl From<AllocError> for Unsaid {
@@ -69,9 +71,16 @@ fn print_differences(
 ) -> Result<bool, u8> {
     let text = match text_of(rt.alloc(), wanted, old, new) {
         Ok(text) => text,
-        Err(Unsaid::Long) => {
-            let most = wanted.limit.or(Some(MOST_BYTES));
-            return Err(refuse_long(rt, wanted.new, "list of differences", most));
+        Err(Unsaid::Long(bytes)) => {
+            return Err(refuse_long(
+                rt,
+                wanted.new,
+                TooLong {
+                    what: "list of differences",
+                    length: Length::AtLeast(bytes),
+                    limit: wanted.limit.unwrap_or(MOST_BYTES),
+                },
+            ));
         }
         Err(Unsaid::Memory) => return Err(refuse_memory(rt, wanted.new)),
     };
@@ -114,7 +123,7 @@ fn text_of(
         };
         keys = keys.saturating_add(key_bytes(found.path.as_slice()));
         if keys > limit {
-            return Err(Unsaid::Long);
+            return Err(Unsaid::Long(keys));
         }
         if wanted.is_json {
             push_object(alloc, &mut text, &found, limit)?;
@@ -122,7 +131,7 @@ fn text_of(
             push_line(alloc, &mut text, &found, limit)?;
         }
         if text.len() as u64 > limit {
-            return Err(Unsaid::Long);
+            return Err(Unsaid::Long(text.len() as u64));
         }
     }
     Ok(text)
@@ -189,11 +198,12 @@ fn push_object(
 /// A value as JSON with nothing hidden, which has no more bytes than the limit.
 fn json_of(alloc: Global, value: &Resource<'_>, limit: u64) -> Result<String, Unsaid> {
     if !json_fits(alloc, value, limit)? {
-        return Err(Unsaid::Long);
+        return Err(Unsaid::Long(least_bytes(alloc, value)?.max(limit.saturating_add(1))));
     }
     let text = json_text(alloc, value)?;
-    if shown_bytes(text.as_str()) > limit {
-        return Err(Unsaid::Long);
+    let length = shown_bytes(text.as_str());
+    if length > limit {
+        return Err(Unsaid::Long(length));
     }
     Ok(shown_json(alloc, text)?)
 }

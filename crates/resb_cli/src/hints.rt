@@ -2,7 +2,6 @@
 //! What is expected there is said in `say`; which places are to blame is told by `resb_program` and
 //! `resb_diagnostics`.
 use resb_compile::{CompileError, IcuCompileError};
-use resb_diagnostics::{Reason, Warning, repeated_icu_keys};
 use resb_grammar::Expected;
 use resb_icu_grammar::IcuExpected;
 use resb_program::SourceError;
@@ -102,56 +101,6 @@ pub(crate) fn hint_at(
             icu_hint(alloc, behind, e.expected())
         }
         _ => Ok(None),
-    }
-}
-
-/// A key that stands in its table before.
-#[derive(Clone, Copy)]
-pub(crate) struct RepeatedKey {
-    /// Where it stands the second time.
-    pub(crate) place: usize,
-    /// Where it stands first.
-    pub(crate) first: usize,
-}
-
-/// The first key that stands in its table before, where a text of ICU's form is refused for that at
-/// the table's end.
-pub(crate) fn repeated_key(
-    alloc: Global,
-    source: &[u8],
-    end: usize,
-    error: &SourceError,
-) -> Result<Option<RepeatedKey>, AllocError> {
-    let Some((before, _)) = source.split_at_checked(end) else {
-        return Ok(None);
-    };
-    if !is_of_keys(error) {
-        return Ok(None);
-    }
-    match repeated_icu_keys(alloc, before)?.first() {
-        Some(repeated) => Ok(again_of(*repeated)),
-        None => Ok(None),
-    }
-}
-
-/// The two places of which a warning tells, where it is of a key.
-fn again_of(repeated: Warning) -> Option<RepeatedKey> {
-    match repeated.reason {
-        Reason::RepeatedKey(first) => Some(RepeatedKey {
-            place: repeated.place,
-            first,
-        }),
-        _ => None,
-    }
-}
-
-/// Whether a text of ICU's form is refused for a key that stands twice in a table.
-fn is_of_keys(error: &SourceError) -> bool {
-    match error {
-        SourceError::IcuRefused(IcuCompileError::Reading(e)) => {
-            e.expected() == IcuExpected::KeysOnce
-        }
-        _ => false,
     }
 }
 

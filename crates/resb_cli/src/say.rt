@@ -1,7 +1,8 @@
 //! What is said on standard error: the place, the cause, and the line round it.
 //! What the causes are called is theirs to print; warnings are said in `warn`.
-use crate::hints::{hint_at, repeated_key};
+use crate::hints::hint_at;
 use crate::paths::Name;
+use crate::repeated::repeated_key;
 use crate::show::Form;
 use crate::shown::Shown;
 use crate::streams::{InputError, NO_MEMORY};
@@ -166,8 +167,13 @@ fn refuse_at<R: Eprint + AllocGlobal>(
         say_at(rt, name, location_of(source, quote), LONG_STRING);
     }
     if let Some(key) = or_no_memory(rt, name, repeated_key(rt.alloc(), source, place, error)) {
-        let first = Repeated(location_of(source, key.first));
-        say_at(rt, name, location_of(source, key.place), first);
+        let first = location_of(source, key.first);
+        say_at(
+            rt,
+            name,
+            location_of(source, key.place),
+            key.told(source, first),
+        );
     }
 }
 
@@ -183,17 +189,6 @@ fn or_no_memory<R: Eprint, T: Drop>(
             complain(rt, name, NO_MEMORY);
             None
         }
-    }
-}
-
-/// A key that stands a second time, and where it stands first.
-#[derive(Clone, Copy)]
-pub(crate) struct Repeated(pub(crate) Location);
-
-impl fmt::Display for Repeated {
-    fn fmt<W: fmt::Write>(&self, f: &mut fmt::Formatter<W>) -> fmt::Result {
-        let (line, column) = (self.0.line, self.0.column);
-        write!(f, "this key stands at {line}:{column} too")
     }
 }
 

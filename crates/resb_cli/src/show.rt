@@ -2,18 +2,20 @@
 //! from the opened file. Where that goes is said by the commands, and why a file has no tree in
 //! `refusal`.
 use crate::input::Beside;
+use crate::least::least_bytes;
 use crate::refusal::refuse;
 use crate::save::{Bytes, Content, cause_of_printing, print};
-use crate::say::{NoText, fail, refuse_memory, say_no_text};
+use crate::say::{NoText, complain, fail, refuse_memory, say_no_text};
 use resb_icu_print::{IcuPrintError, icu_cause_path, print_icu_text_within};
-use resb_json::{json_fits, write_json};
-use resb_lines::{Icu, Plain, ShownBundle, has_text, lines_fit, write_lines};
+use resb_json::{json_fits, json_length_within, write_json};
+use resb_lines::{Icu, Plain, ShownBundle, has_text, lines_fit, lines_length_within, write_lines};
 use resb_opened::Opened;
 use resb_print::{PrintError, cause_path, print_text_within};
 use resb_program::{open_file, open_file_within, read_bundle};
 use resb_shown::Shown;
-use resb_tree::ResourceBundle;
+use resb_tree::{Resource, ResourceBundle};
 use std::alloc::{AllocError, Global};
+use std::fmt;
 use std::io::{self, ErrorKind, Write};
 use std::path::Path;
 
@@ -98,13 +100,50 @@ impl<'s, S: Shown<'s>> Showing<'s, S> {
         }
     }
 
+    /// How many bytes what is shown has, in the same way. A tree is not counted for the bytes of its
+    /// binaries, so that they may be far over the limit: where they and the keys alone are over it,
+    /// no more is counted. Else all is made and counted, which is some ten times the limit at most.
+    fn length(&self, alloc: Global, limit: u64) -> Result<Length, AllocError> {
+        let least = least_bytes(alloc, self.root)?;
+        if least > limit {
+            return Ok(Length::AtLeast(least));
+        }
+        let length = match self.form {
+            Form::Text => lines_length_within(alloc, Plain, self.bundle(), u64::MAX),
+            Form::IcuText => lines_length_within(alloc, Icu, self.bundle(), u64::MAX),
+            Form::Json => json_length_within(alloc, self.root, u64::MAX),
+        };
+        match length? {
+            Some(length) => Ok(Length::Exactly(length)),
+            None => Ok(Length::AtLeast(u64::MAX)),
+        }
+    }
+
     /// Refuses what takes more bytes than the limit, if there is one, before any of it is written:
     /// the status, once that is said.
     pub(crate) fn check(&self, rt: &HostRuntime, name: &str, limit: Option<u64>) -> Result<(), u8> {
-        match self.fits(rt.alloc(), limit) {
-            Ok(true) => Ok(()),
-            Ok(false) => Err(refuse_long(rt, name, self.form.name(), limit)),
-            Err(_) => Err(refuse_memory(rt, name)),
+        match (self.fits(rt.alloc(), limit), limit) {
+            (Ok(false), Some(limit)) => Err(self.refuse_long(rt, name, limit)),
+            (Ok(_), _) => Ok(()),
+            (Err(_), _) => Err(refuse_memory(rt, name)),
+        }
+    }
+
+    /// Says that what is shown takes more bytes than the limit, and how many, and gives the status
+    /// of that.
+    fn refuse_long(&self, rt: &HostRuntime, name: &str, limit: u64) -> u8 {
+        let what = self.form.name();
+        match self.length(rt.alloc(), limit) {
+            Ok(length) => refuse_long(
+                rt,
+                name,
+                TooLong {
+                    what,
+                    length,
+                    limit,
+                },
+            ),
+            Err(_) => refuse_memory(rt, name),
         }
     }
 
@@ -195,14 +234,24 @@ pub(crate) fn say_cause(
         match print_icu_text_within(alloc, bundle, most) {
             Err(IcuPrintError::OutOfMemory) => Err(refuse_memory(rt, name)),
             Err(e) => say_no_text(rt, name, missing, e, icu_cause_path(alloc, bundle)),
-            Ok(_) => Err(refuse_long(rt, name, missing.form.name(), limit)),
+            Ok(_) => lines_of(bundle, missing.form).check(rt, name, limit),
         }
     } else {
         match print_text_within(alloc, bundle, most) {
             Err(PrintError::OutOfMemory) => Err(refuse_memory(rt, name)),
             Err(e) => say_no_text(rt, name, missing, e, cause_path(alloc, bundle)),
-            Ok(_) => Err(refuse_long(rt, name, missing.form.name(), limit)),
+            Ok(_) => lines_of(bundle, missing.form).check(rt, name, limit),
         }
+    }
+}
+
+/// The lines of a bundle in a form of text, whether they are a text or not.
+fn lines_of<'b, 'f>(bundle: &'b ResourceBundle<'f>, form: Form) -> Showing<'b, &'b Resource<'f>> {
+    Showing {
+        name: bundle.name(),
+        root: bundle.root(),
+        has_fallback: bundle.is_locale_fallback_enabled,
+        form,
     }
 }
 
@@ -226,10 +275,43 @@ pub(crate) fn show_json<'s, S: Shown<'s>>(
     }
 }
 
-/// Says that what was to be printed takes more bytes than the limit. Without one nothing does.
-pub(crate) fn refuse_long(rt: &HostRuntime, name: &str, what: &str, limit: Option<u64>) -> u8 {
-    let limit = limit.unwrap_or(u64::MAX);
-    let _ = eprintln!(rt; "{name}: its {what} takes more than the limit of {limit} bytes");
+/// How many bytes something has.
+#[derive(Clone, Copy)]
+pub(crate) enum Length {
+    /// So many.
+    Exactly(u64),
+    /// No fewer: it wasn't looked at to its end.
+    AtLeast(u64),
+}
+
+/// What takes more bytes than the limit.
+#[derive(Clone, Copy)]
+pub(crate) struct TooLong {
+    /// What it is.
+    pub(crate) what: &'static str,
+    /// How many bytes it has.
+    pub(crate) length: Length,
+    /// The limit.
+    pub(crate) limit: u64,
+}
+
+impl fmt::Display for TooLong {
+    fn fmt<W: fmt::Write>(&self, f: &mut fmt::Formatter<W>) -> fmt::Result {
+        let (what, limit) = (self.what, self.limit);
+        let (least, length) = match self.length {
+            Length::Exactly(length) => ("", length),
+            Length::AtLeast(length) => ("at least ", length),
+        };
+        write!(
+            f,
+            "its {what} takes {least}{length} bytes, more than the limit of {limit}"
+        )
+    }
+}
+
+/// Says that what was to be printed takes more bytes than the limit, and gives the status of that.
+pub(crate) fn refuse_long(rt: &HostRuntime, name: &str, long: TooLong) -> u8 {
+    complain(rt, name, long);
     1
 }
 

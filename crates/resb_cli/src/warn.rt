@@ -1,10 +1,10 @@
 //! What is said on standard error of a text that is compiled, though something in it may not be
 //! meant so.
 //! Where a warning is due is told by `resb_diagnostics`; refusals are said in `say`.
-use crate::say::{Repeated, fail, say_at};
+use crate::repeated::{Repeated, key_at};
+use crate::say::{fail, say_at};
 use crate::shown::Shown;
 use resb_diagnostics::{Location, Locations, Reason, Warning, icu_warnings, warnings};
-use resb_program::text_of;
 use std::fmt;
 
 /// The most warnings that are said of one text.
@@ -16,13 +16,10 @@ const MOST_WARNINGS: usize = 20;
 pub(crate) fn warn<R: Eprint + AllocGlobal>(
     rt: &R,
     name: &str,
-    source: &[u8],
+    text: &str,
     is_icu: bool,
     is_quiet: bool,
 ) -> Result<bool, u8> {
-    let Ok(text) = text_of(source) else {
-        return Ok(false);
-    };
     let found = if is_icu {
         icu_warnings(rt.alloc(), text)
     } else {
@@ -32,7 +29,7 @@ pub(crate) fn warn<R: Eprint + AllocGlobal>(
         return Err(fail(rt, name, "its warnings are not known: out of memory"));
     };
     if !is_quiet {
-        say_warnings(rt, name, source, found.as_slice());
+        say_warnings(rt, name, text.as_bytes(), found.as_slice());
     }
     Ok(!found.is_empty())
 }
@@ -42,11 +39,15 @@ fn say_warnings<R: Eprint>(rt: &R, name: &str, source: &[u8], found: &[Warning])
     let (mut places, mut firsts) = (Locations::new(source), Locations::new(source));
     for warning in found.iter().take(MOST_WARNINGS) {
         let (reason, at) = (warning.reason, places.find(warning.place));
-        let first = match reason {
-            Reason::RepeatedKey(first) => firsts.find(first),
-            _ => at,
+        let (key, first) = match reason {
+            // a text of ICU's form with such a key is refused
+            Reason::RepeatedKey(first) => (
+                key_at(source, warning.place, false),
+                firsts.find(first),
+            ),
+            _ => ("", at),
         };
-        say_at(rt, name, at, Told { reason, first });
+        say_at(rt, name, at, Told { reason, key, first });
     }
     if found.len() > MOST_WARNINGS {
         let (name, more) = (Shown(name), found.len() - MOST_WARNINGS);
@@ -56,17 +57,20 @@ fn say_warnings<R: Eprint>(rt: &R, name: &str, source: &[u8], found: &[Warning])
 
 /// A warning of a text, as it is said.
 #[derive(Clone, Copy)]
-struct Told {
+struct Told<'s> {
     reason: Reason,
+    /// How a repeated key is spelled; of others, nothing.
+    key: &'s str,
     /// Where a repeated key stands first; of others, their own place.
     first: Location,
 }
 
-impl fmt::Display for Told {
+impl fmt::Display for Told<'_> {
     fn fmt<W: fmt::Write>(&self, f: &mut fmt::Formatter<W>) -> fmt::Result {
         match self.reason {
             Reason::RepeatedKey(_) => {
-                let repeated = Repeated(self.first);
+                let (key, first) = (self.key, self.first);
+                let repeated = Repeated { key, first };
                 write!(f, "warning: {repeated}; genrb refuses that")
             }
             Reason::Backslash => f.write_str(

@@ -1,44 +1,36 @@
 //! The name of the bundle that a text is, which stands in no file.
 //! The file of a text is made in `sources`.
-ghost use Rattle.std.specs.Prelude.{IfOk, IfErr, IsUtf8, string_bytes};
+ghost use Rattle.std.specs.Prelude.{IfOk, IfErr, string_bytes};
 ghost use Rattle.resb_compile.specs.Compiling.{IsUnreadable};
 ghost use Rattle.resb_compile.specs.CompilingIcu.{IsIcuUnreadable};
 ghost use Rattle.resb_program.specs.Names.{IsNameOf, IsIcuNameOf};
 ghost use Rattle.resb_program.specs.Sources.{IsNoSource, IsNoIcuSource};
 
 use crate::errors::SourceError;
-use crate::sources::text_of;
 use resb_compile::{CompileError, IcuCompileError};
 use resb_icu_text::{IcuReader, IcuTextError};
 use resb_text::{Reader, TextParserError};
 use std::alloc::Global;
 
-/// The name of the bundle of a text, which is given as bytes and read as a whole.
-pub fn bundle_name(alloc: Global, source: &[u8]) -> Result<String, SourceError>
-    ensures ok { IfOk result (λ name. IsUtf8 source.now × IsNameOf source.now (string_bytes name)) }
+/// The name of the bundle of a text, which is read as a whole.
+pub fn bundle_name(alloc: Global, source: &str) -> Result<String, SourceError>
+    ensures ok { IfOk result (λ name. IsNameOf source.now (string_bytes name)) }
     ensures err { IfErr result (IsNoSource source.now) }
 {
-    match text_of(source) {
-        Ok(text) => match name_of(alloc, text) {
-            Ok(name) => Ok(name),
-            Err(e) => Err(SourceError::Refused(CompileError::Reading(e))),
-        },
-        Err(place) => Err(SourceError::NotUtf8(place)),
+    match name_of(alloc, source) {
+        Ok(name) => Ok(name),
+        Err(e) => Err(SourceError::Refused(CompileError::Reading(e))),
     }
 }
 
 /// The same of a text in ICU's own form.
-pub fn icu_bundle_name(alloc: Global, source: &[u8]) -> Result<String, SourceError>
-    ensures ok { IfOk result
-        (λ name. IsUtf8 source.now × IsIcuNameOf source.now (string_bytes name)) }
+pub fn icu_bundle_name(alloc: Global, source: &str) -> Result<String, SourceError>
+    ensures ok { IfOk result (λ name. IsIcuNameOf source.now (string_bytes name)) }
     ensures err { IfErr result (IsNoIcuSource source.now) }
 {
-    match text_of(source) {
-        Ok(text) => match icu_name_of(alloc, text) {
-            Ok(name) => Ok(name),
-            Err(e) => Err(SourceError::IcuRefused(IcuCompileError::Reading(e))),
-        },
-        Err(place) => Err(SourceError::NotUtf8(place)),
+    match icu_name_of(alloc, source) {
+        Ok(name) => Ok(name),
+        Err(e) => Err(SourceError::IcuRefused(IcuCompileError::Reading(e))),
     }
 }
 

@@ -1,4 +1,4 @@
-//! The file of a text that is given as bytes, and where a person is to look if there is none.
+//! The text that bytes are, its file, and where a person is to look if there is none.
 //! What else a person is told of a text is in `resb_diagnostics`.
 ghost use Rattle.std.specs.Prelude.{◌≡◌, IsUtf8, IfOk, IfErr};
 ghost use Rattle.resb_grammar.specs.Limit.{MadeWithin};
@@ -42,70 +42,56 @@ pub fn compile_text(alloc: Global, input: &[u8]) -> Result<Vec<u8>, ToolError>
     compile(alloc, text).map_err(ToolError::Compiling)
 }
 
-/// The same, with the place where the bytes are no UTF-8.
-pub fn compile_source(alloc: Global, source: &[u8]) -> Result<Vec<u8>, SourceError>
-    ensures ok { IfOk result (λ file. IsUtf8 source.now × IsCompiled source.now file.items) }
+/// The bytes of the `.res` file of a bundle's text.
+pub fn compile_source(alloc: Global, source: &str) -> Result<Vec<u8>, SourceError>
+    ensures ok { IfOk result (λ file. IsCompiled source.now file.items) }
     ensures err { IfErr result (IsNoSource source.now) }
 {
-    match text_of(source) {
-        Ok(text) => match compile(alloc, text) {
-            Ok(file) => Ok(file),
-            Err(e) => Err(SourceError::Refused(e)),
-        },
-        Err(place) => Err(SourceError::NotUtf8(place)),
+    match compile(alloc, source) {
+        Ok(file) => Ok(file),
+        Err(e) => Err(SourceError::Refused(e)),
     }
 }
 
 /// The same, where reading the text makes no more bytes than the limit.
 pub fn compile_source_within(
     alloc: Global,
-    source: &[u8],
+    source: &str,
     limit: u64,
 ) -> Result<Vec<u8>, SourceError>
-    ensures ok { IfOk result (λ file. IsUtf8 source.now × IsCompiled source.now file.items) }
+    ensures ok { IfOk result (λ file. IsCompiled source.now file.items) }
     ensures within { IfOk result (λ file. MadeWithin source.now limit) }
     ensures err { IfErr result (IsNoSourceWithin source.now limit) }
 {
-    let text = match text_of(source) {
-        Ok(text) => text,
-        Err(place) => return Err(SourceError::NotUtf8(place)),
-    };
-    match compile_within(alloc, text, limit) {
+    match compile_within(alloc, source, limit) {
         Ok(file) => Ok(file),
         Err(CompileWithinError::Text(e)) => Err(SourceError::Refused(e)),
         Err(CompileWithinError::Larger) => Err(SourceError::Larger(limit)),
     }
 }
 
-/// The bytes of the `.res` file of a bundle's text in ICU's own form, which is given as bytes.
-pub fn compile_icu_source(alloc: Global, source: &[u8]) -> Result<Vec<u8>, SourceError>
-    ensures ok { IfOk result (λ file. IsUtf8 source.now × IsIcuCompiled source.now file.items) }
+/// The bytes of the `.res` file of a bundle's text in ICU's own form.
+pub fn compile_icu_source(alloc: Global, source: &str) -> Result<Vec<u8>, SourceError>
+    ensures ok { IfOk result (λ file. IsIcuCompiled source.now file.items) }
     ensures err { IfErr result (IsNoIcuSource source.now) }
 {
-    match text_of(source) {
-        Ok(text) => match compile_icu(alloc, text) {
-            Ok(file) => Ok(file),
-            Err(e) => Err(SourceError::IcuRefused(e)),
-        },
-        Err(place) => Err(SourceError::NotUtf8(place)),
+    match compile_icu(alloc, source) {
+        Ok(file) => Ok(file),
+        Err(e) => Err(SourceError::IcuRefused(e)),
     }
 }
 
 /// The same, where reading the text makes no more bytes than the limit.
 pub fn compile_icu_source_within(
     alloc: Global,
-    source: &[u8],
+    source: &str,
     limit: u64,
 ) -> Result<Vec<u8>, SourceError>
-    ensures ok { IfOk result (λ file. IsUtf8 source.now × IsIcuCompiled source.now file.items) }
+    ensures ok { IfOk result (λ file. IsIcuCompiled source.now file.items) }
     ensures within { IfOk result (λ file. IcuMadeWithin source.now limit) }
     ensures err { IfErr result (IsNoIcuSourceWithin source.now limit) }
 {
-    let text = match text_of(source) {
-        Ok(text) => text,
-        Err(place) => return Err(SourceError::NotUtf8(place)),
-    };
-    match compile_icu_within(alloc, text, limit) {
+    match compile_icu_within(alloc, source, limit) {
         Ok(file) => Ok(file),
         Err(IcuCompileWithinError::Text(e)) => Err(SourceError::IcuRefused(e)),
         Err(IcuCompileWithinError::Larger) => Err(SourceError::Larger(limit)),

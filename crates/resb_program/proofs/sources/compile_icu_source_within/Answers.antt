@@ -1,4 +1,4 @@
--- What is larger than the limit is so as the same text.
+-- What is larger than the limit is so.
 use Rattle.std.proofs.Common.{◌≡◌, ℕ, List, refl, subst}
 use Rattle.resb_icu_grammar.specs.Limit.{IcuMadeWithin, IcuMakesMore}
 use Rattle.resb_compile.specs.CompilingIcu.{IsIcuRefusedWithin}
@@ -13,6 +13,5 @@ larger_of text limit e same h = subst (λ x. IsIcuRefusedWithin text limit x) sa
 
 pub returns-in-Err-Larger-clause-err : goal.returns-in-Err-Larger-clause-err
 returns-in-Err-Larger-clause-err c =
-    let text = c.in-Ok.ensures.ok in
     let larger = larger_of _ _ _ c.in-Err-Larger.field-0-is c.in-Err-Larger.ensures.err in
-    (refl, text.1, rw (← text.0) larger.0, rw (← text.0) larger.1)
+    (refl, c.utf8.source, larger.0, larger.1)

@@ -1,7 +1,7 @@
 //! Texts with the JSON of their trees, by the rules of JSON; and writers that take two bytes a call
 //! and fail, which have a part of it.
 use resb_icu_text::IcuReader;
-use resb_json::write_json;
+use resb_json::{json_length_within, write_json};
 use std::alloc::Global;
 use std::io;
 use std::io::{ErrorKind, Write};
@@ -36,6 +36,26 @@ fn trees_have_their_json(rt: HostRuntime) -> Result<(), Fail> {
         let (text, wanted) = row.split_once(" => ").ok_or("a row without an answer")?;
         let found = json_of(rt.alloc(), text)?;
         assert_eq!(rt; found.as_str(), wanted, "{text}");
+    }
+    Ok(())
+}
+
+/// Whether the JSON of a text's tree has so many bytes within that limit, and is over a byte less.
+fn has_length(alloc: Global, text: &str, length: u64) -> Result<bool, Fail> {
+    let (bundle, _) = IcuReader::read(alloc, text)?;
+    let within = json_length_within(alloc, bundle.root(), length)?;
+    let over = json_length_within(alloc, bundle.root(), length.saturating_sub(1))?;
+    Ok(within == Some(length) && over.is_none())
+}
+
+#[test]
+fn json_has_its_length(rt: HostRuntime) -> Result<(), Fail> {
+    for row in ROWS.split_terminator('\n') {
+        let (text, wanted) = row.split_once(" => ").ok_or("a row without an answer")?;
+        assert!(rt;
+            has_length(rt.alloc(), text, wanted.len() as u64)?,
+            "{text}"
+        );
     }
     Ok(())
 }

@@ -1,7 +1,7 @@
 //! Texts with the lines of their bundles in both forms, by the rules of printed texts, and whether
 //! each is a text of the form.
 use resb_icu_text::IcuReader;
-use resb_lines::{Form, Icu, Plain, ShownBundle, has_text, write_lines};
+use resb_lines::{Form, Icu, Plain, ShownBundle, has_text, lines_length_within, write_lines};
 use resb_tree::{Resource, ResourceBundle};
 use std::alloc::Global;
 use std::test::Fail;
@@ -44,6 +44,25 @@ fn bundles_have_their_lines(rt: HostRuntime) -> Result<(), Fail> {
         assert_eq!(rt; plain.as_str(), wanted.as_str());
         let icu = lines_of(rt.alloc(), Icu, text)?;
         assert_eq!(rt; icu.as_str(), wanted.as_str());
+    }
+    Ok(())
+}
+
+/// Whether the lines of a text's bundle have so many bytes within that limit, and are over a byte
+/// less.
+fn has_length<F: Form>(alloc: Global, form: F, text: &str, length: u64) -> Result<bool, Fail> {
+    let (bundle, _) = IcuReader::read(alloc, text)?;
+    let within = lines_length_within(alloc, form, shown(&bundle), length)?;
+    let over = lines_length_within(alloc, form, shown(&bundle), length.saturating_sub(1))?;
+    Ok(within == Some(length) && over.is_none())
+}
+
+#[test]
+fn lines_have_their_length(rt: HostRuntime) -> Result<(), Fail> {
+    for (text, wanted) in ROWS {
+        let length = wanted.len() as u64;
+        assert!(rt; has_length(rt.alloc(), Plain, text, length)?, "{text}");
+        assert!(rt; has_length(rt.alloc(), Icu, text, length)?, "{text}");
     }
     Ok(())
 }

@@ -1,8 +1,8 @@
 #!/usr/bin/env python3
 """Hostile texts, whose reading makes much, through `resb compile --limit`, in both forms.
 
-    hostile_texts.py [BYTES..]      texts of about so many bytes each; if none is named, three
-                                    sizes, and some of each kind at a fourth
+    hostile_texts.py [BYTES..]      texts of about so many bytes each; if none is named, seven
+                                    sizes, and some of each kind at an eighth
 
 Members of each kind fill a group without a type, an array, and a table that has one key again and
 again; groups of each kind stand inside each other; and there is one long thing of each kind. In
@@ -25,7 +25,7 @@ import tempfile
 
 from hostile import RESB, counts, seen
 
-SIZES = [3_000, 60_000, 2_000_000]
+SIZES = [300, 1_000, 3_000, 10_000, 60_000, 250_000, 2_000_000]
 LARGE = 8_000_000
 LEAST_READ = 1 << 20
 GROUP, STRING, BYTE, TABLE, NUMBER, REQUEST = 72, 192, 3, 1024, 8, 32

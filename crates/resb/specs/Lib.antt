@@ -133,6 +133,13 @@ pub use Rattle.resb_layout.specs.WrittenHead
 pub use Rattle.resb_layout.specs.Written
 pub use Rattle.resb_write.specs.FaultOf
 pub use Rattle.resb_write.specs.Laws as WriteLaws
+pub use Rattle.resb_pool.specs.Shared as SharedPools
+pub use Rattle.resb_pool_bundle.specs.Checksum
+pub use Rattle.resb_pool_maker.specs.PoolFile
+pub use Rattle.resb_pool_maker.specs.PoolOf
+pub use Rattle.resb_pool_maker.specs.Holding as PoolMakers
+pub use Rattle.resb_pool_maker.specs.PoolFault
+pub use Rattle.resb_pool_maker.specs.Laws as PoolMakerLaws
 pub use Rattle.resb_compile.specs.Compiling
 pub use Rattle.resb_compile.specs.CompilingIcu
 pub mod Headline

@@ -14,6 +14,7 @@ pub use resb_head::{
 };
 pub use resb_pool::{Plan, PlanError, pool};
 pub use resb_pool_bundle::{FileHead, PoolBundle, read_with_pool};
+pub use resb_pool_maker::{PoolMaker, PoolMakerError};
 pub use resb_read::{
     Cursor, Deserialize, IntVectorDeserializer, KeyDeserializer, MapAccess, Measured,
     Resource16BitDeserializer, SeqAccess, SortedTable, Spot, Sums, TableView, Walk,

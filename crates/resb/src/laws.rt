@@ -154,6 +154,8 @@ pub use resb_write::laws::written_in_order;
 pub use resb_write::laws::written_is_denoted;
 // A bundle and a list of keys leave one file.
 pub use resb_write::laws::one_file;
+// A pool bundle that was made is read, and lends just the keys and strings that it is made of.
+pub use resb_pool_maker::laws::made_pool_is_read;
 
 // Codecs: what is written is read back, and what is read is written as it stood.
 

@@ -87,7 +87,11 @@ fn compile_texts(rt: &HostRuntime, wanted: &GenrbWords<'_>, texts: &[PathBuf]) -
 
 /// Writes a pool bundle that lends nothing into a folder.
 fn write_pool(rt: &HostRuntime, folder: &str) -> Result<(), u8> {
-    let path = or_fail(rt, folder, made(Path::new(folder).join(rt.alloc(), "pool.res")))?;
+    let path = or_fail(
+        rt,
+        folder,
+        made(Path::new(folder).join(rt.alloc(), "pool.res")),
+    )?;
     let name = path.as_path().as_str();
     let place = or_fail(rt, name, place_of(rt, name))?;
     let done = save(rt, &place, &Bytes(&EMPTY_POOL));

@@ -11,4 +11,4 @@ mod sink;
 
 pub use node::Node;
 pub use shown::Shown;
-pub use sink::{BLOCK_LEN, Blocks, fits_within, length_within, write_blocks, write_whole};
+pub use sink::{BLOCK_LEN, Blocks, length_within, write_blocks, write_whole};

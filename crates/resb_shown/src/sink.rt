@@ -1,7 +1,7 @@
 //! Where a text goes that is made a block at a time: into any writer.
 //! What the text is, its maker says.
 ghost use Rattle.std.specs.Prelude.{◌≡◌, ◌<◌, ◌≤◌, ◌++◌, ℕ, List, [], OnOk, OnErr, IfOk, Ok};
-ghost use Rattle.std.specs.Prelude.{true, false, length, MatchBool};
+ghost use Rattle.std.specs.Prelude.{true, false, length};
 ghost use Rattle.std.specs.Io.KnownBytes.{Appends};
 ghost use Rattle.resb_shown.specs.Sink.{AppendsPart, IsLengthWithin};
 
@@ -91,17 +91,5 @@ pub fn length_within<B: Blocks>(
     match left.checked_sub(block.len() as u64) {
         Some(rest) => Ok(Some(limit - rest)),
         None => Ok(None),
-    }
-}
-
-/// Whether a text has no more bytes than a limit. It is gone through as far as that shows, and not
-/// kept.
-pub fn fits_within<B: Blocks>(alloc: Global, text: &mut B, limit: u64) -> Result<bool, AllocError>
-    ensures { IfOk result (λ fits. MatchBool fits (length (B.ahead text.old) ≤ limit)
-        (limit < length (B.ahead text.old))) }
-{
-    match length_within(alloc, text, limit)? {
-        Some(_) => Ok(true),
-        None => Ok(false),
     }
 }

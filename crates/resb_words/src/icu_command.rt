@@ -22,16 +22,21 @@ pub(crate) fn genrb<'a>(alloc: Global) -> Result<Command<'a>, AllocError> {
 /// The command with where the texts are, where the files go, and how the texts are spelled.
 fn with_places<'a>(alloc: Global, command: Command<'a>) -> Result<Command<'a>, AllocError> {
     command
-        .arg(lettered(alloc, 's', "sourcedir").help("The folder of the texts, else the current one"))?
-        .arg(lettered(alloc, 'd', "destdir").help("The folder for the files, else the current one"))?
+        .arg(lettered(alloc, 's', "sourcedir").help(
+            "The folder of the texts, else the current one",
+        ))?
+        .arg(lettered(alloc, 'd', "destdir").help(
+            "The folder for the files, else the current one",
+        ))?
         .arg(lettered(alloc, 'i', "icudatadir").help("Is not looked at"))?
         .arg(lettered(alloc, 'e', "encoding").help("UTF-8, or UTF-16 by a mark"))
 }
 
 /// The command with what becomes of the pool bundle.
 fn with_pools<'a>(alloc: Global, command: Command<'a>) -> Result<Command<'a>, AllocError> {
-    let used = at_most_one(alloc, "usePoolBundle")
-        .help("Is not looked at: each file holds all of its keys and strings");
+    let used = at_most_one(alloc, "usePoolBundle").help(
+        "Is not looked at: each file holds all of its keys and strings",
+    );
     let written = at_most_one(alloc, "writePoolBundle")
         .help("Writes a pool.res that lends nothing, there or beside the files")
         .conflicts_with("usePoolBundle");

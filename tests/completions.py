@@ -34,7 +34,7 @@ class Option:
     """An option: its short and long word, the name of its value if it has one, and its help."""
 
     def __init__(self, line):
-        found = re.fullmatch(r'(?:(-\w),)? *(--[\w-]+)(?: <(\w+)>)? +(.*)', line.strip())
+        found = re.fullmatch(r'(?:(-\w),)? *(--[\w-]+)(?: \[?<(\w+)>\]?)? +(.*)', line.strip())
         self.short, self.long, self.value, self.help = found.groups()
 
     def words(self):

@@ -82,8 +82,8 @@ def compare(theirs, ours, jobs):
     wanted, had = files_in(theirs), files_in(ours)
     both = sorted(it for it in wanted & had if not it.endswith('pool.res'))
     with concurrent.futures.ThreadPoolExecutor(jobs) as pool:
-        same = set(it for it, right in zip(both, pool.map(lambda it: is_same(theirs, ours, it), both))
-                   if right)
+        right = pool.map(lambda it: is_same(theirs, ours, it), both)
+        same = {it for it, is_right in zip(both, right) if is_right}
     rows = collections.defaultdict(lambda: [0] * 5)
     for name in sorted(wanted | had):
         row = rows[os.path.dirname(name) or '.']

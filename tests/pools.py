@@ -391,7 +391,7 @@ def read_hostile():
 
 
 def seconds(*words):
-    """The least seconds of processor, the system's left out, that three calls of the program take."""
+    """The least seconds of processor, without the system's, of three calls of the program."""
     least = float('inf')
     for _ in range(3):
         child = subprocess.Popen([RESB, *words], stdout=subprocess.DEVNULL)
@@ -403,8 +403,8 @@ def seconds(*words):
 
 def read_lightly():
     """A small file over a pool of 64 MB takes the time in which the pool's bytes come in: a
-    nanosecond for each byte would be 64 ms more. That time is what `check` of the pool itself takes,
-    which is a bundle whose root is empty."""
+    nanosecond for each byte would be 64 ms more. That time is what `check` of the pool itself
+    takes, which is a bundle whose root is empty."""
     keys, units = b'k\0' * 16_000_000, b'x\0\0\0' * 8_000_000
     write('large/pool.res', pool_of(keys, units))
     write('large/a.res', made([0x4000000a, 0, 2, 1 << 31, 1 << 31 | 4, 0x60000000, 0x60000004], 5))

@@ -5,7 +5,9 @@ use crate::compile::compile;
 use crate::place::place_of;
 use crate::save::{Bytes, save, saved};
 use crate::say::{fail, or_fail};
+use crate::show::settled;
 use crate::streams::{NO_MEMORY, made};
+use resb_pool_maker::PoolMaker;
 use resb_words::{CompileWords, GenrbWords};
 use std::alloc::{AllocError, Global};
 use std::path::{Path, PathBuf};
@@ -22,24 +24,15 @@ const INVALID_FORMAT: u8 = 3;
 /// The status for a file that can't be read or written: its error for the access to a file.
 const FILE_ACCESS: u8 = 4;
 
-/// A pool bundle of format version 2.0 that lends nothing: the header, the root's word, an index of
-/// 8 words of which the last is the checksum, no key, and the unit 0 with one that fills its word.
-/// (ICU's `uresdata.h`.)
-const EMPTY_POOL: [u8; 72] = [
-    32, 0, 0xda, 0x27, 20, 0, 0, 0, 0, 0, 2, 0, b'R', b'e', b's', b'B', 2, 0, 0, 0, 1, 4, 0, 0, 0,
-    0, 0, 0, 0, 0, 0, 0, 0, 0, 0, 0x20, 8, 0, 0, 0, 9, 0, 0, 0, 10, 0, 0, 0, 10, 0, 0, 0, 0, 0, 0,
-    0, 3, 0, 0, 0, 10, 0, 0, 0, 0x95, 0x1e, 0xeb, 0x62, 0, 0, 0xaa, 0xaa,
-];
-
-/// Compiles each text to a file that its bundle names, and writes a pool bundle if that is asked
-/// for. The status is that of ICU's compiler.
+/// Compiles each text to a file that its bundle names, and then writes a pool bundle if that is
+/// asked for. The status is that of ICU's compiler.
 pub(crate) fn genrb(rt: &HostRuntime, wanted: &GenrbWords<'_>) -> u8 {
     let status = match texts_below(rt.alloc(), wanted) {
         Ok(texts) => compile_texts(rt, wanted, texts.as_slice()),
         Err(_) => fail(rt, NAME, NO_MEMORY),
     };
-    let status = match wanted.pool.map(|folder| write_pool(rt, folder)) {
-        Some(Err(failed)) => status.max(failed),
+    let status = match (status, wanted.pool) {
+        (0, Some(folder)) => settled(write_pool(rt, folder)),
         _ => status,
     };
     match status {
@@ -85,15 +78,16 @@ fn compile_texts(rt: &HostRuntime, wanted: &GenrbWords<'_>, texts: &[PathBuf]) -
     )
 }
 
-/// Writes a pool bundle that lends nothing into a folder.
-fn write_pool(rt: &HostRuntime, folder: &str) -> Result<(), u8> {
-    let path = or_fail(
-        rt,
-        folder,
-        made(Path::new(folder).join(rt.alloc(), "pool.res")),
-    )?;
+/// Writes a pool bundle of no bundles, which lends nothing, into a folder.
+fn write_pool(rt: &HostRuntime, folder: &str) -> Result<u8, u8> {
+    let alloc = rt.alloc();
+    let path = or_fail(rt, folder, made(Path::new(folder).join(alloc, "pool.res")))?;
     let name = path.as_path().as_str();
     let place = or_fail(rt, name, place_of(rt, name))?;
-    let done = save(rt, &place, &Bytes(&EMPTY_POOL));
-    or_fail(rt, name, saved(&place, done))
+    let Ok(pool) = PoolMaker::new(alloc).finish(alloc) else {
+        return Err(fail(rt, name, NO_MEMORY));
+    };
+    let done = save(rt, &place, &Bytes(pool.as_slice()));
+    or_fail(rt, name, saved(&place, done))?;
+    Ok(0)
 }

@@ -100,9 +100,10 @@ impl<'s, S: Shown<'s>> Showing<'s, S> {
         }
     }
 
-    /// How many bytes what is shown has, in the same way. A tree is not counted for the bytes of its
-    /// binaries, so that they may be far over the limit: where they and the keys alone are over it,
-    /// no more is counted. Else all is made and counted, which is some ten times the limit at most.
+    /// How many bytes what is shown has, in the same way. A tree is not counted for the bytes of
+    /// its binaries, so that they may be far over the limit: where they and the keys alone are over
+    /// it, no more is counted. Else all is made and counted, which is some ten times the limit at
+    /// most.
     fn length(&self, alloc: Global, limit: u64) -> Result<Length, AllocError> {
         let least = least_bytes(alloc, self.root)?;
         if least > limit {

@@ -1,6 +1,6 @@
 -- The warnings of a text of ICU's form: of pieces that are joined over a line's end to one member
--- of an array, of integers that lose bits, and of `{0}` where a group begins, and where it is all of
--- a group but a word before it.
+-- of an array, of integers that lose bits, and of `{0}` where a group begins, and where it is all
+-- of a group but a word before it.
 --     icu_warned text n   those of the first n bytes
 -- A key is one piece alone. So in a text that is a bundle pieces in a row are a member of an array,
 -- but where they are all that stands in a group that is not `:array`.
@@ -175,8 +175,8 @@ of_joined (Some n) = Some (warning_at reason.JoinedOverLine n)
 
 -- the warning that a token brings out: of an integer; of `{0}` with which a group begins, at its
 -- `}`; of `{0}` behind a word, where both are all that stands in a group without a type which isn't
--- the root, at that one's `}`; of a string among the members of an array, behind its last piece; and
--- of one that is first in a group, where a comma follows it
+-- the root, at that one's `}`; of a string among the members of an array, behind its last piece;
+-- and of one that is first in a group, where a comma follows it
 abbrev pub of_icu_token : List ℕ → IcuToken → IcuLast → Option Warning
 of_icu_token text (token.Word from to) last.Integer = of_integer from (slice_range text from to)
 of_icu_token text token.Close (last.Digit n) = Some (warning_at reason.UnquotedGroup n)

@@ -24,7 +24,8 @@ use Rattle.resb_format.specs.Denotes.{entries_more}
 use Rattle.resb_layout.specs.Laid.{Given, Laid, here, more_units, to_data, words_body}
 use Rattle.resb_layout.specs.Laid.{near_table_body, wide_table_body, is_short_by, are_short_by}
 use Rattle.resb_layout.specs.Laid.{offsets_by, nears_by, near_by, short_by, short_in}
-use Rattle.resb_layout.specs.Laid.{ClosesArrayBy, short_array, long_array, ClosesTableBy, short_table}
+use Rattle.resb_layout.specs.Laid.{ClosesArrayBy, short_array, long_array}
+use Rattle.resb_layout.specs.Laid.{ClosesTableBy, short_table}
 use Rattle.resb_layout.specs.Laid.{long_table, wide_table, entry_trees, ArePlaced, LaysBy}
 use Rattle.resb_layout.specs.Laid.{lays_integer, lays_string, lays_no_path, lays_path}
 use Rattle.resb_layout.specs.Laid.{lays_no_bytes, lays_bytes, lays_no_numbers, lays_numbers}
@@ -79,7 +80,8 @@ table_word (long_table at n k e l) = (omega arith, omega arith)
 table_word (wide_table at n e l q r) = (omega arith, omega arith)
 
 -- a word has 32 bits
-word_small : {lent : Option Lends} {g : Given} {s e : Laid} {t : Tree} {w : ℕ} → LaysBy lent g s t e w → w < 2 ^ 32
+word_small : {lent : Option Lends} {g : Given} {s e : Laid} {t : Tree} {w : ℕ}
+    → LaysBy lent g s t e w → w < 2 ^ 32
 word_small (lays_integer h) = omega arith
 word_small (lays_string h l) = omega arith
 word_small lays_no_path = omega arith
@@ -93,13 +95,15 @@ word_small (lays_members h some c) = (array_word c).0
 word_small lays_no_entries = omega arith
 word_small (lays_entries ps p h some c) = (table_word c).0
 
-words_small : {lent : Option Lends} {g : Given} {s e : Laid} {ts : Trees} {ws : List ℕ} → LaysEachBy lent g s ts e ws
+words_small : {lent : Option Lends} {g : Given} {s e : Laid} {ts : Trees} {ws : List ℕ}
+    → LaysEachBy lent g s ts e ws
     → EachBelow (2 ^ 32) ws
 words_small each_none = tt
 words_small (each_more h k) = (word_small h, words_small k)
 
 -- members and words are as many
-words_many : {lent : Option Lends} {g : Given} {s e : Laid} {ts : Trees} {ws : List ℕ} → LaysEachBy lent g s ts e ws
+words_many : {lent : Option Lends} {g : Given} {s e : Laid} {ts : Trees} {ws : List ℕ}
+    → LaysEachBy lent g s ts e ws
     → length ws ≡ length (list_of ts)
 words_many each_none = refl
 words_many (each_more h k) = ap suc (words_many k)

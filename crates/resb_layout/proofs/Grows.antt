@@ -66,7 +66,8 @@ table_grows (wide_table at n e l q r) = by_bytes _ _
 
 mutual
   -- laying a tree only appends
-  pub grows : {lent : Option Lends} {g : Given} {s e : Laid} {t : Tree} {w : ℕ} → LaysBy lent g s t e w → Grows s e
+  pub grows : {lent : Option Lends} {g : Given} {s e : Laid} {t : Tree} {w : ℕ}
+      → LaysBy lent g s t e w → Grows s e
   grows (lays_integer h) = grows_by_nothing _
   grows (lays_string h l) = grows_by_nothing _
   grows lays_no_path = grows_by_nothing _
@@ -80,7 +81,8 @@ mutual
   grows lays_no_entries = grows_by_nothing _
   grows (lays_entries ps p h some c) = grows_onward (grows_each h) (table_grows c)
 
-  pub grows_each : {lent : Option Lends} {g : Given} {s e : Laid} {ts : Trees} {ws : List ℕ} → LaysEachBy lent g s ts e ws
+  pub grows_each : {lent : Option Lends} {g : Given} {s e : Laid} {ts : Trees} {ws : List ℕ}
+      → LaysEachBy lent g s ts e ws
       → Grows s e
   grows_each each_none = grows_by_nothing _
   grows_each (each_more h k) = grows_onward (grows h) (grows_each k)

@@ -12,7 +12,8 @@ use Rattle.resb_tree.specs.LayingOrder.{laying_order, laying_each, laying_values
 use Rattle.resb_format.proofs.WordsBack.{written_length}
 use Rattle.resb_layout.specs.Laid.{Given, Laid, more_units, more_bytes, here, words, pad}
 use Rattle.resb_format.specs.Bytes.{units_as_bytes}
-use Rattle.resb_layout.specs.Laid.{to_data, to_word, fill, offsets_by, nears_by, words_body, near_table_body}
+use Rattle.resb_layout.specs.Laid.{to_data, to_word, fill, offsets_by}
+use Rattle.resb_layout.specs.Laid.{nears_by, words_body, near_table_body}
 use Rattle.resb_layout.specs.Laid.{wide_table_body, binary_body, path_body, entry_trees}
 use Rattle.resb_format.specs.Units.{units}
 use Rattle.resb_layout.specs.Laid.{ClosesArrayBy, short_array, long_array, ClosesTableBy}
@@ -242,7 +243,8 @@ laying_each-entry_trees (entry k t es) = ap (λ ts. laying_order t
     ++ ts) (laying_each-entry_trees es)
 
 mutual
-  in_order : {lent : Option Lends} {g : Given} {s e : Laid} {t : Tree} {w : ℕ} → LaysBy lent g s t e w → here g s % 4 ≡ 0
+  in_order : {lent : Option Lends} {g : Given} {s e : Laid} {t : Tree} {w : ℕ}
+      → LaysBy lent g s t e w → here g s % 4 ≡ 0
       → StandsInOrder g s e (laying_order t)
   in_order {lent = lent} {g = g} (lays_integer {s = s'} h) word = nothing g s' _ word
   in_order {lent = lent} {g = g} (lays_string {s = s'} h l) word = nothing g s' _ word
@@ -268,7 +270,8 @@ mutual
       joined_in_order g (subst (StandsInOrder g s m') (laying_each-entry_trees es') k)
       (table_in_order lent g es' k.whole some c)
 
-  each_in_order : {lent : Option Lends} {g : Given} {s e : Laid} {ts : Trees} {ws : List ℕ} → LaysEachBy lent g s ts e ws
+  each_in_order : {lent : Option Lends} {g : Given} {s e : Laid} {ts : Trees} {ws : List ℕ}
+      → LaysEachBy lent g s ts e ws
       → here g s % 4 ≡ 0 → StandsInOrder g s e (laying_each ts)
   each_in_order {lent = lent} {g = g} (each_none {s = s'}) word = none g s' word
   each_in_order {lent = lent} {g = g} (each_more h k) word =

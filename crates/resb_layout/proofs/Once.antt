@@ -4,7 +4,8 @@ use Rattle.std.proofs.Common.{◌≡◌, ◌<◌, ◌+◌, refl, sym, ◌∙◌,
 use Rattle.resb_tree.specs.Tree.{Tree, Trees, no_trees}
 use Rattle.resb_layout.specs.Laid.{Given, Laid, here}
 use Rattle.resb_layout.specs.Laid.{to_data}
-use Rattle.resb_layout.specs.Laid.{ClosesArrayBy, short_array, long_array, ClosesTableBy, short_table}
+use Rattle.resb_layout.specs.Laid.{ClosesArrayBy, short_array, long_array}
+use Rattle.resb_layout.specs.Laid.{ClosesTableBy, short_table}
 use Rattle.resb_layout.specs.Laid.{long_table, wide_table, LaysBy}
 use Rattle.resb_layout.specs.Laid.{lays_integer, lays_string, lays_no_path, lays_path}
 use Rattle.resb_layout.specs.Laid.{lays_no_bytes, lays_bytes}
@@ -17,11 +18,13 @@ use Rattle.std.proofs.Common.{Option}
 use Rattle.resb_layout.specs.Laid.{Lends}
 
 -- no trees are laid to no words
-pub none_inside : {lent : Option Lends} {g : Given} {s mid : Laid} {ws : List ℕ} → LaysEachBy lent g s no_trees mid ws
+pub none_inside : {lent : Option Lends} {g : Given} {s mid : Laid} {ws : List ℕ}
+    → LaysEachBy lent g s no_trees mid ws
     → 0 < length ws → ⊥
 none_inside each_none h = omega (arith, h)
 
-once_array : {lent : Option Lends} {g : Given} {s : Laid} {ws : List ℕ} {a b : Laid} {v w : ℕ} → ClosesArrayBy lent g s ws a v
+once_array : {lent : Option Lends} {g : Given} {s : Laid} {ws : List ℕ} {a b : Laid} {v w : ℕ}
+    → ClosesArrayBy lent g s ws a v
     → ClosesArrayBy lent g s ws b w → (a ≡ b) × (v ≡ w)
 once_array (short_array h l) (short_array k m) = (refl, refl)
 once_array {ws = ws} (short_array h l) (long_array at k e m n) = not_both _ h k
@@ -44,7 +47,8 @@ once_table {lent = lent} {g = g} {s = s} (wide_table at n e l q r) (wide_table a
     (refl, ap (λ i. 0x4000_0000 + i) (one_quarter (here g s) at at2 e f))
 
 mutual
-  pub once : {lent : Option Lends} {g : Given} {s a b : Laid} {t : Tree} {v w : ℕ} → LaysBy lent g s t a v → LaysBy lent g s t b w
+  pub once : {lent : Option Lends} {g : Given} {s a b : Laid} {t : Tree} {v w : ℕ}
+      → LaysBy lent g s t a v → LaysBy lent g s t b w
       → (a ≡ b) × (v ≡ w)
   once (lays_integer h) (lays_integer k) = (refl, refl)
   once (lays_string {k = m} h l) (lays_string {k = n} k o) = let e : m ≡ n =
@@ -62,12 +66,14 @@ mutual
   once lays_no_numbers lays_no_numbers = (refl, refl)
   once lays_no_numbers (lays_numbers at some n a e l) = absurd (zero_not_positive some refl)
   once (lays_numbers at some n a e l) lays_no_numbers = absurd (zero_not_positive some refl)
-  once {lent = lent} {g = g} {s = s} (lays_numbers at some n a e l) (lays_numbers at2 some2 n2 a2 f l2) =
+  once {lent = lent} {g = g} {s =
+      s} (lays_numbers at some n a e l) (lays_numbers at2 some2 n2 a2 f l2) =
       (refl, ap (λ i. 0xe000_0000 + i) (one_quarter (here g s) at at2 e f))
   once lays_no_members lays_no_members = (refl, refl)
   once lays_no_members (lays_members k some c) = absurd (none_inside k some)
   once (lays_members k some c) lays_no_members = absurd (none_inside k some)
-  once {lent = lent} {g = g} {b = b'} {w = w'} (lays_members {mid = m1} {ws = w1} h some c) (lays_members {mid =
+  once {lent = lent} {g = g} {b = b'} {w = w'} (lays_members {mid = m1} {ws =
+      w1} h some c) (lays_members {mid =
       m2} {ws = w2} k some2 d) =
       let r = once_each h k in
       once_array c (subst (λ m. ClosesArrayBy lent g m w1 b' w') (sym r.0)
@@ -83,10 +89,12 @@ mutual
       (subst (λ m. ClosesTableBy lent g m qs w1 b' w') (sym r.0)
       (subst (λ ws. ClosesTableBy lent g m2 qs ws b' w') (sym r.1) d)))
 
-  pub once_each : {lent : Option Lends} {g : Given} {s a b : Laid} {vs ws : List ℕ} {ts : Trees} → LaysEachBy lent g s ts a vs
+  pub once_each : {lent : Option Lends} {g : Given} {s a b : Laid} {vs ws : List ℕ} {ts : Trees}
+      → LaysEachBy lent g s ts a vs
       → LaysEachBy lent g s ts b ws → (a ≡ b) × (vs ≡ ws)
   once_each each_none each_none = (refl, refl)
-  once_each {lent = lent} {g = g} {b = b'} (each_more {w = v'} {ts = ts'} h k) (each_more {ws = ws'} {w =
+  once_each {lent = lent} {g = g} {b = b'} (each_more {w = v'} {ts = ts'} h k) (each_more {ws =
+      ws'} {w =
       w'} h2 k2) =
       let r = once h h2 in
       let rest = once_each k (subst (λ m. LaysEachBy lent g m ts' b' ws') (sym r.0) k2) in

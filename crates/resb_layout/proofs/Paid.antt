@@ -5,7 +5,8 @@ use Rattle.std.specs.Int.{to_le_bytes, w16, w32}
 use Rattle.resb_tree.specs.Tree.{Tree, Trees, tree_count, trees_count}
 use Rattle.resb_layout.specs.Laid.{Given, Laid, more_units, more_bytes, here, words, pad}
 use Rattle.resb_format.specs.Bytes.{units_as_bytes}
-use Rattle.resb_layout.specs.Laid.{offsets_by, nears_by, words_body, near_table_body, wide_table_body}
+use Rattle.resb_layout.specs.Laid.{offsets_by, nears_by, words_body}
+use Rattle.resb_layout.specs.Laid.{near_table_body, wide_table_body}
 use Rattle.resb_layout.specs.Laid.{binary_body, path_body}
 use Rattle.resb_format.specs.Units.{units}
 use Rattle.resb_layout.specs.Laid.{ClosesArrayBy, short_array, long_array, ClosesTableBy}
@@ -28,7 +29,8 @@ units_taken : (s : Laid) (us : List ℕ) → taken (more_units s us) ≡ taken s
 units_taken s us = omega (arith, length-append s.units us)
 
 -- a body has room for each member
-array_room : {lent : Option Lends} {g : Given} {s : Laid} {ws : List ℕ} {e : Laid} {w : ℕ} → ClosesArrayBy lent g s ws e w
+array_room : {lent : Option Lends} {g : Given} {s : Laid} {ws : List ℕ} {e : Laid} {w : ℕ}
+    → ClosesArrayBy lent g s ws e w
     → taken s + 2 * length ws ≤ taken e
 array_room {lent = lent} {s = s} {ws = ws} (short_array h l) =
     omega (arith, units_taken s (length ws ∷ offsets_by lent ws), offsets_many lent ws)
@@ -70,7 +72,8 @@ table_room {s = s} {ps = ps} {ws = ws} (wide_table at n e l q r) =
     )
 
 mutual
-  pub paid : {lent : Option Lends} {g : Given} {s e : Laid} {t : Tree} {w : ℕ} → LaysBy lent g s t e w
+  pub paid : {lent : Option Lends} {g : Given} {s e : Laid} {t : Tree} {w : ℕ}
+      → LaysBy lent g s t e w
       → taken s + 2 * tree_count t ≤ taken e + 2
   paid (lays_integer h) = omega arith
   paid (lays_string h l) = omega arith
@@ -90,7 +93,8 @@ mutual
   paid (lays_entries {es = es'} ps p h some c) = let each = paid_each h in let room =
       table_room c in omega (arith, each, room, members_count es')
 
-  paid_each : {lent : Option Lends} {g : Given} {s e : Laid} {ts : Trees} {ws : List ℕ} → LaysEachBy lent g s ts e ws
+  paid_each : {lent : Option Lends} {g : Given} {s e : Laid} {ts : Trees} {ws : List ℕ}
+      → LaysEachBy lent g s ts e ws
       → taken s + 2 * trees_count ts ≤ taken e + 2 * length ws
   paid_each each_none = omega arith
   paid_each (each_more h k) = let first = paid h in let rest =

@@ -35,8 +35,8 @@ pub data FillsTail : ℕ → List Tree → List ℕ → Type 0 where
       → TailBody at t body → FillsTail (at + length body) ts bytes
       → FillsTail at (t ∷ ts) (body ++ bytes)
 
--- the body of a tree in the 16-bit block: a count, a table's key positions, and the strings'
--- offsets
+-- the body of a tree in the 16-bit block: a count; a table's key positions, as units tell them; and
+-- as many units of strings as are counted
 pub data BlockBody : Tree → List ℕ → Type 0 where
   block_array : {ts : Trees} (n : ℕ) (os : List ℕ) → n ≡ length os → 0 < n
       → BlockBody (array ts) (n ∷ os)

@@ -4,8 +4,8 @@
 --     Lays g before t after w         from where before stands, the tree t takes what after has
 --                                     more, and its word is w
 --     LaysEach g before ts after ws   the same of trees in a row
---     LaysBy lent g .., LaysEachBy lent g ..    the same of a file to which a pool bundle lends, or of one
---                                     that uses none
+--     LaysBy lent g .., LaysEachBy lent g ..    the same of a file to which a pool bundle lends, or
+--                                     of one that uses none
 use Rattle.std.specs.Prelude.{◌≡◌, ℕ, ◌+◌, ◌-◌, ◌*◌, ◌^◌, ◌<◌, ◌%◌, List, [], ◌∷◌, ◌++◌}
 use Rattle.std.specs.Prelude.{length, map, replicate, All, Option, Some, None, Bool, true, false}
 use Rattle.std.specs.Prelude.{◌&&◌, nat_le, nat_lt, nat_eq, if◌then◌else◌}
@@ -113,16 +113,18 @@ are_near ps = nat_le (length ps) 65535 && list_all (λ p. nat_le p 65535) ps
 abbrev pub offsets_in : List ℕ → List ℕ
 offsets_in ws = map (λ w. w - 0x6000_0000) ws
 
--- a position as 16 bits tell it, if they can: a place in a pool's keys, which a position of 2^31 and
--- more tells, is counted from the end of the file's own
+-- a position as 16 bits tell it, if they can: a place in a pool's keys, which a position of 2^31
+-- and more tells, is counted from the end of the file's own
 abbrev pub near_in : Lends → ℕ → ℕ
 near_in l p = if nat_le (2 ^ 31) p then p - 2 ^ 31 + l.own_end else p
 
--- an index as a unit tells it, if one can: that of a string of the pool tells itself below the short
--- limit, and nothing from there on; the file's own follow from the short limit on
+-- an index as a unit tells it, if one can: 0, the empty text's, tells itself; so does that of a
+-- string of the pool below the short limit, and none from there on; the file's own follow from the
+-- short limit on
 abbrev pub short_in : Lends → ℕ → ℕ
 short_in l i =
-    if nat_le l.limit i then i - l.limit + l.short_limit
+    if nat_eq i 0 then 0
+    else if nat_le l.limit i then i - l.limit + l.short_limit
     else if nat_lt i l.short_limit then i
     else 65536
 
@@ -174,11 +176,13 @@ pub data ClosesTableBy (lent : Option Lends) (g : Given) (s : Laid) (ps ws : Lis
     : Laid → ℕ → Type 0 where
   short_table : are_near (nears_by lent ps) ≡ true → are_short_by lent ws ≡ true
       → length s.units < 2 ^ 28
-      → ClosesTableBy lent g s ps ws (more_units s (length ws ∷ (nears_by lent ps ++ offsets_by lent ws)))
+      → ClosesTableBy lent g s ps ws (more_units s (length ws ∷ (nears_by lent ps
+      ++ offsets_by lent ws)))
       (0x5000_0000 + length s.units)
   long_table : (at : ℕ) → are_near (nears_by lent ps) ≡ true → are_short_by lent ws ≡ false
       → here g s ≡ 4 * at → at < 2 ^ 28
-      → ClosesTableBy lent g s ps ws (more_bytes s (near_table_body (nears_by lent ps) ws)) (0x2000_0000
+      → ClosesTableBy lent g s ps ws (more_bytes s (near_table_body (nears_by lent ps) ws))
+      (0x2000_0000
       + at)
   wide_table : (at : ℕ) → are_near (nears_by lent ps) ≡ false → here g s ≡ 4 * at → at < 2 ^ 28
       → length ps < 2 ^ 32 → All (λ p. p < 2 ^ 32) ps
@@ -216,24 +220,29 @@ mutual
     lays_no_bytes : {s : Laid} → LaysBy lent g s (binary []) s 0x1000_0000
     lays_bytes : {s : Laid} {bytes : List ℕ} (at : ℕ) → 0 < length bytes → length bytes < 2 ^ 32
         → here g s + to_data (here g s) ≡ 4 * at → at < 2 ^ 28
-        → LaysBy lent g s (binary bytes) (more_bytes s (binary_body (here g s) bytes)) (0x1000_0000 + at)
+        → LaysBy lent g s (binary bytes) (more_bytes s (binary_body (here g s) bytes))
+        (0x1000_0000 + at)
     lays_no_numbers : {s : Laid} → LaysBy lent g s (int_vector []) s 0xe000_0000
     lays_numbers : {s : Laid} {ns : List ℕ} (at : ℕ) → 0 < length ns → length ns < 2 ^ 32
         → All (λ n. n < 2 ^ 32) ns → here g s ≡ 4 * at → at < 2 ^ 28
         → LaysBy lent g s (int_vector ns) (more_bytes s (words_body ns)) (0xe000_0000 + at)
     lays_no_members : {s : Laid} → LaysBy lent g s (array no_trees) s 0x8000_0000
-    lays_members : {s mid end : Laid} {ts : Trees} {ws : List ℕ} {w : ℕ} → LaysEachBy lent g s ts mid ws
+    lays_members : {s mid end : Laid} {ts : Trees} {ws : List ℕ} {w : ℕ}
+        → LaysEachBy lent g s ts mid ws
         → 0 < length ws → ClosesArrayBy lent g mid ws end w → LaysBy lent g s (array ts) end w
     lays_no_entries : {s : Laid} → LaysBy lent g s (table no_entries) s 0x2000_0000
     lays_entries : {s mid end : Laid} {es : Entries} {ws : List ℕ} {w : ℕ} (ps : List ℕ)
-        → ArePlaced g (entry_keys es) ps → LaysEachBy lent g s (entry_trees es) mid ws → 0 < length ws
+        → ArePlaced g (entry_keys es) ps → LaysEachBy lent g s (entry_trees es) mid ws
+        → 0 < length ws
         → ClosesTableBy lent g mid ps ws end w → LaysBy lent g s (table es) end w
 
   -- trees are laid one after another, each with its word
-  pub data LaysEachBy (lent : Option Lends) (g : Given) : Laid → Trees → Laid → List ℕ → Type 0 where
+  pub data LaysEachBy (lent : Option Lends) (g : Given) : Laid → Trees → Laid → List ℕ
+      → Type 0 where
     each_none : {s : Laid} → LaysEachBy lent g s no_trees s []
     each_more : {s mid end : Laid} {ws : List ℕ} {w : ℕ} {t : Tree} {ts : Trees}
-        → LaysBy lent g s t mid w → LaysEachBy lent g mid ts end ws → LaysEachBy lent g s (more_trees t ts) end (w ∷ ws)
+        → LaysBy lent g s t mid w → LaysEachBy lent g mid ts end ws
+        → LaysEachBy lent g s (more_trees t ts) end (w ∷ ws)
 
 -- the same of a file that uses no pool
 abbrev pub Lays : Given → Laid → Tree → Laid → ℕ → Type 0

@@ -72,7 +72,8 @@ pub record StandsInOrder (g : Given) (before after : Laid) (ts : List Tree) : Ty
 abbrev pub LaidInOrder : Type 0
 LaidInOrder =
     (lent : Option Lends) (g : Given) (before after : Laid) (t : Tree) (w : ℕ)
-    → here g before % 4 ≡ 0 → LaysBy lent g before t after w → StandsInOrder g before after (laying_order t)
+    → here g before % 4 ≡ 0 → LaysBy lent g before t after w
+    → StandsInOrder g before after (laying_order t)
 
 -- the bytes of what stands
 abbrev pub taken : Laid → ℕ

@@ -7,9 +7,13 @@ use std::alloc::{AllocError, Global};
 /// The words of ICU's compiler that ask for what isn't done, without the dashes.
 pub(crate) const NOT_DONE: [&str; 3] = ["write-java", "write-xliff", "filterDir"];
 
+/// What is said of words that change nothing.
+const NOT_LOOKED_AT: &str = "Is not looked at";
+
 /// ICU's compiler, by its own words.
 pub(crate) fn genrb<'a>(alloc: Global) -> Result<Command<'a>, AllocError> {
     let command = Command::new(alloc, "genrb")
+        .version("0.2.0")
         .about("Compiles texts in ICU's own form, by the words of ICU's compiler")
         .after_help("Example: resb genrb -s curr -d out/curr root.txt de.txt")
         .arg(several(alloc, "The names of texts, below the source folder"))?;
@@ -21,15 +25,18 @@ pub(crate) fn genrb<'a>(alloc: Global) -> Result<Command<'a>, AllocError> {
 
 /// The command with where the texts are, where the files go, and how the texts are spelled.
 fn with_places<'a>(alloc: Global, command: Command<'a>) -> Result<Command<'a>, AllocError> {
+    let source = folder(alloc, 's', "sourcedir");
+    let destination = folder(alloc, 'd', "destdir");
+    let encoding = Arg::new(alloc, "encoding").short('e').long("encoding");
     command
-        .arg(lettered(alloc, 's', "sourcedir").help(
-            "The folder of the texts, else the current one",
-        ))?
-        .arg(lettered(alloc, 'd', "destdir").help(
-            "The folder for the files, else the current one",
-        ))?
-        .arg(lettered(alloc, 'i', "icudatadir").help("Is not looked at"))?
-        .arg(lettered(alloc, 'e', "encoding").help("UTF-8, or UTF-16 by a mark"))
+        .arg(source.help("The folder of the texts, else the current one"))?
+        .arg(destination.help("The folder for the files, else the current one"))?
+        .arg(folder(alloc, 'i', "icudatadir").help(NOT_LOOKED_AT))?
+        .arg(
+            encoding
+                .value_name("NAME")
+                .help("UTF-8, or UTF-16 by a mark"),
+        )
 }
 
 /// The command with what becomes of the pool bundle.
@@ -47,14 +54,15 @@ fn with_pools<'a>(alloc: Global, command: Command<'a>) -> Result<Command<'a>, Al
 fn with_manners<'a>(alloc: Global, command: Command<'a>) -> Result<Command<'a>, AllocError> {
     command
         .arg(flag(alloc, "quiet", "Says no warnings").short('q'))?
-        .arg(flag(alloc, "verbose", "Is not looked at").short('v'))?
-        .arg(flag(alloc, "strict", "Is not looked at").short('k'))?
-        .arg(flag(alloc, "copyright", "Is not looked at").short('c'))?
-        .arg(flag(alloc, "omitCollationRules", "Is not looked at").short('R'))?
-        .arg(flag(alloc, "noBinaryCollation", "Is not looked at").short('C'))?
+        .arg(flag(alloc, "verbose", NOT_LOOKED_AT).short('v'))?
+        .arg(flag(alloc, "strict", NOT_LOOKED_AT).short('k'))?
+        .arg(flag(alloc, "copyright", NOT_LOOKED_AT).short('c'))?
+        .arg(flag(alloc, "omitCollationRules", NOT_LOOKED_AT).short('R'))?
+        .arg(flag(alloc, "noBinaryCollation", NOT_LOOKED_AT).short('C'))?
         .arg(
             Arg::new(alloc, "formatVersion")
                 .long("formatVersion")
+                .value_name("NUMBER")
                 .help("2 or 3; the files are of version 2 with both"),
         )
 }
@@ -72,15 +80,19 @@ fn refused<'a>(alloc: Global, word: &'a str) -> Arg<'a> {
     at_most_one(alloc, word).help("Is refused").hide(true)
 }
 
-/// An argument with a value, by a letter and a word.
-fn lettered<'a>(alloc: Global, letter: char, word: &'a str) -> Arg<'a> {
-    Arg::new(alloc, word).short(letter).long(word)
+/// The argument of a folder, by a letter and a word.
+fn folder<'a>(alloc: Global, letter: char, word: &'a str) -> Arg<'a> {
+    Arg::new(alloc, word)
+        .short(letter)
+        .long(word)
+        .value_name("DIR")
 }
 
-/// An argument that may have a value.
+/// An argument that may name a folder.
 fn at_most_one<'a>(alloc: Global, word: &'a str) -> Arg<'a> {
     Arg::new(alloc, word)
         .long(word)
+        .value_name("DIR")
         .num_args(0..=1)
         .action(ArgAction::Append)
 }

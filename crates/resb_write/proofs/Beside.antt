@@ -43,7 +43,8 @@ module _ (body keys block : List ℕ) (g : Given) where
   own_key : (k : List ℕ) (at : ℕ) → key_at keys at ≡ Some k
       → key_in (beside_no_pool alone) at ≡ Some k
   unfolding key_place_by
-  own_key k at here = ap (λ p. key_at p.0 p.1) (own_place keys at (key_inside keys at k here)) ∙ here
+  own_key k at here =
+      ap (λ p. key_at p.0 p.1) (own_place keys at (key_inside keys at k here)) ∙ here
 
   own_text_in : (s : List ℕ) (k : ℕ) → text_in alone k ≡ Some s
       → text_in (beside_no_pool alone) k ≡ Some s

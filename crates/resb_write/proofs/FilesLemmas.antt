@@ -255,8 +255,11 @@ module _ (t : Tree) (ks js : List (List ℕ)) (m : Made t ks js) (largest : ℕ)
   denoted_in : (p : Parts) → IsRead p None given → StandsIn p given m.laid → ReadsAliasesOf p t
       → Den p m.root t (tree_count t)
   denoted_in p read inside aliases =
-      laid_is_denoted None p given (record { units = m.pool; tail =
-          [] }) m.laid t m.root read aliases
+      laid_is_denoted None p given (record {
+        units = m.pool;
+        tail =
+            [];
+      }) m.laid t m.root read aliases
       pool_long m.lays inside
 
   -- what the root denotes in these parts, the file's root word does in those that are the same

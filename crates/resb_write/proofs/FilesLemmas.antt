@@ -213,7 +213,7 @@ module _ (t : Tree) (ks js : List (List ℕ)) (m : Made t ks js) (largest : ℕ)
       let is : s ≡ [] = cc in is
 
   is_read : IsRead parts None given
-  unfolding index_by
+  unfolding key_place_by text_place_by index_by
   is_read = record {
     keys = key_is_read;
     near_keys = λ k at e near. key_is_read k at e;

@@ -123,10 +123,12 @@ impl<'s, S: Shown<'s>> Showing<'s, S> {
     /// Refuses what takes more bytes than the limit, if there is one, before any of it is written:
     /// the status, once that is said.
     pub(crate) fn check(&self, rt: &HostRuntime, name: &str, limit: Option<u64>) -> Result<(), u8> {
-        match (self.fits(rt.alloc(), limit), limit) {
-            (Ok(false), Some(limit)) => Err(self.refuse_long(rt, name, limit)),
-            (Ok(_), _) => Ok(()),
-            (Err(_), _) => Err(refuse_memory(rt, name)),
+        let Ok(fits) = self.fits(rt.alloc(), limit) else {
+            return Err(refuse_memory(rt, name));
+        };
+        match limit {
+            Some(limit) if !fits => Err(self.refuse_long(rt, name, limit)),
+            _ => Ok(()),
         }
     }
 

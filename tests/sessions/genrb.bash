@@ -14,10 +14,10 @@ same built/root.res wanted.res
 (cd source && exec -a genrb "$program" --quiet root.txt) && same source/root.res wanted.res
 (exec -a genrb "$program" -q -s source -d built broken.txt) 2> /dev/null
 [ $? = 3 ] && passed=$((passed + 1)) || { failed=$((failed + 1)); echo 'genrb: a broken text'; }
-told 3 '' 'source/broken.txt:1:16: expected '"'}'"'
-broken{ a{ "x" 
-               ^
-source/broken.txt:1:10: the '"'{'"' that is open here' genrb -s source -d built broken.txt
+told 3 '' "source/broken.txt:1:10: expected '}', a comma, '{' or a type before the text ends \
+inside this
+broken{ a{ \"x\" 
+         ^" genrb -s source -d built broken.txt
 told 4 '' 'source/nope.txt: no such file' genrb -s source -d built nope.txt
 told 4 '' 'nowhere/root.res: no such folder' genrb -s source -d nowhere root.txt
 told 1 '' 'resb: --write-java isn'"'"'t done here' genrb -j -s source root.txt

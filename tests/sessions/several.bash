@@ -116,7 +116,7 @@ key=$(printf 'k%.0s' {1..1000})
 printf "b{$key:table{$(printf 'm%d:int{1} ' {0..9})}}" > old/k.txt
 printf "b{$key:table{$(printf 'm%d:int{2} ' {0..9})}}" > k.txt
 told 0 '' '' compile old/k.txt k.txt
-told 2 '' 'k.res: its list of differences takes at least 9009 bytes, more than the limit of 9000' \
+told 2 '' 'k.res: its list of differences takes at least 9018 bytes, more than the limit of 9000' \
   diff --limit 9000 old/k.res k.res
 printf 'b{a{"x"}}' > s.txt
 printf 'b:table(nofallback){a{"x"}}' > t.txt

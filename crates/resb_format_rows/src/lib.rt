@@ -1,7 +1,7 @@
 //! The worked rows of the bytes, the codecs, the views, the head and the parts of a file, of
-//! packages, and of pool bundles that are made: inputs with the answers that the format's rules ask
-//! for. Only tests stand here, so that no other crate is proved twice. Each kind of row has one
-//! helper, which is proved once; a row more is a line of its table.
+//! packages, and of pool bundles that are made and that lend: inputs with the answers that the
+//! format's rules ask for. Only tests stand here, so that no other crate is proved twice. Each kind
+//! of row has one helper, which is proved once; a row more is a line of its table.
 #![tactic(auto)]
 
 #[cfg(test)]
@@ -10,6 +10,8 @@ mod byte_rows;
 mod code_rows;
 #[cfg(test)]
 mod head_rows;
+#[cfg(test)]
+mod lent_rows;
 #[cfg(test)]
 mod package_rows;
 #[cfg(test)]

@@ -1,0 +1,5 @@
+-- For crates above: those that are `pub`.
+mod Wholes
+mod Noting
+mod Told
+mod Examples

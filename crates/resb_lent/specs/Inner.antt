@@ -1,0 +1,2 @@
+-- Words of private functions: nothing here needs to be trusted.
+pub mod Noted

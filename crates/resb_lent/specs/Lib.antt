@@ -1,0 +1,8 @@
+-- The words of the contracts: where a pool bundle has a key.
+pub use Rattle.resb_format.specs.Strings
+pub use Rattle.resb_format.specs.Lookups
+pub use Rattle.resb_pool.specs.Plan
+pub mod LentKeys
+pub mod Lending
+pub mod Laws
+pub mod Inner

@@ -57,10 +57,11 @@ def build(source, folder, genrb, jobs):
 
 def printed(folder, name):
     """What ICU's `derb` prints of a file."""
+    # it prints the folder that it was given, so that this is the one in which it runs
+    words = ['derb', '-c', '-A', '-s', '.', pathlib.Path(name).name]
     place = (folder / name).parent
-    words = ['derb', '-c', '-A', '-s', str(place), pathlib.Path(name).name]
     try:
-        ran = subprocess.run(words, capture_output=True, timeout=20, check=False)
+        ran = subprocess.run(words, cwd=place, capture_output=True, timeout=20, check=False)
     except subprocess.TimeoutExpired:
         return None
     return ran.stdout if ran.returncode == 0 else None

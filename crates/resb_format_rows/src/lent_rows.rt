@@ -1,6 +1,8 @@
-//! Where pool bundles have keys. Each row is the keys of a pool, each behind a zero byte but the
-//! first, a key, and its place: a row more costs no proof.
-use resb_lent::LentKeys;
+//! Where pool bundles have keys and texts. Each row is what a pool has, a key or a text, and its
+//! place: a row more costs no proof.
+use crate::pool_maker_rows::pool_of;
+use resb_lent::{LentKeys, LentTexts};
+use resb_pool_bundle::PoolBundle;
 use std::alloc::Global;
 use std::test::Fail;
 
@@ -21,6 +23,42 @@ const KEYS: [(&[u8], &str, Option<u32>); 12] = [
     (b"", "", None),
 ];
 
+/// A pool's 16-bit block, a text, and its index. The first pool is that of `one two three`, as
+/// ICU's compiler writes it; the second has an empty record, a text with U+0000, whose marker says
+/// three units, and `xy` twice; the third has two records that end with `b`, of which the greater
+/// one holds it; a block that doesn't begin with 0 lends nothing.
+const TEXTS: [(&[u8], &str, Option<u32>); 18] = [
+    (ONE_TWO_THREE, "one two three", Some(1)),
+    (ONE_TWO_THREE, "three", Some(9)),
+    (ONE_TWO_THREE, "two three", Some(5)),
+    (ONE_TWO_THREE, "", Some(0)),
+    (ONE_TWO_THREE, "one", None),
+    (ONE_TWO_THREE, "x", None),
+    (MIXED, "a\0b", Some(2)),
+    (MIXED, "b", Some(5)),
+    (MIXED, "xy", Some(7)),
+    (MIXED, "y", Some(8)),
+    (MIXED, "\u{1f600}", Some(14)),
+    (MIXED, "z\u{1f600}", Some(13)),
+    (TWO_ENDS, "b", Some(5)),
+    (TWO_ENDS, "ab", Some(1)),
+    (TWO_ENDS, "cb", Some(4)),
+    (b"x\0\0\0", "x", None),
+    (b"x\0\0\0", "", None),
+    (b"", "", None),
+];
+
+/// 0, `one two three`, 0, and what fills the last word.
+const ONE_TWO_THREE: &[u8] = b"\0\0o\0n\0e\0 \0t\0w\0o\0 \0t\0h\0r\0e\0e\0\0\0\xaa\xaa";
+
+/// 0, an empty record, `a`, U+0000 and `b` behind a marker, `xy` twice, `z` and U+1F600, and a
+/// surrogate alone.
+const MIXED: &[u8] = b"\0\0\0\0\x03\xdca\0\0\0b\0\0\0x\0y\0\0\0x\0y\0\0\0\
+    z\0\x3d\xd8\x00\xde\0\0\x3d\xd8\0\0";
+
+/// 0, `ab` and `cb`.
+const TWO_ENDS: &[u8] = b"\0\0a\0b\0\0\0c\0b\0\0\0";
+
 /// Where a pool of these keys has a key.
 fn place_in(alloc: Global, keys: &[u8], key: &str) -> Result<Option<u32>, Fail> {
     let lent = LentKeys::of(alloc, keys)?;
@@ -33,5 +71,36 @@ fn pools_have_keys_here(rt: HostRuntime) -> Result<(), Fail> {
         let found = place_in(rt.alloc(), keys, key)?;
         assert!(rt; found == place, "{key}");
     }
+    Ok(())
+}
+
+/// Which index a pool with this block has for a text.
+fn index_in(alloc: Global, block: &[u8], text: &str) -> Result<Option<u32>, Fail> {
+    let lent = LentTexts::of(alloc, block)?;
+    Ok(lent.index(text))
+}
+
+#[test]
+fn pools_have_texts_here(rt: HostRuntime) -> Result<(), Fail> {
+    for (block, text, index) in TEXTS {
+        let found = index_in(rt.alloc(), block, text)?;
+        assert!(rt; found == index, "{text:?}");
+    }
+    Ok(())
+}
+
+/// Whether the pool that is made of bundles has a key and a text at these places.
+fn lends(alloc: Global, bundles: &str, key: (&str, u32), text: (&str, u32)) -> Result<bool, Fail> {
+    let file = pool_of(alloc, bundles)?;
+    let pool = PoolBundle::read(&file)?;
+    let place = place_in(alloc, pool.keys(), key.0)?;
+    let index = index_in(alloc, pool.block(), text.0)?;
+    Ok(place == Some(key.1) && index == Some(text.1))
+}
+
+#[test]
+fn a_made_pool_lends(rt: HostRuntime) -> Result<(), Fail> {
+    let bundles = "alpha=one two three,beta=x / alpha=one two three,gamma=three";
+    assert!(rt; lends(rt.alloc(), bundles, ("gamma", 11), ("three", 9))?);
     Ok(())
 }

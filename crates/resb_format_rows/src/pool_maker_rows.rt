@@ -46,13 +46,18 @@ fn add(alloc: Global, maker: &mut PoolMaker, entries: &str) -> Result<(), Fail> 
     Ok(())
 }
 
-/// The digits of the pool bundle of bundles, from its version on.
-fn digits_of_pool(alloc: Global, bundles: &str) -> Result<String, Fail> {
+/// The pool bundle of bundles.
+pub(crate) fn pool_of(alloc: Global, bundles: &str) -> Result<Vec<u8>, Fail> {
     let mut maker = PoolMaker::new(alloc);
     for entries in bundles.split(" / ") {
         add(alloc, &mut maker, entries)?;
     }
-    let file = maker.finish(alloc)?;
+    Ok(maker.finish(alloc)?)
+}
+
+/// The digits of the pool bundle of bundles, from its version on.
+fn digits_of_pool(alloc: Global, bundles: &str) -> Result<String, Fail> {
+    let file = pool_of(alloc, bundles)?;
     let (_, rest) = file.as_slice().split_at_checked(16).ok_or("no header")?;
     Ok(hex::encode(alloc, rest)?)
 }

@@ -1,13 +1,15 @@
--- Keys of a pool at a worked example: that of the keys `alpha`, `beta` and `gamma`, as ICU's
--- compiler writes it.
+-- A pool at a worked example, as ICU's compiler writes it: that of the keys `alpha`, `beta` and
+-- `gamma`, and of the text `one two three`.
 use Rattle.std.proofs.Common.{ℕ, List, [], ◌∷◌, ◌++◌, ◌≡◌, refl, codes, arith, true, false, nat_lt}
-use Rattle.std.proofs.Common.{Some, None, zero, suc}
+use Rattle.std.proofs.Common.{Some, None, zero, suc, ◌+◌}
 use Rattle.std.specs.List.{list_all}
-use Rattle.std.specs.Str.{is_utf8, IsAscii}
+use Rattle.std.specs.Str.{is_utf8, IsAscii, chars}
 use Rattle.std.proofs.lemmas.Bool.{and_parts, ltb-true}
 use Rattle.std.proofs.lemmas.Str.{is_utf8-from_IsUtf8, IsUtf8-from_ascii}
 use Rattle.resb_format.specs.Strings.{key_at}
+use Rattle.resb_format.specs.Units.{size}
 use Rattle.resb_lent.specs.LentKeys.{StandsWhole, begins_key}
+use Rattle.resb_lent.specs.LentTexts.{StandsAt, IsLentRecord, at_end}
 
 -- bytes of ASCII alone are a text
 each_below : (bs : List ℕ) → list_all (λ b. nat_lt b 128) bs ≡ true → IsAscii bs
@@ -55,3 +57,27 @@ part = (rw (ascii_text (codes "eta") refl) refl, refl)
 filling : (begins_key keys 17 ≡ true) × (key_at keys 17 ≡ None)
 unfolding keys key_at
 filling = (refl, refl)
+
+block : List ℕ
+block = 0 ∷ (codes "one two three" ++ 0 ∷ 0xaaaa ∷ [])
+
+record_stands : StandsAt block 1 (codes "one two three")
+unfolding block chars lib.Utf8.encode
+record_stands = record {
+  utf8 = IsUtf8-from_ascii (codes "one two three") (each_below (codes "one two three") refl);
+  stands = refl;
+  near = let l : size (codes "one two three") ≡ 14 = refl in omega (arith, l);
+}
+
+lent : IsLentRecord block (codes "one two three") 1
+unfolding block
+lent = record { begins = refl; reached = at_end; stands = record_stands }
+
+-- so `three` has index 9, and `two three` index 5
+three : 9 + size (codes "three") ≡ 1 + size (codes "one two three")
+unfolding chars
+three = refl
+
+two_three : 5 + size (codes "two three") ≡ 1 + size (codes "one two three")
+unfolding chars
+two_three = refl

@@ -1,2 +1,3 @@
 -- Words of private functions: nothing here needs to be trusted.
 pub mod Noted
+pub mod Listed

@@ -1,8 +1,10 @@
--- The words of the contracts: where a pool bundle has a key.
+-- The words of the contracts: where a pool bundle has a key, and where it has a text.
 pub use Rattle.resb_format.specs.Strings
 pub use Rattle.resb_format.specs.Lookups
 pub use Rattle.resb_pool.specs.Plan
 pub mod LentKeys
+pub mod LentTexts
+pub mod Entries
 pub mod Lending
 pub mod Laws
 pub mod Inner

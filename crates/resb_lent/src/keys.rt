@@ -18,7 +18,7 @@ const PLACE_LIMIT: usize = 0x8000_0000;
 pub struct LentKeys<'a> {
     keys: &'a [u8],
     places: IndexMap<&'a str, u32>,
-    ghost lends: { (key : List ℕ)
+    ghost lent: { (key : List ℕ)
         → LendsKey keys.now key (at_text places key) } by { Prim.hlevel props },
 }
 

@@ -1,10 +1,15 @@
 //! The laws of what a pool bundle lends, each as the contract of a call that does nothing. Their
 //! statements stand in `specs/Laws`.
-ghost use Rattle.resb_lent.specs.Laws.{LentKeyIsTold};
+ghost use Rattle.resb_lent.specs.Laws.{LentKeyIsTold, LentTextIsRead};
 
 /// A file beside the pool bundle tells a key by the place that `LentKeys::place` answers for it: a
 /// position of 32 bits by this place and 2^31, and one of 16 bits by this place counted from the
 /// end of the file's own keys.
 pub fn lent_key_is_told()
     ensures { LentKeyIsTold }
+{}
+
+/// A text is read in the pool's 16-bit block at the index that `LentTexts::index` answers for it.
+pub fn lent_text_is_read()
+    ensures { LentTextIsRead }
 {}

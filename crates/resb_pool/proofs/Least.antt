@@ -77,7 +77,7 @@ units_end t s u v h =
     (chars-append h.front s (rest_utf8 t h.front s h.is u v))
     ∙ flat_map-append encode_utf16 (chars h.front) (chars s)
 
-held_costs : (s r : List ℕ) → IsUtf8 r → IsUtf8 s → IsHeldBy s r → size s ≤ size r
+pub held_costs : (s r : List ℕ) → IsUtf8 r → IsUtf8 s → IsHeldBy s r → size s ≤ size r
 held_costs s r u v h =
     let e : length (units r) ≡ length (units h.ends.front ++ units s) =
     ap length (units_end r s u v h.ends) in

@@ -19,8 +19,8 @@ mod Ranking
 pub mod IsRead
 pub mod OnePool
 pub mod Least
-mod SuffixOrder
-mod Cut
+pub mod SuffixOrder
+pub mod Cut
 mod Ends
 mod Digits
 mod EndKeys

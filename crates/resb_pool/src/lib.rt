@@ -12,9 +12,10 @@ mod offsets;
 pub mod pool;
 mod records;
 pub mod shared_pool;
-mod suffix_order;
+pub mod suffix_order;
 mod texts;
 
 pub use error::PlanError;
 pub use measure::{SIZE_LIMIT, excessive_len};
 pub use offsets::Plan;
+pub use records::push_record;

@@ -246,7 +246,7 @@ fn push_marker(units: &mut Vec<u16>, text: &str, count: u32) -> Result<(), Alloc
 }
 
 /// Appends the record of a text of so many units, and gives the index of its closing 0.
-fn push_record(units: &mut Vec<u16>, text: &str, count: u32) -> Result<u32, AllocError>
+pub fn push_record(units: &mut Vec<u16>, text: &str, count: u32) -> Result<u32, AllocError>
     requires count { count ≡ length (units_of text.now) }
     requires short { count < 2 ^ 28 }
     requires fits { length units.old.items + size text.now < 2 ^ 32 }

@@ -271,7 +271,7 @@ fn strip_shared<'a, 'b>(left: &'a str, right: &'b str) -> (&'a str, &'b str)
 /// How two texts compare by their characters, last first. The end of a text is the greatest. This
 /// call is kept out of the sort, which for most rows only compares numbers.
 #[inline(never)]
-fn compare(left: &str, right: &str) -> Ordering
+pub fn compare(left: &str, right: &str) -> Ordering
     ensures { result ≡ suffix_cmp left.now right.now }
 {
     let (left_long, right_long) = strip_blocks(left, right, LONG_BLOCK);

@@ -18,6 +18,7 @@ pub struct PoolBundle<'a> {
 
 impl<'a> PoolBundle<'a> {
     ghost use Rattle.std.specs.Prelude.{◌≡◌, ◌==◌};
+    ghost use Rattle.resb_format.specs.Bytes.{units_of};
     ghost use Rattle.resb_pool_bundle.specs.Checksum.{checksum_of};
     ghost use Rattle.resb_pool_bundle.specs.FileWith.{ReadsPool};
     ghost use Rattle.resb_pool_bundle.specs.Pool.{pool_in};
@@ -29,6 +30,20 @@ impl<'a> PoolBundle<'a> {
         ensures { ReadsPool bytes.now result }
     {
         FileHead::read(bytes)?.lend()
+    }
+
+    /// Its keys in bytes, each up to a zero byte, from behind the index on.
+    pub fn keys(&self) -> &'a [u8]
+        ensures { result.now ≡ (pool_in self.now).keys }
+    {
+        self.keys
+    }
+
+    /// Its 16-bit block, two bytes for each unit.
+    pub fn block(&self) -> &'a [u8]
+        ensures { units_of result.now ≡ (pool_in self.now).block }
+    {
+        self.block
     }
 
     /// The checksum that its head says. A file that uses this pool bundle says the same.

@@ -37,4 +37,4 @@ invariant_of-result c =
       | then-keys-test+in_default t ↦ no_key_behind keys t.split_at.result.1.now q start p
           t.split_at.ensures.back (sym t.first_zero.ensures ∙ t.in_default.is) l w
     ] in
-    record { lends = all_noted keys start (at_text c.keys.places) c.keys.invariant.noted none }
+    record { lent = all_noted keys start (at_text c.keys.places) c.keys.invariant.noted none }

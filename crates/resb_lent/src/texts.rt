@@ -1,0 +1,135 @@
+//! The texts that a pool bundle lends: in which of its records each lies.
+//! How records are found is said in `records`.
+ghost use Rattle.std.specs.Prelude.{◌≡◌, ◌+◌, ◌<◌, ◌≤◌, ℕ, MatchOption, length, slice_get, Some};
+ghost use Rattle.std.specs.Prelude.{slice_index_or};
+ghost use Rattle.std.specs.Bool.{MatchBool};
+ghost use Rattle.std.specs.String.{string_bytes};
+ghost use Rattle.std.specs.declared.cmp.Ordering.TheVariants.{Greater};
+ghost use Rattle.resb_format.specs.Units.{size};
+ghost use Rattle.resb_pool.specs.Order.{suffix_cmp};
+ghost use Rattle.resb_lent.specs.LentTexts.{Holds};
+ghost use Rattle.resb_lent.specs.Inner.Listed.{HasPlace};
+ghost use Rattle.resb_lent.specs.Entries.{entry_cmp};
+ghost use Rattle.resb_lent.specs.declared.records.LentRecord.{LentRecord as Entry};
+
+use crate::records::{LentRecord, records_in, units_in};
+use resb_format::{is_unmarked, utf16_len};
+use resb_pool::suffix_order::compare;
+use resb_tree::NoMemory;
+use std::alloc::Global;
+use std::cmp::Ordering;
+
+/// The texts that a pool bundle lends: those of its records, and the ends of these that have no
+/// marker. (ICU's `uresdata.h`: pool bundles.)
+#[derive(Drop)]
+pub struct LentTexts {
+    /// In the order from the end, and of one text the later record first.
+    pub(crate) records: Vec<LentRecord>,
+    /// Whether the pool's block begins with 0: only such a pool lends texts.
+    pub(crate) lends: bool,
+}
+
+/// Whether the first unit is 0.
+fn begins_with_zero(units: &[u16]) -> bool
+    ensures { MatchBool result (slice_get units.now 0 ≡ Some 0)
+        (slice_get units.now 0 ≡ Some 0 → ⊥) }
+{
+    match units.first() {
+        Some(unit) => *unit == 0,
+        None => false,
+    }
+}
+
+/// How two records compare: by their texts in the order from the end, and of one text the later
+/// record first.
+fn compare_records(left: &LentRecord, right: &LentRecord) -> Ordering
+    ensures { result ≡ entry_cmp left.now right.now }
+{
+    match compare(&left.text, &right.text) {
+        Ordering::Equal => right.at.cmp(&left.at),
+        other => other,
+    }
+}
+
+/// How many records stand before the first that comes after a text. The records are sorted.
+fn count_up_to(records: &[LentRecord], text: &str) -> usize
+    ensures within { result ≤ length records.now }
+    ensures before { (k : ℕ) (d : Entry) → result ≡ k + 1
+        → suffix_cmp (string_bytes (slice_index_or records.now k d).text) text.now ≡ Greater
+        → ⊥ }
+    ensures behind { (d : Entry) → result < length records.now
+        → suffix_cmp (string_bytes (slice_index_or records.now result d).text) text.now
+        ≡ Greater }
+{
+    let mut low = 0;
+    let mut high = records.len();
+    'halves: while low < high {
+        let middle = low + (high - low) / 2;
+        if compare(&records[middle].text, text) == Ordering::Greater {
+            high = middle;
+        } else {
+            low = middle + 1;
+        }
+    }
+    low
+}
+
+/// The unit at which a text stands in a record, if it lies there.
+fn place_in(record: &LentRecord, text: &str) -> Option<u32>
+    ensures { MatchOption result
+        (Holds (string_bytes «record».now.text) text.now → size text.now ≤ «record».now.end → ⊥)
+        (HasPlace «record».now text.now) }
+{
+    if record.text.as_str() == text {
+        return Some(record.at);
+    }
+    if !is_unmarked(text) || !record.text.ends_with(text) {
+        return None;
+    }
+    record.end.checked_sub(utf16_len(text) as u32 + 1)
+}
+
+impl LentTexts {
+    ghost use Rattle.std.specs.Prelude.{ℕ, List, IfOk};
+    ghost use Rattle.resb_format.specs.Bytes.{units_of};
+    ghost use Rattle.resb_lent.specs.LentTexts.{LendsText};
+    ghost use Rattle.resb_lent.specs.Lending.{LendsTexts};
+
+    /// What the 16-bit block of a pool bundle lends, given as its bytes. Its records are gone
+    /// through and sorted once. They end where no further one stands.
+    pub fn of(alloc: Global, block: &[u8]) -> Result<LentTexts, NoMemory>
+        ensures { IfOk result (λ l. LendsTexts l (units_of block.now)) }
+    {
+        let units = units_in(alloc, block)?;
+        if !begins_with_zero(&units) {
+            let records = Vec::new(alloc);
+            return Ok(LentTexts {
+                records,
+                lends: false,
+            });
+        }
+        let mut records = records_in(alloc, block, &units)?;
+        records.sort_unstable_by(|left, right| compare_records(left, right));
+        Ok(LentTexts {
+            records,
+            lends: true,
+        })
+    }
+
+    /// The index of a text in the pool: where its marker stands, or its first unit if it has none.
+    /// The text has a record of its own, or it has no marker and a record ends with it; then it
+    /// lies in the greatest such record in the order from the end. The empty text has index 0. A
+    /// pool whose block doesn't begin with 0 lends no text.
+    pub fn index(&self, text: &str) -> Option<u32>
+        ensures { (block : List ℕ) → LendsTexts self.now block → LendsText block text.now result }
+    {
+        if text.is_empty() {
+            return if self.lends { Some(0) } else { None };
+        }
+        let count = count_up_to(&self.records, text);
+        if count == 0 {
+            return None;
+        }
+        place_in(&self.records[count - 1], text)
+    }
+}

@@ -1,14 +1,16 @@
 -- What keeps a bundle from having a plain text is what `resb_print` finds.
-use Rattle.std.specs.Prelude.{◌≡◌, Bool, true, false, ◌||◌, Option, Some, None, is_some}
+use Rattle.std.specs.Prelude.{◌≡◌, ℕ, nat_eq, List, [], ◌∷◌, Bool, true, false, ◌||◌, Option, Some}
+use Rattle.std.specs.Prelude.{None, is_some}
 use Rattle.std.specs.Prelude.{if◌then◌else◌}
-use Rattle.std.proofs.Common.{refl, sym, ap, ◌∙◌}
+use Rattle.std.specs.List.{list_any}
+use Rattle.std.proofs.Common.{refl, sym, ap, ◌∙◌, arith}
 use Rattle.resb_tree.specs.Tree.{Tree, string, alias, array, table, binary, integer, int_vector}
 use Rattle.resb_tree.specs.Tree.{Trees, no_trees, more_trees, Entries, no_entries, entry}
 use Rattle.resb_print.specs.Quotes.{has_quote, cause_else, causes_else, causes_in_else}
 use Rattle.resb_print.specs.declared.cause.Cause.{Cause}
 use Rattle.resb_print.specs.declared.cause.Cause.TheVariants.{QuoteInKey, QuoteInName}
 use Rattle.resb_print.specs.declared.cause.Cause.TheVariants.{QuoteInString}
-use Rattle.resb_lines.specs.Causes.{has_cause, any_cause, cause_in}
+use Rattle.resb_lines.specs.Causes.{has_cause, any_cause, cause_in, IsCauseByItself}
 use Rattle.resb_lines.specs.Laws.{plain_tests, PlainCausesAreFound}
 
 or_assoc : (a b c : Bool) → ((a || b) || c) ≡ (a || (b || c))
@@ -68,3 +70,12 @@ plain_causes name (table es) =
 plain_causes name (binary bs) = refl
 plain_causes name (integer n) = refl
 plain_causes name (int_vector ns) = refl
+
+-- a text has a quote exactly where one of its bytes is one
+quote_is_listed : (s : List ℕ) → has_quote s ≡ list_any (λ b. nat_eq b 34) s
+quote_is_listed [] = refl
+quote_is_listed (b ∷ bs) = ap (λ r. nat_eq b 34 || r) (quote_is_listed bs)
+
+-- so a string is a cause by its quotes
+pub quotes_alone : IsCauseByItself plain_tests 34
+quotes_alone = record { small = omega arith; is = quote_is_listed }

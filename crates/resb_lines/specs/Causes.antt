@@ -1,7 +1,8 @@
 -- Whether something keeps a bundle from having a text of a form.
 --     has_cause c t           something in the tree t does
 --     bundle_cause c name t   the name, the root or something in it does
-use Rattle.std.specs.Prelude.{ℕ, Bool, true, false, ◌||◌, List}
+use Rattle.std.specs.Prelude.{◌≡◌, ◌<◌, ℕ, nat_eq, Bool, true, false, ◌||◌, List}
+use Rattle.std.specs.List.{list_any}
 use Rattle.resb_tree.specs.Tree.{Tree, string, alias, array, table, binary, integer, int_vector}
 use Rattle.resb_tree.specs.Tree.{Trees, no_trees, more_trees, Entries, no_entries, entry}
 
@@ -12,6 +13,11 @@ pub record Tests : Type 0 where
   pub of_entry : List ℕ → Bool → Bool
   pub of_string : List ℕ → Bool
   pub of_alias : Bool
+
+-- a string keeps a bundle from having a text exactly where it has this character, which is of ASCII
+pub record IsCauseByItself (c : Tests) (character : ℕ) : Type 0 where
+  pub small : character < 128
+  pub is : (text : List ℕ) → c.of_string text ≡ list_any (λ b. nat_eq b character) text
 
 -- whether the tree is a table
 abbrev pub is_table : Tree → Bool

@@ -1,6 +1,7 @@
 //! Whether something keeps a bundle from having a text of a form. No function calls itself.
 //! Which names, keys and strings do is said in `form`.
 ghost use Rattle.std.specs.Prelude.{◌≡◌, ◌++◌, ◌∷◌, [], not, OnOk, IfOk};
+ghost use Rattle.resb_shown.specs.Shown.{text_in};
 ghost use Rattle.resb_lines.specs.Causes as causes;
 ghost use Rattle.resb_lines.specs.Causes.{bundle_cause, cause_in};
 ghost use Rattle.resb_lines.specs.Inner.Looks.{looks_in, look_of, Enters, LooksOnce};
@@ -39,11 +40,10 @@ fn has_cause_in<'s, F: Form, S: Shown<'s>>(
 ) -> Result<bool, AllocError>
     ensures { IfOk result (λ found. found ≡ cause_in F.tests (S.entries entries)) }
 {
-    let mut room = String::new(alloc);
     let mut pending = Vec::new(alloc);
     pending.push(Inside::Entries(entries))?;
     while let Some(inside) = pending.pop() {
-        if look_once::<F, S>(form, &mut pending, &mut room, inside)? {
+        if look_once::<F, S>(form, &mut pending, inside)? {
             return Ok(true);
         }
     }
@@ -55,7 +55,6 @@ fn has_cause_in<'s, F: Form, S: Shown<'s>>(
 fn look_once<'s, F: Form, S: Shown<'s>>(
     form: F,
     pending: &mut Vec<Inside<S::Members, S::Entries>>,
-    room: &mut String,
     inside: Inside<S::Members, S::Entries>,
 ) -> Result<bool, AllocError>
     ensures { IfOk result (λ found. LooksOnce F.tests
@@ -69,7 +68,7 @@ fn look_once<'s, F: Form, S: Shown<'s>>(
                 return Ok(false);
             };
             put::<S>(pending, Inside::Members(ahead))?;
-            enter(form, pending, room, member)
+            enter(form, pending, member)
         }
         Inside::Entries(mut ahead) => {
             let Some(next) = S::next_entry(&mut ahead) else {
@@ -80,7 +79,7 @@ fn look_once<'s, F: Form, S: Shown<'s>>(
                 return Ok(true);
             }
             put::<S>(pending, Inside::Entries(ahead))?;
-            enter(form, pending, room, value)
+            enter(form, pending, value)
         }
     }
 }
@@ -103,11 +102,20 @@ fn is_table<'s, S: Shown<'s>>(shown: S) -> bool
     matches!(shown.node(), Node::Table(_))
 }
 
+/// Whether a string is a cause. No text of it is made.
+fn is_string_cause<'s, F: Form, S: Shown<'s>>(form: F, shown: S) -> bool
+    ensures { result ≡ F.tests.of_string (text_in (S.tree shown)) }
+{
+    match form.string_cause() {
+        Some(character) => shown.has_ascii(character),
+        None => false,
+    }
+}
+
 /// Puts what is inside a resource, or answers whether the resource itself is a cause.
 fn enter<'s, F: Form, S: Shown<'s>>(
     form: F,
     pending: &mut Vec<Inside<S::Members, S::Entries>>,
-    room: &mut String,
     shown: S,
 ) -> Result<bool, AllocError>
     ensures { IfOk result (λ found. Enters F.tests
@@ -115,12 +123,7 @@ fn enter<'s, F: Form, S: Shown<'s>>(
         (looks_in S.members S.entries pending.new.items) (S.tree shown) found) }
 {
     match shown.node() {
-        Node::String if !form.has_string_causes() => Ok(false),
-        Node::String => {
-            room.clear();
-            shown.push_text(room)?;
-            Ok(form.is_string_cause(room.as_str()))
-        }
+        Node::String => Ok(is_string_cause(form, shown)),
         Node::Alias => Ok(form.is_alias_cause()),
         Node::Array(members) => {
             put::<S>(pending, Inside::Members(members))?;

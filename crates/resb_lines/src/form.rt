@@ -1,9 +1,9 @@
 //! The two forms of texts, by what differs in them.
 //! What a line is made of else is said in `text`.
-ghost use Rattle.std.specs.Prelude.{◌≡◌, ℕ, List, false, OnOk};
+ghost use Rattle.std.specs.Prelude.{◌≡◌, ℕ, List, false, OnOk, MatchOption};
 ghost use Rattle.resb_print.specs.Inner.Jobs.{Appends};
 ghost use Rattle.resb_lines.specs.Spelling.{Spelling};
-ghost use Rattle.resb_lines.specs.Causes.{Tests};
+ghost use Rattle.resb_lines.specs.Causes.{Tests, IsCauseByItself};
 
 use resb_icu_grammar::is_collation;
 use resb_icu_print::{is_bare, is_key};
@@ -38,13 +38,10 @@ pub trait Form: Copy {
     fn is_entry_cause(self, key: &str, is_table: bool) -> bool
         ensures { result ≡ tests.of_entry key.now is_table };
 
-    /// Whether some string may. Where none does, no string needs to be read for it.
-    fn has_string_causes(self) -> bool
-        ensures { result ≡ false → (text : List ℕ) → tests.of_string text ≡ false };
-
-    /// Whether a string does.
-    fn is_string_cause(self, text: &str) -> bool
-        ensures { result ≡ tests.of_string text.now };
+    /// The character of ASCII by which a string does, if there is one.
+    fn string_cause(self) -> Option<u8>
+        ensures { MatchOption result ((text : List ℕ) → tests.of_string text ≡ false)
+            (IsCauseByItself tests) };
 
     /// Whether each alias does.
     fn is_alias_cause(self) -> bool
@@ -82,12 +79,9 @@ impl Form for Plain {
         has_quote(key)
     }
 
-    fn has_string_causes(self) -> bool {
-        true
-    }
-
-    fn is_string_cause(self, text: &str) -> bool {
-        has_quote(text)
+    #[tactic(auto, using(crate::proofs::PlainCauses::quotes_alone))]
+    fn string_cause(self) -> Option<u8> {
+        Some(b'"')
     }
 
     fn is_alias_cause(self) -> bool {
@@ -126,12 +120,8 @@ impl Form for Icu {
         !is_key(key) || is_collation(key) && is_table
     }
 
-    fn has_string_causes(self) -> bool {
-        false
-    }
-
-    fn is_string_cause(self, _text: &str) -> bool {
-        false
+    fn string_cause(self) -> Option<u8> {
+        None
     }
 
     fn is_alias_cause(self) -> bool {

@@ -5,5 +5,6 @@ mod NamedLemmas
 mod OpeningLemmas
 mod OrderedLemmas
 mod StandingLemmas
+mod AsciiLemmas
 mod TextLemmas
 mod TypedLemmas

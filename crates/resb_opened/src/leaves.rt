@@ -1,6 +1,7 @@
 //! What a resource without members holds: its text, its bytes, its number or numbers.
 //! What is inside arrays and tables is found in `inside`.
-ghost use Rattle.std.specs.Prelude.{◌≡◌, ◌<◌, ◌++◌, IfOk, IfSome, option_map, slice_get};
+ghost use Rattle.std.specs.Prelude.{◌≡◌, ◌==◌, ◌<◌, ◌++◌, IfOk, IfSome, option_map, slice_get};
+ghost use Rattle.std.specs.List.{list_any};
 ghost use Rattle.std.specs.String.{string_bytes};
 ghost use Rattle.resb_walk.specs.Inner.Members.{text_of_bytes};
 ghost use Rattle.resb_shown.specs.Shown as shown;
@@ -9,9 +10,23 @@ ghost use Rattle.resb_opened.specs.Handles.{tree_at, kind_of};
 
 use crate::handle::Handle;
 use crate::kind::Kind;
-use resb_format::bytes::some_word;
+use resb_format::bytes::{some_word, unit_at};
 use resb_tree::{Int28, NoMemory};
 use resb_walk::{Leaf, Standing, push_text_of_units};
+
+/// Whether a text, as the bytes of its UTF-16 units, has this character of ASCII, which is a unit by
+/// itself there.
+fn has_unit(units: &[u8], character: u8) -> bool
+    requires { character < 128 }
+    ensures { result ≡ list_any (λ b. b == character) (text_of_bytes units.now) }
+{
+    for number in 0..units.len() / 2 {
+        if unit_at(units, number) == u16::from(character) {
+            return true;
+        }
+    }
+    false
+}
 
 impl<'a> Handle<'a> {
     /// Which kind of resource stands here.
@@ -86,6 +101,18 @@ impl<'a> Handle<'a> {
                 push_text_of_units(text, units)
             }
             _ => Ok(()),
+        }
+    }
+
+    /// Whether the text of a string, or the path of an alias, has this character of ASCII; no other
+    /// resource has it.
+    pub fn has_ascii(self, character: u8) -> bool
+        requires { character < 128 }
+        ensures { result ≡ list_any (λ b. b == character) (shown.text_in (tree_at self.entry)) }
+    {
+        match self.standing() {
+            Standing::Leaf(Leaf::Text(units) | Leaf::Alias(units)) => has_unit(units, character),
+            _ => false,
         }
     }
 }

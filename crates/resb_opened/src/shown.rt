@@ -43,6 +43,10 @@ impl<'a> Shown<'a> for Ascending<'a> {
         }
     }
 
+    fn has_ascii(self, character: u8) -> bool {
+        self.handle.has_ascii(character)
+    }
+
     fn number(self, at: usize) -> Option<u32> {
         self.handle.number(at)
     }

@@ -9,7 +9,7 @@ use std::test::Fail;
 pub(crate) const PATHS: &str = "\
 root of INTEGER => 1 268435455;
 root of TEXT_A => 1 \"a\";
-a/1 of TEXTS => 4 \"x\";
+a/1 of TEXTS => 4 \"x\" with x;
 a/0 of TEXTS => 4 \"\";
 a/2 of TEXTS => 4 none;
 a of TEXTS => 4 [\"\",\"x\",];
@@ -25,7 +25,7 @@ i of NUMBERS => 3 268435455;
 i/0 of NUMBERS => 3 none;
 a of WIDE => 2 5;
 a of DESCENDING => 3 \"yz\";
-c of DESCENDING => 3 \"x\";
+c of DESCENDING => 3 \"x\" with x;
 a of EQUAL => 3 \"yz\";
 a of CUT => Invalid resource bundle data: unexpected end of input;
 ";
@@ -64,6 +64,9 @@ fn line_of_handle(alloc: Global, handle: Handle<'_>) -> Result<String, Fail> {
     handle.push_text(&mut text)?;
     let units = handle.utf16().map_or(0, |units| units.len() / 2);
     match handle.kind() {
+        Kind::String if units == text.len() && handle.has_ascii(b'x') => {
+            Ok(format!(in alloc; "\"{text}\" with x")?)
+        }
         Kind::String if units == text.len() => Ok(format!(in alloc; "\"{text}\"")?),
         Kind::Array => line_of_array(alloc, handle),
         Kind::Table => Ok(format!(in alloc; "table")?),

@@ -42,6 +42,15 @@ impl<'t, 'a> Shown<'t> for &'t Resource<'a> {
         }
     }
 
+    fn has_ascii(self, character: u8) -> bool {
+        match self {
+            Resource::String(own) | Resource::Alias(own) => {
+                own.as_str().as_bytes().contains(&character)
+            }
+            _ => false,
+        }
+    }
+
     fn number(self, at: usize) -> Option<u32> {
         match self {
             Resource::IntVector(numbers) => numbers.get(at).copied(),

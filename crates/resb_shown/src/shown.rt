@@ -1,6 +1,7 @@
 //! The trait of what is shown: handles of resources, and ways through arrays and tables.
 //! Trees have their instance in `resource`.
-ghost use Rattle.std.specs.Prelude.{◌≡◌, ◌++◌, ◌<◌, OnOk, IfSome, MatchOption, slice_get};
+ghost use Rattle.std.specs.Prelude.{◌≡◌, ◌==◌, ◌++◌, ◌<◌, OnOk, IfSome, MatchOption, slice_get};
+ghost use Rattle.std.specs.List.{list_any};
 ghost use Rattle.std.specs.String.{string_bytes};
 ghost use Rattle.resb_tree.specs.Tree.{Tree, Trees, no_trees, more_trees};
 ghost use Rattle.resb_tree.specs.Tree.{Entries, no_entries, entry};
@@ -35,6 +36,12 @@ pub trait Shown<'s>: Copy {
     fn push_text(self, text: &mut String) -> Result<(), AllocError>
         ensures { OnOk result
             (string_bytes text.new ≡ string_bytes text.old ++ text_in (tree self)) };
+
+    /// Whether a string's text, or an alias's path, has this character of ASCII; no other resource
+    /// has it. No text is made.
+    fn has_ascii(self, character: u8) -> bool
+        requires { character < 128 }
+        ensures { result ≡ list_any (λ b. b == character) (text_in (tree self)) };
 
     /// The number that a vector has at this place, counted from 0, if it has one; of any other
     /// resource none. The last place of all has none.

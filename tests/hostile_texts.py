@@ -11,11 +11,12 @@ are put together of pieces and escapes as well. Each text compiles within just a
 docs/GRAMMAR.md or docs/ICU_TEXTS.md ("Within a limit") counts for it, and is refused within one
 byte less, and within a tenth, with status 1 and the one line that says so. A text of more than
 1 MiB that is longer than its limit is refused before it is read, as the large ones of comments,
-blanks, digits and escapes are, and then shows no more than that. No run may take more
-memory than 1.5 times the limit and the text, and 4 MB for the program itself, which has 2.3 MB
-for a text of 7 bytes, and for what its allocator keeps. A run is started by a program in C that is
-smaller than that, since what starts a program counts as its memory; `cc` builds it. The last line
-is 'N passed, M failed'.
+blanks, digits and escapes are, and then shows no more than that. No run may take more memory than
+1.5 times the limit and the text, and 4 MB for the program itself, which has 2.3 MB for a text of
+7 bytes, and for what its allocator keeps. A binary of 1 MiB of digits, refused
+within a small limit, takes no more than a comment of that length, and 0.2 MB. A run is started by
+a program in C that is smaller than that, since what starts a program counts as its memory; `cc`
+builds it. The last line is 'N passed, M failed'.
 """
 import os
 import shutil
@@ -34,6 +35,8 @@ A_STRING = STRING + BYTE
 ROOT = GROUP + TABLE + A_STRING
 # the program itself, and what its allocator keeps
 OWN = 4_000_000
+# by how much the memory of two runs over texts of one length may differ
+APART = 200_000
 # runs a program, and writes to a file how many units of 1024 bytes it had at most
 LAUNCHER = r'''
 #include <spawn.h>
@@ -279,6 +282,25 @@ def of_size(folder, size, chosen):
                 runs(folder, ' '.join([*form, name]), text, made, form)
 
 
+def unmade(folder):
+    """A binary of as many digits as are read whatever the limit, in both forms: within a small one
+    it is refused before it is made, so with the memory that a comment of its length takes."""
+    limit, path = 10_000, f'{folder}/hostile.txt'
+    for form in ([], ['--icu']):
+        most = {}
+        for front, one, behind in (('b{v{/*', '*', '*/x}}'), ('b{v:bin{"', '0', '"}}')):
+            wanted = int(one == '0')
+            text = front + one * (LEAST_READ - len(front + behind)) + behind
+            with open(path, 'w', encoding='utf-8') as out:
+                out.write(text)
+            words = ['compile', *form, '--limit', str(limit), path, '-o', '/dev/null']
+            status, out, said, most[one] = ran(folder, words)
+            holds = (status, out) == (wanted, b'')
+            holds = holds and (not wanted or said == refusal(path, text, limit))
+            seen(holds, f'{form} {front}, {len(text)}: {status}, {said[:200]}')
+        seen(most['0'] <= most['*'] + APART, f'{form} an unmade binary: {most} bytes of memory')
+
+
 def main():
     """Each shape at each size, and some of them at the largest."""
     if not os.access(RESB, os.X_OK) or not shutil.which('cc'):
@@ -290,6 +312,7 @@ def main():
                        input=LAUNCHER.encode())
         for size in [int(it) for it in sys.argv[1:]] or SIZES:
             of_size(folder, size, lambda _: True)
+        unmade(folder)
         if not sys.argv[1:]:
             of_size(folder, LARGE, lambda name: name in LARGE_ONES)
     print(f'{counts[True]} passed, {counts[False]} failed')

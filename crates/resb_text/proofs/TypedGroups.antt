@@ -5,7 +5,6 @@ use Rattle.std.specs.Prelude.{not, slice_index}
 use Rattle.std.proofs.lemmas.Bool.{false≢true}
 use Rattle.resb_grammar.specs.Ascii as ascii
 use Rattle.resb_tree.specs.Tree.{Tree}
-use Rattle.resb_draft.specs.Drafts.{is_leaf}
 use Rattle.resb_grammar.specs.Lexical.{Skip}
 use Rattle.resb_grammar.specs.GroupTypes.{Kind, string_kind, array_kind, table_kind, binary_kind}
 use Rattle.resb_grammar.specs.GroupTypes.{integer_kind, vector_kind, GroupType, TypedOpening}
@@ -87,18 +86,6 @@ no_items_begun kinds.Table other = absurd (other.1 refl)
 no_items_begun kinds.Binary other = refl
 no_items_begun kinds.Integer other = refl
 no_items_begun kinds.IntVector other = refl
-
-no_collection : {text : List ℕ} {at ends : ℕ} {kind : Kind} {t : Tree}
-    → LeafContent text at ends kind t → is_leaf t ≡ true
-no_collection (string_content i s h k) = refl
-no_collection (binary_content i s bytes h e k) = refl
-no_collection (integer_content i v h k) = refl
-no_collection (vector_content ns h) = refl
-
--- a group that holds no items is neither an array nor a table
-pub leaf_is_leaf : {text : List ℕ} {at to : ℕ} {kind : Kind} {t : Tree}
-    → LeafGroup text at to kind t → is_leaf t ≡ true
-leaf_is_leaf g = no_collection g.content
 
 module _ (text : List ℕ) where
   -- what a colon begins, if anything

@@ -3,6 +3,7 @@ pub mod Runs
 pub mod TextPieces
 pub mod Ticked
 pub mod Braces
+pub mod Content
 pub mod Leaf
 pub mod Shown
 pub mod Build

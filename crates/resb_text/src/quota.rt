@@ -1,11 +1,12 @@
 //! How many bytes of memory a reading has made, and the limit for them.
 //! What each token adds is said in the grammar; `steps` asks for it before it is made.
 ghost use Rattle.std.specs.Prelude.{◌≡◌, ◌≤◌, false, MatchResult};
-ghost use Rattle.resb_tree.specs.View.{tree_of};
 ghost use Rattle.resb_grammar.specs.Limit as limit;
+ghost use Rattle.resb_text.specs.Inner.Content.{IsPaired, tree_of_content};
 ghost use Rattle.resb_text.specs.Inner.Quota.{TakesBytes, RunsOver};
 
-use resb_tree::{NoMemory, Resource, weights};
+use crate::content::Content;
+use resb_tree::{NoMemory, weights};
 
 /// How many bytes were made, how many may be, and whether more were asked for.
 #[derive(Drop)]
@@ -56,17 +57,16 @@ pub(crate) fn string_bytes(text: &str) -> u128
     weights::ENTRY + weights::TEXT_BYTE * text.len() as u128
 }
 
-/// What the `}` of a group that holds no items makes: the numbers of a vector are made before it.
-pub(crate) fn leaf_bytes(resource: &Resource<'_>) -> u128
-    ensures { result ≡ limit.leaf_bytes (tree_of resource.now) }
+/// What the `}` of a group that holds no items makes, before that is made: the numbers of a vector
+/// are made before it.
+pub(crate) fn leaf_bytes(content: &Content<'_>) -> u128
+    requires paired { IsPaired content.now }
+    ensures { result ≡ limit.leaf_bytes (tree_of_content content.now) }
 {
-    match resource {
-        Resource::String(text) => {
-            weights::RESOURCE + weights::TEXT_BYTE * text.as_str().len() as u128
-        }
-        Resource::Binary(bytes) => weights::RESOURCE + REQUEST + bytes.len() as u128,
-        Resource::IntVector(_) => weights::RESOURCE + REQUEST,
-        Resource::Alias(_) | Resource::Array(_) | Resource::Table(_) | Resource::Integer(_) =>
-            weights::RESOURCE,
+    match content {
+        Content::String(text) => weights::RESOURCE + weights::TEXT_BYTE * text.len() as u128,
+        Content::Binary(digits) => weights::RESOURCE + REQUEST + digits.len() as u128 / 2,
+        Content::Integer(_) => weights::RESOURCE,
+        Content::IntVector(_) => weights::RESOURCE + REQUEST,
     }
 }

@@ -1,20 +1,19 @@
 -- Groups that hold no items, from after their `{` on.
-use Rattle.std.specs.Prelude.{◌≡◌, ◌≢◌, ◌⊎◌, ℕ, ◌+◌, true, List, slice_index, None}
+use Rattle.std.specs.Prelude.{◌≡◌, ◌≢◌, ◌⊎◌, ℕ, ◌+◌, List, slice_index}
 use Rattle.resb_grammar.specs.Ascii as ascii
 use Rattle.resb_tree.specs.Tree.{Tree}
-use Rattle.resb_tree.specs.View.{tree_of}
-use Rattle.resb_tree.specs.declared.resource.Resource.{Resource}
 use Rattle.resb_grammar.specs.Lexical.{Skip}
 use Rattle.resb_grammar.specs.GroupTypes.{Kind}
-use Rattle.resb_grammar.specs.Group.{LeafContent, Vector, hex_bytes}
+use Rattle.resb_grammar.specs.Group.{LeafContent, Vector}
 use Rattle.resb_grammar.specs.Machine.{Open, begun_as}
 use Rattle.resb_grammar.specs.Limit.{Makes}
 use Rattle.resb_grammar.specs.declared.expected.Expected.TheVariants as expect
-use Rattle.resb_text.specs.Borrowed.{borrows_strings}
 use Rattle.resb_text.specs.Inner.Braces.{Closes}
+use Rattle.resb_text.specs.Inner.Content.{IsPaired, tree_of_content}
 use Rattle.resb_text.specs.Inner.Quota.{KeepsQuota}
 use Rattle.resb_text.specs.Inner.Failing.{StuckAfter}
 use Rattle.resb_text.specs.Refusal.{want_of_memory}
+use Rattle.resb_text.specs.declared.content.Content.{Content}
 use Rattle.resb_text.specs.declared.quota.Quota.{Quota}
 use Rattle.resb_text.specs.declared.error.TextParserError.{TextParserError}
 
@@ -30,30 +29,21 @@ pub record IsUnended (text : List ℕ) (at : ℕ) (e : TextParserError) : Type 0
   pub no_comma : slice_index text at ≢ ascii.comma
   pub is : e ≡ record { position = at; expected = expect.RightBrace }
 
--- these are no pairs of hex digits, and the error says so of this place
-pub record IsUnpaired (digits : List ℕ) (at : ℕ) (e : TextParserError) : Type 0 where
-  pub none : hex_bytes digits ≡ None
-  pub is : e ≡ record { position = at; expected = expect.HexPairs }
-
 -- the content of a group of this type, and its `}`
 pub record LeafGroup (text : List ℕ) (at to : ℕ) (kind : Kind) (tree : Tree) : Type 0 where
   pub ends : ℕ
   pub content : LeafContent text at ends kind tree
   pub closes : Closes text ends to
 
--- the group, and its resource, whose strings are slices of the text
-pub record IsReadLeaf (text : List ℕ) (at to : ℕ) (kind : Kind) (r : Resource) : Type 0 where
-  pub group : LeafGroup text at to kind (tree_of r)
-  pub borrowed : borrows_strings r ≡ true
+-- the group, and what it holds
+pub record IsReadLeaf (text : List ℕ) (at to : ℕ) (kind : Kind) (c : Content) : Type 0 where
+  pub group : LeafGroup text at to kind (tree_of_content c)
+  pub paired : IsPaired c
 
 -- wherever a group of this type has begun there, a reading gets stuck so, and makes nothing before
 abbrev pub LeafFails : List ℕ → ℕ → Kind → TextParserError → Type 0
 LeafFails text at kind e =
     (n : ℕ) (o : Open) → Makes text n at (begun_as kind o) → StuckAfter text n e
-
--- memory was wanted, or a reading gets stuck so
-abbrev pub LeafRefuses : List ℕ → ℕ → Kind → TextParserError → Type 0
-LeafRefuses text at kind e = (e ≡ want_of_memory) ⊎ LeafFails text at kind e
 
 -- memory was wanted; or wherever a group of this type has begun there, which has made what the one
 -- quota says, a reading gets stuck so, having made what the other says

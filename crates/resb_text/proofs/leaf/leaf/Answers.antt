@@ -1,5 +1,5 @@
 use Rattle.resb_grammar.specs.GroupTypes.{string_kind, binary_kind, integer_kind}
-use Rattle.resb_text.proofs.Leaves.{leaf_takes_none, leaf_refused, leaf_stops}
+use Rattle.resb_text.proofs.Leaves.{leaf_takes_none, leaf_refused}
 use Rattle.resb_text.proofs.leaf.leaf.Goals as goal
 
 pub returns-in-String-clause-quota : goal.returns-in-String-clause-quota
@@ -27,7 +27,7 @@ returns-in-String-clause-reads c =
 
 pub returns-in-Binary-clause-reads : goal.returns-in-Binary-clause-reads
 returns-in-Binary-clause-reads c =
-    rw c.in-Binary.is (leaf_stops c.args.text.now _ c.binary_leaf.result c.args.opening.0
+    rw c.in-Binary.is (leaf_refused c.args.text.now _ c.binary_leaf.result c.args.opening.0
     binary_kind c.args.quota.now c.binary_leaf.ensures.reads)
 
 pub returns-in-Integer-clause-reads : goal.returns-in-Integer-clause-reads

@@ -4,7 +4,7 @@ use Rattle.resb_text.proofs.Outcomes.{match_err, match_same}
 use Rattle.resb_text.proofs.StepsLemmas.{told}
 use Rattle.resb_text.proofs.TypedGroups.{type_refused, opening_refused, typed_group_opened}
 use Rattle.resb_text.proofs.TypedGroups.{opened_over, leaf_refused, leaf_added, leaf_over}
-use Rattle.resb_text.proofs.TypedGroups.{leaf_is_leaf, no_items_begun}
+use Rattle.resb_text.proofs.TypedGroups.{no_items_begun}
 use Rattle.resb_text.proofs.steps.typed.Goals as goal
 
 pub returns-then-not-takes_group-clause-reads : goal.returns-then-not-takes_group-clause-reads
@@ -56,5 +56,7 @@ returns-clause-reads g c =
 
 pub add_leaf-requires : goal.add_leaf-requires
 add_leaf-requires g c = λ k.
-    let read = c.in_ok-next.ensures.reads in
-    ((refl, tt), (read.borrowed, leaf_is_leaf read.group))
+    ((refl, tt), c.in_ok-next.ensures.reads.paired)
+
+pub leaf_bytes-requires : goal.leaf_bytes-requires
+leaf_bytes-requires g c = record { paired = c.in_ok-next.ensures.reads.paired }

@@ -13,7 +13,7 @@ use Rattle.resb_tree.specs.Tree.{Tree, string, alias, array, table, binary, inte
 use Rattle.resb_tree.specs.Tree.{Trees, no_trees, more_trees, Entries, no_entries, entry, trees_of}
 use Rattle.resb_tree.specs.Tree.{map_of, tree_count, trees_count, entries_count}
 use Rattle.resb_tree.specs.Maps.{keyed_trees, text_cmp}
-use Rattle.resb_format.specs.Lookups.{key_in, text_in}
+use Rattle.resb_format.specs.Lookups.{key_in}
 use Rattle.resb_format.specs.Parts.{Parts, reads_older}
 use Rattle.resb_format.specs.Content.{Member, word, unit, leaf, list, entry_list, content_at}
 use Rattle.resb_format.specs.Content.{placed, empty}
@@ -131,12 +131,12 @@ string_word lays_no_entries a b = absurd (omega arith)
 string_word (lays_entries ps p h some c) a b = let far =
     (table_word c).1 in absurd (omega (arith, far))
 
-record IsShortWord (lent : Option Lends) (w : ℕ) : Type 0 where
-  low : 0x6000_0000 ≤ w
-  high : w ≤ 0x6fff_ffff
-  short : short_by lent (w - 0x6000_0000) ≤ 65535
+pub record IsShortWord (lent : Option Lends) (w : ℕ) : Type 0 where
+  pub low : 0x6000_0000 ≤ w
+  pub high : w ≤ 0x6fff_ffff
+  pub short : short_by lent (w - 0x6000_0000) ≤ 65535
 
-short_word : (lent : Option Lends) (w : ℕ) → is_short_by lent w ≡ true → IsShortWord lent w
+pub short_word : (lent : Option Lends) (w : ℕ) → is_short_by lent w ≡ true → IsShortWord lent w
 short_word None w e =
     let both = and_parts _ _ e in
     let low : 0x6000_0000 ≤ w = leb-true 0x6000_0000 w both.0 in
@@ -151,7 +151,7 @@ short_word (Some l) w e =
       short = leb-true (short_in l (w - 0x6000_0000)) 65535 rest.1;
     }
 
-all_short : (lent : Option Lends) (ws : List ℕ) → are_short_by lent ws ≡ true
+pub all_short : (lent : Option Lends) (ws : List ℕ) → are_short_by lent ws ≡ true
     → list_all (is_short_by lent) ws ≡ true
 all_short None ws e = (and_parts _ _ e).1
 all_short (Some l) ws e = (and_parts _ _ e).1

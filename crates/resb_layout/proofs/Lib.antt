@@ -1,7 +1,7 @@
 -- For crates above: those that are `pub`.
 pub mod Once
 pub mod Grows
-mod Forms
+pub mod Forms
 pub mod BytesLemmas
 mod Contents
 pub mod Denoted

@@ -1,5 +1,5 @@
 -- Each resource of a laid tree but the root takes a unit or a word of its collection's body.
-use Rattle.std.proofs.Common.{◌≡◌, ℕ, ◌+◌, ◌-◌, ◌*◌, ◌≤◌, List, ◌∷◌, ◌++◌, length}
+use Rattle.std.proofs.Common.{◌≡◌, ℕ, ◌+◌, ◌*◌, ◌≤◌, List, ◌∷◌, ◌++◌, length}
 use Rattle.std.proofs.Common.{length-append, arith}
 use Rattle.std.specs.Int.{to_le_bytes, w16, w32}
 use Rattle.resb_tree.specs.Tree.{Tree, Trees, tree_count, trees_count}

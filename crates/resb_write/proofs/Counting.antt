@@ -1,6 +1,7 @@
 -- How many units what is laid takes, by the resources alone.
-use Rattle.std.proofs.Common.{◌≡◌, ℕ, ◌+◌, ◌*◌, ◌<◌, ◌&&◌, List, [], ◌∷◌, ◌++◌, length}
-use Rattle.std.proofs.Common.{map, Some, Bool, true, false, nat_le, nat_lt, refl, sym, ◌∙◌, ap}
+use Rattle.std.proofs.Common.{◌≡◌, ℕ, ◌+◌, ◌-◌, ◌*◌, ◌<◌, ◌^◌, ◌&&◌, List, [], ◌∷◌, ◌++◌, length}
+use Rattle.std.proofs.Common.{map, Option, Some, None, Bool, true, false, nat_le, nat_lt, refl, sym}
+use Rattle.std.proofs.Common.{◌∙◌, ap}
 use Rattle.std.proofs.Common.{arith}
 use Rattle.std.proofs.Common.{if◌then◌else◌}
 use Rattle.std.specs.List.{sum_by, list_all}
@@ -14,23 +15,32 @@ use Rattle.resb_tree.specs.Tree.{no_entries, entry}
 use Rattle.resb_tree.specs.LayingOrder.{array_members, values_of, laying_order, laying_each}
 use Rattle.resb_tree.specs.LayingOrder.{laying_values}
 use Rattle.resb_tree.specs.LayingOrder.{entry_keys}
-use Rattle.resb_layout.specs.Laid.{Given, Laid, is_short_string, are_short, are_near, offsets_in}
-use Rattle.resb_layout.specs.Laid.{ClosesArray, short_array, long_array, ClosesTable, short_table}
-use Rattle.resb_layout.specs.Laid.{long_table, wide_table, Lays, lays_integer}
+use Rattle.resb_layout.specs.Laid.{Given, Lends, Laid, is_short_string, is_short_by, are_short_by}
+use Rattle.resb_layout.specs.Laid.{are_near, nears_by, offsets_by, near_by, short_by, short_in}
+use Rattle.resb_layout.specs.Laid.{ClosesArrayBy, short_array, long_array, ClosesTableBy}
+use Rattle.resb_layout.specs.Laid.{short_table, long_table, wide_table, LaysBy, lays_integer}
 use Rattle.resb_layout.specs.Laid.{lays_string, lays_no_path, lays_path, lays_no_bytes}
 use Rattle.resb_layout.specs.Laid.{lays_bytes, lays_no_numbers}
 use Rattle.resb_layout.specs.Laid.{lays_numbers, lays_no_members, lays_members, lays_no_entries}
-use Rattle.resb_layout.specs.Laid.{lays_entries, LaysEach, each_none, each_more, entry_trees}
+use Rattle.resb_layout.specs.Laid.{lays_entries, LaysEachBy, each_none, each_more, entry_trees}
 use Rattle.resb_write.specs.Inner.Counted.{fits_unit, is_near, are_near_strings, are_near_keys}
 use Rattle.resb_write.specs.Inner.Counted.{short_units, own_units}
-use Rattle.resb_write.proofs.OneBlock.{below_strings, above_short_strings}
-use Rattle.resb_write.proofs.Closings.{offsets_long}
+use Rattle.resb_layout.proofs.Forms.{offsets_many, nears_many, nears_are}
+use Rattle.resb_write.proofs.OneBlock.{below_strings, above_strings, short_is_each}
 use Rattle.resb_write.proofs.KeyViews.{placed_long, keys_values}
 use Rattle.resb_layout.proofs.InOrderLemmas.{laying_each-entry_trees}
 
--- the word of a string is short where a unit holds its offset
-short_offset : (k : ℕ) → is_short_string (0x6000_0000 + k) ≡ nat_le k 65535
-short_offset k = by (nat_le k 65535) refl
+-- the word of a string is short where a unit tells its offset
+short_offset : (lent : Option Lends) (k : ℕ) → k < 2 ^ 28
+    → is_short_by lent (0x6000_0000 + k) ≡ nat_le (short_by lent k) 65535
+short_offset (Some l) k small =
+    (λ i. le-leb 0x6000_0000 (0x6000_0000 + k) (omega arith) i
+    && (le-leb (0x6000_0000 + k) 0x6fff_ffff (omega (arith, small)) i
+    && nat_le (short_in l (back i)) 65535))
+  where
+    back : 0x6000_0000 + k - 0x6000_0000 ≡ k
+    back = omega arith
+short_offset None k small = by (nat_le k 65535) refl
   where
     low_enough : nat_le 0x6000_0000 (0x6000_0000 + k) ≡ true
     low_enough = le-leb 0x6000_0000 (0x6000_0000 + k) (omega arith)
@@ -52,117 +62,140 @@ short_is b n each e h = (λ i. if e i && lt-ltb 0 n h i then each * n + 1 else 0
 long_is : (b : Bool) (n each : ℕ) → b ≡ false → short_units b n each ≡ 0
 long_is b n each e = (λ i. if e i && nat_lt 0 n then each * n + 1 else 0)
 
-module _ (g : Given) where
+module _ (lent : Option Lends) (g : Given) where
   array_units : {s : Laid} {ws : List ℕ} {e : Laid} {w : ℕ} (ts : List Tree)
-      → length ws ≡ length ts → list_all is_short_string ws ≡ list_all (is_near g) ts
-      → 0 < length ws → ClosesArray g s ws e w
+      → length ws ≡ length ts → list_all (is_short_by lent) ws ≡ list_all (is_near lent g) ts
+      → 0 < length ws → ClosesArrayBy lent g s ws e w
       → (length e.units ≡ length s.units
-      + short_units (are_near_strings g ts) (length ts) 1) × (is_short_string w ≡ false)
+      + short_units (are_near_strings lent g ts) (length ts) 1) × (is_short_by lent w ≡ false)
   array_units {s} {ws} ts n h some (short_array m l) =
-      let same : are_short ws ≡ are_near_strings g ts = (λ i. nat_le (n i) 65535 && h i) in (
+      let same : are_short_by lent ws ≡ are_near_strings lent g ts = short_is_each lent ws ∙
+      (λ i. nat_le (n i) 65535 && h i) in (
         omega (
           arith,
-          length-append s.units (length ws ∷ offsets_in ws),
-          offsets_long ws,
+          length-append s.units (length ws ∷ offsets_by lent ws),
+          offsets_many lent ws,
           n,
-          short_is (are_near_strings g ts) (length ts) 1 (sym same ∙ m) (omega (arith, some, n)),
+          short_is (are_near_strings lent g ts) (length ts) 1 (sym same ∙ m) (omega
+              (arith, some, n)),
         ),
-        above_short_strings (0x9000_0000 + length s.units) (omega arith),
+        above_strings lent (0x9000_0000 + length s.units) (omega arith),
       )
   array_units {s} {ws} ts n h some (long_array at m f p q) =
-      let same : are_short ws ≡ are_near_strings g ts = (λ i. nat_le (n i) 65535 && h i) in (
-        omega (arith, long_is (are_near_strings g ts) (length ts) 1 (sym same ∙ m)),
-        above_short_strings (0x8000_0000 + at) (omega arith),
+      let same : are_short_by lent ws ≡ are_near_strings lent g ts = short_is_each lent ws ∙
+      (λ i. nat_le (n i) 65535 && h i) in (
+        omega (arith, long_is (are_near_strings lent g ts) (length ts) 1 (sym same ∙ m)),
+        above_strings lent (0x8000_0000 + at) (omega arith),
       )
 
   pub near_keys : (ks : List (List ℕ)) (ps : List ℕ) → map g.position ks ≡ map Some ps
-      → are_near_keys g ks ≡ are_near ps
+      → are_near_keys lent g ks ≡ are_near (nears_by lent ps)
   near_keys ks ps e =
+      let fits = fits_unit (near_by lent) in
       let n : length ks ≡ length ps = sym (length-map ks g.position) ∙ ap length e
       ∙ length-map ps Some in
-      let h = sym (list_all-map fits_unit g.position ks) ∙ ap (list_all fits_unit) e
-      ∙ list_all-map fits_unit Some ps in
-      (λ i. nat_le (n i) 65535 && h i)
+      let m : length ks ≡ length (map (near_by lent) ps) = n ∙ sym (length-map ps (near_by lent)) in
+      let h = sym (list_all-map fits g.position ks) ∙ ap (list_all fits) e
+      ∙ list_all-map fits Some ps
+      ∙ sym (list_all-map (λ p. nat_le p 65535) (near_by lent) ps) in
+      (λ i. nat_le (m i) 65535 && h i) ∙ ap are_near (sym (nears_are lent ps))
 
   table_units : {s : Laid} {ps ws : List ℕ} {e : Laid} {w : ℕ} (ks : List (List ℕ))
       (ts : List Tree) → length ws ≡ length ts → length ps ≡ length ws
-      → list_all is_short_string ws ≡ list_all (is_near g) ts → are_near_keys g ks ≡ are_near ps
-      → 0 < length ws → ClosesTable g s ps ws e w
+      → list_all (is_short_by lent) ws ≡ list_all (is_near lent g) ts → are_near_keys lent g ks
+      ≡ are_near (nears_by lent ps)
+      → 0 < length ws → ClosesTableBy lent g s ps ws e w
       → (length e.units ≡ length s.units
-      + short_units (are_near_strings g ts && are_near_keys g ks) (length ts) 2)
-      × (is_short_string w ≡ false)
+      + short_units (are_near_strings lent g ts && are_near_keys lent g ks) (length ts) 2)
+      × (is_short_by lent w ≡ false)
   table_units {s} {ps} {ws} ks ts n m h k some (short_table r q l) =
-      let same : are_short ws ≡ are_near_strings g ts = (λ i. nat_le (n i) 65535 && h i) in
-      let both : (are_near_strings g ts && are_near_keys g ks) ≡ true =
+      let same : are_short_by lent ws ≡ are_near_strings lent g ts =
+      short_is_each lent ws ∙ (λ i. nat_le (n i) 65535 && h i) in
+      let both : (are_near_strings lent g ts && are_near_keys lent g ks) ≡ true =
       (λ i. (sym same ∙ q) i && (k ∙ r) i) in (
         omega (
           arith,
-          length-append s.units (length ws ∷ (ps ++ offsets_in ws)),
-          length-append ps (offsets_in ws),
-          offsets_long ws,
+          length-append s.units (length ws ∷ (nears_by lent ps ++ offsets_by lent ws)),
+          length-append (nears_by lent ps) (offsets_by lent ws),
+          offsets_many lent ws,
+          nears_many lent ps,
           n,
           m,
-          short_is (are_near_strings g ts && are_near_keys g ks) (length ts) 2 both
+          short_is (are_near_strings lent g ts && are_near_keys lent g ks) (length ts) 2 both
               (omega (arith, some, n)),
         ),
-        below_strings (0x5000_0000 + length s.units) (omega (arith, l)),
+        below_strings lent (0x5000_0000 + length s.units) (omega (arith, l)),
       )
   table_units {s} {ps} {ws} ks ts n m h k some (long_table at r q f p) =
-      let same : are_short ws ≡ are_near_strings g ts = (λ i. nat_le (n i) 65535 && h i) in
-      let no : (are_near_strings g ts && are_near_keys g ks) ≡ false =
-      and_left (are_near_strings g ts) (are_near_keys g ks) (sym same ∙ q) in (
-        omega (arith, long_is (are_near_strings g ts && are_near_keys g ks) (length ts) 2 no),
-        below_strings (0x2000_0000 + at) (omega (arith, p)),
+      let same : are_short_by lent ws ≡ are_near_strings lent g ts =
+      short_is_each lent ws ∙ (λ i. nat_le (n i) 65535 && h i) in
+      let no : (are_near_strings lent g ts && are_near_keys lent g ks) ≡ false =
+      and_left (are_near_strings lent g ts) (are_near_keys lent g ks) (sym same ∙ q) in (
+        omega (
+          arith,
+          long_is (are_near_strings lent g ts && are_near_keys lent g ks)
+              (length ts) 2 no,
+        ),
+        below_strings lent (0x2000_0000 + at) (omega (arith, p)),
       )
   table_units {s} {ps} {ws} ks ts n m h k some (wide_table at r f p q z) =
-      let no : (are_near_strings g ts && are_near_keys g ks) ≡ false =
-      and_right (are_near_strings g ts) (are_near_keys g ks) (k ∙ r) in (
-        omega (arith, long_is (are_near_strings g ts && are_near_keys g ks) (length ts) 2 no),
-        below_strings (0x4000_0000 + at) (omega (arith, p)),
+      let no : (are_near_strings lent g ts && are_near_keys lent g ks) ≡ false =
+      and_right (are_near_strings lent g ts) (are_near_keys lent g ks) (k ∙ r) in (
+        omega (
+          arith,
+          long_is (are_near_strings lent g ts && are_near_keys lent g ks)
+              (length ts) 2 no,
+        ),
+        below_strings lent (0x4000_0000 + at) (omega (arith, p)),
       )
 
-  leaf : (s : Laid) (t : Tree) → own_units g t ≡ 0
-      → length s.units ≡ length s.units + sum_by (own_units g) (t ∷ [])
-  leaf s t e = omega (arith, e, sum_by-cons (own_units g) t [], none)
+  leaf : (s : Laid) (t : Tree) → own_units lent g t ≡ 0
+      → length s.units ≡ length s.units + sum_by (own_units lent g) (t ∷ [])
+  leaf s t e = omega (arith, e, sum_by-cons (own_units lent g) t [], none)
     where
-      none : sum_by (own_units g) [] ≡ 0
+      none : sum_by (own_units lent g) [] ≡ 0
       none = refl
 
-  one_more_counted : (a b c n k : ℕ) (ts : List Tree) (t : Tree) → b ≡ a + sum_by (own_units g) ts
-      → c ≡ b + k → own_units g t ≡ k → c ≡ a + sum_by (own_units g) (ts ++ t ∷ [])
+  one_more_counted : (a b c n k : ℕ) (ts : List Tree) (t : Tree) → b ≡ a + sum_by
+      (own_units lent g) ts
+      → c ≡ b + k → own_units lent g t ≡ k → c ≡ a + sum_by (own_units lent g) (ts ++ t ∷ [])
   one_more_counted a b c n k ts t e f h = omega (
     arith,
     e,
     f,
     h,
-    sum_by-append (own_units g) ts (t ∷ []),
-    sum_by-cons (own_units g) t [],
+    sum_by-append (own_units lent g) ts (t ∷ []),
+    sum_by-cons (own_units lent g) t [],
     none,
   )
     where
-      none : sum_by (own_units g) [] ≡ 0
+      none : sum_by (own_units lent g) [] ≡ 0
       none = refl
 
   -- a resource that is laid takes the units that are counted, and its word is short where it is a
   -- near string
   mutual
-    pub units : {s e : Laid} {t : Tree} {w : ℕ} → Lays g s t e w
-        → (length e.units ≡ length s.units + sum_by (own_units g) (laying_order t))
-        × (is_short_string w ≡ is_near g t)
+    pub units : {s e : Laid} {t : Tree} {w : ℕ} → LaysBy lent g s t e w
+        → (length e.units ≡ length s.units + sum_by (own_units lent g) (laying_order t))
+        × (is_short_by lent w ≡ is_near lent g t)
     units {s} {e} {t} (lays_integer {n = n} k) =
-        (leaf s t refl, above_short_strings (0x7000_0000 + n) (omega arith))
+        (leaf s t refl, above_strings lent (0x7000_0000 + n) (omega arith))
     units {s} {e} {t} (lays_string {text = x} {k = m} k l) =
-        (leaf s t refl, short_offset m ∙ sym (ap fits_unit k))
-    units {s} {e} {t} lays_no_path = (leaf s t refl, refl)
+        (leaf s t refl, short_offset lent m l ∙ sym (ap (fits_unit (short_by lent)) k))
+    units {s} {e} {t} lays_no_path =
+        (leaf s t refl, below_strings lent 0x3000_0000 (omega arith))
     units {s} {e} {t} (lays_path at some u n f l) =
-        (leaf s t refl, below_strings (0x3000_0000 + at) (omega (arith, l)))
-    units {s} {e} {t} lays_no_bytes = (leaf s t refl, refl)
+        (leaf s t refl, below_strings lent (0x3000_0000 + at) (omega (arith, l)))
+    units {s} {e} {t} lays_no_bytes =
+        (leaf s t refl, below_strings lent 0x1000_0000 (omega arith))
     units {s} {e} {t} (lays_bytes at some n f l) =
-        (leaf s t refl, below_strings (0x1000_0000 + at) (omega (arith, l)))
-    units {s} {e} {t} lays_no_numbers = (leaf s t refl, refl)
+        (leaf s t refl, below_strings lent (0x1000_0000 + at) (omega (arith, l)))
+    units {s} {e} {t} lays_no_numbers =
+        (leaf s t refl, above_strings lent 0xe000_0000 (omega arith))
     units {s} {e} {t} (lays_numbers at some n a f l) =
-        (leaf s t refl, above_short_strings (0xe000_0000 + at) (omega arith))
-    units {s} {e} {t} lays_no_members = (leaf s t refl, refl)
+        (leaf s t refl, above_strings lent (0xe000_0000 + at) (omega arith))
+    units {s} {e} {t} lays_no_members =
+        (leaf s t refl, above_strings lent 0x8000_0000 (omega arith))
     units {s} {e} {t} (lays_members {mid = mid} {ts = ts} {ws = ws} k some c) =
         let r = units_each k in
         let o = array_units (array_members ts) r.1 r.2 some c in (
@@ -171,34 +204,41 @@ module _ (g : Given) where
               refl,
           o.1,
         )
-    units {s} {e} {t} lays_no_entries = (leaf s t refl, refl)
+    units {s} {e} {t} lays_no_entries =
+        (leaf s t refl, below_strings lent 0x2000_0000 (omega arith))
     units {s} {e} {t} (lays_entries {mid = mid} {es = es} {ws = ws} ps p k some c) =
         let r = units_each k in
         let n = r.1 ∙ ap length (members_of es) in
-        let h = r.2 ∙ ap (list_all (is_near g)) (members_of es) in
+        let h = r.2 ∙ ap (list_all (is_near lent g)) (members_of es) in
         let m : length ps ≡ length ws = placed_long g (entry_keys es) ps p ∙ keys_values es
         ∙ sym n in
         let o = table_units (entry_keys es) (values_of es) n m h
         (near_keys (entry_keys es) ps p.positions) some c in (
           one_more_counted (length s.units) (length mid.units) (length e.units) 0 _
               (laying_values es) t
-              (r.0 ∙ ap (λ l. length s.units + sum_by (own_units g) l)
+              (r.0 ∙ ap (λ l. length s.units + sum_by (own_units lent g) l)
               (laying_each-entry_trees es)) o.0 refl,
           o.1,
         )
 
-    units_each : {s e : Laid} {ts : Trees} {ws : List ℕ} → LaysEach g s ts e ws
-        → (length e.units ≡ length s.units + sum_by (own_units g) (laying_each ts))
+    units_each : {s e : Laid} {ts : Trees} {ws : List ℕ} → LaysEachBy lent g s ts e ws
+        → (length e.units ≡ length s.units + sum_by (own_units lent g) (laying_each ts))
         × (length ws ≡ length (array_members ts))
-        × (list_all is_short_string ws ≡ list_all (is_near g) (array_members ts))
+        × (list_all (is_short_by lent) ws ≡ list_all (is_near lent g) (array_members ts))
     units_each {s} each_none = (omega (arith, none), refl, refl)
       where
-        none : sum_by (own_units g) [] ≡ 0
+        none : sum_by (own_units lent g) [] ≡ 0
         none = refl
     units_each {s} {e} (each_more {t = t} {ts = ts} k ks) =
         let r = units k in
         let rest = units_each ks in (
-          omega (arith, r.0, rest.0, sum_by-append (own_units g) (laying_order t) (laying_each ts)),
+          omega (
+            arith,
+            r.0,
+            rest.0,
+            sum_by-append (own_units lent g) (laying_order t)
+                (laying_each ts),
+          ),
           omega (arith, rest.1),
           (λ i. r.1 i && rest.2 i),
         )

@@ -43,7 +43,8 @@ module _ (t : Tree) (ks : List (List ℕ)) (x y : Blocks t ks) where
   start b = record { units = b.pool; tail = [] }
 
   units_are : x.laid.units ≡ y.laid.units
-  units_are = one_block (given x) (given y) (start x) (start y) x.laid y.laid t x.root y.root refl
+  units_are = one_block None (given x) (given y) (start x) (start y) x.laid y.laid t x.root y.root
+      refl
       offset_is pool_is x.lays y.lays
 
   base_is : tail_start (key_block t ks) x.laid ≡ tail_start (key_block t ks) y.laid

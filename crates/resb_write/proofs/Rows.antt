@@ -1,11 +1,11 @@
 -- Steps in a row: what is left after one, and that a stack has the words of what comes next.
 use Rattle.std.proofs.Common.{◌≡◌, ℕ, ◌+◌, ◌-◌, List, [], ◌∷◌, ◌++◌, length, refl, sym, ap, subst}
-use Rattle.std.proofs.Common.{append_assoc, append-nil, length-append, arith, ◌<◌, ◌^◌}
+use Rattle.std.proofs.Common.{append_assoc, append-nil, length-append, arith, ◌<◌, ◌^◌, Option}
 use Rattle.std.specs.List.{sum_by}
 use Rattle.std.proofs.lemmas.List.Sums.{sum_by-cons}
 use Rattle.resb_tree.specs.Tree.{Tree, string, alias, array, table, binary, integer, int_vector}
 use Rattle.resb_tree.specs.Tree.{Trees, no_trees, more_trees, Entries, no_entries, entry}
-use Rattle.resb_layout.specs.Laid.{Given, Laid}
+use Rattle.resb_layout.specs.Laid.{Given, Lends, Laid}
 use Rattle.resb_tree.specs.LayingOrder.{array_members, values_of, children, laying_order}
 use Rattle.resb_tree.specs.LayingOrder.{laying_each}
 use Rattle.resb_tree.specs.LayingOrder.{laying_values}
@@ -14,15 +14,18 @@ use Rattle.resb_write.specs.Inner.Room.{own_size, most_units, most_bytes}
 use Rattle.resb_write.specs.Inner.Seen.{HasRoom, TakesNoMore, Suffices, CanLay}
 use Rattle.resb_write.specs.declared.sites.Bodies.{Bodies}
 
-pub steps_push : (g : Given) (s m e : Laid) (ws xs ys : List ℕ) (ts : List Tree) (t : Tree)
-    → LaysRow g s ws ts m xs → LaysNext g m xs t e ys → LaysRow g s ws (ts ++ t ∷ []) e ys
-steps_push g s m e ws xs ys [] t row_none k = row_more k row_none
-steps_push g s n e ws xs ys (u ∷ ts) t (row_more {m} {xs = zs} h more) k =
-    row_more h (steps_push g m n e zs xs ys ts t more k)
+pub steps_push : (lent : Option Lends) (g : Given) (s m e : Laid) (ws xs ys : List ℕ)
+    (ts : List Tree) (t : Tree)
+    → LaysRow lent g s ws ts m xs → LaysNext lent g m xs t e ys → LaysRow lent g s ws
+    (ts ++ t ∷ []) e ys
+steps_push lent g s m e ws xs ys [] t row_none k = row_more k row_none
+steps_push lent g s n e ws xs ys (u ∷ ts) t (row_more {m} {xs = zs} h more) k =
+    row_more h (steps_push lent g m n e zs xs ys ts t more k)
 
-pub step_long : (g : Given) (s e : Laid) (ws xs : List ℕ) (t : Tree) → LaysNext g s ws t e xs
+pub step_long : (lent : Option Lends) (g : Given) (s e : Laid) (ws xs : List ℕ) (t : Tree)
+    → LaysNext lent g s ws t e xs
     → length xs ≡ length ws - length (children t) + 1
-step_long g s e ws xs t k =
+step_long lent g s e ws xs t k =
     omega (
       arith,
       ap length k.put,

@@ -3,21 +3,22 @@
 --     OneFile                 a bundle and a list of keys leave one file
 --     WrittenIsDenoted        it denotes the tree, each resource once
 --     WrittenInOrder          its tail is the bodies of the tree's resources, without a gap
-use Rattle.std.specs.Prelude.{◌≡◌, ℕ, ◌*◌, List, ◌++◌, drop, Bool, false}
+use Rattle.std.specs.Prelude.{◌≡◌, ℕ, ◌*◌, List, ◌++◌, drop, Bool, false, Option}
 use Rattle.resb_tree.specs.Tree.{Tree, tree_count}
 use Rattle.resb_tree.specs.Aliases.{has_alias}
 use Rattle.resb_tree.specs.LayingOrder.{laying_order}
 use Rattle.resb_head.specs.File.{body_of, block_end, Denotes, DenotesWithAliases}
 use Rattle.resb_layout.specs.InOrder.{FillsTail, FillsBlock}
-use Rattle.resb_layout.specs.Laid.{Given, Laid, Lays}
+use Rattle.resb_layout.specs.Laid.{Given, Lends, Laid, LaysBy}
 use Rattle.resb_format.specs.Laws.{EachFits}
 use Rattle.resb_layout.specs.Written.{Written}
 
 -- where the units before a tree are the same, so are those behind it, wherever the tail begins
 abbrev pub OneBlock : Type 0
 OneBlock =
-    (g h : Given) (s u a b : Laid) (t : Tree) (v w : ℕ) → g.position ≡ h.position
-    → g.offset ≡ h.offset → s.units ≡ u.units → Lays g s t a v → Lays h u t b w → a.units ≡ b.units
+    (lent : Option Lends) (g h : Given) (s u a b : Laid) (t : Tree) (v w : ℕ)
+    → g.position ≡ h.position → g.offset ≡ h.offset → s.units ≡ u.units → LaysBy lent g s t a v
+    → LaysBy lent h u t b w → a.units ≡ b.units
 
 -- a written file denotes its tree where aliases are read too, and, if the tree has none, also where
 -- they are refused

@@ -1,18 +1,19 @@
 //! Lays one resource over a stack of words, which holds those of its members.
 //! What is laid for a body is said in `resource_bodies`.
 ghost use Rattle.std.specs.Prelude.{◌≡◌, ◌++◌, ◌∷◌, ◌+◌, ◌-◌, ◌/◌, ◌^◌, ◌<◌, ◌≤◌};
-ghost use Rattle.std.specs.Prelude.{ℕ, List, Some, [], length, take, OnOk};
+ghost use Rattle.std.specs.Prelude.{ℕ, List, Option, Some, [], length, take, OnOk};
 ghost use Rattle.resb_tree.specs.Tree.{Entries, Trees, alias, array, binary, int_vector, integer};
 ghost use Rattle.resb_tree.specs.Tree.{string, table};
 ghost use Rattle.resb_format.specs.Units.{units};
-ghost use Rattle.resb_layout.specs.Laid.{Given, Laid, ArePlaced};
+ghost use Rattle.resb_layout.specs.Laid.{Given, Lends, Laid, ArePlaced};
 ghost use Rattle.resb_tree.specs.LayingOrder.{array_members, entry_keys, values_of};
 ghost use Rattle.resb_write.specs.Inner.StackSteps.{LaysNext};
 ghost use Rattle.resb_write.specs.Inner.Room.{laid_of};
 ghost use Rattle.resb_write.specs.Inner.Seen.{Anywhere, HasRoom, TakesNoMore};
+ghost use Rattle.resb_write.specs.Inner.Lending.{lent_of};
 
 use crate::resource_bodies::{close_array, close_table, lay_bytes, lay_numbers, lay_path, word};
-use crate::sites::Bodies;
+use crate::sites::{Bodies, Ground};
 use resb_format::ResourceReprType;
 use std::alloc::AllocError;
 
@@ -30,47 +31,48 @@ fn replace(words: &mut Vec<u32>, count: usize, word: u32) -> Result<(), AllocErr
 /// Lays an array of so many members behind them, and takes their words off the stack.
 #[inline(never)]
 pub(crate) fn step_array(
-    base: usize,
+    ground: &Ground,
     bodies: &mut Bodies,
     words: &mut Vec<u32>,
     count: usize,
 ) -> Result<(), AllocError>
-    requires room { HasRoom base bodies.old count }
+    requires room { HasRoom ground.now.base bodies.old count }
     requires enough { count ≤ length words.old.items }
-    ensures step { OnOk result (Anywhere base (λ g. (members : Trees)
+    ensures step { OnOk result (Anywhere ground.now.base (λ g. (members : Trees)
         → length (array_members members) ≡ count
-        → LaysNext g (laid_of bodies.old) words.old.items (array members) (laid_of bodies.new)
+        → LaysNext (lent_of ground.now.lent) g (laid_of bodies.old) words.old.items (array members)
+        (laid_of bodies.new)
         words.new.items)) }
-    ensures takes { OnOk result (TakesNoMore base bodies.old bodies.new count) }
+    ensures takes { OnOk result (TakesNoMore ground.now.base bodies.old bodies.new count) }
 {
     if count == 0 {
         return replace(words, 0, word(ResourceReprType::Array, 0));
     }
     let (_, members) = words.split_at(words.len() - count);
-    let word = close_array(base, bodies, members)?;
+    let word = close_array(ground, bodies, members)?;
     replace(words, count, word)
 }
 
 /// Lays a table that isn't empty, whose keys have these positions, behind its values.
 fn step_full_table(
-    base: usize,
+    ground: &Ground,
     bodies: &mut Bodies,
     words: &mut Vec<u32>,
     positions: &[u32],
 ) -> Result<(), AllocError>
-    requires room { HasRoom base bodies.old (length positions.now) }
+    requires room { HasRoom ground.now.base bodies.old (length positions.now) }
     requires enough { length positions.now ≤ length words.old.items }
     requires full { 0 < length positions.now }
-    ensures step { OnOk result (Anywhere base (λ g. (entries : Entries)
+    ensures step { OnOk result (Anywhere ground.now.base (λ g. (entries : Entries)
         → length (values_of entries) ≡ length positions.now
         → ArePlaced g (entry_keys entries) positions.now
-        → LaysNext g (laid_of bodies.old) words.old.items
+        → LaysNext (lent_of ground.now.lent) g (laid_of bodies.old) words.old.items
         (table entries) (laid_of bodies.new) words.new.items)) }
-    ensures takes { OnOk result (TakesNoMore base bodies.old bodies.new
+    ensures takes { OnOk result (TakesNoMore ground.now.base bodies.old bodies.new
         (length positions.now)) }
 {
     let (_, members) = words.split_at(words.len() - positions.len());
-    let word = close_table(base, bodies, positions, members)?;
+    let word = close_table(ground, bodies, positions, members)?;
     replace(words, positions.len(), word)
 }
 
@@ -78,32 +80,32 @@ fn step_full_table(
 /// stack.
 #[inline(never)]
 pub(crate) fn step_table(
-    base: usize,
+    ground: &Ground,
     bodies: &mut Bodies,
     words: &mut Vec<u32>,
     positions: &[u32],
 ) -> Result<(), AllocError>
-    requires room { HasRoom base bodies.old (length positions.now) }
+    requires room { HasRoom ground.now.base bodies.old (length positions.now) }
     requires enough { length positions.now ≤ length words.old.items }
-    ensures step { OnOk result (Anywhere base (λ g. (entries : Entries)
+    ensures step { OnOk result (Anywhere ground.now.base (λ g. (entries : Entries)
         → length (values_of entries) ≡ length positions.now
         → ArePlaced g (entry_keys entries) positions.now
-        → LaysNext g (laid_of bodies.old) words.old.items
+        → LaysNext (lent_of ground.now.lent) g (laid_of bodies.old) words.old.items
         (table entries) (laid_of bodies.new) words.new.items)) }
-    ensures takes { OnOk result (TakesNoMore base bodies.old bodies.new
+    ensures takes { OnOk result (TakesNoMore ground.now.base bodies.old bodies.new
         (length positions.now)) }
 {
     if positions.is_empty() {
         return replace(words, 0, word(ResourceReprType::Table, 0));
     }
-    step_full_table(base, bodies, words, positions)
+    step_full_table(ground, bodies, words, positions)
 }
 
 /// Puts the word of a number of 28 bits, which has no body.
 pub(crate) fn step_integer(words: &mut Vec<u32>, number: u32) -> Result<(), AllocError>
     requires { number < 2 ^ 28 }
-    ensures { OnOk result ((g : Given) (s : Laid)
-        → LaysNext g s words.old.items (integer number) s words.new.items) }
+    ensures { OnOk result ((lent : Option Lends) (g : Given) (s : Laid)
+        → LaysNext lent g s words.old.items (integer number) s words.new.items) }
 {
     words.push(word(ResourceReprType::Int, number))?;
     Ok(())
@@ -112,18 +114,19 @@ pub(crate) fn step_integer(words: &mut Vec<u32>, number: u32) -> Result<(), Allo
 /// Lays bytes, and puts their word.
 #[inline(never)]
 pub(crate) fn step_bytes(
-    base: usize,
+    ground: &Ground,
     bodies: &mut Bodies,
     words: &mut Vec<u32>,
     bytes: &[u8],
 ) -> Result<(), AllocError>
-    requires { HasRoom base bodies.old ((length bytes.now + 7) / 8) }
-    ensures step { OnOk result (Anywhere base (λ g. LaysNext g (laid_of bodies.old)
+    requires { HasRoom ground.now.base bodies.old ((length bytes.now + 7) / 8) }
+    ensures step { OnOk result (Anywhere ground.now.base (λ g. LaysNext (lent_of ground.now.lent) g
+        (laid_of bodies.old)
         words.old.items (binary bytes.now) (laid_of bodies.new) words.new.items)) }
-    ensures takes { OnOk result (TakesNoMore base bodies.old bodies.new
+    ensures takes { OnOk result (TakesNoMore ground.now.base bodies.old bodies.new
         ((length bytes.now + 7) / 8)) }
 {
-    let word = lay_bytes(base, bodies, bytes)?;
+    let word = lay_bytes(ground, bodies, bytes)?;
     words.push(word)?;
     Ok(())
 }
@@ -131,18 +134,19 @@ pub(crate) fn step_bytes(
 /// Lays numbers, and puts their word.
 #[inline(never)]
 pub(crate) fn step_numbers(
-    base: usize,
+    ground: &Ground,
     bodies: &mut Bodies,
     words: &mut Vec<u32>,
     numbers: &[u32],
 ) -> Result<(), AllocError>
-    requires { HasRoom base bodies.old ((length numbers.now + 1) / 2) }
-    ensures step { OnOk result (Anywhere base (λ g. LaysNext g (laid_of bodies.old)
+    requires { HasRoom ground.now.base bodies.old ((length numbers.now + 1) / 2) }
+    ensures step { OnOk result (Anywhere ground.now.base (λ g. LaysNext (lent_of ground.now.lent) g
+        (laid_of bodies.old)
         words.old.items (int_vector numbers.now) (laid_of bodies.new) words.new.items)) }
-    ensures takes { OnOk result (TakesNoMore base bodies.old bodies.new
+    ensures takes { OnOk result (TakesNoMore ground.now.base bodies.old bodies.new
         ((length numbers.now + 1) / 2)) }
 {
-    let word = lay_numbers(base, bodies, numbers)?;
+    let word = lay_numbers(ground, bodies, numbers)?;
     words.push(word)?;
     Ok(())
 }
@@ -150,8 +154,9 @@ pub(crate) fn step_numbers(
 /// Puts the word of a string at an offset, which has no body of its own.
 pub(crate) fn step_string(words: &mut Vec<u32>, offset: u32) -> Result<(), AllocError>
     requires { offset < 2 ^ 28 }
-    ensures { OnOk result ((g : Given) (s : Laid) (text : List ℕ) → g.offset text ≡ Some offset
-        → LaysNext g s words.old.items (string text) s words.new.items) }
+    ensures { OnOk result ((lent : Option Lends) (g : Given) (s : Laid) (text : List ℕ)
+        → g.offset text ≡ Some offset → LaysNext lent g s words.old.items
+        (string text) s words.new.items) }
 {
     words.push(word(ResourceReprType::StringV2, offset))?;
     Ok(())
@@ -160,18 +165,19 @@ pub(crate) fn step_string(words: &mut Vec<u32>, offset: u32) -> Result<(), Alloc
 /// Lays an alias's path, and puts the alias's word.
 #[inline(never)]
 pub(crate) fn step_path(
-    base: usize,
+    ground: &Ground,
     bodies: &mut Bodies,
     words: &mut Vec<u32>,
     path: &str,
 ) -> Result<(), AllocError>
-    requires { HasRoom base bodies.old ((length (units path.now) + 3) / 4) }
-    ensures step { OnOk result (Anywhere base (λ g. LaysNext g (laid_of bodies.old)
+    requires { HasRoom ground.now.base bodies.old ((length (units path.now) + 3) / 4) }
+    ensures step { OnOk result (Anywhere ground.now.base (λ g. LaysNext (lent_of ground.now.lent) g
+        (laid_of bodies.old)
         words.old.items (alias path.now) (laid_of bodies.new) words.new.items)) }
-    ensures takes { OnOk result (TakesNoMore base bodies.old bodies.new
+    ensures takes { OnOk result (TakesNoMore ground.now.base bodies.old bodies.new
         ((length (units path.now) + 3) / 4)) }
 {
-    let word = lay_path(base, bodies, path)?;
+    let word = lay_path(ground, bodies, path)?;
     words.push(word)?;
     Ok(())
 }

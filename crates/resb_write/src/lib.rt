@@ -9,6 +9,7 @@ mod error;
 mod file;
 mod key_block;
 pub mod laws;
+mod lends;
 mod limits;
 mod nodes;
 mod numbered_keys;

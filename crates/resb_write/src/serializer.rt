@@ -208,6 +208,7 @@ pub(crate) fn write_order<N: Nodes>(
     let sites = Sites {
         positions: &positions,
         offsets: &offsets,
+        lent: None,
     };
     let (bodies, word) = lay_bodies(alloc, &sites, pool, keys_end, order)?;
     drop(positions);

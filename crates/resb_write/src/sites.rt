@@ -2,6 +2,8 @@
 //! Where keys and strings stand is found out elsewhere.
 ghost use Rattle.std.specs.Prelude.{◌≡◌, ◌∷◌, ◌<◌, ◌≤◌, length, take, drop};
 
+use crate::lends::Lends;
+
 /// Where the keys and the strings of a tree stand, one for each in laying order.
 #[derive(Drop)]
 pub(crate) struct Sites<'s> {
@@ -9,6 +11,8 @@ pub(crate) struct Sites<'s> {
     pub(crate) positions: &'s [u32],
     /// The offsets of the strings, in units of the 16-bit block.
     pub(crate) offsets: &'s [u32],
+    /// What a pool bundle lends to the file, if it uses one.
+    pub(crate) lent: Option<Lends>,
 }
 
 impl<'s> Sites<'s> {
@@ -54,6 +58,15 @@ impl<'s> Coming<'s> {
         self.offsets = &self.offsets[1..];
         offset
     }
+}
+
+/// Where bodies are laid.
+#[derive(Clone, Copy)]
+pub(crate) struct Ground {
+    /// Where the tail begins, in bytes of the body.
+    pub(crate) base: usize,
+    /// What a pool bundle lends to the file, if it uses one.
+    pub(crate) lent: Option<Lends>,
 }
 
 /// The units of the 16-bit block and the bytes of the tail.

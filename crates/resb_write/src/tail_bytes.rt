@@ -6,8 +6,10 @@ ghost use Rattle.std.specs.Char.Escape.{encode_utf16};
 ghost use Rattle.resb_layout.specs.Laid.{words as words_bytes, fill, words_body, path_body};
 ghost use Rattle.resb_format.specs.Bytes.{units_as_bytes};
 ghost use Rattle.resb_format.specs.Units.{units as units_of};
-ghost use Rattle.resb_layout.specs.Laid.{near_table_body, wide_table_body, are_near};
+ghost use Rattle.resb_layout.specs.Laid.{near_table_body, wide_table_body, are_near, nears_by};
+ghost use Rattle.resb_write.specs.Inner.Lending.{lent_of};
 
+use crate::lends::{Lends, near};
 use resb_format::utf16_len;
 use std::alloc::AllocError;
 
@@ -44,37 +46,39 @@ pub(crate) fn put_counted(tail: &mut Vec<u8>, words: &[u32]) -> Result<(), Alloc
     put_words(tail, words)
 }
 
-/// Appends positions that units hold.
-fn put_halves(tail: &mut Vec<u8>, positions: &[u32]) -> Result<(), AllocError>
-    requires { are_near positions.now ≡ true }
-    ensures { OnOk result (tail.new.items ≡ tail.old.items ++ units_as_bytes positions.now) }
+/// Appends what units tell of positions.
+fn put_halves(lent: Option<Lends>, tail: &mut Vec<u8>, positions: &[u32]) -> Result<(), AllocError>
+    requires { are_near (nears_by (lent_of lent) positions.now) ≡ true }
+    ensures { OnOk result (tail.new.items
+        ≡ tail.old.items ++ units_as_bytes (nears_by (lent_of lent) positions.now)) }
 {
     for position in positions {
-        put_half(tail, *position as u16)?;
+        put_half(tail, near(lent, *position) as u16)?;
     }
     Ok(())
 }
 
-/// Appends the body of a table whose count and positions units hold: these, a padding unit where
-/// their number is even, and the words.
+/// Appends the body of a table whose count a unit holds and whose positions units tell: these, a
+/// padding unit where their number is even, and the words.
 pub(crate) fn put_short_table(
+    lent: Option<Lends>,
     tail: &mut Vec<u8>,
     positions: &[u32],
     words: &[u32],
 ) -> Result<(), AllocError>
-    requires { are_near positions.now ≡ true }
-    ensures { OnOk result (tail.new.items
-        ≡ tail.old.items ++ near_table_body positions.now words.now) }
+    requires { are_near (nears_by (lent_of lent) positions.now) ≡ true }
+    ensures { OnOk result (tail.new.items ≡ tail.old.items
+        ++ near_table_body (nears_by (lent_of lent) positions.now) words.now) }
 {
     put_half(tail, positions.len() as u16)?;
-    put_halves(tail, positions)?;
+    put_halves(lent, tail, positions)?;
     if positions.len() % 2 == 0 {
         put_half(tail, 0xaaaa)?;
     }
     put_words(tail, words)
 }
 
-/// Appends the body of a table that has a position which no unit holds: their count, the positions
+/// Appends the body of a table that has a position which no unit tells: their count, the positions
 /// and the words.
 pub(crate) fn put_wide_table(
     tail: &mut Vec<u8>,

@@ -1,6 +1,7 @@
 use Rattle.std.proofs.Common.{◌≡◌, ◌-◌, ℕ, length, drop, sym, ◌∙◌, ap, subst, arith}
 use Rattle.std.proofs.lemmas.Result.{on_ok_weaker}
 use Rattle.resb_tree.specs.Tree.{array}
+use Rattle.resb_write.specs.Inner.Lending.{lent_of}
 use Rattle.resb_write.specs.Inner.StackSteps.{LaysNext}
 use Rattle.resb_write.specs.Inner.Room.{laid_of}
 use Rattle.resb_write.specs.Inner.Seen.{TakesNoMore}
@@ -12,11 +13,12 @@ use Rattle.resb_write.proofs.Lists.{split_stack}
 
 pub returns-then-count-eq0-clause-step : goal.returns-then-count-eq0-clause-step
 returns-then-count-eq0-clause-step c =
-    on_ok_weaker c.replace.result (λ h g e members many. subst (λ ts. LaysNext g
+    on_ok_weaker c.replace.result (λ h g e members many. subst (λ ts. LaysNext
+    (lent_of c.args.ground.now.lent) g
     (laid_of c.args.bodies.now) c.args.words.now.items (array ts)
     (laid_of c.args.bodies.now) c.replace.new.words.items)
     (sym (no_members members (omega (arith, many, c.if-count-eq0.true))))
-    (empty_array_step g (laid_of c.args.bodies.now)
+    (empty_array_step (lent_of c.args.ground.now.lent) g (laid_of c.args.bodies.now)
     c.args.words.now.items c.replace.new.words.items c.word.result c.word.ensures h))
     c.replace.ensures
 
@@ -35,11 +37,13 @@ returns-clause-step c =
     let n : ℕ = c.args.count in
     let mid = ap (λ k. k - n) (c.len.ensures ∙ c.args.words.now.ok.0) in
     let v = c.split_at.ensures.back ∙ (λ i. drop (mid i) (c.deref.ensures.value i)) in
-    on_ok_weaker c.replace-2.result (λ h g e members many. array_step g
+    on_ok_weaker c.replace-2.result (λ h g e members many. array_step
+    (lent_of c.args.ground.now.lent) g
     (laid_of c.args.bodies.now) (laid_of c.close_array.new.bodies) ws
     c.replace-2.new.words.items c.split_at.result.1.now members c.in_ok-word.word n (sym many)
     c.requires.enough v (omega (arith, c.if-count-eq0.false))
-    (array_anywhere g c.args.base e c.in_ok-word.ensures.lays) h) c.replace-2.ensures
+    (array_anywhere (lent_of c.args.ground.now.lent) g c.args.ground.now.base e
+    c.in_ok-word.ensures.lays) h) c.replace-2.ensures
 
 pub returns-clause-takes : goal.returns-clause-takes
 returns-clause-takes c =
@@ -50,5 +54,5 @@ returns-clause-takes c =
     let l : length c.split_at.result.1.now ≡ n = ap length v
     ∙ (split_stack ws n c.requires.enough).1 in
     on_ok_weaker c.replace-2.result
-    (λ h. subst (TakesNoMore c.args.base c.args.bodies.now c.close_array.new.bodies) l
+    (λ h. subst (TakesNoMore c.args.ground.now.base c.args.bodies.now c.close_array.new.bodies) l
     c.in_ok-word.ensures.takes) c.replace-2.ensures

@@ -1,7 +1,8 @@
 use Rattle.std.proofs.Common.{◌≡◌, ◌+◌, ◌*◌, ◌%◌, ℕ, [], length, refl, sym, ◌∙◌, ap, subst, arith}
 use Rattle.resb_tree.specs.Tree.{Tree}
-use Rattle.resb_layout.specs.Laid.{Given, Lays}
+use Rattle.resb_layout.specs.Laid.{Given, LaysBy}
 use Rattle.resb_tree.specs.LayingOrder.{laying_order}
+use Rattle.resb_write.specs.Inner.Lending.{lent_of}
 use Rattle.resb_write.specs.Inner.Room.{laid_of, HasRoomFor, GivesInTurn}
 use Rattle.resb_write.proofs.Counting.{units}
 use Rattle.resb_write.proofs.PlacesLeft.{based, same_places_based}
@@ -47,7 +48,7 @@ count_is g c given t f n =
     let laid = c.in_ok-word.ensures.lays h refl t f (same_places_based n) in
     omega (
       arith,
-      (units h laid).0,
+      (units (lent_of c.args.sites.now.lent) h laid).0,
       c.in_ok-count.ensures.counts h t f (same_places_based n),
       c.len.ensures,
       c.args.pool.ok.0,
@@ -57,7 +58,8 @@ pub returns-clause-lays : goal.returns-clause-lays
 returns-clause-lays g c = λ given t f n at.
     let from : ℕ → ℕ = (λ k. c.args.keys_end + 2 * (k + k % 2)) in
     let base = at ∙ ap from (count_is g c given t f n) in
-    subst (λ tail. Lays given (record { units = c.args.pool.items; tail = tail }) t
+    subst (λ tail. LaysBy (lent_of c.args.sites.now.lent) given
+    (record { units = c.args.pool.items; tail = tail }) t
     (laid_of c.lay_order.new.bodies) c.in_ok-word.word) c.new.ensures.items
     (c.in_ok-word.ensures.lays given base t f n)
 

@@ -1,7 +1,8 @@
 use Rattle.std.proofs.Common.{[], length, refl, sym, ◌∙◌, ap, subst, arith}
 use Rattle.std.proofs.lemmas.List.{same_from_push}
-use Rattle.resb_layout.specs.Laid.{Lays}
+use Rattle.resb_layout.specs.Laid.{LaysBy}
 use Rattle.resb_tree.specs.LayingOrder.{laying_order}
+use Rattle.resb_write.specs.Inner.Lending.{lent_of}
 use Rattle.resb_write.specs.Inner.StackSteps.{LaysRow}
 use Rattle.resb_write.specs.Inner.Room.{laid_of}
 use Rattle.resb_write.specs.Inner.Seen.{Suffices}
@@ -28,13 +29,14 @@ pub unreachable-requires : goal.unreachable-requires
 unreachable-requires g c =
     let n = c.requires in
     let t = n.0 in
-    let given = based n.3 c.args.base in
+    let given = based n.3 c.args.ground.now.base in
     let s = laid_of c.args.bodies.now in
     let e = laid_of c.steps.new.bodies in
     let ws = c.steps.new.words.items in
-    let h = subst (λ l. LaysRow given s l (laying_order t) e ws) c.new-words.ensures.items
+    let h = subst (λ l. LaysRow (lent_of c.args.ground.now.lent) given s l
+    (laying_order t) e ws) c.new-words.ensures.items
     (c.in_ok-steps.ensures.lays given refl (laying_order t) n.1 (same_places_based n.4)) in
-    let r = steps_lay_trees given s e t ws h in
+    let r = steps_lay_trees (lent_of c.args.ground.now.lent) given s e t ws h in
     omega (arith, c.in_default.ensures.cases.0, c.steps.new.words.ok.0, ap length r.1)
 
 pub returns-clause-lays : goal.returns-clause-lays
@@ -42,9 +44,10 @@ returns-clause-lays g c = λ given at t f n.
     let s = laid_of c.args.bodies.now in
     let e = laid_of c.steps.new.bodies in
     let ws = c.steps.new.words.items in
-    let h = subst (λ l. LaysRow given s l (laying_order t) e ws) c.new-words.ensures.items
+    let h = subst (λ l. LaysRow (lent_of c.args.ground.now.lent) given s l
+    (laying_order t) e ws) c.new-words.ensures.items
     (c.in_ok-steps.ensures.lays given at (laying_order t) f n) in
-    let r = steps_lay_trees given s e t ws h in
+    let r = steps_lay_trees (lent_of c.args.ground.now.lent) given s e t ws h in
     let last = same_from_push c.pop.new.self.items [] c.in-Some.word r.0
     (sym c.in-Some.ensures.items ∙ r.1) in
-    subst (Lays given s t e) (sym last.1) r.2
+    subst (LaysBy (lent_of c.args.ground.now.lent) given s t e) (sym last.1) r.2

@@ -3,6 +3,7 @@ use Rattle.std.proofs.Common.{arith}
 use Rattle.std.proofs.lemmas.Result.{on_ok_weaker}
 use Rattle.resb_tree.specs.Tree.{string, alias, binary, integer, int_vector}
 use Rattle.resb_tree.specs.LayingOrder.{children}
+use Rattle.resb_write.specs.Inner.Lending.{lent_of}
 use Rattle.resb_write.specs.Inner.StackSteps.{LaysNext}
 use Rattle.resb_write.specs.Inner.Room.{laid_of, own_size, GivesInTurn}
 use Rattle.resb_write.specs.Inner.Seen.{HasRoom, TakesNoMore}
@@ -40,8 +41,10 @@ returns-in-String-clause-step c =
     let laid = laid_of c.args.bodies.now in
     on_ok_weaker c.step_string.result (λ h given at t rest is n.
     let e : t ≡ string s = subst (λ m. IsNode m t) c.in-String.is is in
-    subst (λ u. LaysNext given laid c.args.words.now.items u laid c.step_string.new.words.items)
-    (sym e) (h given laid s (string_known given ps os s rest c.take_offset.result
+    subst (λ u. LaysNext (lent_of c.args.ground.now.lent) given laid c.args.words.now.items u laid
+    c.step_string.new.words.items)
+    (sym e) (h (lent_of c.args.ground.now.lent) given laid s (string_known given ps os s rest
+    c.take_offset.result
     c.take_offset.new.self.offsets.now c.take_offset.ensures.taken
     (subst (λ u. GivesInTurn given ps os (u ∷ rest)) e n)).0)) c.step_string.ensures
 
@@ -69,13 +72,14 @@ pub step_path-requires : goal.step_path-requires
 step_path-requires c =
     let r = c.requires in
     let e : r.0 ≡ alias c.in-Alias.path.now = subst (λ m. IsNode m r.0) c.in-Alias.is r.1 in
-    subst (λ u. HasRoom c.args.base c.args.bodies.now (own_size u)) e r.2
+    subst (λ u. HasRoom c.args.ground.now.base c.args.bodies.now (own_size u)) e r.2
 
 pub returns-in-Alias-clause-step : goal.returns-in-Alias-clause-step
 returns-in-Alias-clause-step c =
     on_ok_weaker c.step_path.result (λ h given at t rest is n.
     let e : t ≡ alias c.in-Alias.path.now = subst (λ m. IsNode m t) c.in-Alias.is is in
-    subst (λ u. LaysNext given (laid_of c.args.bodies.now) c.args.words.now.items u
+    subst (λ u. LaysNext (lent_of c.args.ground.now.lent) given
+    (laid_of c.args.bodies.now) c.args.words.now.items u
     (laid_of c.step_path.new.bodies) c.step_path.new.words.items) (sym e) (h given at))
     c.step_path.ensures.step
 
@@ -92,7 +96,8 @@ pub returns-in-Alias-clause-takes : goal.returns-in-Alias-clause-takes
 returns-in-Alias-clause-takes c =
     on_ok_weaker c.step_path.result (λ h t is.
     let e : t ≡ alias c.in-Alias.path.now = subst (λ m. IsNode m t) c.in-Alias.is is in
-    subst (λ u. TakesNoMore c.args.base c.args.bodies.now c.step_path.new.bodies (own_size u))
+    subst (λ u. TakesNoMore c.args.ground.now.base c.args.bodies.now c.step_path.new.bodies
+    (own_size u))
     (sym e) h)
     c.step_path.ensures.takes
 
@@ -100,7 +105,7 @@ pub step_array-requires-clause-room : goal.step_array-requires-clause-room
 step_array-requires-clause-room c =
     let r = c.requires in
     let a : IsArrayOf c.in-Array.count r.0 = subst (λ m. IsNode m r.0) c.in-Array.is r.1 in
-    subst (HasRoom c.args.base c.args.bodies.now) (ap own_size a.is ∙ a.many) r.2
+    subst (HasRoom c.args.ground.now.base c.args.bodies.now) (ap own_size a.is ∙ a.many) r.2
 
 pub step_array-requires-clause-enough : goal.step_array-requires-clause-enough
 step_array-requires-clause-enough c =
@@ -112,7 +117,8 @@ pub returns-in-Array-clause-step : goal.returns-in-Array-clause-step
 returns-in-Array-clause-step c =
     on_ok_weaker c.step_array.result (λ h given at t rest is n.
     let a : IsArrayOf c.in-Array.count t = subst (λ m. IsNode m t) c.in-Array.is is in
-    subst (λ u. LaysNext given (laid_of c.args.bodies.now) c.args.words.now.items u
+    subst (λ u. LaysNext (lent_of c.args.ground.now.lent) given
+    (laid_of c.args.bodies.now) c.args.words.now.items u
     (laid_of c.step_array.new.bodies) c.step_array.new.words.items) (sym a.is)
     (h given at a.members a.many)) c.step_array.ensures.step
 
@@ -129,7 +135,7 @@ pub returns-in-Array-clause-takes : goal.returns-in-Array-clause-takes
 returns-in-Array-clause-takes c =
     on_ok_weaker c.step_array.result (λ h t is.
     let a : IsArrayOf c.in-Array.count t = subst (λ m. IsNode m t) c.in-Array.is is in
-    subst (TakesNoMore c.args.base c.args.bodies.now c.step_array.new.bodies)
+    subst (TakesNoMore c.args.ground.now.base c.args.bodies.now c.step_array.new.bodies)
     (sym (ap own_size a.is ∙ a.many)) h) c.step_array.ensures.takes
 
 pub take_positions-positions-requires : goal.take_positions-positions-requires
@@ -156,7 +162,8 @@ step_table-requires-clause-room c =
       ap length c.take_positions-positions.ensures.taken,
       length-take c.in-Table.count ps,
     ) in
-    subst (HasRoom c.args.base c.args.bodies.now) (ap own_size b.is ∙ b.many ∙ sym long) r.2
+    subst (HasRoom c.args.ground.now.base c.args.bodies.now) (ap own_size b.is ∙ b.many
+    ∙ sym long) r.2
 
 pub step_table-requires-clause-enough : goal.step_table-requires-clause-enough
 step_table-requires-clause-enough c =
@@ -193,7 +200,8 @@ returns-in-Table-clause-step c =
     on_ok_weaker c.step_table.result (λ h given at t rest is n.
     let a : IsTableOf c.in-Table.count t = subst (λ m. IsNode m t) c.in-Table.is is in
     let es = a.entries in
-    subst (λ u. LaysNext given (laid_of c.args.bodies.now) c.args.words.now.items u
+    subst (λ u. LaysNext (lent_of c.args.ground.now.lent) given
+    (laid_of c.args.bodies.now) c.args.words.now.items u
     (laid_of c.step_table.new.bodies) c.step_table.new.words.items) (sym a.is)
     (h given at es (a.many ∙ sym long) (record {
       ascend = a.ascend;
@@ -232,20 +240,21 @@ returns-in-Table-clause-takes c =
     ) in
     on_ok_weaker c.step_table.result (λ h t is.
     let a : IsTableOf c.in-Table.count t = subst (λ m. IsNode m t) c.in-Table.is is in
-    subst (TakesNoMore c.args.base c.args.bodies.now c.step_table.new.bodies)
+    subst (TakesNoMore c.args.ground.now.base c.args.bodies.now c.step_table.new.bodies)
     (long ∙ sym a.many ∙ sym (ap own_size a.is)) h) c.step_table.ensures.takes
 
 pub step_bytes-requires : goal.step_bytes-requires
 step_bytes-requires c =
     let r = c.requires in
     let e : r.0 ≡ binary c.in-Binary.bytes.now = subst (λ m. IsNode m r.0) c.in-Binary.is r.1 in
-    subst (λ u. HasRoom c.args.base c.args.bodies.now (own_size u)) e r.2
+    subst (λ u. HasRoom c.args.ground.now.base c.args.bodies.now (own_size u)) e r.2
 
 pub returns-in-Binary-clause-step : goal.returns-in-Binary-clause-step
 returns-in-Binary-clause-step c =
     on_ok_weaker c.step_bytes.result (λ h given at t rest is n.
     let e : t ≡ binary c.in-Binary.bytes.now = subst (λ m. IsNode m t) c.in-Binary.is is in
-    subst (λ u. LaysNext given (laid_of c.args.bodies.now) c.args.words.now.items u
+    subst (λ u. LaysNext (lent_of c.args.ground.now.lent) given
+    (laid_of c.args.bodies.now) c.args.words.now.items u
     (laid_of c.step_bytes.new.bodies) c.step_bytes.new.words.items) (sym e) (h given at))
     c.step_bytes.ensures.step
 
@@ -262,7 +271,8 @@ pub returns-in-Binary-clause-takes : goal.returns-in-Binary-clause-takes
 returns-in-Binary-clause-takes c =
     on_ok_weaker c.step_bytes.result (λ h t is.
     let e : t ≡ binary c.in-Binary.bytes.now = subst (λ m. IsNode m t) c.in-Binary.is is in
-    subst (λ u. TakesNoMore c.args.base c.args.bodies.now c.step_bytes.new.bodies (own_size u))
+    subst (λ u. TakesNoMore c.args.ground.now.base c.args.bodies.now c.step_bytes.new.bodies
+    (own_size u))
     (sym e) h)
     c.step_bytes.ensures.takes
 
@@ -273,9 +283,10 @@ pub returns-in-Integer-clause-step : goal.returns-in-Integer-clause-step
 returns-in-Integer-clause-step c =
     on_ok_weaker c.step_integer.result (λ h given at t rest is n.
     let e : t ≡ integer c.in-Integer.number = (subst (λ m. IsNode m t) c.in-Integer.is is).0 in
-    subst (λ u. LaysNext given (laid_of c.args.bodies.now) c.args.words.now.items u
+    subst (λ u. LaysNext (lent_of c.args.ground.now.lent) given
+    (laid_of c.args.bodies.now) c.args.words.now.items u
     (laid_of c.args.bodies.now) c.step_integer.new.words.items) (sym e)
-    (h given (laid_of c.args.bodies.now))) c.step_integer.ensures
+    (h (lent_of c.args.ground.now.lent) given (laid_of c.args.bodies.now))) c.step_integer.ensures
 
 pub returns-in-Integer-clause-left : goal.returns-in-Integer-clause-left
 returns-in-Integer-clause-left c =
@@ -300,14 +311,15 @@ step_numbers-requires c =
     let r = c.requires in
     let e : r.0 ≡ int_vector c.in-IntVector.numbers.now = subst (λ m. IsNode m r.0)
     c.in-IntVector.is r.1 in
-    subst (λ u. HasRoom c.args.base c.args.bodies.now (own_size u)) e r.2
+    subst (λ u. HasRoom c.args.ground.now.base c.args.bodies.now (own_size u)) e r.2
 
 pub returns-in-IntVector-clause-step : goal.returns-in-IntVector-clause-step
 returns-in-IntVector-clause-step c =
     on_ok_weaker c.step_numbers.result (λ h given at t rest is n.
     let e : t ≡ int_vector c.in-IntVector.numbers.now =
     subst (λ m. IsNode m t) c.in-IntVector.is is in
-    subst (λ u. LaysNext given (laid_of c.args.bodies.now) c.args.words.now.items u
+    subst (λ u. LaysNext (lent_of c.args.ground.now.lent) given
+    (laid_of c.args.bodies.now) c.args.words.now.items u
     (laid_of c.step_numbers.new.bodies) c.step_numbers.new.words.items) (sym e) (h given at))
     c.step_numbers.ensures.step
 
@@ -326,6 +338,7 @@ returns-in-IntVector-clause-takes c =
     on_ok_weaker c.step_numbers.result (λ h t is.
     let e : t ≡ int_vector c.in-IntVector.numbers.now =
     subst (λ m. IsNode m t) c.in-IntVector.is is in
-    subst (λ u. TakesNoMore c.args.base c.args.bodies.now c.step_numbers.new.bodies (own_size u))
+    subst (λ u. TakesNoMore c.args.ground.now.base c.args.bodies.now c.step_numbers.new.bodies
+    (own_size u))
     (sym e) h)
     c.step_numbers.ensures.takes

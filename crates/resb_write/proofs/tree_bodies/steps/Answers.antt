@@ -1,6 +1,7 @@
 use Rattle.std.proofs.Common.{◌+◌, ◌<◌, List, length, get_or, take, drop, refl, sym, subst}
 use Rattle.std.proofs.Common.{arith}
 use Rattle.resb_tree.specs.Tree.{Tree}
+use Rattle.resb_write.specs.Inner.Lending.{lent_of}
 use Rattle.resb_write.specs.Inner.StackSteps.{LaysRow, row_none}
 use Rattle.resb_write.specs.Inner.Room.{laid_of, GivesInTurn, HasRoomFor}
 use Rattle.resb_write.specs.Inner.Seen.{CanLay}
@@ -40,11 +41,11 @@ step-requires g c =
     let split = trees-drop ts i h in
     let v = c.loop-at.invariant in
     let old = c.loop-at.words.items in
-    let can = subst (CanLay c.args.base c.loop-at.bodies (length old)) split
+    let can = subst (CanLay c.args.ground.now.base c.loop-at.bodies (length old)) split
     (v.can r.3 ts r.1 r.4 r.2) in (
       t,
       c.node.ensures ts r.1 h,
-      has_room c.args.base c.loop-at.bodies (length old) t rest can,
+      has_room c.args.ground.now.base c.loop-at.bodies (length old) t rest can,
       can.enough.0,
       r.3,
       rest,
@@ -75,9 +76,11 @@ loop-at-preserved g c =
           let k = c.in_ok-step.ensures.step given e t (drop (i + 1) ts) fits
           (subst (GivesInTurn given ps os) (trees-drop ts i (inside ts f))
           (v.left given ts f n)) in
-          subst (λ us. LaysRow given (laid_of c.args.bodies.now) c.args.words.now.items us
+          subst (λ us. LaysRow (lent_of c.args.ground.now.lent) given
+          (laid_of c.args.bodies.now) c.args.words.now.items us
           (laid_of c.step.new.bodies) new) (sym (trees-take ts i (inside ts f)))
-          (steps_push given (laid_of c.args.bodies.now) (laid_of c.loop-at.bodies)
+          (steps_push (lent_of c.args.ground.now.lent) given (laid_of c.args.bodies.now)
+          (laid_of c.loop-at.bodies)
           (laid_of c.step.new.bodies) c.args.words.now.items old new (take i ts) t
           (v.done given e ts f n) k);
       can = λ given ts f n can.
@@ -85,19 +88,21 @@ loop-at-preserved g c =
           let rest = drop (i + 1) ts in
           let fits = c.node.ensures ts f (inside ts f) in
           let split = trees-drop ts i (inside ts f) in
-          let own = based given c.args.base in
-          can_go_on c.args.base c.loop-at.bodies (length old) t rest
-          (subst (CanLay c.args.base c.loop-at.bodies (length old)) split
+          let own = based given c.args.ground.now.base in
+          can_go_on c.args.ground.now.base c.loop-at.bodies (length old) t rest
+          (subst (CanLay c.args.ground.now.base c.loop-at.bodies (length old)) split
           (v.can given ts f n can)) c.step.new.bodies (length new)
           (c.in_ok-step.ensures.takes t fits)
-          (step_long own (laid_of c.loop-at.bodies) (laid_of c.step.new.bodies) old new t
+          (step_long (lent_of c.args.ground.now.lent) own (laid_of c.loop-at.bodies)
+          (laid_of c.step.new.bodies) old new t
           (c.in_ok-step.ensures.step own refl t rest fits
           (subst (GivesInTurn own ps os) split (v.left own ts f (same_places_based n)))));
     }
 
 pub returns-clause-lays : goal.returns-clause-lays
 returns-clause-lays g c = λ given e ts f n.
-    subst (λ us. LaysRow given (laid_of c.args.bodies.now) c.args.words.now.items us
+    subst (λ us. LaysRow (lent_of c.args.ground.now.lent) given
+    (laid_of c.args.bodies.now) c.args.words.now.items us
     (laid_of c.loop-at.bodies) c.loop-at.words.items)
     (take_all c.loop-at.at ts
     (omega (arith, c.loop-at-test.false, c.count-at-end.ensures ts f)))
@@ -106,7 +111,7 @@ returns-clause-lays g c = λ given e ts f n.
 pub returns-clause-fits : goal.returns-clause-fits
 returns-clause-fits g c =
     let r = c.requires in
-    subst (HasRoomFor c.args.base (laid_of c.loop-at.bodies))
+    subst (HasRoomFor c.args.ground.now.base (laid_of c.loop-at.bodies))
     (drop_all c.loop-at.at r.0
     (omega (arith, c.loop-at-test.false, c.count-at-end.ensures r.0 r.1)))
     (c.loop-at.invariant.can r.3 r.0 r.1 r.4 r.2).room

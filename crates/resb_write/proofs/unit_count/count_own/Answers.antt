@@ -3,6 +3,7 @@ use Rattle.std.proofs.Common.{length-take}
 use Rattle.std.proofs.lemmas.Result.{IfOk-weaker}
 use Rattle.resb_tree.specs.Tree.{string, alias, binary, integer, int_vector}
 use Rattle.resb_tree.specs.LayingOrder.{children, entry_keys}
+use Rattle.resb_write.specs.Inner.Lending.{lent_of}
 use Rattle.resb_write.specs.Inner.Room.{GivesInTurn}
 use Rattle.resb_write.specs.Inner.Counted.{is_near, CountsOne}
 use Rattle.resb_write.specs.Inner.Nodes.{IsNode, IsArrayOf, IsTableOf}
@@ -50,10 +51,11 @@ returns-in-String c =
     record {
       counts = IfOk-weaker c.count_string.result _ _ (λ n h given t rest below is m are.
           let e : t ≡ string s = subst (λ k. IsNode k t) c.in-String.is is in
-          subst (λ u. CountsOne given u rest below n new out) (sym e)
-          (string_one given rest below ps os new ms out n s
+          subst (λ u. CountsOne (lent_of c.args.lent) given u rest below n new out) (sym e)
+          (string_one (lent_of c.args.lent) given rest below ps os new ms out n s
           (subst (λ u. GivesInTurn given ps os (u ∷ rest)) e m)
-          (subst (λ u. ms ≡ map (is_near given) (below ++ children u)) e are) h.0
+          (subst (λ u. ms ≡ map (is_near (lent_of c.args.lent) given)
+          (below ++ children u)) e are) h.0
           c.count_string.ensures.keeps h.1)) c.count_string.ensures.counts;
     }
 
@@ -67,10 +69,13 @@ returns-in-Array c =
       counts = IfOk-weaker c.count_array.result _ _ (λ n h given t rest below is m are.
           let a : IsArrayOf c.in-Array.count t = subst (λ k. IsNode k t) c.in-Array.is is in
           let k = subst (λ u. GivesInTurn given ps os (u ∷ rest)) a.is m in
-          subst (λ u. CountsOne given u rest below n c.args.coming.now out) (sym a.is)
-          (array_one given rest below ps os c.args.coming.now ms out n a.members c.in-Array.count
+          subst (λ u. CountsOne (lent_of c.args.lent) given u rest below n c.args.coming.now out)
+          (sym a.is)
+          (array_one (lent_of c.args.lent) given rest below ps os c.args.coming.now ms out n
+          a.members c.in-Array.count
           a.many (record { keys = k.keys; texts = k.texts; near = k.near })
-          (subst (λ u. ms ≡ map (is_near given) (below ++ children u)) a.is are) h))
+          (subst (λ u. ms ≡ map (is_near (lent_of c.args.lent) given)
+          (below ++ children u)) a.is are) h))
           c.count_array.ensures;
     }
 
@@ -98,12 +103,13 @@ returns-in-Table c =
           let a : IsTableOf k t = subst (λ j. IsNode j t) c.in-Table.is is in
           let es = a.entries in
           let many : length (entry_keys es) ≡ k = keys_values es ∙ a.many in
-          subst (λ u. CountsOne given u rest below n new out) (sym a.is)
-          (table_one given rest below ps os new ms out n es qs k many long
+          subst (λ u. CountsOne (lent_of c.args.lent) given u rest below n new out) (sym a.is)
+          (table_one (lent_of c.args.lent) given rest below ps os new ms out n es qs k many long
           c.take_positions.ensures.taken c.take_positions.ensures.left
           c.take_positions.ensures.keeps
           (subst (λ u. GivesInTurn given ps os (u ∷ rest)) a.is m)
-          (subst (λ u. ms ≡ map (is_near given) (below ++ children u)) a.is are) h))
+          (subst (λ u. ms ≡ map (is_near (lent_of c.args.lent) given)
+          (below ++ children u)) a.is are) h))
           c.count_table.ensures;
     }
 
@@ -118,10 +124,13 @@ returns-in-Alias c =
       counts = IfOk-weaker c.count_other.result _ _ (λ n h given t rest below is m are.
           let e = subst (λ k. IsNode k t) c.in-Alias.is is in
           let k = subst (λ u. GivesInTurn given ps os (u ∷ rest)) e m in
-          subst (λ u. CountsOne given u rest below n c.args.coming.now out) (sym e)
-          (other_one given rest below ps os c.args.coming.now ms out n b refl refl refl
+          subst (λ u. CountsOne (lent_of c.args.lent) given u rest below n c.args.coming.now out)
+          (sym e)
+          (other_one (lent_of c.args.lent) given rest below ps os c.args.coming.now ms out n b refl
+          refl refl
           (record { keys = k.keys; texts = k.texts; near = k.near })
-          (subst (λ u. ms ≡ map (is_near given) (below ++ children u)) e are) h))
+          (subst (λ u. ms ≡ map (is_near (lent_of c.args.lent) given)
+          (below ++ children u)) e are) h))
           c.count_other.ensures;
     }
 
@@ -136,10 +145,13 @@ returns-in-Binary c =
       counts = IfOk-weaker c.count_other-in-Binary.result _ _ (λ n h given t rest below is m are.
           let e = subst (λ k. IsNode k t) c.in-Binary.is is in
           let k = subst (λ u. GivesInTurn given ps os (u ∷ rest)) e m in
-          subst (λ u. CountsOne given u rest below n c.args.coming.now out) (sym e)
-          (other_one given rest below ps os c.args.coming.now ms out n b refl refl refl
+          subst (λ u. CountsOne (lent_of c.args.lent) given u rest below n c.args.coming.now out)
+          (sym e)
+          (other_one (lent_of c.args.lent) given rest below ps os c.args.coming.now ms out n b refl
+          refl refl
           (record { keys = k.keys; texts = k.texts; near = k.near })
-          (subst (λ u. ms ≡ map (is_near given) (below ++ children u)) e are) h))
+          (subst (λ u. ms ≡ map (is_near (lent_of c.args.lent) given)
+          (below ++ children u)) e are) h))
           c.count_other-in-Binary.ensures;
     }
 
@@ -154,10 +166,13 @@ returns-in-Integer c =
       counts = IfOk-weaker c.count_other-in-Integer.result _ _ (λ n h given t rest below is m are.
           let e = (subst (λ k. IsNode k t) c.in-Integer.is is).0 in
           let k = subst (λ u. GivesInTurn given ps os (u ∷ rest)) e m in
-          subst (λ u. CountsOne given u rest below n c.args.coming.now out) (sym e)
-          (other_one given rest below ps os c.args.coming.now ms out n b refl refl refl
+          subst (λ u. CountsOne (lent_of c.args.lent) given u rest below n c.args.coming.now out)
+          (sym e)
+          (other_one (lent_of c.args.lent) given rest below ps os c.args.coming.now ms out n b refl
+          refl refl
           (record { keys = k.keys; texts = k.texts; near = k.near })
-          (subst (λ u. ms ≡ map (is_near given) (below ++ children u)) e are) h))
+          (subst (λ u. ms ≡ map (is_near (lent_of c.args.lent) given)
+          (below ++ children u)) e are) h))
           c.count_other-in-Integer.ensures;
     }
 
@@ -172,9 +187,12 @@ returns-in-IntVector c =
       counts = IfOk-weaker c.count_other-in-IntVector.result _ _ (λ n h given t rest below is m are.
           let e = subst (λ k. IsNode k t) c.in-IntVector.is is in
           let k = subst (λ u. GivesInTurn given ps os (u ∷ rest)) e m in
-          subst (λ u. CountsOne given u rest below n c.args.coming.now out) (sym e)
-          (other_one given rest below ps os c.args.coming.now ms out n b refl refl refl
+          subst (λ u. CountsOne (lent_of c.args.lent) given u rest below n c.args.coming.now out)
+          (sym e)
+          (other_one (lent_of c.args.lent) given rest below ps os c.args.coming.now ms out n b refl
+          refl refl
           (record { keys = k.keys; texts = k.texts; near = k.near })
-          (subst (λ u. ms ≡ map (is_near given) (below ++ children u)) e are) h))
+          (subst (λ u. ms ≡ map (is_near (lent_of c.args.lent) given)
+          (below ++ children u)) e are) h))
           c.count_other-in-IntVector.ensures;
     }

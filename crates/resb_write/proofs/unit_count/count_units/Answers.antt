@@ -5,6 +5,7 @@ use Rattle.std.proofs.lemmas.List.{length-append, length-map, take_all}
 use Rattle.std.proofs.lemmas.List.Sums.{sum_by-cons, sum_by-append}
 use Rattle.resb_tree.specs.LayingOrder.{children, laying_order}
 use Rattle.resb_layout.specs.Laid.{Given}
+use Rattle.resb_write.specs.Inner.Lending.{lent_of}
 use Rattle.resb_write.specs.Inner.Room.{most_units, GivesInTurn}
 use Rattle.resb_write.specs.Inner.Counted.{is_near, own_units, Pending}
 use Rattle.resb_write.proofs.NodesLemmas.{trees-drop, trees-take}
@@ -26,7 +27,7 @@ loop-at-init g c = λ t f given n. (
   omega arith,
 )
   where
-    none : (given : Given) → sum_by (own_units given) [] ≡ 0
+    none : (given : Given) → sum_by (own_units (lent_of c.args.sites.now.lent) given) [] ≡ 0
     none given = refl
 
 pub node-requires : goal.node-requires
@@ -54,7 +55,7 @@ count_own-requires g c =
       omega (
         arith,
         ap length v.3,
-        length-map v.0 (is_near r.3),
+        length-map v.0 (is_near (lent_of c.args.sites.now.lent) r.3),
         ap length p.1,
         length-append p.0 (children t),
       ),
@@ -78,14 +79,14 @@ overflow_add-count g c =
     let p = subst (Pending v.0) split v.1 in
     let k = c.in_ok-count.ensures.counts r.3 t rest p.0 fits
     (subst (GivesInTurn r.3 c.loop-at.coming.positions.now c.loop-at.coming.offsets.now) split v.2)
-    (v.3 ∙ ap (map (is_near r.3)) p.1) in
+    (v.3 ∙ ap (map (is_near (lent_of c.args.sites.now.lent) r.3)) p.1) in
     omega (
       arith,
       v.5,
       r.2,
       ap (sum_by most_units) split,
       sum_by-cons most_units t rest,
-      own_few r.3 t,
+      own_few (lent_of c.args.sites.now.lent) r.3 t,
       k.units,
     )
 
@@ -105,7 +106,7 @@ loop-at-preserved g c = λ u f given n.
     let p = subst (Pending v.0) split v.1 in
     let one = c.in_ok-count.ensures.counts given t rest p.0 fits
     (subst (GivesInTurn given c.loop-at.coming.positions.now c.loop-at.coming.offsets.now) split
-    v.2) (v.3 ∙ ap (map (is_near given)) p.1) in (
+    v.2) (v.3 ∙ ap (map (is_near (lent_of c.args.sites.now.lent) given)) p.1) in (
       p.0 ++ t ∷ [],
       p.2,
       one.left,
@@ -114,9 +115,9 @@ loop-at-preserved g c = λ u f given n.
         arith,
         v.4,
         one.units,
-        ap (sum_by (own_units given)) more,
-        sum_by-append (own_units given) done (t ∷ []),
-        sum_by-cons (own_units given) t [],
+        ap (sum_by (own_units (lent_of c.args.sites.now.lent) given)) more,
+        sum_by-append (own_units (lent_of c.args.sites.now.lent) given) done (t ∷ []),
+        sum_by-cons (own_units (lent_of c.args.sites.now.lent) given) t [],
         none given,
       ),
       omega (
@@ -124,17 +125,17 @@ loop-at-preserved g c = λ u f given n.
         v.5,
         ap (sum_by most_units) split,
         sum_by-cons most_units t rest,
-        own_few given t,
+        own_few (lent_of c.args.sites.now.lent) given t,
         one.units,
       ),
     )
   where
-    none : (given : Given) → sum_by (own_units given) [] ≡ 0
+    none : (given : Given) → sum_by (own_units (lent_of c.args.sites.now.lent) given) [] ≡ 0
     none given = refl
 
 pub returns-clause-counts : goal.returns-clause-counts
 returns-clause-counts g c = λ given t f n. (c.loop-at.invariant t f given n).4
-    ∙ ap (λ ts. c.args.pool + sum_by (own_units given) ts)
+    ∙ ap (λ ts. c.args.pool + sum_by (own_units (lent_of c.args.sites.now.lent) given) ts)
     (take_all c.loop-at.at (laying_order t)
     (omega (arith, c.loop-at-test.false, c.count-at-end.ensures (laying_order t) f)))
 

@@ -1,7 +1,7 @@
 //! Where pool bundles have keys and texts. Each row is what a pool has, a key or a text, and its
 //! place: a row more costs no proof.
 use crate::pool_maker_rows::pool_of;
-use resb_lent::{LentKeys, LentTexts};
+use resb_lent::{LentKeys, LentTexts, PlanWithPool};
 use resb_pool_bundle::PoolBundle;
 use std::alloc::Global;
 use std::test::Fail;
@@ -85,6 +85,46 @@ fn pools_have_texts_here(rt: HostRuntime) -> Result<(), Fail> {
     for (block, text, index) in TEXTS {
         let found = index_in(rt.alloc(), block, text)?;
         assert!(rt; found == index, "{text:?}");
+    }
+    Ok(())
+}
+
+/// A pool's 16-bit block, strings in laying order, their indexes beside the pool, and both limits.
+/// Over the pool of `one two three` they are those of files that ICU's compiler writes; a pool that
+/// lends nothing leaves all strings to the file.
+const PLANS: [(&[u8], &[&str], &[u32], u32, u32); 6] = [
+    (ONE_TWO_THREE, &["one two three", "x"], &[1, 3], 2, 2),
+    (ONE_TWO_THREE, &["one two three", "three"], &[1, 9], 10, 10),
+    (
+        ONE_TWO_THREE,
+        &["two three", "x", "", "three"],
+        &[5, 11, 0, 9],
+        10,
+        10,
+    ),
+    (ONE_TWO_THREE, &["", ""], &[0, 0], 0, 0),
+    (ONE_TWO_THREE, &["ab", "b", "x"], &[3, 4, 1], 0, 0),
+    (b"x\0\0\0", &["x", ""], &[1, 0], 0, 0),
+];
+
+/// Whether strings stand at these indexes over a pool with this block, with these limits.
+fn plan_is(
+    alloc: Global,
+    block: &[u8],
+    strings: &[&str],
+    indexes: &[u32],
+    limits: (u32, u32),
+) -> Result<bool, Fail> {
+    let lent = LentTexts::of(alloc, block)?;
+    let plan = PlanWithPool::of(alloc, &lent, strings)?;
+    Ok(plan.indexes.as_slice() == indexes && (plan.limit, plan.short_limit) == limits)
+}
+
+#[test]
+fn strings_stand_beside_a_pool(rt: HostRuntime) -> Result<(), Fail> {
+    for (block, strings, indexes, limit, short_limit) in PLANS {
+        let right = plan_is(rt.alloc(), block, strings, indexes, (limit, short_limit))?;
+        assert!(rt; right, "{limit} {short_limit}");
     }
     Ok(())
 }

@@ -3,6 +3,9 @@ mod Wholes
 mod Standing
 mod Listing
 mod Lying
+mod Once
+mod Beside
+mod PlanRead
 mod Sorting
 mod Read
 mod Noting

@@ -48,7 +48,7 @@ pub entry_order : IsStrictWeakOrder (λ (x y : LentRecord). is_lt (entry_cmp x y
 entry_order = ranks_by (then_total (on_total (λ (e : LentRecord). letters (text e)) end_last_total)
     (on_total (λ (e : LentRecord). e.at) later_first)) (λ (e : LentRecord). e)
 
-turned : (a b : List ℕ) (o : Ordering) → end_last_cmp a b ≡ o
+pub turned : (a b : List ℕ) (o : Ordering) → end_last_cmp a b ≡ o
     → end_last_cmp b a ≡ ordering_reverse o
 turned a b o e = end_last_total.antisymm b a ∙ ap ordering_reverse e
 

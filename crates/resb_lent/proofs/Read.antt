@@ -9,7 +9,8 @@ use Rattle.resb_lent.specs.Laws.{LentTextIsRead}
 use Rattle.resb_lent.specs.LentTexts.{Holds, StandsAt, lent_empty, lent_within}
 use Rattle.resb_lent.proofs.Standing.{read_back, held_read}
 
-at_zero : (block : List ℕ) → slice_get block 0 ≡ Some 0 → text_at block 0 ≡ Some []
+-- unit 0 of a block that begins with 0 is the empty text
+pub at_zero : (block : List ℕ) → slice_get block 0 ≡ Some 0 → text_at block 0 ≡ Some []
 at_zero [] e = absurd cc
 at_zero (x ∷ xs) e =
     let f : x ≡ 0 = cc in

@@ -4,6 +4,7 @@ pub use Rattle.resb_format.specs.Lookups
 pub use Rattle.resb_pool.specs.Plan
 pub mod LentKeys
 pub mod LentTexts
+pub mod PlanWithPool
 pub mod Entries
 pub mod Lending
 pub mod Laws

@@ -1,6 +1,7 @@
 //! The laws of what a pool bundle lends, each as the contract of a call that does nothing. Their
 //! statements stand in `specs/Laws`.
-ghost use Rattle.resb_lent.specs.Laws.{LentKeyIsTold, LentTextIsRead};
+ghost use Rattle.resb_lent.specs.Laws.{LentKeyIsTold, LentTextIsRead, OnePlace, OneIndex};
+ghost use Rattle.resb_lent.specs.Laws.{PlannedIsRead, OnePlanWith};
 
 /// A file beside the pool bundle tells a key by the place that `LentKeys::place` answers for it: a
 /// position of 32 bits by this place and 2^31, and one of 16 bits by this place counted from the
@@ -12,4 +13,24 @@ pub fn lent_key_is_told()
 /// A text is read in the pool's 16-bit block at the index that `LentTexts::index` answers for it.
 pub fn lent_text_is_read()
     ensures { LentTextIsRead }
+{}
+
+/// A pool bundle has a key first at one place.
+pub fn one_place()
+    ensures { OnePlace }
+{}
+
+/// A text has one index in a pool bundle.
+pub fn one_index()
+    ensures { OneIndex }
+{}
+
+/// A file beside the pool bundle tells each string by the index that `PlanWithPool` gives it.
+pub fn planned_is_read()
+    ensures { PlannedIsRead }
+{}
+
+/// Strings have one plan with a pool bundle.
+pub fn one_plan_with()
+    ensures { OnePlanWith }
 {}

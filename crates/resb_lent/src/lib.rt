@@ -4,8 +4,10 @@
 
 mod keys;
 pub mod laws;
+mod plan_with_pool;
 mod records;
 mod texts;
 
 pub use keys::LentKeys;
+pub use plan_with_pool::PlanWithPool;
 pub use texts::LentTexts;

@@ -1,0 +1,82 @@
+-- How the strings of a file stand that uses a pool bundle: where the pool has them, and the others
+-- in records of the file's own. (ICU's `reslist.cpp`, `uresdata.h`: string index limits.)
+--     AreLent block S os          os is what the pool has of the texts S, one answer for each
+--     lacking S os                those of S that the pool lacks
+--     short_limit_of limit own    the first index of the file's own, as a unit tells it
+--     IsPlanWith block S us is limit short     how the strings S stand
+--     NotPlannedWith block S e    the error e is the answer for the strings S
+use Rattle.std.specs.Prelude.{◌≡◌, ℕ, ◌+◌, ◌*◌, ◌/◌, ◌^◌, ◌<◌, ◌≤◌, List, [], ◌∷◌, map, max}
+use Rattle.std.specs.Prelude.{Option, Some, None, ◌&&◌, nat_le, nat_eq, if◌then◌else◌}
+use Rattle.resb_pool.specs.Plan.{IsPlan, NotPlanned}
+use Rattle.resb_pool.specs.declared.error.PlanError.{PlanError}
+use Rattle.resb_pool.specs.declared.error.PlanError.TheVariants.{TooLarge, OutOfMemory}
+use Rattle.resb_lent.specs.LentTexts.{LendsText}
+
+-- one answer for each text: its index in the pool, or none where the pool lacks it
+pub data AreLent (block : List ℕ) : List (List ℕ) → List (Option ℕ) → Type 0 where
+  lent_none : AreLent block [] []
+  lent_more : {s : List ℕ} {ss : List (List ℕ)} {o : Option ℕ} {os : List (Option ℕ)}
+      → LendsText block s o → AreLent block ss os → AreLent block (s ∷ ss) (o ∷ os)
+
+-- the texts without an index, in their order
+abbrev pub lacking : List (List ℕ) → List (Option ℕ) → List (List ℕ)
+lacking [] os = []
+lacking (s ∷ ss) [] = []
+lacking (s ∷ ss) (Some i ∷ os) = lacking ss os
+lacking (s ∷ ss) (None ∷ os) = s ∷ lacking ss os
+
+-- the indexes that there are
+abbrev pub given : List (Option ℕ) → List ℕ
+given [] = []
+given (Some i ∷ os) = i ∷ given os
+given (None ∷ os) = given os
+
+-- one more than an index, and 0 for that of the empty text, which has no place of its own
+abbrev pub behind : ℕ → ℕ
+behind i = if nat_eq i 0 then 0 else i + 1
+
+-- one more than the greatest index, and 0 where there is none but the empty text's
+abbrev pub limit_of : List ℕ → ℕ
+limit_of [] = 0
+limit_of (i ∷ is) = max (behind i) (limit_of is)
+
+-- where indexes in the pool end at a limit, and those of the file's own so many behind it: the same
+-- limit, if units can tell all of them, and else its share of the units
+abbrev pub short_limit_of : ℕ → ℕ → ℕ
+short_limit_of limit own =
+    if nat_le limit 65535 && nat_le (limit + own) 65536 then limit
+    else limit * 65535 / (limit + own)
+
+-- each text's index: in the pool, or in turn the next of the file's own, from the limit on
+abbrev pub in_turn : ℕ → List (Option ℕ) → List ℕ → List ℕ
+in_turn limit [] ks = []
+in_turn limit (Some i ∷ os) ks = i ∷ in_turn limit os ks
+in_turn limit (None ∷ os) [] = []
+in_turn limit (None ∷ os) (k ∷ ks) = (limit + k) ∷ in_turn limit os ks
+
+-- The strings that the pool has stand there, and the limit is behind the greatest index that is
+-- used. The others are planned as if there were no others, and stand from the limit on.
+pub record IsPlanWith (block : List ℕ) (S : List (List ℕ)) (us is : List ℕ) (limit short : ℕ)
+    : Type 0 where
+  pub found : List (Option ℕ)
+  pub lent : AreLent block S found
+  pub offset : List ℕ → Option ℕ
+  pub offsets : List ℕ
+  pub plan : IsPlan (lacking S found) us offset
+  pub offsets_are : map offset (lacking S found) ≡ map Some offsets
+  pub limit_is : limit ≡ limit_of (given found)
+  pub short_is : short ≡ short_limit_of limit (limit_of offsets)
+  -- indexes have 28 bits
+  pub room : limit + limit_of offsets ≤ 2 ^ 28
+  pub indexes_are : is ≡ in_turn limit found offsets
+
+-- why strings have no plan: want of memory, a fault of those that the pool lacks, or indexes of
+-- more than 28 bits
+pub data NotPlannedWith (block : List ℕ) (S : List (List ℕ)) : PlanError → Type 0 where
+  no_memory : NotPlannedWith block S OutOfMemory
+  own_fault : {e : PlanError} (found : List (Option ℕ)) → AreLent block S found
+      → NotPlanned (lacking S found) e → NotPlannedWith block S e
+  too_far : (found : List (Option ℕ)) (us offsets : List ℕ) (offset : List ℕ → Option ℕ)
+      → AreLent block S found → IsPlan (lacking S found) us offset
+      → map offset (lacking S found) ≡ map Some offsets
+      → 2 ^ 28 < limit_of (given found) + limit_of offsets → NotPlannedWith block S TooLarge

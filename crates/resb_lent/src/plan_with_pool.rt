@@ -1,0 +1,217 @@
+//! The plan of the strings of a file that uses a pool bundle: where the pool has a string, or where
+//! its record of the file's own stands.
+//! In which of its records the pool has a text is said in `texts`.
+ghost use Rattle.std.specs.Prelude.{◌≡◌, ◌+◌, ◌≤◌, ◌^◌, ◌∷◌, ◌++◌, [], ℕ, List, Option, IfOk};
+ghost use Rattle.std.specs.Prelude.{OnOk, MatchOption};
+ghost use Rattle.resb_pool.specs.Plan.{nows};
+ghost use Rattle.resb_lent.specs.Lending.{LendsTexts};
+ghost use Rattle.resb_lent.specs.PlanWithPool.{AreLent, lacking as lacking_of, given, behind};
+ghost use Rattle.resb_lent.specs.PlanWithPool.{limit_of, short_limit_of, in_turn as in_turn_of};
+
+use crate::texts::LentTexts;
+use resb_pool::PlanError;
+use resb_pool::pool::plan_in_turn;
+use std::alloc::{AllocError, Global};
+
+/// Indexes of strings have 28 bits.
+const INDEX_LIMIT: u64 = 0x1000_0000;
+
+/// The greatest number that a unit holds.
+const UNIT_MAX: u64 = 65535;
+
+/// Where the strings of a file stand that uses a pool bundle.
+#[derive(Drop)]
+pub struct PlanWithPool {
+    /// Unit 0, and the records of the file's own strings.
+    pub units: Vec<u16>,
+    /// The index of each string, in the order in which they were given.
+    pub indexes: Vec<u32>,
+    /// The first index of a string that is the file's own: one more than the greatest one in the
+    /// pool that is used.
+    pub limit: u32,
+    /// The same, as a unit tells it.
+    pub short_limit: u32,
+}
+
+/// What the pool has of each text.
+fn answers(alloc: Global, lent: &LentTexts, texts: &[&str]) -> Result<Vec<Option<u32>>, AllocError>
+    ensures { IfOk result (λ v. (block : List ℕ) → LendsTexts lent.now block
+        → AreLent block (nows texts.now) v.items) }
+{
+    let mut found = Vec::with_capacity(alloc, texts.len())?;
+    for text in texts {
+        found.push(lent.index(*text))?;
+    }
+    Ok(found)
+}
+
+/// Adds a text that the pool lacks.
+fn note_lacking<'a>(
+    own: &mut Vec<&'a str>,
+    text: &'a str,
+    answer: Option<u32>,
+) -> Result<(), AllocError>
+    ensures { OnOk result (nows own.new.items
+        ≡ nows own.old.items ++ lacking_of (text.now ∷ []) (answer ∷ [])) }
+{
+    if answer.is_none() {
+        own.push(text)?;
+    }
+    Ok(())
+}
+
+/// The texts that the pool lacks.
+fn lacking<'a>(
+    alloc: Global,
+    texts: &[&'a str],
+    found: &[Option<u32>],
+) -> Result<Vec<&'a str>, AllocError>
+    ensures { IfOk result (λ v. nows v.items ≡ lacking_of (nows texts.now) found.now) }
+{
+    let mut own = Vec::new(alloc);
+    for at in 0..texts.len().min(found.len()) {
+        note_lacking(&mut own, texts[at], found[at])?;
+    }
+    Ok(own)
+}
+
+/// One more than an index, and 0 for that of the empty text.
+fn behind_index(index: u32) -> u64
+    ensures is { result ≡ behind index }
+    ensures small { result ≤ 2 ^ 32 }
+{
+    if index == 0 { 0 } else { u64::from(index) + 1 }
+}
+
+/// The same of what the pool has of a text, and 0 where it lacks it.
+fn behind_answer(answer: Option<u32>) -> u64
+    ensures is { result ≡ limit_of (given (answer ∷ [])) }
+    ensures small { result ≤ 2 ^ 32 }
+{
+    match answer {
+        Some(index) => behind_index(index),
+        None => 0,
+    }
+}
+
+/// One more than the greatest index in the pool.
+fn lent_limit(found: &[Option<u32>]) -> u64
+    ensures is { result ≡ limit_of (given found.now) }
+    ensures small { result ≤ 2 ^ 32 }
+{
+    let mut limit = 0;
+    for answer in found {
+        limit = behind_answer(*answer).max(limit);
+    }
+    limit
+}
+
+/// One more than the greatest of the file's own offsets.
+fn own_limit(offsets: &[u32]) -> u64
+    ensures is { result ≡ limit_of offsets.now }
+    ensures small { result ≤ 2 ^ 32 }
+{
+    let mut limit = 0;
+    for offset in offsets {
+        limit = behind_index(*offset).max(limit);
+    }
+    limit
+}
+
+/// The first index of the file's own strings, as a unit tells it.
+fn short_limit(limit: u64, own: u64) -> u32
+    requires { limit + own ≤ 2 ^ 28 }
+    ensures { result ≡ short_limit_of limit own }
+{
+    if limit <= UNIT_MAX && limit + own <= UNIT_MAX + 1 {
+        return limit as u32;
+    }
+    (limit * UNIT_MAX / (limit + own)) as u32
+}
+
+/// The offsets of the file's own strings that aren't given out yet.
+#[derive(Drop)]
+struct Turns<'o> {
+    offsets: &'o [u32],
+}
+
+impl<'o> Turns<'o> {
+    /// The index of the next string, of which the pool has this: there, or, from the limit on, at
+    /// the next offset, if one is left.
+    fn next_index(&mut self, limit: u64, answer: Option<u32>) -> Option<u32>
+        requires { limit + limit_of self.old.offsets.now ≤ 2 ^ 28 }
+        ensures next { (os : List (Option ℕ)) → MatchOption result
+            (in_turn_of limit (answer ∷ os) self.old.offsets.now ≡ [])
+            (λ i. in_turn_of limit (answer ∷ os) self.old.offsets.now
+            ≡ i ∷ in_turn_of limit os self.new.offsets.now) }
+        ensures fewer { limit_of self.new.offsets.now ≤ limit_of self.old.offsets.now }
+    {
+        if let Some(index) = answer {
+            return Some(index);
+        }
+        if self.offsets.is_empty() {
+            return None;
+        }
+        let index = (limit + u64::from(self.offsets[0])) as u32;
+        self.offsets = &self.offsets[1..];
+        Some(index)
+    }
+}
+
+/// Each string's index: in the pool, or in turn the next of the file's own, from the limit on.
+fn in_turn(
+    alloc: Global,
+    limit: u64,
+    found: &[Option<u32>],
+    offsets: &[u32],
+) -> Result<Vec<u32>, AllocError>
+    requires { limit + limit_of offsets.now ≤ 2 ^ 28 }
+    ensures { IfOk result (λ v. v.items ≡ in_turn_of limit found.now offsets.now) }
+{
+    let mut indexes = Vec::with_capacity(alloc, found.len())?;
+    let mut turns = Turns { offsets };
+    'answers: for answer in found {
+        let Some(index) = turns.next_index(limit, *answer) else {
+            break 'answers;
+        };
+        indexes.push(index)?;
+    }
+    Ok(indexes)
+}
+
+impl PlanWithPool {
+    ghost use Rattle.std.specs.Prelude.{ℕ, List, IfOk, IfErr};
+    ghost use Rattle.resb_pool.specs.Plan.{nows};
+    ghost use Rattle.resb_lent.specs.Lending.{LendsTexts};
+    ghost use Rattle.resb_lent.specs.PlanWithPool.{IsPlanWith, NotPlannedWith};
+
+    /// Plans strings, each of which may be given more than once. Those that the pool has stand
+    /// there, and the others have records of the file's own, as `resb_pool` plans them. (ICU's
+    /// `uresdata.h`: pool bundles of version 3.0.)
+    ///
+    /// Refused is what is refused of the file's own strings, and, as `TooLarge`, indexes of more
+    /// than 28 bits.
+    pub fn of(alloc: Global, lent: &LentTexts, strings: &[&str]) -> Result<PlanWithPool, PlanError>
+        ensures ok { IfOk result (λ p. (block : List ℕ) → LendsTexts lent.now block
+            → IsPlanWith block (nows strings.now) p.units.items p.indexes.items p.limit
+            p.short_limit) }
+        ensures err { IfErr result (λ e. (block : List ℕ) → LendsTexts lent.now block
+            → NotPlannedWith block (nows strings.now) e) }
+    {
+        let found = answers(alloc, lent, strings)?;
+        let own = lacking(alloc, strings, &found)?;
+        let (units, offsets) = plan_in_turn(alloc, own)?;
+        let limit = lent_limit(&found);
+        let own_limit = own_limit(&offsets);
+        if limit + own_limit > INDEX_LIMIT {
+            return Err(PlanError::TooLarge);
+        }
+        let indexes = in_turn(alloc, limit, &found, &offsets)?;
+        Ok(PlanWithPool {
+            units,
+            indexes,
+            limit: limit as u32,
+            short_limit: short_limit(limit, own_limit),
+        })
+    }
+}

@@ -6,6 +6,7 @@ mod Lying
 mod Once
 mod Beside
 mod PlanRead
+mod ReadBeside
 mod Sorting
 mod Read
 mod Noting

@@ -44,6 +44,16 @@ index_below i is = elim (cases_lt 0 i) [
   | inr h ↦ inl (omega (arith, h))
 ]
 
+-- a pool that has a string which isn't empty begins with 0
+pub lent_begins : (block : List ℕ) (S : List (List ℕ)) (os : List (Option ℕ)) → AreLent block S os
+    → 0 < limit_of (given os) → slice_get block 0 ≡ Some 0
+lent_begins block [] [] lent_none h = absurd (omega (arith, h))
+lent_begins block [] (o ∷ os) x h = elim x [ ]
+lent_begins block (s ∷ S) [] x h = elim x [ ]
+lent_begins block (s ∷ S) (Some i ∷ os) (lent_more a more) h = begins block s i a
+lent_begins block (s ∷ S) (None ∷ os) (lent_more a more) h =
+    lent_begins block S os more (omega (arith, h))
+
 module _ (p : Parts) (l : Lent) (us rest : List ℕ) (lent : p.lent ≡ Some l)
     (own : p.block ≡ us ++ rest) (first : text_at (us ++ rest) 0 ≡ Some []) where
   there : (i : ℕ) → text_in p i ≡ (λ (b : List ℕ × ℕ). text_at b.0 b.1)
@@ -51,11 +61,11 @@ module _ (p : Parts) (l : Lent) (us rest : List ℕ) (lent : p.lent ≡ Some l)
   unfolding text_place_by
   there i = (λ j. text_at (text_place_by (lent j) (own j) i).0 (text_place_by (lent j) (own j) i).1)
 
-  in_pool : (i : ℕ) → i < l.limit → text_in p i ≡ text_at l.block i
+  pub in_pool : (i : ℕ) → i < l.limit → text_in p i ≡ text_at l.block i
   in_pool i h = there i ∙ ap (λ b. (λ (b : List ℕ × ℕ). text_at b.0 b.1)
       (cond b (l.block, i) (us ++ rest, i - l.limit))) (lt-ltb i l.limit h)
 
-  in_own : (i : ℕ) → l.limit ≤ i → text_in p i ≡ text_at (us ++ rest) (i - l.limit)
+  pub in_own : (i : ℕ) → l.limit ≤ i → text_in p i ≡ text_at (us ++ rest) (i - l.limit)
   in_own i h = there i ∙ ap (λ b. (λ (b : List ℕ × ℕ). text_at b.0 b.1)
       (cond b (l.block, i) (us ++ rest, i - l.limit))) (le-ltb i l.limit h)
 

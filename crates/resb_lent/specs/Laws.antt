@@ -5,14 +5,20 @@
 --     OneIndex                a text has one index in a pool
 --     PlannedIsRead           each string is read at the index that a plan with a pool gives it
 --     OnePlanWith             strings have one plan with a pool
-use Rattle.std.specs.Prelude.{◌≡◌, ℕ, ◌+◌, ◌<◌, ◌≤◌, ◌^◌, List, ◌++◌, length, map, All, Some}
+--     lends_to p l            what a pool lends to a file of these parts, as short bodies tell it
+--     KeysStand p l at        keys stand among the file's own, or in the pool
+--     LentIsRead              what is told of keys and strings beside a pool is read back
+use Rattle.std.specs.Prelude.{◌≡◌, ℕ, ◌+◌, ◌%◌, ◌<◌, ◌≤◌, ◌^◌, List, ◌++◌, length, map, All}
+use Rattle.std.specs.Prelude.{Option, Some, ◌⊎◌}
 use Rattle.std.specs.Str.{IsUtf8}
 use Rattle.resb_format.specs.Lookups.{key_in, text_in}
 use Rattle.resb_format.specs.Parts.{Parts, Lent}
-use Rattle.resb_format.specs.Strings.{text_at}
+use Rattle.resb_format.specs.Strings.{text_at, key_at}
+use Rattle.resb_layout.specs.Laid.{Given, Lends}
+use Rattle.resb_layout.specs.Laws.{IsRead}
 use Rattle.resb_lent.specs.LentKeys.{StandsWhole, StandsFirst}
 use Rattle.resb_lent.specs.LentTexts.{LentText}
-use Rattle.resb_lent.specs.PlanWithPool.{IsPlanWith}
+use Rattle.resb_lent.specs.PlanWithPool.{IsPlanWith, StandAt}
 
 -- Beside a pool, a file whose own keys have positions of 31 bits tells a key that stands whole at a
 -- place of the pool's keys by the place and 2^31, and by the place counted from the end of its own
@@ -52,3 +58,27 @@ OnePlanWith =
     (block : List ℕ) (S : List (List ℕ)) (us vs is js : List ℕ) (limit other short small : ℕ)
     → IsPlanWith block S us is limit short → IsPlanWith block S vs js other small
     → (us ≡ vs) × (is ≡ js) × (limit ≡ other) × (short ≡ small)
+
+-- what a pool lends to a file of these parts, as the file's short bodies tell it: its own keys end
+-- where they do, and the limits are those of the parts
+abbrev pub lends_to : Parts → Lent → Lends
+lends_to p l =
+    record { own_end = length p.keys; limit = l.limit; short_limit = l.short_limit }
+
+-- a key that has a position is read there among the file's own keys, or its position is 2^31 and
+-- the place at which the pool has it whole
+abbrev pub KeysStand : Parts → Lent → (List ℕ → Option ℕ) → Type 0
+KeysStand p l position =
+    (k : List ℕ) (at : ℕ) → position k ≡ Some at
+    → ((at < length p.keys) × (key_at p.keys at ≡ Some k))
+    ⊎ ((n : ℕ) × (at ≡ n + 2 ^ 31) × StandsWhole l.keys k n)
+
+-- Beside the pool, a file reads back what it is given: keys that stand so, and strings at the
+-- indexes of a plan with the pool whose units its 16-bit block begins with; and it reads both as 16
+-- bits tell them, where they can.
+abbrev pub LentIsRead : Type 0
+LentIsRead =
+    (p : Parts) (l : Lent) (g : Given) (S : List (List ℕ)) (us is rest : List ℕ)
+    → p.lent ≡ Some l → length p.keys ≤ 2 ^ 31 → KeysStand p l g.position → All IsUtf8 S
+    → IsPlanWith l.block S us is l.limit l.short_limit → p.block ≡ us ++ rest
+    → StandAt S is g.offset → 0 < g.base → g.base % 4 ≡ 0 → IsRead p (Some (lends_to p l)) g

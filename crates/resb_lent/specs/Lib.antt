@@ -2,6 +2,8 @@
 pub use Rattle.resb_format.specs.Strings
 pub use Rattle.resb_format.specs.Lookups
 pub use Rattle.resb_pool.specs.Plan
+pub use Rattle.resb_layout.specs.Laid
+pub use Rattle.resb_layout.specs.Laws as LayoutLaws
 pub mod LentKeys
 pub mod LentTexts
 pub mod PlanWithPool

@@ -3,10 +3,11 @@
 --     AreLent block S os          os is what the pool has of the texts S, one answer for each
 --     lacking S os                those of S that the pool lacks
 --     short_limit_of limit own    the first index of the file's own, as a unit tells it
+--     StandAt S is offset         each index that is given is that of one of the strings S
 --     IsPlanWith block S us is limit short     how the strings S stand
 --     NotPlannedWith block S e    the error e is the answer for the strings S
 use Rattle.std.specs.Prelude.{◌≡◌, ℕ, ◌+◌, ◌*◌, ◌/◌, ◌^◌, ◌<◌, ◌≤◌, List, [], ◌∷◌, map, max}
-use Rattle.std.specs.Prelude.{Option, Some, None, ◌&&◌, nat_le, nat_eq, if◌then◌else◌}
+use Rattle.std.specs.Prelude.{Option, Some, None, ◌&&◌, nat_le, nat_eq, slice_get, if◌then◌else◌}
 use Rattle.resb_pool.specs.Plan.{IsPlan, NotPlanned}
 use Rattle.resb_pool.specs.declared.error.PlanError.{PlanError}
 use Rattle.resb_pool.specs.declared.error.PlanError.TheVariants.{TooLarge, OutOfMemory}
@@ -53,6 +54,12 @@ in_turn limit [] ks = []
 in_turn limit (Some i ∷ os) ks = i ∷ in_turn limit os ks
 in_turn limit (None ∷ os) [] = []
 in_turn limit (None ∷ os) (k ∷ ks) = (limit + k) ∷ in_turn limit os ks
+
+-- a text that has an index is one of these strings, and it is that string's
+abbrev pub StandAt : List (List ℕ) → List ℕ → (List ℕ → Option ℕ) → Type 0
+StandAt S is offset =
+    (s : List ℕ) (i : ℕ) → offset s ≡ Some i
+    → (n : ℕ) × (slice_get S n ≡ Some s) × (slice_get is n ≡ Some i)
 
 -- The strings that the pool has stand there, and the limit is behind the greatest index that is
 -- used. The others are planned as if there were no others, and stand from the limit on.

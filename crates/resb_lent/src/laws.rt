@@ -1,7 +1,7 @@
 //! The laws of what a pool bundle lends, each as the contract of a call that does nothing. Their
 //! statements stand in `specs/Laws`.
 ghost use Rattle.resb_lent.specs.Laws.{LentKeyIsTold, LentTextIsRead, OnePlace, OneIndex};
-ghost use Rattle.resb_lent.specs.Laws.{PlannedIsRead, OnePlanWith};
+ghost use Rattle.resb_lent.specs.Laws.{PlannedIsRead, OnePlanWith, LentIsRead};
 
 /// A file beside the pool bundle tells a key by the place that `LentKeys::place` answers for it: a
 /// position of 32 bits by this place and 2^31, and one of 16 bits by this place counted from the
@@ -33,4 +33,10 @@ pub fn planned_is_read()
 /// Strings have one plan with a pool bundle.
 pub fn one_plan_with()
     ensures { OnePlanWith }
+{}
+
+/// What a file beside a pool bundle tells of its keys and strings is read back, by 32 bits and by
+/// 16.
+pub fn lent_is_read()
+    ensures { LentIsRead }
 {}

@@ -1,5 +1,5 @@
 //! Where a pool bundle has the keys and the strings of a bundle that is to be written over it.
-//! What a file says of these places, and the file itself, are no matter of this crate.
+//! How a file says these places is said in `resb_layout`; the file itself is no matter of this crate.
 #![tactic(auto)]
 
 mod keys;

@@ -7,6 +7,7 @@ mod Once
 mod Beside
 mod PlanRead
 mod ReadBeside
+mod HeadRead
 mod Sorting
 mod Read
 mod Noting

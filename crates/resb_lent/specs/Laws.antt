@@ -7,18 +7,25 @@
 --     OnePlanWith             strings have one plan with a pool
 --     lends_to p l            what a pool lends to a file of these parts, as short bodies tell it
 --     KeysStand p l at        keys stand among the file's own, or in the pool
+--     HeadWithPoolIsRead      a file behind a written head is one beside its pool
 --     LentIsRead              what is told of keys and strings beside a pool is read back
-use Rattle.std.specs.Prelude.{◌≡◌, ℕ, ◌+◌, ◌%◌, ◌<◌, ◌≤◌, ◌^◌, List, ◌++◌, length, map, All}
+use Rattle.std.specs.Prelude.{◌≡◌, ℕ, ◌+◌, ◌*◌, ◌%◌, ◌<◌, ◌≤◌, ◌^◌, List, ◌++◌, length, map, All}
 use Rattle.std.specs.Prelude.{Option, Some, ◌⊎◌}
 use Rattle.std.specs.Str.{IsUtf8}
 use Rattle.resb_format.specs.Lookups.{key_in, text_in}
 use Rattle.resb_format.specs.Parts.{Parts, Lent}
 use Rattle.resb_format.specs.Strings.{text_at, key_at}
+use Rattle.resb_format.specs.Bytes.{units_as_bytes}
+use Rattle.resb_head.specs.File.{root_word}
+use Rattle.resb_pool_bundle.specs.FileWith.{IsFileWith}
+use Rattle.resb_pool_bundle.specs.Pool.{Pool, parts_with}
 use Rattle.resb_layout.specs.Laid.{Given, Lends}
 use Rattle.resb_layout.specs.Laws.{IsRead}
 use Rattle.resb_lent.specs.LentKeys.{StandsWhole, StandsFirst}
 use Rattle.resb_lent.specs.LentTexts.{LentText}
 use Rattle.resb_lent.specs.PlanWithPool.{IsPlanWith, StandAt}
+use Rattle.resb_lent.specs.HeadWithPool.{IsHead, head_bytes, parts_behind}
+use Rattle.resb_lent.specs.declared.head_with_pool.HeadWithPool.{HeadWithPool}
 
 -- Beside a pool, a file whose own keys have positions of 31 bits tells a key that stands whole at a
 -- place of the pool's keys by the place and 2^31, and by the place counted from the end of its own
@@ -82,3 +89,15 @@ LentIsRead =
     → p.lent ≡ Some l → length p.keys ≤ 2 ^ 31 → KeysStand p l g.position → All IsUtf8 S
     → IsPlanWith l.block S us is l.limit l.short_limit → p.block ≡ us ++ rest
     → StandAt S is g.offset → 0 < g.base → g.base % 4 ≡ 0 → IsRead p (Some (lends_to p l)) g
+
+-- Behind a head that is written, whole words of keys, units and a tail, as many as it says, make a
+-- file that can be read beside the pool whose checksum the head has: its root's word is the head's,
+-- and its parts are these blocks.
+abbrev pub HeadWithPoolIsRead : Type 0
+HeadWithPoolIsRead =
+    (h : HeadWithPool) (pool : Pool) (keys us tail : List ℕ) → IsHead h
+    → h.checksum ≡ pool.checksum → length keys ≡ 4 * h.key_words
+    → length us ≡ 2 * h.block_words → length tail ≡ 4 * h.tail_words → All (λ u. u < 2 ^ 16) us
+    → let file = head_bytes h ++ (keys ++ (units_as_bytes us ++ tail)) in
+    IsFileWith (Some pool) file × (root_word file ≡ h.root)
+    × (parts_with (Some pool) file ≡ parts_behind h pool keys us tail)

@@ -1,7 +1,7 @@
 //! The laws of what a pool bundle lends, each as the contract of a call that does nothing. Their
 //! statements stand in `specs/Laws`.
 ghost use Rattle.resb_lent.specs.Laws.{LentKeyIsTold, LentTextIsRead, OnePlace, OneIndex};
-ghost use Rattle.resb_lent.specs.Laws.{PlannedIsRead, OnePlanWith, LentIsRead};
+ghost use Rattle.resb_lent.specs.Laws.{PlannedIsRead, OnePlanWith, LentIsRead, HeadWithPoolIsRead};
 
 /// A file beside the pool bundle tells a key by the place that `LentKeys::place` answers for it: a
 /// position of 32 bits by this place and 2^31, and one of 16 bits by this place counted from the
@@ -39,4 +39,10 @@ pub fn one_plan_with()
 /// 16.
 pub fn lent_is_read()
     ensures { LentIsRead }
+{}
+
+/// A file whose head `HeadWithPool` wrote, with blocks of the lengths that it says, is one beside
+/// its pool bundle.
+pub fn head_with_pool_is_read()
+    ensures { HeadWithPoolIsRead }
 {}

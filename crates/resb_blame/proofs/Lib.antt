@@ -1,0 +1,3 @@
+-- Nothing for crates above.
+mod Files
+mod Gone

@@ -1,0 +1,20 @@
+use Rattle.std.proofs.Common.{◌+◌, ◌≡◌, refl, arith}
+use Rattle.std.proofs.lemmas.Result.{IfOk-weaker}
+use Rattle.resb_blame.proofs.lists.VecBlames.blame.Goals as goal
+
+pub returns-in-Ok-clause-counted : goal.returns-in-Ok-clause-counted
+returns-in-Ok-clause-counted g c =
+    let first : c.read_seq.new.walk + 1 ≡ c.args.walk.now = c.in-Ok.ensures.read.2 in
+    IfOk-weaker c.blame_members.result _ _
+    (λ u (n, each, paid). (
+      1 + n,
+      record {
+        places = c.in-Ok.seq.rest;
+        total = n;
+        are = c.in-Ok.ensures.read.0;
+        each = each;
+        count = refl;
+      },
+      omega (arith, paid, first),
+    ))
+    c.blame_members.ensures.counted

@@ -4,6 +4,7 @@
 #![tactic(auto)]
 
 pub mod binary;
+pub mod blame;
 pub mod bundle;
 pub mod diff;
 pub mod fields;

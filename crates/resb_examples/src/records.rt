@@ -4,6 +4,7 @@
 ghost use Rattle.std.specs.Prelude.{codes, ◌∷◌, []};
 
 use resb::binary::{BinaryDeserializerError, from_bytes};
+use resb::blame::{Blame, from_bytes_blaming};
 use resb::fields::{Maybe, Record, Table};
 use std::alloc::Global;
 use std::collections::BTreeMap;
@@ -44,6 +45,21 @@ pub fn digits_of(
     code: &str,
 ) -> Result<Option<i32>, BinaryDeserializerError> {
     let all: BTreeMap<&str, Table<Currency, CurrencyFields>> = from_bytes(alloc, file)?;
+    let Some(currency) = all.get(code) else {
+        return Ok(None);
+    };
+    Ok(Some(currency.0.digits))
+}
+
+/// How many digits a currency has, or what is to blame in a file that isn't one of currencies.
+pub fn digits_or_blame<'a>(
+    alloc: Global,
+    file: &'a [u8],
+    code: &str,
+) -> Result<Option<i32>, Blame<'a, 'static>> {
+    let all: BTreeMap<&str, Table<Currency, CurrencyFields>> = from_bytes_blaming(
+        alloc, file, None,
+    )?;
     let Some(currency) = all.get(code) else {
         return Ok(None);
     };

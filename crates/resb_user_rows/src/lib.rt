@@ -6,6 +6,8 @@
 #![tactic(auto)]
 
 #[cfg(test)]
+mod blame_rows;
+#[cfg(test)]
 mod page_rows;
 #[cfg(test)]
 mod record_rows;

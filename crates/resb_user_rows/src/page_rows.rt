@@ -7,7 +7,7 @@ use resb::binary::PoolBundle;
 use resb::compile;
 use resb_examples::names::{ZoneNames, language_name, language_names, zone_names};
 use resb_examples::reading::{base_by_cursor, base_by_key, base_of, names_over_a_pool};
-use resb_examples::records::digits_of;
+use resb_examples::records::{digits_of, digits_or_blame};
 use resb_examples::writing::{greeting_file, merge};
 use std::alloc::Global;
 use std::test::Fail;
@@ -131,7 +131,10 @@ fn are_read(alloc: Global) -> Result<bool, Fail> {
 fn are_records(alloc: Global) -> Result<bool, Fail> {
     let file = compile(alloc, CURRENCIES)?;
     for (code, digits) in DIGITS {
-        if digits_of(alloc, &file, code)? != digits {
+        let Ok(found) = digits_or_blame(alloc, &file, code) else {
+            return Ok(false);
+        };
+        if digits_of(alloc, &file, code)? != digits || found != digits {
             return Ok(false);
         }
     }

@@ -1,6 +1,6 @@
 //! The tests of the rows that are lines of text: what answers a row of each kind, and one loop,
 //! which is proved once. The rows and what answers them stand in the other modules.
-use crate::{record_rows, stream_rows, text_rows};
+use crate::{blame_rows, record_rows, stream_rows, text_rows};
 use std::alloc::Global;
 use std::process::Abort;
 use std::test::Fail;
@@ -9,6 +9,7 @@ use std::test::Fail;
 #[derive(Clone, Copy)]
 enum Kind {
     Records,
+    Blames,
     Zones,
     Run,
     Fault,
@@ -18,6 +19,7 @@ enum Kind {
 fn answered(alloc: Global, kind: Kind, input: &str) -> Result<String, Fail> {
     match kind {
         Kind::Records => record_rows::line_of_record(alloc, input),
+        Kind::Blames => blame_rows::line_of_blame(alloc, input),
         Kind::Zones => text_rows::line_of_zones(alloc, input),
         Kind::Run => stream_rows::line_of_run(alloc, input),
         Kind::Fault => stream_rows::line_of_fault(alloc, input),
@@ -39,6 +41,11 @@ fn records_are_read(rt: HostRuntime) -> Result<(), Fail> {
     assert_rows(&rt, rt.alloc(), Kind::Records, record_rows::RECORDS)?;
     assert_rows(&rt, rt.alloc(), Kind::Records, record_rows::UNWRITTEN)?;
     assert_rows(&rt, rt.alloc(), Kind::Records, record_rows::SHARED)
+}
+
+#[test]
+fn refusals_have_their_blames(rt: HostRuntime) -> Result<(), Fail> {
+    assert_rows(&rt, rt.alloc(), Kind::Blames, blame_rows::BLAMES)
 }
 
 #[test]

@@ -1,7 +1,10 @@
 //! Where pool bundles have keys and texts. Each row is what a pool has, a key or a text, and its
 //! place: a row more costs no proof.
+ghost use Rattle.resb_lent.specs.HeadWithPool.{IsHead};
+
 use crate::pool_maker_rows::pool_of;
-use resb_lent::{LentKeys, LentTexts, PlanWithPool};
+use resb_format::bytes::word_at;
+use resb_lent::{HeadWithPool, LentKeys, LentTexts, PlanWithPool};
 use resb_pool_bundle::PoolBundle;
 use std::alloc::Global;
 use std::test::Fail;
@@ -126,6 +129,50 @@ fn strings_stand_beside_a_pool(rt: HostRuntime) -> Result<(), Fail> {
         let right = plan_is(rt.alloc(), block, strings, indexes, (limit, short_limit))?;
         assert!(rt; right, "{limit} {short_limit}");
     }
+    Ok(())
+}
+
+/// The version's first number in a head, and its words behind 32 bytes.
+fn written_head(alloc: Global, head: &HeadWithPool) -> Result<(u8, [u32; 9]), Fail>
+    requires { IsHead head.now }
+{
+    let mut file = Vec::new(alloc);
+    head.append_to(&mut file)?;
+    let mut words = [0; 9];
+    for at in 0..9 {
+        words[at] = word_at(&file[32..], at);
+    }
+    Ok((file[16], words))
+}
+
+/// The head of a file over the pool of `one two three` with keys of its own, as ICU's compiler
+/// writes it.
+const WITH_STRINGS: HeadWithPool = HeadWithPool {
+    root: 0x2000_000f,
+    largest_table: 2,
+    is_locale_fallback_enabled: true,
+    limit: 10,
+    short_limit: 10,
+    checksum: 0xe316_10fa,
+    key_words: 2,
+    block_words: 4,
+    tail_words: 4,
+};
+
+#[test]
+fn a_head_over_a_pool_with_strings(rt: HostRuntime) -> Result<(), Fail> {
+    let words = [
+        0x2000_000f,
+        0xa08,
+        0xb,
+        0x13,
+        0x13,
+        2,
+        0xa_0004,
+        0xf,
+        0xe316_10fa,
+    ];
+    assert!(rt; written_head(rt.alloc(), &WITH_STRINGS)? == (3, words));
     Ok(())
 }
 

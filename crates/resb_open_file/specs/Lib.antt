@@ -1,0 +1,1 @@
+-- No words of its own: its contracts take them from `resb_program`.

@@ -1,0 +1,15 @@
+//! The program of docs/READING.md, which opens a file: it prints the number `base` of a zone out of
+//! `zones.res` beside it. How a file is read is shown in `resb_examples`.
+#![tactic(auto)]
+
+use resb_examples::reading::base_of;
+use std::fs;
+use std::io::{self, ErrorKind};
+
+fn main(rt: HostRuntime) -> io::Result<()> {
+    let file = fs::read(&rt, "zones.res")?;
+    match base_of(rt.alloc(), &file, "Pole") {
+        Ok(Some(base)) => println!(rt; "{base}"),
+        _ => Err(ErrorKind::InvalidData.into()),
+    }
+}

@@ -27,6 +27,12 @@
 extern "C" {
 #endif
 
+/* The version of this header. It grows where a call, an answer or a kind is added. */
+#define RESB_VERSION 1u
+
+/* The version of the header that the library was built with. */
+uint32_t resb_version(void);
+
 /* What a call answers. */
 #define RESB_OK 0u
 /* The buffer is too short: nothing was written to it, and *length is the length that is needed. */
@@ -53,7 +59,7 @@ extern "C" {
 /* The file uses a pool bundle, and none was given. */
 #define RESB_USES_POOL 9u
 /* The file's tree, the keys of its entries, its text, or what reading the text makes, would take
- * more bytes than the limit. */
+ * more bytes than the limit. Of a tree and of keys the message says how many. */
 #define RESB_OVER_LIMIT 10u
 /* The bytes that were given as a pool bundle are none. */
 #define RESB_NOT_A_POOL 11u
@@ -263,6 +269,19 @@ uint32_t resb_get_string(const uint8_t *file, size_t file_length, const uint8_t 
 uint32_t resb_get_bytes(const uint8_t *file, size_t file_length, const uint8_t *pool,
                         size_t pool_length, const uint8_t *path, size_t path_length, uint8_t *out,
                         size_t out_length, size_t *length, resb_error *error);
+
+/* Copies the key of an entry of a table at a path, as UTF-8 without a zero at its end. The entries
+ * have numbers from 0 up to the size that resb_kind tells, as they stand in the file: those that
+ * ICU and resb_compile write stand in the order of their keys' bytes. A separator and the key, put
+ * behind the path, lead to the value of the last entry of that key.
+ *
+ * RESB_OK: the key is the first *length bytes of out, and the bytes behind it are as they were.
+ * RESB_TOO_SHORT: out is as it was, and *length is the length of the key. Else out is as it was,
+ * and *length is 0: RESB_OTHER_KIND where no table stands at the path, RESB_NOT_FOUND where nothing
+ * does or the table has no such entry, or a reason of resb_kind. */
+uint32_t resb_key(const uint8_t *file, size_t file_length, const uint8_t *pool, size_t pool_length,
+                  const uint8_t *path, size_t path_length, size_t number, uint8_t *out,
+                  size_t out_length, size_t *length, resb_error *error);
 
 #ifdef __cplusplus
 }

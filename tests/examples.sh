@@ -51,7 +51,8 @@ at byte 9: expected a known escape" 'a { b { "\\q" } }' "$@" --icu
 }
 
 # path_rows LANGUAGE COMMAND..: the rows of the built example that prints what stands at paths: a
-# string, numbers, a key with a slash, a binary, what is none of these, the root, and nothing
+# string, numbers, a key with a slash, a binary, what is none of these, the root with its keys, and
+# nothing
 path_rows() {
   local language=$1
   shift
@@ -62,6 +63,11 @@ d
 01ff
 fault 13, kind 5, size 2
 fault 13, kind 2, size 5
+  b
+  list
+  n
+  raw
+  x/y
 fault 12: nothing stands at the path
 fault 12: nothing stands at the path' \
     'a { b { "c" } n:int { -5 } list:intvector { 7, -2 } "x/y" { "d" } raw:bin { 01ff } }' \
@@ -69,12 +75,13 @@ fault 12: nothing stands at the path' \
 }
 
 # pool_rows COMMAND..: the rows of the built example that shows files beside pool bundles, which are
-# those of `pools.py`
+# those of `pools.py`, and a file of `hostile.py` whose tree is large
 pool_rows() {
   python3 -B -c "
 import sys
 sys.path.insert(0, '$top/tests')
-import pools
+import hostile, pools
+open('$folder/large.res', 'wb').write(hostile.of_strings(4000).data)
 for name, words in (('pool', pools.POOL3), ('other', pools.POOL3.replace('e31610fa', 'e31610fb')),
                     ('a', pools.A3)):
     open(f'$folder/{name}.res', 'wb').write(pools.file(words))"
@@ -83,6 +90,9 @@ bundle{
     alpha{"one two three"}
     beta{"x"}
 }' '' "$@" "$folder/a.res" "$folder/pool.res"
+  expect 'C: a tree over the limit' 1 \
+    'fault 10: the tree takes 1537360 bytes, more than the limit of 1000000
+502 resources, 1 bytes of keys' '' "$@" "$folder/large.res"
   expect 'C: no pool' 1 'fault 9: the file uses a pool bundle, and none was given' '' \
     "$@" "$folder/a.res"
   expect 'C: another pool' 1 \
@@ -110,8 +120,9 @@ int main(void) {
   size_t number, count = 0;
   resb_measured measured;
   resb_error error;
-  uint32_t kind, got[20];
+  uint32_t kind, got[22];
   int32_t value;
+  if (resb_version() != RESB_VERSION) return 1;
   got[count++] = resb_check(bytes, length, &number, &error);
   got[count++] = resb_measure(bytes, length, &measured, &error);
   got[count++] = resb_dump(bytes, length, name, 1, UINT64_MAX, out, sizeof out, &number, &error);
@@ -131,6 +142,8 @@ int main(void) {
                                    &error);
     got[count++] = resb_get_bytes(bytes, length, bytes, pool, name, 0, out, sizeof out, &number,
                                   &error);
+    got[count++] = resb_key(bytes, length, bytes, pool, name, 0, 0, out, sizeof out, &number,
+                            &error);
   }
   for (size_t call = 0; call < count; call++)
     printf("%s%u", call > 0 ? " " : "", (unsigned)got[call]);
@@ -144,9 +157,10 @@ C
 status_rows() {
   local front='\030\000\332\047\024\000\000\000\000\000'
   local back='\000ResB\002\000\000\000\001\004\000\000'
-  expect 'C: characters of another size' 0 '6 6 6 6 6 6 6 6 6 6 6 6 11 11 11 11 11 11 11 11' \
+  expect 'C: characters of another size' 0 '6 6 6 6 6 6 6 6 6 6 6 6 6 11 11 11 11 11 11 11 11 11' \
     "$front\020$back" "$@"
-  expect 'C: no body' 0 '5 5 5 5 5 5 5 5 5 5 5 5 11 11 11 11 11 11 11 11' "$front\002$back" "$@"
+  expect 'C: no body' 0 '5 5 5 5 5 5 5 5 5 5 5 5 5 11 11 11 11 11 11 11 11 11' \
+    "$front\002$back" "$@"
 }
 
 # built NAME COMMAND..: whether the example is built, which counts only where it fails

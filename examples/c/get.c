@@ -1,5 +1,6 @@
 /* Compiles the text on standard input, and prints what stands at each path in its file: a string or
- * a number as it is, a binary in hexadecimal, and of all else its kind and size: get PATH.. */
+ * a number as it is, a binary in hexadecimal, and of all else its kind and size, with the keys of a
+ * table, each on a line: get PATH.. */
 #include "resb.h"
 
 #include <stdio.h>
@@ -13,6 +14,23 @@ static uint8_t text[MOST], file[MOST], out[MOST];
 static int fail(const resb_error *error) {
   printf("fault %u: %s\n", (unsigned)error->kind, (const char *)error->message);
   return 1;
+}
+
+/* Prints each key of the table at a path, which has so many entries, and gives 0, or 1 where that
+ * fails. */
+static int show_keys(size_t file_length, const char *words, size_t entries) {
+  const uint8_t *path = (const uint8_t *)words;
+  size_t length;
+  resb_error error;
+  for (size_t number = 0; number < entries; number++) {
+    if (resb_key(file, file_length, file, 0, path, strlen(words), number, out, MOST, &length,
+                 &error) != RESB_OK)
+      return fail(&error);
+    printf("  ");
+    fwrite(out, 1, length, stdout);
+    putchar('\n');
+  }
+  return 0;
 }
 
 /* Prints what stands at a path, and gives 0, or 1 where nothing does. */
@@ -49,7 +67,7 @@ static int show(size_t file_length, const char *words) {
   if (resb_kind(file, file_length, file, 0, path, path_length, &kind, &size, &error) != RESB_OK)
     return fail(&error);
   printf("kind %u, size %zu\n", (unsigned)kind, size);
-  return 0;
+  return kind == RESB_TABLE ? show_keys(file_length, words, size) : 0;
 }
 
 int main(int count, char **words) {

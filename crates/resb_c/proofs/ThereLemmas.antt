@@ -3,7 +3,7 @@ use Rattle.std.proofs.Common.{◌≡◌, ◌<◌, ℕ, List, [], Bor, Option, So
 use Rattle.std.proofs.Common.{sym, ◌∙◌, arith}
 use Rattle.std.proofs.lemmas.Option.{same_Some}
 use Rattle.resb_tree.specs.Tree.{Tree, string}
-use Rattle.resb_format.specs.Content.{Content, content_at, leaf, text_leaf}
+use Rattle.resb_format.specs.Content.{Content, Member, content_at, leaf, list, text_leaf}
 use Rattle.resb_format.specs.Denotes.{Den, den_leaf, den_list, den_entries, den_unit}
 use Rattle.resb_format.specs.Lookups.{index_in}
 use Rattle.resb_format.specs.Parts.{Parts}
@@ -92,6 +92,28 @@ no_binary p l h none = stands_other 6 p.parts p.at (leaf (leaf_tree l)) h (apart
     apart (Integer w) none = λ e. omega (arith, e)
     apart (Numbers b) none = λ e. omega (arith, e)
     apart (Alias b) none = λ e. omega (arith, e)
+
+-- a number of a vector is no table
+pub number_no_table : (p : Place) (n : ℕ) → p.at ≡ spot.Word n → IsOfOther 2 p.parts p.at
+number_no_table p n is = ((4, 0), ap (kind_from p.parts) is, λ e. omega (arith, e))
+
+-- nor is a leaf
+pub leaf_no_table : (p : Place) (l : Leaf) → content_from p.parts p.at ≡ Some (leaf (leaf_tree l))
+    → IsOfOther 2 p.parts p.at
+leaf_no_table p l h = stands_other 2 p.parts p.at (leaf (leaf_tree l)) h (apart l)
+  where
+    apart : (l : Leaf) → tree_kind (leaf_tree l) ≢ 2
+    apart (Text b) = λ e. omega (arith, e)
+    apart Empty = λ e. omega (arith, e)
+    apart (Binary b) = λ e. omega (arith, e)
+    apart (Integer w) = λ e. omega (arith, e)
+    apart (Numbers b) = λ e. omega (arith, e)
+    apart (Alias b) = λ e. omega (arith, e)
+
+-- or an array
+pub list_no_table : (p : Place) (ms : List Member) → content_from p.parts p.at ≡ Some (list ms)
+    → IsOfOther 2 p.parts p.at
+list_no_table p ms h = stands_other 2 p.parts p.at (list ms) h (λ e. omega (arith, e))
 
 of_one : {A B : Type 0} (f : A → B) (o : Option A) (a : A) (b : B) → o ≡ Some a
     → option_map f o ≡ Some b → f a ≡ b

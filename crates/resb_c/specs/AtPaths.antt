@@ -9,12 +9,14 @@
 --     integer_told r          the number as the caller gets it
 --     GivesString, GivesBytes pool file path old new r    what asking for a string or a binary
 --                             answers, and leaves in a buffer
+--     GivesKey pool file path number old new r    the same of the key of an entry
 use Rattle.std.specs.Prelude.{◌≡◌, ◌⊎◌, ◌==◌, ℕ, List, [], ◌∷◌, Option, Some, None, Result, Ok, Err}
 use Rattle.std.specs.Prelude.{ℤ, pos, IsUtf8, nat_lt, option_map, if◌then◌else◌}
 use Rattle.std.specs.List.{slice_split}
 use Rattle.resb_tree.specs.Tree.{Tree, binary, string}
-use Rattle.resb_format.specs.Content.{leaf}
+use Rattle.resb_format.specs.Content.{leaf, Member}
 use Rattle.resb_format.specs.Error.{IsWantOfMemory}
+use Rattle.resb_format.specs.Parts.{Parts}
 use Rattle.resb_format.specs.declared.error.ReadingError.{ReadingError}
 use Rattle.resb_pool_bundle.specs.FileWith.{DenotesWith}
 use Rattle.resb_walk.specs.BlockRefusals.{Says}
@@ -25,7 +27,8 @@ use Rattle.resb_path.specs.Finding.{found_at, tree_spot}
 use Rattle.resb_path.specs.InFiles.{place_at, AreFound, LeadsOnWith, AnswersPathWith}
 use Rattle.resb_program.specs.Files.{LacksPool}
 use Rattle.resb_c.specs.AtPlaces.{IsOfOther, content_from, found_kind, integer_from, kind_from}
-use Rattle.resb_c.specs.AtPlaces.{spot_refusal}
+use Rattle.resb_c.specs.AtPlaces.{spot_refusal, HasTable, HasKey, HasBadKey}
+use Rattle.resb_c.specs.AtPlaces.{LacksEntry}
 use Rattle.resb_c.specs.Calls.{Fills, IsNotUtf8}
 use Rattle.resb_c.specs.Pools.{given, IsGiven, RefusesPool}
 use Rattle.resb_c.specs.declared.fault.Fault.{Fault}
@@ -143,3 +146,31 @@ GivesString = GivesLeaf 1 string
 -- the bytes of the binary at the path are given so
 abbrev pub GivesBytes : List ℕ → List ℕ → List ℕ → List ℕ → List ℕ → Result ℕ Fault → Type 0
 GivesBytes = GivesLeaf 6 binary
+
+-- a table stands at the path, of whose entries, in the file's parts, this is so
+abbrev pub IsTableAt : List ℕ → List ℕ → List ℕ
+    → (Parts → List (ℕ × Member) → Type 0) → Type 0
+IsTableAt pool file path P =
+    (p : Place) × Leads pool file path (Some p) × HasTable p (P p.parts)
+
+-- the key of the entry of this number, from 0 on, of the table at the path is in the buffer, or
+-- would be if it had room; or the table has no such entry, or its key can't be read; or what stands
+-- there is of another kind, or it isn't told, and the buffer is as it was
+abbrev pub GivesKey
+    : List ℕ → List ℕ → List ℕ → ℕ → List ℕ → List ℕ → Result ℕ Fault → Type 0
+GivesKey pool file path number old new (Ok n) =
+    (key : List ℕ) × IsTableAt pool file path (λ p. HasKey p number key)
+    × Fills key old new (Ok n)
+GivesKey pool file path number old new (Err (TooShort n)) =
+    (key : List ℕ) × IsTableAt pool file path (λ p. HasKey p number key)
+    × Fills key old new (Err n)
+GivesKey pool file path number old new (Err OtherKind) =
+    IsOtherAt pool file path 2 × (new ≡ old)
+GivesKey pool file path number old new (Err NotFound) =
+    (FailsToLead pool file path NotFound
+    ⊎ IsTableAt pool file path (λ p. LacksEntry number)) × (new ≡ old)
+GivesKey pool file path number old new (Err (Reading e)) =
+    ((FailsToLead pool file path (Reading e) ⊎ LeadsToFault pool file path e)
+    ⊎ IsTableAt pool file path (λ p. HasBadKey p number e)) × (new ≡ old)
+GivesKey pool file path number old new (Err fault) =
+    FailsToLead pool file path fault × (new ≡ old)

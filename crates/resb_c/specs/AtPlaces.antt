@@ -6,14 +6,20 @@
 --     IsOfOther kind parts spot   what stands there is of another kind
 --     integer_from spot       the number that stands there, with its sign
 --     spot_refusal parts spot     why what stands there isn't read
-use Rattle.std.specs.Prelude.{◌≡◌, ◌≢◌, ℕ, ℤ, length, Option, Some, None, option_map}
+--     HasTable place P        a table stands there, of whose entries this is so
+--     HasKey, HasBadKey p number  the key of an entry, and why it isn't read
+use Rattle.std.specs.Prelude.{◌≡◌, ◌≢◌, ◌≤◌, ℕ, ℤ, List, ◌∷◌, length, drop, Option, Some, None}
+use Rattle.std.specs.Prelude.{option_map}
 use Rattle.resb_tree.specs.Tree.{Tree, string, alias, array, table, binary, integer, int_vector}
-use Rattle.resb_format.specs.Content.{Content, leaf, list, entry_list, content_at, text_leaf}
+use Rattle.resb_format.specs.Content.{Content, Member, leaf, list, entry_list, content_at}
+use Rattle.resb_format.specs.Content.{text_leaf}
 use Rattle.resb_format.specs.Error.{Refusal, end_of_input}
-use Rattle.resb_format.specs.Lookups.{index_in}
+use Rattle.resb_format.specs.Lookups.{index_in, key_in}
+use Rattle.resb_format.specs.declared.error.ReadingError.{ReadingError}
 use Rattle.resb_format.specs.Parts.{Parts}
-use Rattle.resb_walk.specs.BlockRefusals.{word_refusal, text_refusal_in}
+use Rattle.resb_walk.specs.BlockRefusals.{word_refusal, text_refusal_in, key_refusal_in, Says}
 use Rattle.resb_read.specs.Leaves.{signed_at}
+use Rattle.resb_read.specs.Places.{Place}
 use Rattle.resb_path.specs.Finding as finding
 use Rattle.resb_read.specs.declared.cursor.Spot.{Spot}
 use Rattle.resb_read.specs.declared.cursor.Spot.TheVariants as spot
@@ -86,3 +92,29 @@ spot_refusal p (spot.Descriptor w) = word_refusal p w
 spot_refusal p (spot.Unit u) = text_refusal_in p (index_in p u)
 spot_refusal p (spot.Word n) = end_of_input
 spot_refusal p (spot.Key k) = end_of_input
+
+-- a table stands there, of whose entries this is so
+abbrev pub HasTable : Place → (List (ℕ × Member) → Type 0) → Type 0
+HasTable p P =
+    (es : List (ℕ × Member)) × (content_from p.parts p.at ≡ Some (entry_list es)) × P es
+
+-- behind so many entries one stands whose key has this position
+abbrev pub IsBehind : List (ℕ × Member) → ℕ → ℕ → Type 0
+IsBehind es number position =
+    (member : Member) × (later : List (ℕ × Member))
+    × (drop number es ≡ (position, member) ∷ later)
+
+-- the entry behind so many others has this key
+abbrev pub HasKey : Parts → ℕ → List ℕ → List (ℕ × Member) → Type 0
+HasKey p number key es =
+    (position : ℕ) × IsBehind es number position × (key_in p position ≡ Some key)
+
+-- it has no key that can be read, as this refusal says
+abbrev pub HasBadKey : Parts → ℕ → ReadingError → List (ℕ × Member) → Type 0
+HasBadKey p number e es =
+    (position : ℕ) × IsBehind es number position × (key_in p position ≡ None)
+    × Says (key_refusal_in p position) e
+
+-- there are no more entries than so many
+abbrev pub LacksEntry : ℕ → List (ℕ × Member) → Type 0
+LacksEntry number es = length es ≤ number

@@ -7,10 +7,8 @@ use Rattle.std.specs.Prelude.{◌≡◌, ◌≤◌, ℕ, List, length, Some, Res
 use Rattle.std.specs.Prelude.{IsUtf8}
 use Rattle.resb_tree.specs.Bundle.{name_of, root_of}
 use Rattle.resb_tree.specs.declared.bundle.ResourceBundle.{ResourceBundle}
-use Rattle.resb_walk.specs.TreeBytes.{tree_bytes}
-use Rattle.resb_read.specs.Measuring.{TakesMoreOf, key_bytes}
-use Rattle.resb_read.specs.WithPool.{over}
-use Rattle.resb_program.specs.Files.{LacksPool, RefusesReading, IsBundleBeside}
+use Rattle.resb_program.specs.Files.{LacksPool, RefusesReading, IsBundleBeside, RefusesBeside}
+use Rattle.resb_program.specs.declared.errors.FileError.TheVariants as file_error
 use Rattle.resb_c.specs.Calls.{Fills, IsNotUtf8}
 use Rattle.resb_c.specs.Pools.{given, IsGiven, RefusesPool}
 use Rattle.resb_c.specs.Printing.{IsTextOf, IsPrintOf, IsLongPrint, IsUnprintable}
@@ -29,15 +27,15 @@ IsBundleToDump pool file name limit b =
     IsGiven pool × IsBundleBeside (given pool) file name (Some limit) b
 
 -- the bytes are no pool bundle, the file lacks one, the reader refuses it, or its tree or the keys
--- of its entries take more bytes than the limit
+-- of its entries take so many bytes, more than the limit
 abbrev pub HasNoBundle : List ℕ → List ℕ → ℕ → Fault → Type 0
 HasNoBundle pool file limit UsesPool = LacksPool (given pool) file
 HasNoBundle pool file limit (Pool e) = RefusesPool pool e
 HasNoBundle pool file limit (Reading e) = IsGiven pool × RefusesReading (given pool) file e
-HasNoBundle pool file limit Larger =
-    IsGiven pool × TakesMoreOf tree_bytes (over (given pool) file) limit
-HasNoBundle pool file limit LongKeys =
-    IsGiven pool × TakesMoreOf key_bytes (over (given pool) file) limit
+HasNoBundle pool file limit (Larger n most) =
+    IsGiven pool × RefusesBeside (given pool) file (Some limit) (file_error.Larger n most)
+HasNoBundle pool file limit (LongKeys n most) =
+    IsGiven pool × RefusesBeside (given pool) file (Some limit) (file_error.LongKeys n most)
 HasNoBundle pool file limit _ = ⊥
 
 -- the text is what the file's bundle is printed as under this name, which is UTF-8, so that it is a
@@ -83,7 +81,7 @@ DumpsInto form pool file name limit old new (Err (TooShort n)) =
 DumpsInto form pool file name limit old new (Err (NotUtf8 n)) = IsNotUtf8 name n × (new ≡ old)
 DumpsInto form pool file name limit old new (Err (Printing e)) =
     HasNoDump form pool file name limit e × (new ≡ old)
-DumpsInto form pool file name limit old new (Err LongText) =
-    HasLongDump form pool file name limit × (new ≡ old)
+DumpsInto form pool file name limit old new (Err (LongText most)) =
+    (most ≡ limit) × HasLongDump form pool file name limit × (new ≡ old)
 DumpsInto form pool file name limit old new (Err fault) =
     IsUtf8 name × HasNoBundle pool file limit fault × (new ≡ old)

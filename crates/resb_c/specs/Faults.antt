@@ -21,6 +21,8 @@ use Rattle.resb_compile.specs.declared.compiling.CompileError.TheVariants.{Readi
 use Rattle.resb_compile.specs.declared.compiling_icu.IcuCompileError.TheVariants as icu
 use Rattle.resb_compile.specs.Compiling as compile
 use Rattle.resb_compile.specs.CompilingIcu as compile_icu
+use Rattle.resb_program.specs.Messages.{file_message}
+use Rattle.resb_program.specs.declared.errors.FileError.TheVariants as file_error
 use Rattle.resb_c.specs.declared.compiling.CompilingFault.{CompilingFault}
 use Rattle.resb_c.specs.declared.compiling.CompilingFault.TheVariants.{Plain, Icu}
 use Rattle.resb_c.specs.declared.printing.PrintingFault.{PrintingFault}
@@ -77,9 +79,9 @@ number_of (Compiling e) = compile_number e
 number_of (the.Reading e) = file_number (kind_of e)
 number_of UsesPool = 9
 number_of (Pool e) = 11
-number_of Larger = 10
-number_of LongKeys = 10
-number_of LongText = 10
+number_of (Larger n limit) = 10
+number_of (LongKeys n limit) = 10
+number_of (LongText limit) = 10
 number_of LargerText = 10
 number_of (Printing e) = print_number e
 number_of NotFound = 12
@@ -100,9 +102,9 @@ place_of (Compiling e) = compile_place e
 place_of (the.Reading e) = 0
 place_of UsesPool = 0
 place_of (Pool e) = 0
-place_of Larger = 0
-place_of LongKeys = 0
-place_of LongText = 0
+place_of (Larger n limit) = 0
+place_of (LongKeys n limit) = 0
+place_of (LongText limit) = 0
 place_of LargerText = 0
 place_of (Printing e) = 0
 place_of NotFound = 0
@@ -118,7 +120,7 @@ abbrev pub print_message : PrintingFault → List ℕ
 print_message (printing.Plain e) = print.message_of e
 print_message (printing.Icu e) = print_icu.message_of e
 
--- the length that was wanted, the place, or what the error inside prints
+-- the length that was wanted, the place, the sizes, or what the error inside prints
 abbrev pub message_of : Fault → List ℕ
 message_of (TooShort n) =
     codes "the buffer is too short, " ++ (decimal n ++ codes " bytes are needed")
@@ -127,9 +129,10 @@ message_of (Compiling e) = compile_message e
 message_of (the.Reading e) = description_of (kind_of e) ++ (codes ": " ++ reading.message_of e)
 message_of UsesPool = codes "the file uses a pool bundle, and none was given"
 message_of (Pool e) = description_of (kind_of e) ++ (codes ": " ++ reading.message_of e)
-message_of Larger = codes "the tree takes more bytes than the limit"
-message_of LongKeys = codes "the keys of the entries take more bytes than the limit"
-message_of LongText = codes "the text takes more bytes than the limit"
+message_of (Larger n limit) = file_message (file_error.Larger n limit)
+message_of (LongKeys n limit) = file_message (file_error.LongKeys n limit)
+message_of (LongText limit) =
+    codes "the text takes more than the limit of " ++ (decimal limit ++ codes " bytes")
 message_of LargerText = codes "reading the text takes more bytes than the limit"
 message_of (Printing e) = print_message e
 message_of NotFound = codes "nothing stands at the path"

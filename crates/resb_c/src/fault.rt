@@ -6,6 +6,7 @@ ghost use Rattle.resb_c.specs.Faults.{message_of, number_of, place_of};
 use crate::compiling::CompilingFault;
 use crate::printing::PrintingFault;
 use resb_format::{BinaryDeserializerError, ErrorKind};
+use resb_program::FileError;
 use std::error::Error;
 use std::fmt;
 
@@ -20,12 +21,13 @@ pub enum Fault {
     Compiling(CompilingFault),
     /// The bytes are no file of a tree within its budget.
     Reading(BinaryDeserializerError),
-    /// The tree takes more bytes than the limit.
-    Larger,
-    /// The keys of the tree's entries take more bytes than the limit.
-    LongKeys,
-    /// The tree's text has more bytes than the limit.
-    LongText,
+    /// The tree takes so many bytes, more than the limit; none where they don't fit in 64 bits.
+    Larger { bytes: Option<u64>, limit: u64 },
+    /// The keys of the tree's entries have so many bytes, more than the limit; none where they
+    /// don't fit in 64 bits.
+    LongKeys { bytes: Option<u64>, limit: u64 },
+    /// The tree's text has more bytes than this limit.
+    LongText(u64),
     /// Reading the text makes more bytes than the limit.
     LargerText,
     /// The file uses a pool bundle, and none was given.
@@ -55,7 +57,8 @@ impl Fault {
                 _ => 5,
             },
             Fault::UsesPool => 9,
-            Fault::Larger | Fault::LongKeys | Fault::LongText | Fault::LargerText => 10,
+            Fault::Larger { .. } | Fault::LongKeys { .. } => 10,
+            Fault::LongText(_) | Fault::LargerText => 10,
             Fault::Printing(e) => e.number(),
             Fault::Pool(_) => 11,
             Fault::NotFound => 12,
@@ -88,9 +91,17 @@ impl fmt::Display for Fault {
             Fault::Reading(e) => write!(f, "{e}"),
             Fault::UsesPool => write!(f, "the file uses a pool bundle, and none was given"),
             Fault::Pool(e) => write!(f, "{e}"),
-            Fault::Larger => write!(f, "the tree takes more bytes than the limit"),
-            Fault::LongKeys => write!(f, "the keys of the entries take more bytes than the limit"),
-            Fault::LongText => write!(f, "the text takes more bytes than the limit"),
+            Fault::Larger { bytes, limit } => {
+                let (bytes, limit) = (*bytes, *limit);
+                write!(f, "{}", FileError::Larger { bytes, limit })
+            }
+            Fault::LongKeys { bytes, limit } => {
+                let (bytes, limit) = (*bytes, *limit);
+                write!(f, "{}", FileError::LongKeys { bytes, limit })
+            }
+            Fault::LongText(limit) => {
+                write!(f, "the text takes more than the limit of {limit} bytes")
+            }
             Fault::LargerText => write!(f, "reading the text takes more bytes than the limit"),
             Fault::Printing(e) => write!(f, "{e}"),
             Fault::NotFound => write!(f, "nothing stands at the path"),

@@ -82,8 +82,8 @@ pub(crate) fn count_file(alloc: Global, input: Input<'_>) -> Result<usize, Fault
     match resb_program::count_file(alloc, input.file, pool) {
         Ok((count, _)) => Ok(count),
         Err(FileError::UsesPool) => Err(Fault::UsesPool),
-        Err(FileError::Larger { .. }) => Err(Fault::Larger),
-        Err(FileError::LongKeys { .. }) => Err(Fault::LongKeys),
+        Err(FileError::Larger { bytes, limit }) => Err(Fault::Larger { bytes, limit }),
+        Err(FileError::LongKeys { bytes, limit }) => Err(Fault::LongKeys { bytes, limit }),
         Err(FileError::Reading(e)) => Err(Fault::Reading(e)),
     }
 }
@@ -96,8 +96,8 @@ pub(crate) fn measure_file(alloc: Global, input: Input<'_>) -> Result<Measured, 
     match resb_program::measure_file(alloc, input.file, pool) {
         Ok(measured) => Ok(measured),
         Err(FileError::UsesPool) => Err(Fault::UsesPool),
-        Err(FileError::Larger { .. }) => Err(Fault::Larger),
-        Err(FileError::LongKeys { .. }) => Err(Fault::LongKeys),
+        Err(FileError::Larger { bytes, limit }) => Err(Fault::Larger { bytes, limit }),
+        Err(FileError::LongKeys { bytes, limit }) => Err(Fault::LongKeys { bytes, limit }),
         Err(FileError::Reading(e)) => Err(Fault::Reading(e)),
     }
 }
@@ -117,8 +117,8 @@ fn bundle_of<'a>(
     match read_bundle(alloc, name, input.file, pool, Some(limit)) {
         Ok(bundle) => Ok(bundle),
         Err(FileError::UsesPool) => Err(Fault::UsesPool),
-        Err(FileError::Larger { .. }) => Err(Fault::Larger),
-        Err(FileError::LongKeys { .. }) => Err(Fault::LongKeys),
+        Err(FileError::Larger { bytes, limit }) => Err(Fault::Larger { bytes, limit }),
+        Err(FileError::LongKeys { bytes, limit }) => Err(Fault::LongKeys { bytes, limit }),
         Err(FileError::Reading(e)) => Err(Fault::Reading(e)),
     }
 }
@@ -141,7 +141,7 @@ pub(crate) fn dump_into(
             Ok(count) => Ok(count),
             Err(needed) => Err(Fault::TooShort(needed)),
         },
-        Ok(None) => Err(Fault::LongText),
+        Ok(None) => Err(Fault::LongText(wanted.limit)),
         Err(e) => Err(Fault::Printing(e)),
     }
 }

@@ -3,14 +3,14 @@
 ghost use Rattle.std.specs.Prelude.{Some, option_map, IfOk, IfErr};
 ghost use Rattle.resb_pool_bundle.specs.Pool.{pool_in};
 ghost use Rattle.resb_read.specs.Places.{place_of};
-ghost use Rattle.resb_c.specs.AtPaths.{FailsToLead, GivesBytes, GivesString, Leads};
+ghost use Rattle.resb_c.specs.AtPaths.{FailsToLead, GivesBytes, GivesKey, GivesString, Leads};
 ghost use Rattle.resb_c.specs.AtPaths.{TellsInteger, TellsKind};
 ghost use Rattle.resb_c.specs.Inner.Heads.{IsToldAs};
 
 use crate::fault::Fault;
 use crate::files::{Input, fill, pool_of, text_of};
 use crate::path::names_of;
-use crate::there::{bytes_there, integer_there, kind_there, units_there};
+use crate::there::{bytes_there, integer_there, key_there, kind_there, units_there};
 use resb_format::BinaryDeserializerError;
 use resb_path::find_with_pool;
 use resb_pool_bundle::{FileHead, PoolBundle};
@@ -110,4 +110,20 @@ pub(crate) fn bytes_into(
     let found = find(alloc, input, path)?;
     let bytes = bytes_there(found)?;
     fill(bytes, out).map_err(Fault::TooShort)
+}
+
+/// Copies the key of the entry of a number, of the table at a path, to the front of the buffer.
+pub(crate) fn key_into(
+    alloc: Global,
+    input: Input<'_>,
+    path: &[u8],
+    number: usize,
+    out: &mut [u8],
+) -> Result<usize, Fault>
+    ensures { GivesKey input.entry.pool.now input.entry.file.now path.now number out.old out.new
+        result }
+{
+    let found = find(alloc, input, path)?;
+    let key = key_there(found, number)?;
+    fill(key.as_bytes(), out).map_err(Fault::TooShort)
 }

@@ -7,8 +7,8 @@ ghost use Rattle.std.specs.Prelude.{◌≡◌, ℕ, ℤ, [], Result, length, min
 ghost use Rattle.resb_read.specs.declared.measuring.Measured.{Measured};
 ghost use Rattle.resb_diagnostics.specs.Location.{line_at, column_at};
 ghost use Rattle.resb_c.specs.declared.form.Form.TheVariants.{Plain, Icu};
-ghost use Rattle.resb_c.specs.AtPaths.{GivesBytes, GivesString, TellsInteger, TellsKind};
-ghost use Rattle.resb_c.specs.AtPaths.{integer_told, kind_told};
+ghost use Rattle.resb_c.specs.AtPaths.{GivesBytes, GivesKey, GivesString, TellsInteger};
+ghost use Rattle.resb_c.specs.AtPaths.{TellsKind, integer_told, kind_told};
 ghost use Rattle.resb_c.specs.Calls.{CountsFile, Reports, Tells};
 ghost use Rattle.resb_c.specs.Compiling.{CompilesInto, CompilesWithin};
 ghost use Rattle.resb_c.specs.Dumping.{DumpsInto};
@@ -27,7 +27,7 @@ mod there;
 
 use crate::compiling::{compile_into, compile_within_into};
 use crate::files::{Input, Wanted, count_file, dump_into, measure_file};
-use crate::found::{bytes_into, string_into, tell_integer, tell_kind};
+use crate::found::{bytes_into, key_into, string_into, tell_integer, tell_kind};
 use crate::report::{report, tell};
 pub use compiling::CompilingFault;
 pub use fault::Fault;
@@ -37,6 +37,14 @@ pub use printing::PrintingFault;
 pub use report::ResbError;
 use resb_diagnostics::location_of;
 use std::alloc::Global;
+
+/// The version of the header that this library has the calls of: its `RESB_VERSION`.
+#[unsafe(no_mangle)]
+pub extern "C" fn resb_version() -> u32
+    ensures { result ≡ 1 }
+{
+    1
+}
 
 /// Compiles a bundle's text to the front of `out`. `length` gets the file's length, for
 /// `RESB_TOO_SHORT` too, else 0.
@@ -351,5 +359,26 @@ pub extern "C" fn resb_get_bytes(
         × Reports r result length.new error.new }
 {
     let answer = bytes_into(alloc, Input { file, pool }, path, out);
+    report(alloc, answer, length, error)
+}
+
+/// Copies the key of an entry of the table at a path in a file to the front of `out`, as
+/// `resb_get_string` does the text of a string. Entries have numbers from 0 on, as they stand in
+/// the file. `length` gets the key's length, for `RESB_TOO_SHORT` too, else 0.
+#[unsafe(no_mangle)]
+pub extern "C" fn resb_key(
+    alloc: Global,
+    file: &[u8],
+    pool: &[u8],
+    path: &[u8],
+    number: usize,
+    out: &mut [u8],
+    length: &mut usize,
+    error: &mut ResbError,
+) -> u32
+    ensures { (r : Result ℕ Fault) × GivesKey pool.now file.now path.now number out.old out.new r
+        × Reports r result length.new error.new }
+{
+    let answer = key_into(alloc, Input { file, pool }, path, number, out);
     report(alloc, answer, length, error)
 }

@@ -1,22 +1,27 @@
-//! What stands at a place of a file: its kind, how much is in it, and a number or a leaf itself.
+//! What stands at a place of a file: its kind, how much is in it, and a number, a leaf or a key
+//! itself.
 //! Where a path leads is found in `resb_path`, what the caller is told is said in `report`.
 ghost use Rattle.std.specs.Prelude.{◌≡◌, Some, None, IfOk, IfErr, MatchResult};
 ghost use Rattle.resb_tree.specs.Tree.{binary, string};
 ghost use Rattle.resb_format.specs.Content.{leaf};
 ghost use Rattle.resb_walk.specs.BlockRefusals.{Says};
-ghost use Rattle.resb_walk.specs.Inner.Members.{content_of, leaf_tree, text_of_bytes};
+ghost use Rattle.resb_format.specs.Parts.{parts_in};
+ghost use Rattle.resb_walk.specs.Inner.Members.{content_of, keyed_members, leaf_tree};
+ghost use Rattle.resb_walk.specs.Inner.Members.{text_of_bytes};
 ghost use Rattle.resb_read.specs.Places.{place_of};
 ghost use Rattle.resb_c.specs.AtPlaces.{content_from, integer_from, kind_from, kind_number};
-ghost use Rattle.resb_c.specs.AtPlaces.{leaf_size, size_in, spot_refusal, tree_kind};
+ghost use Rattle.resb_c.specs.AtPlaces.{leaf_size, size_in, spot_refusal, tree_kind, HasKey};
+ghost use Rattle.resb_c.specs.AtPlaces.{HasTable};
+ghost use Rattle.resb_c.specs.Inner.Keys.{HasNoKey, HasNoKeyIn};
 ghost use Rattle.resb_c.specs.Inner.Leaves.{HasNoLeaf};
 
 use crate::fault::Fault;
-use resb_format::{BinaryDeserializerError, Int28, ResourceReprType};
+use resb_format::{BinaryDeserializerError, FileBlocks, Int28, ResourceReprType};
 use resb_read::{Cursor, Spot};
 use resb_walk::faults::past_end;
 use resb_walk::places::index_of;
 use resb_walk::types::readable;
-use resb_walk::{Leaf, Standing, standing_at, text_at};
+use resb_walk::{Leaf, Standing, TableParts, key_at, standing_at, text_at};
 
 /// What stands at a place of a resource. A number of a vector and a key are none.
 fn standing_there(found: Cursor<'_>) -> Result<Standing<'_>, BinaryDeserializerError>
@@ -156,5 +161,45 @@ pub(crate) fn bytes_there(found: Cursor<'_>) -> Result<&[u8], Fault>
     match leaf_there(found)? {
         Leaf::Binary(bytes) => Ok(bytes),
         _ => Err(Fault::OtherKind),
+    }
+}
+
+/// The key of the entry of a number, from 0 on, of a table.
+fn entry_key<'a>(
+    file: FileBlocks<'a>,
+    entries: TableParts<'a>,
+    number: usize,
+) -> Result<&'a str, Fault>
+    ensures ok { IfOk result (λ key.
+        HasKey (parts_in file.entry) number key.now (keyed_members entries.entry)) }
+    ensures err { IfErr result (λ e.
+        HasNoKeyIn (parts_in file.entry) number e (keyed_members entries.entry)) }
+{
+    if number >= entries.len() {
+        return Err(Fault::NotFound);
+    }
+    let Some((position, _, _)) = entries.behind(number).split() else {
+        unreachable!()
+    };
+    match key_at(file, position) {
+        Ok(key) => Ok(key),
+        Err(e) => Err(Fault::Reading(e)),
+    }
+}
+
+/// The key of the entry of a number, from 0 on, of the table at a place.
+pub(crate) fn key_there(found: Cursor<'_>, number: usize) -> Result<&str, Fault>
+    ensures ok { let p = place_of found.entry in
+        IfOk result (λ key. HasTable p (HasKey p.parts number key.now)) }
+    ensures err { IfErr result (HasNoKey (place_of found.entry) number) }
+{
+    if let Spot::Word(_) = found.spot() {
+        return Err(Fault::OtherKind);
+    }
+    match standing_there(found) {
+        Ok(Standing::Table(entries)) => entry_key(found.file(), entries, number),
+        Ok(Standing::Leaf(_)) => Err(Fault::OtherKind),
+        Ok(Standing::List(_)) => Err(Fault::OtherKind),
+        Err(e) => Err(Fault::Reading(e)),
     }
 }

@@ -1,7 +1,7 @@
 //! Compiles the text on standard input, says how large its file is, and prints it back as a text.
 //! With `--icu` both texts have ICU's form.
 //! Where paths are given, what stands at each is printed alone: a string or a number as it is, a
-//! binary in hexadecimal, and of all else its kind and size.
+//! binary in hexadecimal, and of all else its kind and size, with the keys of a table.
 mod resb;
 
 use std::io::Read;
@@ -33,7 +33,13 @@ fn said(input: resb::Input<'_>, path: &str) -> Result<String, resb::Error> {
     match resb::bytes(input, path) {
         Err(e) if e.kind == resb::OTHER_KIND => {
             let (kind, size) = resb::kind(input, path)?;
-            Ok(format!("fault {}, kind {kind}, size {size}", e.kind))
+            let mut line = format!("fault {}, kind {kind}, size {size}", e.kind);
+            if kind == resb::TABLE {
+                for number in 0..size {
+                    line = format!("{line}\n  {}", resb::key(input, path, number)?);
+                }
+            }
+            Ok(line)
         }
         answer => Ok(answer?.iter().map(|byte| format!("{byte:02x}")).collect()),
     }

@@ -43,6 +43,9 @@ const TOO_SHORT: u32 = 1;
 /// What stands at the path is of another kind.
 pub const OTHER_KIND: u32 = 13;
 
+/// The kind of a table.
+pub const TABLE: u32 = 2;
+
 extern "C" {
     fn resb_compile_within(
         text: *const u8,
@@ -151,6 +154,19 @@ extern "C" {
         pool_length: usize,
         path: *const u8,
         path_length: usize,
+        out: *mut u8,
+        out_length: usize,
+        length: *mut usize,
+        error: *mut Error,
+    ) -> u32;
+    fn resb_key(
+        file: *const u8,
+        file_length: usize,
+        pool: *const u8,
+        pool_length: usize,
+        path: *const u8,
+        path_length: usize,
+        number: usize,
         out: *mut u8,
         out_length: usize,
         length: *mut usize,
@@ -412,5 +428,45 @@ pub fn string(input: Input<'_>, path: &str) -> Result<String, Error> {
     let (length, _) = string_to(input, path, &mut [])?;
     let mut text = vec![0; length];
     string_to(input, path, &mut text)?;
+    Ok(String::from_utf8_lossy(&text).into_owned())
+}
+
+/// Copies the key of an entry of the table at a path to the buffer: its length, and whether it
+/// fitted.
+fn key_to(
+    input: Input<'_>,
+    path: &str,
+    number: usize,
+    out: &mut [u8],
+) -> Result<(usize, bool), Error> {
+    let Input { file, pool } = input;
+    let (mut length, mut error) = (0, Error::none());
+    let status = unsafe {
+        resb_key(
+            file.as_ptr(),
+            file.len(),
+            pool.as_ptr(),
+            pool.len(),
+            path.as_ptr(),
+            path.len(),
+            number,
+            out.as_mut_ptr(),
+            out.len(),
+            &mut length,
+            &mut error,
+        )
+    };
+    match status {
+        OK => Ok((length, true)),
+        TOO_SHORT => Ok((length, false)),
+        _ => Err(error),
+    }
+}
+
+/// The key of the entry of a number, from 0 on, of the table at a path.
+pub fn key(input: Input<'_>, path: &str, number: usize) -> Result<String, Error> {
+    let (length, _) = key_to(input, path, number, &mut [])?;
+    let mut text = vec![0; length];
+    key_to(input, path, number, &mut text)?;
     Ok(String::from_utf8_lossy(&text).into_owned())
 }

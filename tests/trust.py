@@ -194,7 +194,7 @@ class Specs:
 
 
 # Files of specs/ that hold proofs of laws, and say nothing to be trusted.
-PROOFS = ("TypeLaws", "ZoneLaws", "FieldLaws", "EqualityLemmas")
+PROOFS = ("TypeLaws", "ZoneLaws", "FieldLaws", "EqualityLemmas", "Pointing")
 
 CLAUSE = re.compile(r"^\s*(?:pub )?(ensures|requires|ghost)\b\s*([a-z_]*)")
 

@@ -3,3 +3,4 @@
 //! How types are read is in `binary` and `fields`.
 
 pub use resb_blame::{Blame, Blames, BlamesField, BlamesFields, Whole, from_bytes_blaming};
+pub use resb_diff::PathStep;

@@ -37,7 +37,7 @@ impl<'de, 'm> Blame<'de, 'm> {
     ghost use Rattle.std.specs.Prelude.{◌≡◌, ◌⊎◌, ◌∷◌, [], Some, None, map, option_map, IfOk};
     ghost use Rattle.resb_diff.specs.Paths.{step_of};
     ghost use Rattle.resb_format.specs.Error.{IsWantOfMemory};
-    ghost use Rattle.resb_blame.specs.Blamed.{Blamed, IsUnder};
+    ghost use Rattle.resb_blame.specs.Blamed.{Blamed, IsUnder, IsHere};
 
     /// The resource itself, as a whole.
     pub fn whole(alloc: Global, error: ReadingError<'m>) -> Blame<'de, 'm>
@@ -62,12 +62,16 @@ impl<'de, 'm> Blame<'de, 'm> {
     }
 
     /// The same, seen from outside of what it was seen from: one step more leads to it. Where there
-    /// is no memory for the step, want of memory is to blame.
+    /// is no memory for the step, want of memory is to blame, without a path or a field.
     pub fn under(mut self, step: PathStep<'de>) -> Blame<'de, 'm>
-        ensures { IsUnder (step_of step.entry) self.entry result ⊎ IsWantOfMemory result.error }
+        ensures leads { IsUnder (step_of step.entry) self.entry result
+            ⊎ IsWantOfMemory result.error }
+        ensures alone { IsUnder (step_of step.entry) self.entry result ⊎ IsHere result }
     {
         if let Err(full) = self.steps.push(step) {
             self.error = ReadingError::from(full);
+            self.steps.clear();
+            self.field = None;
         }
         self
     }

@@ -199,7 +199,9 @@ impl<
     H: BlamesField<'de>,
     I: BlamesField<'de>,
 > BlamesFields<'de> for (A, B, C, D, E, F, G, H, I) {
-    ghost blames = { ⟦<(A, (B, (C, (D, (E, (F, (G, (H, (I, ()))))))))) as BlamesChain<'de>>⟧.blames };
+    ghost blames = { λ names.
+        ⟦<(A, (B, (C, (D, (E, (F, (G, (H, (I, ()))))))))) as BlamesChain<'de>>⟧.blames
+        names };
 
     ghost points = { points_next A.counts A.points (points_next B.counts B.points
         (points_next C.counts C.points (points_next D.counts D.points (points_next E.counts E.points
@@ -231,7 +233,9 @@ impl<
     I: BlamesField<'de>,
     J: BlamesField<'de>,
 > BlamesFields<'de> for (A, B, C, D, E, F, G, H, I, J) {
-    ghost blames = { ⟦<(A, (B, (C, (D, (E, (F, (G, (H, (I, (J, ())))))))))) as BlamesChain<'de>>⟧.blames };
+    ghost blames = { λ names.
+        ⟦<(A, (B, (C, (D, (E, (F, (G, (H, (I, (J, ())))))))))) as BlamesChain<'de>>⟧.blames
+        names };
 
     ghost points = { points_next A.counts A.points (points_next B.counts B.points
         (points_next C.counts C.points (points_next D.counts D.points (points_next E.counts E.points

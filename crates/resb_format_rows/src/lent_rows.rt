@@ -1,5 +1,5 @@
-//! Where pool bundles have keys and texts. Each row is what a pool has, a key or a text, and its
-//! place: a row more costs no proof.
+//! Where pool bundles have keys and texts, how strings are planned beside one, and a head over one.
+//! Each row is what a pool has, a key or a text, and its place: a row more costs no proof.
 ghost use Rattle.resb_lent.specs.HeadWithPool.{IsHead};
 
 use crate::pool_maker_rows::pool_of;

@@ -1,4 +1,5 @@
--- The words of the contracts: where a pool bundle has a key, and where it has a text.
+-- The words of the contracts: where a pool bundle has a key or a text, how strings are planned
+-- beside it, the head of a file over it, and the laws of these.
 pub use Rattle.resb_format.specs.Strings
 pub use Rattle.resb_format.specs.Lookups
 pub use Rattle.resb_pool.specs.Plan

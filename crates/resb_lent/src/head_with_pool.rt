@@ -18,6 +18,7 @@ pub struct HeadWithPool {
     pub root: u32,
     /// The number of entries of the largest table.
     pub largest_table: u32,
+    /// Whether fallback is on.
     pub is_locale_fallback_enabled: bool,
     /// The first index of a string that is the file's own.
     pub limit: u32,

@@ -1,5 +1,6 @@
-//! Where a pool bundle has the keys and the strings of a bundle that is to be written over it.
-//! How a file tells these places is said in `resb_layout`; no file is put together here.
+//! What a file over a pool bundle takes from it: where the pool has the keys and the strings of a
+//! bundle, the plan of the strings that it lacks, and the head that tells both limits.
+//! How bodies tell these places is said in `resb_layout`; no body is laid here.
 #![tactic(auto)]
 
 mod head_with_pool;

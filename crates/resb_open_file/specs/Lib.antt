@@ -1,1 +1,1 @@
--- No words of its own: its contracts take them from `resb_program`.
+-- No words of its own.

@@ -9,6 +9,7 @@ use Rattle.resb_lent.specs.LentTexts.{StandsAt, Reaches, Holds}
 use Rattle.resb_lent.specs.Entries.{pairs}
 use Rattle.resb_lent.specs.declared.records.LentRecord.{LentRecord}
 
+-- the record of a text that stands at this unit of the block
 pub record IsRecordAt (block : List ℕ) (at : ℕ) (e : LentRecord) : Type 0 where
   pub stands : StandsAt block at (string_bytes e.text)
   pub place : e.at ≡ at
@@ -19,6 +20,7 @@ pub record IsListed (block : List ℕ) (e : LentRecord) : Type 0 where
   pub reached : Reaches block 1 e.at
   pub own : IsRecordAt block e.at e
 
+-- the list has each record that is reached from unit 1 on, and no other
 pub record ListsRecords (block : List ℕ) (es : List LentRecord) : Type 0 where
   pub sound : All (IsListed block) es
   pub complete : (r : List ℕ) (at : ℕ) → Reaches block 1 at → StandsAt block at r

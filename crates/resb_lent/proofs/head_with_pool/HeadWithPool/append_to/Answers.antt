@@ -15,7 +15,8 @@ pub returns : goal.returns
 returns c =
     let head = header_with (version_with c.args.self.now.limit) in
     on_ok_weaker c.append_to.result (λ h.
-    three c.args.file.now.items head _ (words (index_words c.index-index.result)) c.in_ok-append_header.ensures
+    three c.args.file.now.items head _ (words (index_words c.index-index.result))
+    c.in_ok-append_header.ensures
     c.in_ok-extend_from_slice.ensures.items h
     ∙ ap (λ l. c.args.file.now.items ++ (head ++ (l ++ words (index_words c.index-index.result))))
     c.to_le_bytes.ensures

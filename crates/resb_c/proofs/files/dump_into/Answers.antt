@@ -66,7 +66,7 @@ returns-in-Ok-None c =
           c.in_ok-name.ensures.ok.0 c.in_ok-bundle.ensures.ok;
       long = at.exact;
     } in
-    (refl, (long, refl))
+    (refl, long, refl)
 
 pub returns : goal.returns
 returns c =

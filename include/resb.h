@@ -28,7 +28,7 @@ extern "C" {
 #endif
 
 /* The version of this header. It grows where a call, an answer or a kind is added. */
-#define RESB_VERSION 1u
+#define RESB_VERSION 2u
 
 /* The version of the header that the library was built with. */
 uint32_t resb_version(void);
@@ -58,8 +58,8 @@ uint32_t resb_version(void);
 #define RESB_NO_MEMORY 8u
 /* The file uses a pool bundle, and none was given. */
 #define RESB_USES_POOL 9u
-/* The file's tree, the keys of its entries, its text, or what reading the text makes, would take
- * more bytes than the limit. Of a tree and of keys the message says how many. */
+/* The file's tree, the keys of its entries, its text or JSON, or what reading a text makes, would
+ * take more bytes than the limit. Of a tree and of keys the message says how many. */
 #define RESB_OVER_LIMIT 10u
 /* The bytes that were given as a pool bundle are none. */
 #define RESB_NOT_A_POOL 11u
@@ -209,6 +209,29 @@ uint32_t resb_dump_icu_with_pool(const uint8_t *file, size_t file_length, const 
                                  size_t pool_length, const uint8_t *name, size_t name_length,
                                  uint64_t limit, uint8_t *out, size_t out_length, size_t *length,
                                  resb_error *error);
+
+/* Prints a file's tree as JSON, without blanks and with no line feed at its end. A table is an
+ * object, whose members stand in the order of their keys' bytes; an array and a vector are arrays;
+ * a string is a string, and a number stands with its sign. Other kinds are objects of one member: a
+ * binary is {"binary":"00ff"}, with two hex digits for each byte, and an alias {"alias":"/a/b"},
+ * with its path as it stands. The name of the bundle and its fallback flag are not in it. The limit
+ * is that of resb_dump, for the tree, for its keys and for the JSON, and so are the answers, but
+ * RESB_NOT_UTF8 and RESB_NOT_PRINTABLE: each tree has its JSON.
+ *
+ * RESB_OK: the JSON is the first *length bytes of out, with no zero behind it, and the bytes behind
+ * it are as they were. RESB_TOO_SHORT: out is as it was, and *length is the length of the JSON.
+ * Else out is as it was, and *length is 0: the reasons of resb_check, RESB_OVER_LIMIT. */
+uint32_t resb_dump_json(const uint8_t *file, size_t file_length, uint64_t limit, uint8_t *out,
+                        size_t out_length, size_t *length, resb_error *error);
+
+/* Prints a file's tree as resb_dump_json does, beside a pool bundle of pool_length bytes. A length
+ * of 0 says that there is none. Nothing of the pool is kept.
+ *
+ * RESB_OK, RESB_TOO_SHORT: as resb_dump_json. Else out is as it was, and *length is 0: the reasons
+ * of resb_check_with_pool, RESB_OVER_LIMIT. */
+uint32_t resb_dump_json_with_pool(const uint8_t *file, size_t file_length, const uint8_t *pool,
+                                  size_t pool_length, uint64_t limit, uint8_t *out,
+                                  size_t out_length, size_t *length, resb_error *error);
 
 /* Paths. The calls below look at what stands at a path in a file, beside a pool bundle of
  * pool_length bytes; a length of 0 says that there is none. Nothing is kept between two calls: each

@@ -45,6 +45,10 @@ at byte 6: expected '}'" 'a {\n  ' "$@"
 bundle{
     b{"\""}
 }' 'a { b { "" "\\"" } } // of two pieces' "$@" --icu
+  expect "$language: JSON" 0 '160 bytes, 8 resources, 5 entries
+{"b":"c\td","list":["x","y"],"n":-5,"raw":{"binary":"01ff"},"v":[7,-2]}' \
+    'a { v:intvector { 7, -2 } n:int { -5 } b { "c\td" } list { "x", "y" } raw:bin { 01ff } }' \
+    "$@" --json
   expect "$language: no bundle of ICU's form" 1 \
     "1:10: fault 3: Parse error while reading ICU text:
 at byte 9: expected a known escape" 'a { b { "\\q" } }' "$@" --icu
@@ -90,6 +94,11 @@ bundle{
     alpha{"one two three"}
     beta{"x"}
 }' '' "$@" "$folder/a.res" "$folder/pool.res"
+  expect 'C: JSON over a pool' 0 '3 resources, 9 bytes of keys
+{"alpha":"one two three","beta":"x"}' '' "$@" --json "$folder/a.res" "$folder/pool.res"
+  expect 'C: JSON of a tree over the limit' 1 \
+    'fault 10: the tree takes 1537360 bytes, more than the limit of 1000000
+502 resources, 1 bytes of keys' '' "$@" --json "$folder/large.res"
   expect 'C: a tree over the limit' 1 \
     'fault 10: the tree takes 1537360 bytes, more than the limit of 1000000
 502 resources, 1 bytes of keys' '' "$@" "$folder/large.res"
@@ -104,8 +113,8 @@ bundle{
 }
 
 # write_statuses FILE: the program that asks each call that takes a file about the bytes of standard
-# input: check, measure and dump, in either form; the same beside no pool bundle, and what stands at
-# the root; and where these are the pool too
+# input: check, measure and dump, in either form and as JSON; the same beside no pool bundle, and
+# what stands at the root; and where these are the pool too
 write_statuses() {
   cat > "$1" << 'C'
 #include "resb.h"
@@ -120,7 +129,7 @@ int main(void) {
   size_t number, count = 0;
   resb_measured measured;
   resb_error error;
-  uint32_t kind, got[22];
+  uint32_t kind, got[25];
   int32_t value;
   if (resb_version() != RESB_VERSION) return 1;
   got[count++] = resb_check(bytes, length, &number, &error);
@@ -128,6 +137,7 @@ int main(void) {
   got[count++] = resb_dump(bytes, length, name, 1, UINT64_MAX, out, sizeof out, &number, &error);
   got[count++] =
       resb_dump_icu(bytes, length, name, 1, UINT64_MAX, out, sizeof out, &number, &error);
+  got[count++] = resb_dump_json(bytes, length, UINT64_MAX, out, sizeof out, &number, &error);
   for (size_t pools = 0; pools < 2; pools++) {
     size_t pool = pools * length;
     got[count++] = resb_check_with_pool(bytes, length, bytes, pool, &number, &error);
@@ -136,6 +146,8 @@ int main(void) {
                                        sizeof out, &number, &error);
     got[count++] = resb_dump_icu_with_pool(bytes, length, bytes, pool, name, 1, UINT64_MAX, out,
                                            sizeof out, &number, &error);
+    got[count++] = resb_dump_json_with_pool(bytes, length, bytes, pool, UINT64_MAX, out, sizeof out,
+                                            &number, &error);
     got[count++] = resb_kind(bytes, length, bytes, pool, name, 0, &kind, &number, &error);
     got[count++] = resb_get_integer(bytes, length, bytes, pool, name, 0, &value, &error);
     got[count++] = resb_get_string(bytes, length, bytes, pool, name, 0, out, sizeof out, &number,
@@ -157,9 +169,10 @@ C
 status_rows() {
   local front='\030\000\332\047\024\000\000\000\000\000'
   local back='\000ResB\002\000\000\000\001\004\000\000'
-  expect 'C: characters of another size' 0 '6 6 6 6 6 6 6 6 6 6 6 6 6 11 11 11 11 11 11 11 11 11' \
+  local pools='11 11 11 11 11 11 11 11 11 11'
+  expect 'C: characters of another size' 0 "6 6 6 6 6 6 6 6 6 6 6 6 6 6 6 $pools" \
     "$front\020$back" "$@"
-  expect 'C: no body' 0 '5 5 5 5 5 5 5 5 5 5 5 5 5 11 11 11 11 11 11 11 11 11' \
+  expect 'C: no body' 0 "5 5 5 5 5 5 5 5 5 5 5 5 5 5 5 $pools" \
     "$front\002$back" "$@"
 }
 

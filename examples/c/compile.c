@@ -1,5 +1,5 @@
 /* Compiles the text on standard input, says how large the file is, and prints it back as a text.
- * With --icu both texts have ICU's form. */
+ * With --icu both texts have ICU's form; with --json it is printed back as JSON. */
 #include "resb.h"
 
 #include <stdio.h>
@@ -22,14 +22,15 @@ static int fail_at(const uint8_t *text, size_t length, const resb_error *error) 
   return fail(error);
 }
 
-/* whether the texts have ICU's form */
-static int is_icu = 0;
+/* whether the texts have ICU's form, and whether JSON is printed in place of a text */
+static int is_icu = 0, is_json = 0;
 
 /* Prints a file to out. */
 static uint32_t dump(const uint8_t *file, size_t file_length, uint8_t *out, size_t out_length,
                      size_t *length, resb_error *error) {
   static const uint8_t name[] = "bundle";
   const size_t name_length = sizeof name - 1;
+  if (is_json) return resb_dump_json(file, file_length, LIMIT, out, out_length, length, error);
   if (is_icu)
     return resb_dump_icu(file, file_length, name, name_length, LIMIT, out, out_length, length,
                          error);
@@ -44,7 +45,7 @@ static uint32_t compile(const uint8_t *text, size_t text_length, uint8_t *out, s
   return resb_compile_within(text, text_length, LIMIT, out, out_length, length, error);
 }
 
-/* The text of a file, of *length bytes, or null. */
+/* The text of a file, or its JSON, of *length bytes, or null. */
 static uint8_t *text_of(const uint8_t *file, size_t file_length, size_t *length,
                         resb_error *error) {
   uint8_t none;
@@ -76,6 +77,7 @@ int main(int count, char **words) {
   resb_error error;
   size_t text_length = fread(text, 1, sizeof text, stdin);
   is_icu = count > 1 && strcmp(words[1], "--icu") == 0;
+  is_json = count > 1 && strcmp(words[1], "--json") == 0;
 
   /* the first call tells how much room the file needs */
   if (compile(text, text_length, &none, 0, &length, &error) != RESB_TOO_SHORT)

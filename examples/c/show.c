@@ -1,8 +1,10 @@
-/* Prints a file as a text, beside the pool bundle that it uses, if it uses one: show FILE [POOL] */
+/* Prints a file as a text, or as JSON, beside the pool bundle that it uses, if it uses one:
+ * show [--json] FILE [POOL] */
 #include "resb.h"
 
 #include <stdio.h>
 #include <stdlib.h>
+#include <string.h>
 
 /* the most bytes that a tree may take, and its text */
 #define LIMIT 1000000u
@@ -31,6 +33,9 @@ static size_t read_file(const char *name, uint8_t *bytes) {
 
 int main(int count, char **words) {
   static const uint8_t name[] = "bundle";
+  int as_json = count > 1 && strcmp(words[1], "--json") == 0;
+  count -= as_json;
+  words += as_json;
   if (count < 2) return 2;
   size_t file_length = read_file(words[1], file);
   /* a length of 0 says that there is no pool bundle */
@@ -44,9 +49,13 @@ int main(int count, char **words) {
   printf("%zu resources, %zu bytes of keys\n", resources, (size_t)measured.key_bytes);
   uint8_t *text = malloc(LIMIT);
   if (text == NULL) return 2;
+  uint32_t answer =
+      as_json ? resb_dump_json_with_pool(file, file_length, pool, pool_length, LIMIT, text, LIMIT,
+                                         &length, &error)
+              : resb_dump_with_pool(file, file_length, pool, pool_length, name, sizeof name - 1,
+                                    LIMIT, text, LIMIT, &length, &error);
   int status = 0;
-  if (resb_dump_with_pool(file, file_length, pool, pool_length, name, sizeof name - 1, LIMIT, text,
-                          LIMIT, &length, &error) == RESB_OK)
+  if (answer == RESB_OK)
     fwrite(text, 1, length, stdout);
   else
     status = fail(&error);

@@ -5,6 +5,7 @@ pub mod Calls
 pub mod Compiling
 pub mod Printing
 pub mod Dumping
+pub mod JsonDumping
 pub mod Measures
 pub mod AtPlaces
 pub mod AtPaths

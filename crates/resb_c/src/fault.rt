@@ -26,7 +26,7 @@ pub enum Fault {
     /// The keys of the tree's entries have so many bytes, more than the limit; none where they
     /// don't fit in 64 bits.
     LongKeys { bytes: Option<u64>, limit: u64 },
-    /// The tree's text has more bytes than this limit.
+    /// The tree's text, or its JSON, has more bytes than this limit.
     LongText(u64),
     /// Reading the text makes more bytes than the limit.
     LargerText,

@@ -103,7 +103,7 @@ pub(crate) fn measure_file(alloc: Global, input: Input<'_>) -> Result<Measured, 
 }
 
 /// A file's bundle, whose tree takes no more bytes than the limit, nor do the keys of its entries.
-fn bundle_of<'a>(
+pub(crate) fn bundle_of<'a>(
     alloc: Global,
     name: &'a str,
     input: Input<'a>,

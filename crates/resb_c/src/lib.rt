@@ -1,6 +1,6 @@
 //! The library for C, whose header is `include/resb.h`: each call hands the caller's buffers on,
 //! and writes its status, a length and an error where the caller wants them. What is done over the
-//! bytes is in `compiling`, `files` and `found`, why a call fails in `fault`.
+//! bytes is in `compiling`, `files`, `json` and `found`, why a call fails in `fault`.
 #![tactic(auto)]
 
 ghost use Rattle.std.specs.Prelude.{◌≡◌, ℕ, ℤ, [], Result, length, min};
@@ -12,6 +12,7 @@ ghost use Rattle.resb_c.specs.AtPaths.{TellsKind, integer_told, kind_told};
 ghost use Rattle.resb_c.specs.Calls.{CountsFile, Reports, Tells};
 ghost use Rattle.resb_c.specs.Compiling.{CompilesInto, CompilesWithin};
 ghost use Rattle.resb_c.specs.Dumping.{DumpsInto};
+ghost use Rattle.resb_c.specs.JsonDumping.{DumpsJsonInto};
 ghost use Rattle.resb_c.specs.Measures.{MeasuresFile, ShowsSums};
 
 mod compiling;
@@ -19,6 +20,7 @@ mod fault;
 mod files;
 mod form;
 mod found;
+mod json;
 mod measured;
 mod path;
 mod printing;
@@ -28,6 +30,7 @@ mod there;
 use crate::compiling::{compile_into, compile_within_into};
 use crate::files::{Input, Wanted, count_file, dump_into, measure_file};
 use crate::found::{bytes_into, key_into, string_into, tell_integer, tell_kind};
+use crate::json::dump_json_into;
 use crate::report::{report, tell};
 pub use compiling::CompilingFault;
 pub use fault::Fault;
@@ -41,9 +44,9 @@ use std::alloc::Global;
 /// The version of the header that this library has the calls of: its `RESB_VERSION`.
 #[unsafe(no_mangle)]
 pub extern "C" fn resb_version() -> u32
-    ensures { result ≡ 1 }
+    ensures { result ≡ 2 }
 {
-    1
+    2
 }
 
 /// Compiles a bundle's text to the front of `out`. `length` gets the file's length, for
@@ -275,6 +278,43 @@ pub extern "C" fn resb_dump_icu_with_pool(
         Wanted { form, name, limit },
         out,
     );
+    report(alloc, answer, length, error)
+}
+
+/// Prints a file's tree as JSON to the front of `out`, without blanks. `length` gets the JSON's
+/// length, for `RESB_TOO_SHORT` too, else 0. A tree that takes more bytes than the limit is refused
+/// before it is made, as are keys that do, and so is JSON that has more bytes.
+#[unsafe(no_mangle)]
+pub extern "C" fn resb_dump_json(
+    alloc: Global,
+    file: &[u8],
+    limit: u64,
+    out: &mut [u8],
+    length: &mut usize,
+    error: &mut ResbError,
+) -> u32
+    ensures { (r : Result ℕ Fault) × DumpsJsonInto [] file.now limit out.old out.new r
+        × Reports r result length.new error.new }
+{
+    resb_dump_json_with_pool(alloc, file, &[], limit, out, length, error)
+}
+
+/// Prints a file's tree as `resb_dump_json` does, beside the pool bundle of these bytes. None is
+/// given where there are no bytes.
+#[unsafe(no_mangle)]
+pub extern "C" fn resb_dump_json_with_pool(
+    alloc: Global,
+    file: &[u8],
+    pool: &[u8],
+    limit: u64,
+    out: &mut [u8],
+    length: &mut usize,
+    error: &mut ResbError,
+) -> u32
+    ensures { (r : Result ℕ Fault) × DumpsJsonInto pool.now file.now limit out.old out.new r
+        × Reports r result length.new error.new }
+{
+    let answer = dump_json_into(alloc, Input { file, pool }, limit, out);
     report(alloc, answer, length, error)
 }
 

@@ -1,23 +1,31 @@
 //! Compiles the text on standard input, says how large its file is, and prints it back as a text.
-//! With `--icu` both texts have ICU's form.
+//! With `--icu` both texts have ICU's form; with `--json` it is printed back as JSON.
 //! Where paths are given, what stands at each is printed alone: a string or a number as it is, a
 //! binary in hexadecimal, and of all else its kind and size, with the keys of a table.
 mod resb;
 
+use resb::Form;
 use std::io::Read;
 use std::process::ExitCode;
 
 /// The most bytes that reading a text may make, and that a tree may take.
 const LIMIT: u64 = 1_000_000;
 
-fn show(form: resb::Form, text: &[u8]) -> Result<(), resb::Error> {
+/// The name under which a text is printed.
+const NAME: &str = "bundle";
+
+/// What a file is printed back as.
+type Print = fn(resb::Input<'_>) -> Result<String, resb::Error>;
+
+/// Compiles a text of this form, says how large its file is, and prints that back.
+fn show(form: Form, text: &[u8], print: Print) -> Result<bool, resb::Error> {
     let file = resb::compile_within(form, text, LIMIT)?;
     let input = resb::Input { file: &file, pool: &[] };
     let count = resb::check(input)?;
     let entries = resb::measure(input)?.entries;
     println!("{} bytes, {count} resources, {entries} entries", file.len());
-    print!("{}", resb::dump(form, input, "bundle", LIMIT)?);
-    Ok(())
+    print!("{}", print(input)?);
+    Ok(true)
 }
 
 /// What is printed of a path.
@@ -47,7 +55,7 @@ fn said(input: resb::Input<'_>, path: &str) -> Result<String, resb::Error> {
 
 /// Prints what stands at each path, and gives whether something does at all of them.
 fn show_paths(text: &[u8], paths: &[String]) -> Result<bool, resb::Error> {
-    let file = resb::compile_within(resb::Form::Plain, text, LIMIT)?;
+    let file = resb::compile_within(Form::Plain, text, LIMIT)?;
     let input = resb::Input { file: &file, pool: &[] };
     let mut is_all = true;
     for path in paths {
@@ -67,8 +75,9 @@ fn main() -> ExitCode {
     std::io::stdin().read_to_end(&mut text).expect("standard input");
     let words: Vec<String> = std::env::args().skip(1).collect();
     let answer = match words.first().map(String::as_str) {
-        None => show(resb::Form::Plain, &text).map(|()| true),
-        Some("--icu") => show(resb::Form::Icu, &text).map(|()| true),
+        None => show(Form::Plain, &text, |file| resb::dump(Form::Plain, file, NAME, LIMIT)),
+        Some("--icu") => show(Form::Icu, &text, |file| resb::dump(Form::Icu, file, NAME, LIMIT)),
+        Some("--json") => show(Form::Plain, &text, |file| resb::json(file, LIMIT)),
         Some(_) => show_paths(&text, &words),
     };
     match answer {

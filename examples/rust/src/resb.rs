@@ -114,6 +114,17 @@ extern "C" {
         length: *mut usize,
         error: *mut Error,
     ) -> u32;
+    fn resb_dump_json_with_pool(
+        file: *const u8,
+        file_length: usize,
+        pool: *const u8,
+        pool_length: usize,
+        limit: u64,
+        out: *mut u8,
+        out_length: usize,
+        length: *mut usize,
+        error: *mut Error,
+    ) -> u32;
     fn resb_kind(
         file: *const u8,
         file_length: usize,
@@ -317,6 +328,38 @@ pub fn dump(form: Form, input: Input<'_>, name: &str, limit: u64) -> Result<Stri
     let (length, _) = dump_to(form, input, name, limit, &mut [])?;
     let mut text = vec![0; length];
     dump_to(form, input, name, limit, &mut text)?;
+    Ok(String::from_utf8_lossy(&text).into_owned())
+}
+
+/// Prints JSON to the buffer: its length, and whether it fitted.
+fn json_to(input: Input<'_>, limit: u64, out: &mut [u8]) -> Result<(usize, bool), Error> {
+    let Input { file, pool } = input;
+    let (mut length, mut error) = (0, Error::none());
+    let status = unsafe {
+        resb_dump_json_with_pool(
+            file.as_ptr(),
+            file.len(),
+            pool.as_ptr(),
+            pool.len(),
+            limit,
+            out.as_mut_ptr(),
+            out.len(),
+            &mut length,
+            &mut error,
+        )
+    };
+    match status {
+        OK => Ok((length, true)),
+        TOO_SHORT => Ok((length, false)),
+        _ => Err(error),
+    }
+}
+
+/// The JSON of a file's tree. A tree of more bytes than the limit is refused, as is longer JSON.
+pub fn json(input: Input<'_>, limit: u64) -> Result<String, Error> {
+    let (length, _) = json_to(input, limit, &mut [])?;
+    let mut text = vec![0; length];
+    json_to(input, limit, &mut text)?;
     Ok(String::from_utf8_lossy(&text).into_owned())
 }
 

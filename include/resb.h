@@ -256,6 +256,14 @@ uint32_t resb_dump_json_with_pool(const uint8_t *file, size_t file_length, const
 #define RESB_BINARY 6u
 #define RESB_ALIAS 7u
 
+/* The name of a kind, that of its type in a text of ICU's form, or "unknown" for another number.
+ * The header alone has it: it's no call of the library. */
+static inline const char *resb_kind_name(uint32_t kind) {
+  static const char *const names[] = {"unknown", "string",    "table", "array",
+                                      "int",     "intvector", "bin",   "alias"};
+  return names[kind < sizeof names / sizeof names[0] ? kind : 0];
+}
+
 /* Tells of what stands at a path which kind it has, and how much is in it.
  *
  * RESB_OK: *kind is one of the kinds above. *size is the number of a table's entries, those that

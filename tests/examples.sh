@@ -65,8 +65,8 @@ path_rows() {
 -2
 d
 01ff
-fault 13, kind 5, size 2
-fault 13, kind 2, size 5
+fault 13, intvector, size 2
+fault 13, table, size 5
   b
   list
   n

@@ -66,7 +66,7 @@ static int show(size_t file_length, const char *words) {
   printf("fault %u, ", (unsigned)status);
   if (resb_kind(file, file_length, file, 0, path, path_length, &kind, &size, &error) != RESB_OK)
     return fail(&error);
-  printf("kind %u, size %zu\n", (unsigned)kind, size);
+  printf("%s, size %zu\n", resb_kind_name(kind), size);
   return kind == RESB_TABLE ? show_keys(file_length, words, size) : 0;
 }
 

@@ -41,7 +41,7 @@ fn said(input: resb::Input<'_>, path: &str) -> Result<String, resb::Error> {
     match resb::bytes(input, path) {
         Err(e) if e.kind == resb::OTHER_KIND => {
             let (kind, size) = resb::kind(input, path)?;
-            let mut line = format!("fault {}, kind {kind}, size {size}", e.kind);
+            let mut line = format!("fault {}, {}, size {size}", e.kind, resb::kind_name(kind));
             if kind == resb::TABLE {
                 for number in 0..size {
                     line = format!("{line}\n  {}", resb::key(input, path, number)?);

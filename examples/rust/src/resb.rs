@@ -46,6 +46,20 @@ pub const OTHER_KIND: u32 = 13;
 /// The kind of a table.
 pub const TABLE: u32 = 2;
 
+/// The name of a kind, that of its type in a text of ICU's form, as the header has it.
+pub fn kind_name(kind: u32) -> &'static str {
+    match kind {
+        1 => "string",
+        TABLE => "table",
+        3 => "array",
+        4 => "int",
+        5 => "intvector",
+        6 => "bin",
+        7 => "alias",
+        _ => "unknown",
+    }
+}
+
 extern "C" {
     fn resb_compile_within(
         text: *const u8,

@@ -107,10 +107,10 @@ uint32_t resb_compile_icu(const uint8_t *text, size_t text_length, uint8_t *out,
 /* Compiles a stranger's text of ICU's own form: as resb_compile_icu does, but a text is refused by
  * RESB_OVER_LIMIT whose reading would take more bytes of memory than the limit. Counted are 72 for
  * each resource, 192 for each entry, 1024 for each table that has entries, 3 for each byte of a
- * key, a string or a path, 1 for each byte of a binary, 8 for each number of a vector, 32 for each
- * binary and vector, and, for each string that is put together or stands behind a type, 32 and 1
- * for each of its bytes. The reading stops before the step by which there would be more. What the
- * file takes beside that is not within the limit. */
+ * key, a string, a path or a binary, 8 for each number of a vector, 32 for each binary and vector,
+ * and, for each string that is put together or is that of :string or :alias, 32 and 1 for each of
+ * its bytes. The reading stops before the step by which there would be more. What the file takes
+ * beside that is not within the limit. */
 uint32_t resb_compile_icu_within(const uint8_t *text, size_t text_length, uint64_t limit,
                                  uint8_t *out, size_t out_length, size_t *length,
                                  resb_error *error);
@@ -242,6 +242,7 @@ uint32_t resb_dump_json_with_pool(const uint8_t *file, size_t file_length, const
  * A path is UTF-8 of path_length bytes. The empty path leads to the root. Any other begins with its
  * separator, which is an ASCII character, and has a name between two separators and behind the
  * last: "/names/greeting" and "|names|greeting" say the same, and "|a/b|c" has a name with a slash.
+ * So it isn't written as for the program's `resb get`, where it begins with a name.
  * A name leads into a table, to the last entry of that name, and a number from 0 into an array or a
  * vector, such as "/list/0". A path that begins with a character that is not ASCII is one name as
  * it stands. An alias is not followed. */
@@ -304,7 +305,8 @@ uint32_t resb_get_bytes(const uint8_t *file, size_t file_length, const uint8_t *
 /* Copies the key of an entry of a table at a path, as UTF-8 without a zero at its end. The entries
  * have numbers from 0 up to the size that resb_kind tells, as they stand in the file: those that
  * ICU and resb_compile write stand in the order of their keys' bytes. A separator and the key, put
- * behind the path, lead to the value of the last entry of that key.
+ * behind the path, lead to the value of the last entry of that key, where no name of the path holds
+ * the separator. A zero byte is always right: no key holds one.
  *
  * RESB_OK: the key is the first *length bytes of out, and the bytes behind it are as they were.
  * RESB_TOO_SHORT: out is as it was, and *length is the length of the key. Else out is as it was,

@@ -212,7 +212,9 @@ def page():
                ("`resb::binary`", top / "binary.rt")]
     modules += [(f"`resb::binary::{path.stem}`", path)
                 for path in sorted((top / "binary").glob("*.rt"))]
-    modules += [("`resb::fields`", top / "fields.rt")]
+    named = {path for _, path in modules} | {top / "laws.rt"}
+    modules += [(f"`resb::{path.stem}`", path) for path in sorted(top.glob("*.rt"))
+                if path not in named]
     for title, path in modules:
         text += section(library, title, path)
     return text

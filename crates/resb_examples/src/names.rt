@@ -2,35 +2,9 @@
 //! Offsets of zones are read in `zones`.
 ghost use Rattle.std.specs.Prelude.{codes, ◌∷◌, []};
 
-use resb::binary::{BinaryDeserializerError, Cursor, PoolBundle, from_bytes_with_pool};
+use resb::binary::{BinaryDeserializerError, Cursor, PoolBundle};
 use resb::fields::{Maybe, Record, Table};
 use std::alloc::Global;
-use std::collections::BTreeMap;
-
-/// The names of languages by their codes, as `de`, which a file of ICU's folder `lang` has.
-#[derive(Debug, Drop)]
-pub struct LanguageNames<'a> {
-    /// A name for each code, or nothing where the file has no such table.
-    pub by_code: Option<BTreeMap<&'a str, String>>,
-}
-
-/// The type of its field in the file, which may be left out.
-pub type LanguageNamesFields<'a> = (Maybe<BTreeMap<&'a str, String>>,);
-
-impl<'de> Record<'de, LanguageNamesFields<'de>> for LanguageNames<'de> {
-    ghost names = { codes "Languages" ∷ [] };
-
-    ghost made = { λ f. record { by_code = f.0.0 } };
-
-    fn names() -> &'de [&'de str] {
-        &["Languages"]
-    }
-
-    fn made(fields: LanguageNamesFields<'de>) -> LanguageNames<'de> {
-        let (Maybe(by_code),) = fields;
-        LanguageNames { by_code }
-    }
-}
 
 /// The long names of a zone, or of zones that share them, as `meta:Europe_Central`.
 #[derive(Debug, Drop)]
@@ -65,19 +39,8 @@ impl<'de> Record<'de, ZoneNamesFields> for ZoneNames {
     }
 }
 
-/// The names of all languages out of a file of ICU's folder `lang` and the pool bundle there.
-pub fn language_names<'a>(
-    alloc: Global,
-    file: &'a [u8],
-    pool: Option<PoolBundle<'a>>,
-) -> Result<LanguageNames<'a>, BinaryDeserializerError> {
-    let read: Table<LanguageNames<'a>, LanguageNamesFields<'a>> = from_bytes_with_pool(
-        alloc, file, pool,
-    )?;
-    Ok(read.0)
-}
-
-/// The name of one language by its code, as `de`, out of such a file: no other is read.
+/// The name of a language by its code, as `de`, out of a file of ICU's folder `lang` and the pool
+/// bundle there.
 pub fn language_name<'a>(
     alloc: Global,
     file: &'a [u8],

@@ -5,7 +5,7 @@
 use crate::zone_rows::file_of;
 use resb::binary::PoolBundle;
 use resb::compile;
-use resb_examples::names::{ZoneNames, language_name, language_names, zone_names};
+use resb_examples::names::{ZoneNames, language_name, zone_names};
 use resb_examples::reading::{base_by_cursor, base_by_key, base_of, names_over_a_pool};
 use resb_examples::records::{digits_of, digits_or_blame};
 use resb_examples::writing::{greeting_file, merge};
@@ -84,8 +84,6 @@ const NAMES_OVER_POOL: [u32; 43] = [
 fn has_names(alloc: Global, file: &[u8], pool: Option<PoolBundle<'_>>) -> Result<bool, Fail> {
     let found = language_name(alloc, file, pool, "en")?;
     let lacks = language_name(alloc, file, pool, "fr")?;
-    let all = language_names(alloc, file, pool)?;
-    let german = all.by_code.as_ref().and_then(|names| names.get("de"));
     let Some(zone) = zone_names(alloc, file, pool, "meta:Alps")? else {
         return Ok(false);
     };
@@ -95,7 +93,6 @@ fn has_names(alloc: Global, file: &[u8], pool: Option<PoolBundle<'_>>) -> Result
         standard,
     } = zone;
     let is_named = found.is_some_and(|it| it.as_str() == "Englisch")
-        && german.is_some_and(|it| it.as_str() == "Deutsch")
         && daylight.is_some_and(|it| it.as_str() == "Sommerzeit")
         && standard.is_some_and(|it| it.as_str() == "Winterzeit");
     let other = zone_names(alloc, file, pool, "meta:Andes")?;

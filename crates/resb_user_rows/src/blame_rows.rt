@@ -2,7 +2,7 @@
 //! and the field that is missing.
 //! The records themselves are in `shapes`, the tests in `rows`.
 use crate::shapes::{Point, PointFields, Shape, ShapeFields};
-use resb::blame::{Blames, from_bytes_blaming};
+use resb::blame::{Blame, Blames, from_bytes_blaming};
 use resb::compile;
 use resb::fields::Table;
 use std::alloc::Global;
@@ -48,7 +48,15 @@ pub(crate) fn line_of_blame(alloc: Global, input: &str) -> Result<String, Fail> 
 fn line<'a, T: Blames<'a>>(alloc: Global, file: &'a [u8]) -> Result<String, Fail> {
     match from_bytes_blaming::<T>(alloc, file, None) {
         Ok(_) => Ok(String::from_str(alloc, "read")?),
-        Err(blame) if blame.error().is_out_of_memory() => Err(blame.error())?,
-        Err(blame) => Ok(format!(in alloc; "{blame}")?),
+        Err(blame) => said(alloc, &blame),
     }
+}
+
+/// What a blame prints as, if it isn't want of memory.
+fn said(alloc: Global, blame: &Blame<'_, 'static>) -> Result<String, Fail> {
+    let error = blame.error();
+    if error.is_out_of_memory() {
+        return Err(error)?;
+    }
+    Ok(format!(in alloc; "{blame}")?)
 }

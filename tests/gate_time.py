@@ -6,9 +6,9 @@
 
 Kinds are proof, tests, and wrong bodies (with the checks that those of `rt ci` begin with). Once a
 second it looks at the checks that run below the command, and takes the last that it saw of each, so
-that a check loses up to a second. A check is a process `rattle` with what it has started. All else (what
-the programs and scripts take, and what no look saw) is the difference to what the system counts of
-the command. Wrong words end it with status 2; else it
+that a check loses up to a second. A check is a process `rattle` with what it has started. All else
+(what the programs and scripts take, and what no look saw) is the difference to what the system
+counts of the command. Wrong words end it with status 2; else it
 ends as the command does.
 
 The speed is that of 20,000,000 rounds of `s += i * i & 7` in Python, before the run: the budget of

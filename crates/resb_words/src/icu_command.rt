@@ -1,8 +1,6 @@
 //! The words of ICU's own compiler, `genrb`, as a command of the program.
 //! What is read from such words is in `icu_request`.
-use crate::command::{flag, several, with_arg};
-use clap::{Arg, ArgAction, Command};
-use std::alloc::{AllocError, Global};
+use crate::described::{Argument, Described, FLAG, Takes, VALUE, WORDS};
 
 /// The words of ICU's compiler that ask for what isn't done, without the dashes.
 pub(crate) const NOT_DONE: [&str; 3] = ["write-java", "write-xliff", "filterDir"];
@@ -10,89 +8,143 @@ pub(crate) const NOT_DONE: [&str; 3] = ["write-java", "write-xliff", "filterDir"
 /// What is said of words that change nothing.
 const NOT_LOOKED_AT: &str = "Is not looked at";
 
+/// An option that may name a folder.
+const FOLDER_OR_NONE: Argument<'static> = Argument {
+    takes: Takes::AtMostOne,
+    value: Some("DIR"),
+    ..VALUE
+};
+
+/// An option that asks for what isn't done.
+const REFUSED: Argument<'static> = Argument {
+    takes: Takes::Hidden,
+    value: Some("DIR"),
+    help: "Is refused",
+    ..VALUE
+};
+
 /// ICU's compiler, by its own words.
-pub(crate) fn genrb<'a>(alloc: Global) -> Result<Command<'a>, AllocError> {
-    let command = Command::new(alloc, "genrb")
-        .version("0.2.0")
-        .about("Compiles texts in ICU's own form, by the words of ICU's compiler")
-        .after_help("Example: resb genrb -s curr -d out/curr root.txt de.txt")
-        .arg(several(alloc, "The names of texts, below the source folder"))?;
-    let command = with_places(alloc, command)?;
-    let command = with_pools(alloc, command)?;
-    let command = with_manners(alloc, command)?;
-    with_not_done(alloc, command)
-}
-
-/// The command with where the texts are, where the files go, and how the texts are spelled.
-fn with_places<'a>(alloc: Global, command: Command<'a>) -> Result<Command<'a>, AllocError> {
-    let source = folder(alloc, 's', "sourcedir");
-    let destination = folder(alloc, 'd', "destdir");
-    let encoding = Arg::new(alloc, "encoding").short('e').long("encoding");
-    command
-        .arg(source.help("The folder of the texts, else the current one"))?
-        .arg(destination.help("The folder for the files, else the current one"))?
-        .arg(folder(alloc, 'i', "icudatadir").help(NOT_LOOKED_AT))?
-        .arg(
-            encoding
-                .value_name("NAME")
-                .help("UTF-8, or UTF-16 by a mark"),
-        )
-}
-
-/// The command with what becomes of the pool bundle.
-fn with_pools<'a>(alloc: Global, command: Command<'a>) -> Result<Command<'a>, AllocError> {
-    let used = at_most_one(alloc, "usePoolBundle").help(
-        "Is not looked at: each file holds all of its keys and strings",
-    );
-    let written = at_most_one(alloc, "writePoolBundle")
-        .help("Writes a pool.res that lends nothing, there or beside the files")
-        .conflicts_with("usePoolBundle");
-    with_arg(command.arg(used)?, written)
-}
-
-/// The command with how all is done and said.
-fn with_manners<'a>(alloc: Global, command: Command<'a>) -> Result<Command<'a>, AllocError> {
-    command
-        .arg(flag(alloc, "quiet", "Says no warnings").short('q'))?
-        .arg(flag(alloc, "verbose", NOT_LOOKED_AT).short('v'))?
-        .arg(flag(alloc, "strict", NOT_LOOKED_AT).short('k'))?
-        .arg(flag(alloc, "copyright", NOT_LOOKED_AT).short('c'))?
-        .arg(flag(alloc, "omitCollationRules", NOT_LOOKED_AT).short('R'))?
-        .arg(flag(alloc, "noBinaryCollation", NOT_LOOKED_AT).short('C'))?
-        .arg(
-            Arg::new(alloc, "formatVersion")
-                .long("formatVersion")
-                .value_name("NUMBER")
-                .help("2 or 3; the files are of version 2 with both"),
-        )
-}
-
-/// The command with the words that ask for what isn't done.
-fn with_not_done<'a>(alloc: Global, command: Command<'a>) -> Result<Command<'a>, AllocError> {
-    command
-        .arg(refused(alloc, "write-java").short('j'))?
-        .arg(refused(alloc, "write-xliff").short('x'))?
-        .arg(refused(alloc, "filterDir"))
-}
-
-/// An argument that asks for what isn't done.
-fn refused<'a>(alloc: Global, word: &'a str) -> Arg<'a> {
-    at_most_one(alloc, word).help("Is refused").hide(true)
-}
-
-/// The argument of a folder, by a letter and a word.
-fn folder<'a>(alloc: Global, letter: char, word: &'a str) -> Arg<'a> {
-    Arg::new(alloc, word)
-        .short(letter)
-        .long(word)
-        .value_name("DIR")
-}
-
-/// An argument that may name a folder.
-fn at_most_one<'a>(alloc: Global, word: &'a str) -> Arg<'a> {
-    Arg::new(alloc, word)
-        .long(word)
-        .value_name("DIR")
-        .num_args(0..=1)
-        .action(ArgAction::Append)
-}
+pub(crate) const GENRB: Described<'static> = Described {
+    name: "genrb",
+    version: Some("0.2.0"),
+    about: "Compiles texts in ICU's own form, by the words of ICU's compiler",
+    example: "Example: resb genrb -s curr -d out/curr root.txt de.txt",
+    arguments: &[
+        Argument {
+            id: "FILE",
+            help: "The names of texts, below the source folder",
+            ..WORDS
+        },
+        Argument {
+            id: "sourcedir",
+            letter: Some('s'),
+            option: Some("sourcedir"),
+            value: Some("DIR"),
+            help: "The folder of the texts, else the current one",
+            ..VALUE
+        },
+        Argument {
+            id: "destdir",
+            letter: Some('d'),
+            option: Some("destdir"),
+            value: Some("DIR"),
+            help: "The folder for the files, else the current one",
+            ..VALUE
+        },
+        Argument {
+            id: "icudatadir",
+            letter: Some('i'),
+            option: Some("icudatadir"),
+            value: Some("DIR"),
+            help: NOT_LOOKED_AT,
+            ..VALUE
+        },
+        Argument {
+            id: "encoding",
+            letter: Some('e'),
+            option: Some("encoding"),
+            value: Some("NAME"),
+            help: "UTF-8, or UTF-16 by a mark",
+            ..VALUE
+        },
+        Argument {
+            id: "usePoolBundle",
+            option: Some("usePoolBundle"),
+            help: "Leaves out of the files what the pool.res there, or beside the texts, has",
+            ..FOLDER_OR_NONE
+        },
+        Argument {
+            id: "writePoolBundle",
+            option: Some("writePoolBundle"),
+            help: "Writes a pool.res of what the texts share, there or beside the files",
+            against: Some("usePoolBundle"),
+            ..FOLDER_OR_NONE
+        },
+        Argument {
+            id: "quiet",
+            letter: Some('q'),
+            option: Some("quiet"),
+            help: "Says no warnings",
+            ..FLAG
+        },
+        Argument {
+            id: "verbose",
+            letter: Some('v'),
+            option: Some("verbose"),
+            help: NOT_LOOKED_AT,
+            ..FLAG
+        },
+        Argument {
+            id: "strict",
+            letter: Some('k'),
+            option: Some("strict"),
+            help: NOT_LOOKED_AT,
+            ..FLAG
+        },
+        Argument {
+            id: "copyright",
+            letter: Some('c'),
+            option: Some("copyright"),
+            help: NOT_LOOKED_AT,
+            ..FLAG
+        },
+        Argument {
+            id: "omitCollationRules",
+            letter: Some('R'),
+            option: Some("omitCollationRules"),
+            help: NOT_LOOKED_AT,
+            ..FLAG
+        },
+        Argument {
+            id: "noBinaryCollation",
+            letter: Some('C'),
+            option: Some("noBinaryCollation"),
+            help: NOT_LOOKED_AT,
+            ..FLAG
+        },
+        Argument {
+            id: "formatVersion",
+            option: Some("formatVersion"),
+            value: Some("NUMBER"),
+            help: "2 or 3; the files are of version 2 with both",
+            ..VALUE
+        },
+        Argument {
+            id: "write-java",
+            letter: Some('j'),
+            option: Some("write-java"),
+            ..REFUSED
+        },
+        Argument {
+            id: "write-xliff",
+            letter: Some('x'),
+            option: Some("write-xliff"),
+            ..REFUSED
+        },
+        Argument {
+            id: "filterDir",
+            option: Some("filterDir"),
+            ..REFUSED
+        },
+    ],
+};

@@ -7,7 +7,7 @@ use clap::ArgMatches;
 use std::alloc::Global;
 
 /// What is asked of texts in ICU's own form by the words of ICU's compiler.
-#[derive(Debug, Drop)]
+#[derive(Drop)]
 pub struct GenrbWords<'w> {
     /// The names of the texts, below the source folder.
     pub texts: Vec<&'w str>,
@@ -15,8 +15,10 @@ pub struct GenrbWords<'w> {
     pub source: &'w str,
     /// The folder for the files.
     pub destination: &'w str,
+    /// The folder of the pool bundle over which the files are written.
+    pub used_pool: Option<&'w str>,
     /// The folder for a pool bundle, if one is written.
-    pub pool: Option<&'w str>,
+    pub written_pool: Option<&'w str>,
     /// Whether warnings are left unsaid.
     pub is_quiet: bool,
 }
@@ -37,12 +39,14 @@ pub(crate) fn genrb<'w>(
     if !matches!(matches.get_str("formatVersion"), None | Some("2" | "3")) {
         return Err(WordsError::NoVersion);
     }
+    let source = folder(matches, "sourcedir");
     let destination = folder(matches, "destdir");
     Ok(Request::Genrb(GenrbWords {
         texts: names(alloc, matches, "FILE")?,
-        source: folder(matches, "sourcedir"),
+        source,
         destination,
-        pool: pool(matches, destination),
+        used_pool: pool(matches, "usePoolBundle", source),
+        written_pool: pool(matches, "writePoolBundle", destination),
         is_quiet: matches.get_flag("quiet"),
     }))
 }
@@ -55,14 +59,13 @@ fn folder<'w>(matches: &ArgMatches<'w>, word: &str) -> &'w str {
     }
 }
 
-/// The folder of the pool bundle that is to be written: the one that is named, or that for the
-/// files.
-fn pool<'w>(matches: &ArgMatches<'w>, destination: &'w str) -> Option<&'w str> {
-    if !matches.contains_id("writePoolBundle") {
+/// The folder of the pool bundle that a word asks for: the one that is named, or the usual one.
+fn pool<'w>(matches: &ArgMatches<'w>, word: &str, usual: &'w str) -> Option<&'w str> {
+    if !matches.contains_id(word) {
         return None;
     }
-    match matches.get_str("writePoolBundle") {
-        None | Some("") => Some(destination),
+    match matches.get_str(word) {
+        None | Some("") => Some(usual),
         folder => folder,
     }
 }

@@ -3,6 +3,7 @@
 #![tactic(auto)]
 
 mod command;
+mod described;
 mod error;
 mod icu_command;
 mod icu_request;

@@ -8,7 +8,7 @@ use clap::ArgMatches;
 use std::alloc::Global;
 
 /// What the words ask for.
-#[derive(Debug, Drop)]
+#[derive(Drop)]
 pub enum Request<'w> {
     /// `compile`: each text to a file of its own.
     Compile(CompileWords<'w>),
@@ -29,7 +29,7 @@ pub enum Request<'w> {
 }
 
 /// What is asked of texts. The name `-` is standard input, and standard output.
-#[derive(Debug, Drop)]
+#[derive(Drop)]
 pub struct CompileWords<'w> {
     /// The names of the texts.
     pub texts: Vec<&'w str>,
@@ -43,6 +43,8 @@ pub struct CompileWords<'w> {
     pub is_icu: bool,
     /// The most bytes that reading a text may make.
     pub limit: Option<u64>,
+    /// The name of the pool bundle over which the files are written.
+    pub pool: Option<&'w str>,
     /// Whether no file is written.
     pub is_check: bool,
     /// Whether warnings and progress are left unsaid.
@@ -52,7 +54,7 @@ pub struct CompileWords<'w> {
 }
 
 /// What is asked of files that are checked.
-#[derive(Debug, Drop)]
+#[derive(Drop)]
 pub struct CheckWords<'w> {
     /// The names of the files; `-` is standard input.
     pub files: Vec<&'w str>,
@@ -63,7 +65,7 @@ pub struct CheckWords<'w> {
 }
 
 /// What is asked of files whose texts are printed, or written to a folder.
-#[derive(Debug, Drop)]
+#[derive(Drop)]
 pub struct DumpWords<'w> {
     /// The names of the files, one alone where no folder is named; `-` is standard input.
     pub files: Vec<&'w str>,
@@ -80,7 +82,7 @@ pub struct DumpWords<'w> {
 }
 
 /// What is asked of a file of which some things are printed.
-#[derive(Debug, Drop)]
+#[derive(Drop)]
 pub struct GetWords<'w> {
     /// The file's name; `-` is standard input.
     pub file: &'w str,
@@ -95,7 +97,7 @@ pub struct GetWords<'w> {
 }
 
 /// What is asked of two files that are compared.
-#[derive(Clone, Copy, Debug)]
+#[derive(Clone, Copy)]
 pub struct DiffWords<'w> {
     /// The name of the first file; `-` is standard input.
     pub old: &'w str,
@@ -110,7 +112,7 @@ pub struct DiffWords<'w> {
 }
 
 /// What is asked of a package of which one item is written.
-#[derive(Clone, Copy, Debug)]
+#[derive(Clone, Copy)]
 pub struct ExtractWords<'w> {
     /// The package's name; `-` is standard input.
     pub file: &'w str,
@@ -157,6 +159,7 @@ fn compile<'w>(alloc: Global, matches: &ArgMatches<'w>) -> Result<Request<'w>, W
         is_by_name: matches.get_flag("by-name"),
         is_icu: matches.get_flag("ICU"),
         limit,
+        pool: matches.get_str("POOL"),
         is_check: matches.get_flag("check"),
         is_quiet: matches.get_flag("quiet"),
         is_strict: matches.get_flag("strict"),

@@ -6,7 +6,7 @@ printf 'de_AT{ hi{"Servus"} n:int{3} }' > source/sub/first.txt
 printf '\357\273\277root{ hi{"Hello"} list{ "a", "b" } }' > source/root.txt
 printf 'broken{ a{ "x" ' > source/broken.txt
 told 0 '' '' genrb -q -k -R -C -c -v -i elsewhere -e utf-8 --formatVersion 3 -s source -d built \
-  --usePoolBundle elsewhere sub/first.txt root.txt
+  sub/first.txt root.txt
 holds built 'de_AT.res root.res'
 told 0 '' '' compile --icu source/root.txt -o wanted.res
 same built/root.res wanted.res
@@ -34,3 +34,37 @@ printf '%b' '\x20\x00\xda\x27\x14\x00\x00\x00\x00\x00\x02\x00\x52\x65\x73\x42\x0
 same built/pool.res wanted.res
 told 0 'built/pool.res: 1 resources, format 2.0, no fallback, largest table 0, pool bundle' '' \
   check built/pool.res
+# words VERSION WORD..: a file of a format version of these words in hex digits behind its header
+words() {
+  local word
+  printf '%b' '\x20\x00\xda\x27\x14\x00\x00\x00\x00\x00\x02\x00ResB' "\\x0$1" \
+    '\x00\x00\x00\x01\x04\x00\x00\x00\x00\x00\x00\x00\x00\x00\x00'
+  shift
+  for word in "$@"; do
+    word=$(printf '%08x' "0x$word")
+    printf '%b' "\\x${word:6:2}\\x${word:4:2}\\x${word:2:2}\\x${word:0:2}"
+  done
+}
+# what two texts share, and files over it, as ICU 72's compiler writes them
+mkdir -p shared over
+printf 'a{alpha{"one two three"}beta{"x"}}' > source/a.txt
+printf 'b{alpha{"one two three"}gamma{"three"}}' > source/b.txt
+printf 'c{alpha{"two three"}delta:array{"x","","three"}}' > source/c.txt
+told 0 '' '' genrb -q -s source -d built --writePoolBundle shared a.txt b.txt
+words 3 20000000 8 e 16 16 0 3 16 e31610fa 68706c61 65620061 67006174 616d6d61 aaaaaa00 6f0000 \
+  65006e 740020 6f0077 740020 720068 650065 aaaa0000 > wanted.res
+same shared/pool.res wanted.res
+told 0 '' '' genrb -q -s source -d over --usePoolBundle shared a.txt b.txt c.txt
+words 3 50000003 208 9 d d 2 20004 d e31610fa 780000 20000 60000 30001 > wanted.res
+same over/a.res wanted.res
+words 3 50000001 a08 9 c c 2 a0004 c e31610fa 20000 b0000 90001 > wanted.res
+same over/b.res wanted.res
+words 3 2000000f a08 b 13 13 2 a0004 f e31610fa 746c6564 aaaa0061 780000 30000 b aaaa0009 2c0002 \
+  aaaa0024 60000005 90000003 > wanted.res
+same over/c.res wanted.res
+told 0 'three' '' get --pool shared/pool.res over/c.res delta/2
+told 0 '' '' compile --icu source/c.txt -o one.res --pool shared/pool.res
+same one.res wanted.res
+told 4 '' 'source/pool.res: no such file' genrb -q -s source -d over --usePoolBundle -k a.txt
+told 1 '' 'over/a.res: file is not a pool bundle' compile source/a.txt --pool over/a.res
+told 2 '' 'resb: a pool bundle is read from a file alone' compile source/a.txt --pool -

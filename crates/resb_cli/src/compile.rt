@@ -2,6 +2,7 @@
 //! What a text's file is, and why it has none, is in `resb_program`.
 use crate::encoding::utf8_of;
 use crate::folders::{Named, TEXTS, named_files};
+use crate::input::lending_pool;
 use crate::place::{Place, place_of};
 use crate::progress::Progress;
 use crate::save::{Bytes, save, saved};
@@ -11,6 +12,8 @@ use crate::streams::{made, read_input};
 use crate::taken::Taken;
 use crate::warn::warn;
 use crate::words::{NO_UTF8, is_marked};
+use resb_compile::{compile_icu_with_pool, compile_with_pool};
+use resb_pool_bundle::PoolBundle;
 use resb_program::{
     SourceError, bundle_name, compile_icu_source, compile_icu_source_within, compile_source,
     compile_source_within, icu_bundle_name, text_of,
@@ -30,45 +33,71 @@ struct Target {
     place: Place,
 }
 
+/// What is asked of texts, and the pool bundle over which their files are written.
+#[derive(Clone, Copy)]
+struct Work<'w> {
+    wanted: &'w CompileWords<'w>,
+    pool: Option<PoolBundle<'w>>,
+}
+
 /// Compiles each text. One that fails doesn't stop the others; the status says whether one did.
 pub(crate) fn compile(rt: &HostRuntime, wanted: &CompileWords<'_>) -> u8 {
+    match wanted.pool {
+        Some(name) => settled(compile_over(rt, wanted, name)),
+        None => compile_texts(rt, Work { wanted, pool: None }),
+    }
+}
+
+/// The same over the pool bundle of a name.
+fn compile_over(rt: &HostRuntime, wanted: &CompileWords<'_>, name: &str) -> Result<u8, u8> {
+    let input = lending_pool(rt, name, wanted.limit)?;
+    match PoolBundle::read(input.open(rt, name)?.bytes) {
+        Ok(pool) => {
+            let pool = Some(pool);
+            Ok(compile_texts(rt, Work { wanted, pool }))
+        }
+        Err(e) => {
+            complain(rt, name, e);
+            Err(1)
+        }
+    }
+}
+
+/// The same, where the pool bundle is known.
+fn compile_texts(rt: &HostRuntime, work: Work<'_>) -> u8 {
     // the file of one text is named: that isn't one of a folder's
-    let kind = if wanted.output.is_some() {
+    let kind = if work.wanted.output.is_some() {
         None
     } else {
         Some(TEXTS)
     };
-    match named_files(rt, wanted.texts.as_slice(), kind) {
-        Ok(texts) => compile_files(rt, wanted, texts.as_slice()),
+    match named_files(rt, work.wanted.texts.as_slice(), kind) {
+        Ok(texts) => compile_files(rt, work, texts.as_slice()),
         Err(cause) => fail(rt, "resb", cause),
     }
 }
 
 /// The same, where the folders' texts are known.
-fn compile_files(rt: &HostRuntime, wanted: &CompileWords<'_>, texts: &[Named]) -> u8 {
+fn compile_files(rt: &HostRuntime, work: Work<'_>, texts: &[Named]) -> u8 {
     let mut taken = Taken::new(rt);
     for text in texts {
         if let Err(cause) = taken.add_text(rt, text.name.as_str()) {
             return fail(rt, "resb", cause);
         }
     }
-    compile_each(rt, wanted, texts, &mut taken)
+    compile_each(rt, work, texts, &mut taken)
 }
 
 /// The same, where none of the taken files is written over.
-fn compile_each(
-    rt: &HostRuntime,
-    wanted: &CompileWords<'_>,
-    texts: &[Named],
-    taken: &mut Taken,
-) -> u8 {
+fn compile_each(rt: &HostRuntime, work: Work<'_>, texts: &[Named], taken: &mut Taken) -> u8 {
     let mut status = 0;
-    let mut progress = Progress::new(rt, if wanted.is_quiet { 0 } else { texts.len() });
+    let shown = if work.wanted.is_quiet { 0 } else { texts.len() };
+    let mut progress = Progress::new(rt, shown);
     for text in texts {
         let name = text.name.as_str();
         status = status.max(match text.fault {
             Some(cause) => fail(rt, name, cause),
-            None => settled(compile_one(rt, name, wanted, taken)),
+            None => settled(compile_one(rt, name, work, taken)),
         });
         progress.one_more(rt);
     }
@@ -80,16 +109,17 @@ fn compile_each(
 fn compile_one(
     rt: &HostRuntime,
     name: &str,
-    wanted: &CompileWords<'_>,
+    work: Work<'_>,
     taken: &mut Taken,
 ) -> Result<u8, u8> {
+    let wanted = work.wanted;
     if wanted.is_by_name {
-        return compile_named(rt, name, wanted, taken);
+        return compile_named(rt, name, work, taken);
     }
     let target = target_of(rt, name, output_of(rt.alloc(), name, wanted))?;
-    let source = source_of(rt, name, wanted)?;
+    let source = source_of(rt, name, wanted.limit)?;
     let text = text_in(rt, name, source.as_slice())?;
-    let (file, status) = file_of(rt, name, text, wanted)?;
+    let (file, status) = file_of(rt, name, text, work)?;
     or_fail(rt, name, taken.take(rt, name, &target.place))?;
     if !wanted.is_check {
         target.write(rt, file.as_slice())?;
@@ -101,12 +131,13 @@ fn compile_one(
 fn compile_named(
     rt: &HostRuntime,
     name: &str,
-    wanted: &CompileWords<'_>,
+    work: Work<'_>,
     taken: &mut Taken,
 ) -> Result<u8, u8> {
-    let source = source_of(rt, name, wanted)?;
+    let wanted = work.wanted;
+    let source = source_of(rt, name, wanted.limit)?;
     let text = text_in(rt, name, source.as_slice())?;
-    let (file, status) = file_of(rt, name, text, wanted)?;
+    let (file, status) = file_of(rt, name, text, work)?;
     let target = named_target(rt, name, text, wanted)?;
     or_fail(rt, name, taken.take(rt, name, &target.place))?;
     if !wanted.is_check {
@@ -149,8 +180,8 @@ impl Target {
 
 /// The bytes of a text, made of UTF-16 where it is that, or the status, once it is said why there
 /// are none.
-fn source_of(rt: &HostRuntime, name: &str, wanted: &CompileWords<'_>) -> Result<Vec<u8>, u8> {
-    let source = match read_input(rt, name, wanted.limit) {
+pub(crate) fn source_of(rt: &HostRuntime, name: &str, limit: Option<u64>) -> Result<Vec<u8>, u8> {
+    let source = match read_input(rt, name, limit) {
         Ok(source) => source,
         Err(e) => return Err(fail_input(rt, name, e)),
     };
@@ -164,7 +195,7 @@ fn source_of(rt: &HostRuntime, name: &str, wanted: &CompileWords<'_>) -> Result<
 }
 
 /// The text that bytes are, or the status, once it is said where they are no UTF-8.
-fn text_in<'s>(rt: &HostRuntime, name: &str, source: &'s [u8]) -> Result<&'s str, u8> {
+pub(crate) fn text_in<'s>(rt: &HostRuntime, name: &str, source: &'s [u8]) -> Result<&'s str, u8> {
     match text_of(source) {
         Ok(text) => Ok(text),
         Err(place) => Err(refuse(rt, name, source, &SourceError::NotUtf8(place))),
@@ -177,10 +208,10 @@ fn file_of(
     rt: &HostRuntime,
     name: &str,
     text: &str,
-    wanted: &CompileWords<'_>,
+    work: Work<'_>,
 ) -> Result<(Vec<u8>, u8), u8> {
-    match compiled(rt.alloc(), text, wanted) {
-        Ok(file) => Ok((file, warned(rt, name, text, wanted))),
+    match compiled(rt.alloc(), text, work) {
+        Ok(file) => Ok((file, warned(rt, name, text, work.wanted))),
         Err(e) => Err(refuse(rt, name, text.as_bytes(), &e)),
     }
 }
@@ -215,8 +246,17 @@ fn may_pass(length: usize, limit: Option<u64>) -> bool {
     }
 }
 
-/// The bytes of a text's file, where reading the text keeps within the limit, if there is one.
-fn compiled(alloc: Global, text: &str, wanted: &CompileWords<'_>) -> Result<Vec<u8>, SourceError> {
+/// The bytes of a text's file, over the pool bundle, or where reading the text keeps within the
+/// limit, if there is one.
+fn compiled(alloc: Global, text: &str, work: Work<'_>) -> Result<Vec<u8>, SourceError> {
+    let wanted = work.wanted;
+    if let Some(pool) = &work.pool {
+        return if wanted.is_icu {
+            compile_icu_with_pool(alloc, text, pool).map_err(SourceError::IcuRefused)
+        } else {
+            compile_with_pool(alloc, text, pool).map_err(SourceError::Refused)
+        };
+    }
     match (wanted.is_icu, wanted.limit) {
         (true, Some(limit)) => compile_icu_source_within(alloc, text, limit),
         (true, None) => compile_icu_source(alloc, text),

@@ -1,13 +1,16 @@
 //! The command `genrb`: texts in ICU's own form to files, by the words and the statuses of ICU's
 //! compiler.
 //! How a text is compiled is in `compile`, and which words are taken in `resb_words`.
-use crate::compile::compile;
+use crate::compile::{compile, source_of, text_in};
 use crate::place::place_of;
 use crate::save::{Bytes, save, saved};
-use crate::say::{fail, or_fail};
+use crate::say::{complain, fail, or_fail, refuse};
 use crate::show::settled;
 use crate::streams::{NO_MEMORY, made};
-use resb_pool_maker::PoolMaker;
+use resb_compile::IcuCompileError;
+use resb_icu_text::IcuReader;
+use resb_pool_maker::{PoolMaker, PoolMakerError};
+use resb_program::SourceError;
 use resb_words::{CompileWords, GenrbWords};
 use std::alloc::{AllocError, Global};
 use std::path::{Path, PathBuf};
@@ -24,22 +27,45 @@ const INVALID_FORMAT: u8 = 3;
 /// The status for a file that can't be read or written: its error for the access to a file.
 const FILE_ACCESS: u8 = 4;
 
+/// What a pool bundle's file is called.
+const POOL: &str = "pool.res";
+
 /// Compiles each text to a file that its bundle names, and then writes a pool bundle if that is
 /// asked for. The status is that of ICU's compiler.
 pub(crate) fn genrb(rt: &HostRuntime, wanted: &GenrbWords<'_>) -> u8 {
-    let status = match texts_below(rt.alloc(), wanted) {
-        Ok(texts) => compile_texts(rt, wanted, texts.as_slice()),
-        Err(_) => fail(rt, NAME, NO_MEMORY),
+    let done = match texts_below(rt.alloc(), wanted) {
+        Ok(texts) => make_all(rt, wanted, texts.as_slice()),
+        Err(_) => Err(fail(rt, NAME, NO_MEMORY)),
     };
-    let status = match (status, wanted.pool) {
-        (0, Some(folder)) => settled(write_pool(rt, folder)),
-        _ => status,
-    };
-    match status {
+    match settled(done) {
         0 => 0,
         1 => INVALID_FORMAT,
         _ => FILE_ACCESS,
     }
+}
+
+/// The same of texts of these names. The status is the program's own.
+fn make_all(rt: &HostRuntime, wanted: &GenrbWords<'_>, texts: &[PathBuf]) -> Result<u8, u8> {
+    let names = texts.iter().map(|text| text.as_path().as_str());
+    let names = or_fail(rt, NAME, made(names.collect::<Vec<&str>>(rt.alloc())))?;
+    let pool = match wanted.used_pool {
+        Some(folder) => Some(or_fail(rt, folder, pool_in(rt.alloc(), folder))?),
+        None => None,
+    };
+    let pool = match &pool {
+        Some(pool) => Some(pool.as_path().as_str()),
+        None => None,
+    };
+    let status = compile_texts(rt, wanted, pool, names);
+    match wanted.written_pool {
+        Some(folder) if status == 0 => write_pool(rt, texts, folder),
+        _ => Ok(status),
+    }
+}
+
+/// The name of the pool bundle in a folder.
+fn pool_in(alloc: Global, folder: &str) -> Result<PathBuf, &'static str> {
+    made(Path::new(folder).join(alloc, POOL))
 }
 
 /// The names of the texts, with the source folder's before each.
@@ -56,12 +82,13 @@ fn texts_below(alloc: Global, wanted: &GenrbWords<'_>) -> Result<Vec<PathBuf>, A
     Ok(texts)
 }
 
-/// Compiles texts of these names.
-fn compile_texts(rt: &HostRuntime, wanted: &GenrbWords<'_>, texts: &[PathBuf]) -> u8 {
-    let names = texts.iter().map(|text| text.as_path().as_str());
-    let Ok(texts) = names.collect::<Vec<&str>>(rt.alloc()) else {
-        return fail(rt, NAME, NO_MEMORY);
-    };
+/// Compiles texts of these names, over the pool bundle of a name if there is one.
+fn compile_texts(
+    rt: &HostRuntime,
+    wanted: &GenrbWords<'_>,
+    pool: Option<&str>,
+    texts: Vec<&str>,
+) -> u8 {
     compile(
         rt,
         &CompileWords {
@@ -71,6 +98,7 @@ fn compile_texts(rt: &HostRuntime, wanted: &GenrbWords<'_>, texts: &[PathBuf]) -
             is_by_name: true,
             is_icu: true,
             limit: None,
+            pool,
             is_check: false,
             is_quiet: wanted.is_quiet,
             is_strict: false,
@@ -78,16 +106,41 @@ fn compile_texts(rt: &HostRuntime, wanted: &GenrbWords<'_>, texts: &[PathBuf]) -
     )
 }
 
-/// Writes a pool bundle of no bundles, which lends nothing, into a folder.
-fn write_pool(rt: &HostRuntime, folder: &str) -> Result<u8, u8> {
-    let alloc = rt.alloc();
-    let path = or_fail(rt, folder, made(Path::new(folder).join(alloc, "pool.res")))?;
+/// Writes the pool bundle of what texts share into a folder.
+fn write_pool(rt: &HostRuntime, texts: &[PathBuf], folder: &str) -> Result<u8, u8> {
+    let path = or_fail(rt, folder, pool_in(rt.alloc(), folder))?;
     let name = path.as_path().as_str();
     let place = or_fail(rt, name, place_of(rt, name))?;
-    let Ok(pool) = PoolMaker::new(alloc).finish(alloc) else {
-        return Err(fail(rt, name, NO_MEMORY));
-    };
+    let mut maker = PoolMaker::new(rt.alloc());
+    for text in texts {
+        add_text(rt, &mut maker, text.as_path().as_str())?;
+    }
+    let pool = maker
+        .finish(rt.alloc())
+        .map_err(|e| refuse_pool(rt, name, e))?;
     let done = save(rt, &place, &Bytes(pool.as_slice()));
     or_fail(rt, name, saved(&place, done))?;
     Ok(0)
+}
+
+/// Adds the bundle of the text of a name to those of which a pool bundle is made.
+fn add_text(rt: &HostRuntime, maker: &mut PoolMaker, name: &str) -> Result<(), u8> {
+    let source = source_of(rt, name, None)?;
+    let text = text_in(rt, name, source.as_slice())?;
+    let (bundle, keys) = match IcuReader::read(rt.alloc(), text) {
+        Ok(read) => read,
+        Err(e) => {
+            let error = SourceError::IcuRefused(IcuCompileError::Reading(e));
+            return Err(refuse(rt, name, text.as_bytes(), &error));
+        }
+    };
+    maker
+        .add(rt.alloc(), bundle.root(), keys.as_slice())
+        .map_err(|e| refuse_pool(rt, name, e))
+}
+
+/// Says why no pool bundle is made, and gives the status of that.
+fn refuse_pool(rt: &HostRuntime, name: &str, e: PoolMakerError) -> u8 {
+    complain(rt, name, e);
+    1
 }

@@ -234,6 +234,14 @@ fn pool_beside<'f>(rt: &HostRuntime, name: &str, limit: Option<u64>) -> Result<B
     pool_file(rt, pool.as_str(), limit)
 }
 
+/// The pool bundle of this name over which files are written.
+pub(crate) fn lending_pool(rt: &HostRuntime, name: &str, limit: Option<u64>) -> Result<Input, u8> {
+    if name == "-" {
+        return Err(fail(rt, "resb", FILE_ALONE));
+    }
+    Input::read(rt, name, limit)
+}
+
 impl Beside<'_> {
     /// The pool bundle's name, if there is one.
     pub(crate) fn name(&self) -> Option<&str> {

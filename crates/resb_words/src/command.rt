@@ -92,6 +92,7 @@ const COMPILE: Described<'static> = Described {
             id: "POOL",
             option: Some("pool"),
             help: "Leaves what this pool bundle has out of the files, which are read beside it then",
+            against: Some("BYTES"),
             ..VALUE
         },
         Argument {

@@ -14,7 +14,7 @@ use Rattle.std.proofs.lemmas.Bool.Decides.{nat_tests}
 use Rattle.std.proofs.lemmas.List.Elements.{All-nil, All-cons, All-head, All-tail}
 use Rattle.std.proofs.lemmas.List.Elements.{Contains-append_right}
 use Rattle.std.proofs.lemmas.List.Sums.{sum_by-cons}
-use Rattle.resb_format.specs.Units.{units, size}
+use Rattle.resb_format.specs.Units.{units}
 use Rattle.resb_pool.specs.Plan.{IsPlan}
 use Rattle.resb_pool.proofs.IsRead.{pool_is_read}
 use Rattle.resb_lent.specs.LentTexts.{LentText, lent_empty, lent_within}
@@ -48,37 +48,45 @@ at_least : (k : ℕ) → k ≤ behind k
 at_least zero = omega arith
 at_least (suc k) = omega (arith, behind_more (suc k) (omega arith))
 
--- an index of the pool's
-record Near (block : List ℕ) (i : ℕ) : Type 0 where
-  bits : behind i < 2 ^ 28
-  there : behind i ≤ length block
+-- an index of the pool's has 28 bits
+near_index : (block s : List ℕ) (i : ℕ) → IsUtf8 s → LentText block s i → behind i < 2 ^ 28
+near_index block s i u (lent_empty z) = omega arith
+near_index block s i u (lent_within some lies e) = omega (
+  arith,
+  at_most i,
+  some_units s u some,
+  e,
+  lies.own.stands.near,
+)
 
-near_index : (block s : List ℕ) (i : ℕ) → IsUtf8 s → LentText block s i → Near block i
-near_index block s i u (lent_empty z) = record { bits = omega arith; there = omega arith }
-near_index block s i u (lent_within {r = r} {at = at} some lies e) =
-    let n = some_units s u some in
-    let b : behind i ≤ i + 1 = at_most i in
-    record {
-      bits = omega (arith, b, n, e, lies.own.stands.near);
-      there = omega (arith, b, n, e, inside block at r lies.own.stands);
-    }
-
-record NearLimit (block : List ℕ) (n : ℕ) : Type 0 where
-  pub bits : n < 2 ^ 28
-  pub there : n ≤ length block
-
--- one more than the greatest index
+-- and so has one more than the greatest
 near_limit : (block : List ℕ) (S : List (List ℕ)) (os : List (Option ℕ)) → All IsUtf8 S
-    → AreLent block S os → NearLimit block (limit_of (given os))
-near_limit block [] [] u lent_none = record { bits = omega arith; there = omega arith }
+    → AreLent block S os → limit_of (given os) < 2 ^ 28
+near_limit block [] [] u lent_none = omega arith
 near_limit block [] (o ∷ os) u x = elim x [ ]
 near_limit block (s ∷ S) [] u x = elim x [ ]
-near_limit block (s ∷ S) (Some i ∷ os) u (lent_more h more) =
-    let n = near_index block s i (All-head IsUtf8 s S u) h in
-    let r = near_limit block S os (All-tail IsUtf8 s S u) more in
-    record { bits = omega (arith, n.bits, r.bits); there = omega (arith, n.there, r.there) }
+near_limit block (s ∷ S) (Some i ∷ os) u (lent_more h more) = omega (
+  arith,
+  near_index block s i (All-head IsUtf8 s S u) h,
+  near_limit block S os (All-tail IsUtf8 s S u) more,
+)
 near_limit block (s ∷ S) (None ∷ os) u (lent_more h more) =
     near_limit block S os (All-tail IsUtf8 s S u) more
+
+index_inside : (block s : List ℕ) (i : ℕ) → LentText block s i → behind i ≤ length block
+index_inside block s i (lent_empty z) = omega arith
+index_inside block s i (lent_within {r = r} {at = at} some lies e) =
+    omega (arith, at_most i, e, inside block at r lies.own.stands)
+
+-- what a pool has of texts ends within its block
+pub limit_within : (block : List ℕ) (S : List (List ℕ)) (os : List (Option ℕ)) → AreLent block S os
+    → limit_of (given os) ≤ length block
+limit_within block [] [] lent_none = omega arith
+limit_within block [] (o ∷ os) x = elim x [ ]
+limit_within block (s ∷ S) [] x = elim x [ ]
+limit_within block (s ∷ S) (Some i ∷ os) (lent_more h more) =
+    omega (arith, index_inside block s i h, limit_within block S os more)
+limit_within block (s ∷ S) (None ∷ os) (lent_more h more) = limit_within block S os more
 
 short_fits : (limit own : ℕ) → short_limit_of limit own ≤ 65535
 short_fits limit own = by (nat_le limit 65535) (nat_le (limit + own) 65536) refl
@@ -100,17 +108,17 @@ no_short own = by (nat_le 0 65535 && nat_le (0 + own) 65536)
     by true = refl
     by false = omega arith
 
--- the strings that the pool lacks have no more units than all
-pub lacking_size : (S : List (List ℕ)) (os : List (Option ℕ))
-    → sum_by size (lacking S os) ≤ sum_by size S
-lacking_size [] os = omega arith
-lacking_size (s ∷ S) [] = omega arith
-lacking_size (s ∷ S) (Some i ∷ os) = omega (arith, lacking_size S os, sum_by-cons size s S)
-lacking_size (s ∷ S) (None ∷ os) = omega (
+-- what is summed over the strings that the pool lacks is at most what it is over all
+pub lacking_sum : (f : List ℕ → ℕ) (S : List (List ℕ)) (os : List (Option ℕ))
+    → sum_by f (lacking S os) ≤ sum_by f S
+lacking_sum f [] os = omega arith
+lacking_sum f (s ∷ S) [] = omega arith
+lacking_sum f (s ∷ S) (Some i ∷ os) = omega (arith, lacking_sum f S os, sum_by-cons f s S)
+lacking_sum f (s ∷ S) (None ∷ os) = omega (
   arith,
-  lacking_size S os,
-  sum_by-cons size s S,
-  sum_by-cons size s (lacking S os),
+  lacking_sum f S os,
+  sum_by-cons f s S,
+  sum_by-cons f s (lacking S os),
 )
 
 -- one more than the greatest own offset is at most the number of units
@@ -127,11 +135,6 @@ own_within T us offset plan (t ∷ ts) (k ∷ ks) e =
       (pool_is_read T us offset plan t k f).0,
       own_within T us offset plan ts ks g,
     )
-
--- what a pool has of texts ends within its block
-pub limit_within : (block : List ℕ) (S : List (List ℕ)) (os : List (Option ℕ)) → All IsUtf8 S
-    → AreLent block S os → limit_of (given os) ≤ length block
-limit_within block S os u x = (near_limit block S os u x).there
 
 -- the index of a string is the pool's, or its offset behind the limit
 abbrev IsIndex : List ℕ → (List ℕ → Option ℕ) → ℕ → List ℕ → ℕ → Type 0
@@ -241,7 +244,7 @@ indexes_fit block limit [] (o ∷ os) ks u x h room = elim x [ ]
 indexes_fit block limit (s ∷ S) [] ks u x h room = elim x [ ]
 indexes_fit block limit (s ∷ S) (Some i ∷ os) ks u (lent_more a more) h room =
     All-cons (λ k. k < 2 ^ 28) i (in_turn limit os ks)
-    (omega (arith, at_least i, (near_index block s i (All-head IsUtf8 s S u) a).bits))
+    (omega (arith, at_least i, near_index block s i (All-head IsUtf8 s S u) a))
     (indexes_fit block limit S os ks (All-tail IsUtf8 s S u) more h room)
 indexes_fit block limit (s ∷ S) (None ∷ os) [] u x h room = All-nil (λ i. i < 2 ^ 28)
 indexes_fit block limit (s ∷ S) (None ∷ os) (k ∷ ks) u (lent_more a more) h room =
@@ -256,7 +259,7 @@ module _ (block : List ℕ) (S : List (List ℕ)) (us is : List ℕ) (limit shor
     (w : IsPlanWith block S us is limit short) where
   -- the limits fit their bits
   pub limit_fits : limit < 2 ^ 28
-  limit_fits = omega (arith, w.limit_is, (near_limit block S w.found w.texts w.lent).bits)
+  limit_fits = omega (arith, w.limit_is, near_limit block S w.found w.texts w.lent)
 
   pub short_limit_fits : short ≤ 65535
   short_limit_fits = omega (arith, w.short_is, short_fits limit (limit_of w.offsets))

@@ -16,6 +16,8 @@ ghost use Rattle.resb_write.specs.Inner.Numbered.{NumbersKeys};
 ghost use Rattle.resb_layout.specs.PlainSize.{list_size, resources_size};
 ghost use Rattle.resb_layout.specs.TreeFaults.{RefusesWriting};
 ghost use Rattle.resb_layout.specs.Written.{Written};
+ghost use Rattle.resb_pool_bundle.specs.Pool.{pool_in};
+ghost use Rattle.resb_write.specs.WrittenWith.{WrittenWith, RefusesWritingWith};
 
 use crate::contents::Contents;
 use crate::drafts::{NumberedPieces, draft_keys};
@@ -28,7 +30,9 @@ use crate::numbered_keys::NumberedKeys;
 use crate::sites::Sites;
 use crate::strings::Strings;
 use crate::tree_bodies::lay_bodies;
+use crate::with_pool::{Wanted, write_order_with_pool};
 use resb_draft::Draft;
+use resb_pool_bundle::PoolBundle;
 use resb_tree::{Key, ResourceBundle, in_laying_order};
 use std::alloc::Global;
 
@@ -68,6 +72,36 @@ impl Serializer {
             is_locale_fallback_enabled,
             keys_in_discovery_order,
         )
+    }
+
+    /// The `.res` file of a bundle over a pool bundle: its keys and strings that the pool has stay
+    /// there. A key stands in the pool where the pool has it whole, and a string where a record of
+    /// the pool is that string, or ends with it if it has no marker; the others are the file's own.
+    /// The version is 3.0 where a string stands in the pool, and else 2.0. Which pool is used the
+    /// file says by the pool's checksum. (ICU's `uresdata.h`: pool bundles.)
+    ///
+    /// Refused is what `to_bytes` refuses, and, as `file too large`, strings whose indexes would
+    /// take more than 28 bits with those of the pool.
+    pub fn to_bytes_with_pool(
+        alloc: Global,
+        bundle: &ResourceBundle<'_>,
+        keys_in_discovery_order: &[Key<'_>],
+        pool: &PoolBundle<'_>,
+    ) -> Result<Vec<u8>, BinarySerializerError>
+        ensures ok { IfOk result (λ v. WrittenWith (pool_in pool.now) v.items (root_of bundle.now)
+            bundle.now.is_locale_fallback_enabled keys_in_discovery_order.now) }
+        ensures err { IfErr result (λ e. RefusesWritingWith (pool_in pool.now)
+            (root_of bundle.now) keys_in_discovery_order.now (fault_of e)) }
+    {
+        let order = in_laying_order(alloc, bundle.root())?;
+        let keys = table_keys(alloc, &order)?;
+        let nodes = nodes_of(alloc, &order)?;
+        drop(order);
+        let wanted = Wanted {
+            is_locale_fallback_enabled: bundle.is_locale_fallback_enabled,
+            list: keys_in_discovery_order,
+        };
+        write_order_with_pool(alloc, &nodes, keys, &wanted, pool)
     }
 
     /// The `.res` file of a bundle whose root is given as a draft: what `to_bytes` gives, and what

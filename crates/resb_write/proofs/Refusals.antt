@@ -27,7 +27,7 @@ use Rattle.resb_lent.specs.PlanWithPool.{lacking, NotPlannedWith, own_fault}
 use Rattle.resb_lent.specs.PlanWithPool.{no_memory as no_memory_beside, too_far as too_far_beside}
 use Rattle.resb_lent.proofs.PlanRoom.{lacking_sum, limit_within, own_within}
 use Rattle.resb_write.specs.WrittenWith.{RefusesWritingWith, as_alone, too_far}
-use Rattle.resb_write.specs.Inner.Beside.{IsUnplanned}
+use Rattle.resb_write.specs.Inner.Beside.{IsUnplanned, RefusesOver}
 
 module _ (t : Tree) (ks : List (List ℕ)) where
   pub key_refused : (us : List (List ℕ)) (f : WritingFault) → us ≡ keys_of t → (f ≡ out_of_memory)
@@ -115,3 +115,9 @@ module _ (t : Tree) (ks : List (List ℕ)) (pool : Pool)
   unplanned S f is u =
       subst (RefusesWritingWith pool t ks) (sym u.answered) (not_planned u.error
       (subst (λ T. NotPlannedWith pool.block T u.error) is u.refused))
+
+-- want of memory is answered over each pool, and over none
+pub no_memory_over : (o : Option Pool) (t : Tree) (ks : List (List ℕ))
+    → RefusesOver o t ks out_of_memory
+no_memory_over None t ks = no_memory
+no_memory_over (Some pool) t ks = as_alone no_memory

@@ -5,20 +5,25 @@
 --     IsKeyBlockBeside place us ks js ps   of used keys us and a list ks: those that the pool
 --                             lacks, and where the used ones stand
 --     IsUnplanned block S f   the fault f may be answered where the strings S have no plan
+--     IsFileOver o bytes t f ks, RefusesOver o t ks e     a file over the pool o or over none, and why
+--                             there is none
 --     head_with c l n         the head of a file of these parts, to which so much is lent by a
 --                             pool of the checksum n
 use Rattle.std.specs.Prelude.{◌≡◌, ℕ, ◌+◌, ◌-◌, ◌/◌, ◌<◌, ◌≤◌, ◌^◌, min, List, length, map, filter}
-use Rattle.std.specs.Prelude.{Option, Some, None, All, unwrap_or}
+use Rattle.std.specs.Prelude.{Option, Some, None, All, unwrap_or, Bool}
 use Rattle.std.specs.Option.{is_none}
 use Rattle.std.specs.Str.{IsUtf8}
 use Rattle.resb_pool.specs.declared.error.PlanError.{PlanError}
 use Rattle.resb_layout.specs.KeyBlock.{used, key_bytes}
-use Rattle.resb_layout.specs.TreeFaults.{key_fault}
+use Rattle.resb_layout.specs.TreeFaults.{key_fault, RefusesWriting}
 use Rattle.resb_layout.specs.WritingFault.{WritingFault}
+use Rattle.resb_layout.specs.Written.{Written}
+use Rattle.resb_tree.specs.Tree.{Tree}
+use Rattle.resb_pool_bundle.specs.Pool.{Pool}
 use Rattle.resb_lent.specs.PlanWithPool.{NotPlannedWith}
 use Rattle.resb_lent.specs.declared.head_with_pool.HeadWithPool.{HeadWithPool}
 use Rattle.resb_write.specs.FaultOf.{plan_fault}
-use Rattle.resb_write.specs.WrittenWith.{position_beside}
+use Rattle.resb_write.specs.WrittenWith.{position_beside, WrittenWith, RefusesWritingWith}
 use Rattle.resb_write.specs.Inner.Files.{keys_in_file, units_in_file}
 use Rattle.resb_write.specs.declared.file.FileParts.{FileParts}
 use Rattle.resb_write.specs.declared.lends.Lends.{Lends}
@@ -57,3 +62,11 @@ pub record FitsLimits (l : Lends) : Type 0 where
   pub limit : l.limit < 2 ^ 28
   pub short : l.short_limit ≤ 65535
   pub none : l.limit ≡ 0 → l.short_limit ≡ 0
+
+abbrev pub IsFileOver : Option Pool → List ℕ → Tree → Bool → List (List ℕ) → Type 0
+IsFileOver None bytes t fallback ks = Written bytes t fallback ks
+IsFileOver (Some pool) bytes t fallback ks = WrittenWith pool bytes t fallback ks
+
+abbrev pub RefusesOver : Option Pool → Tree → List (List ℕ) → WritingFault → Type 0
+RefusesOver None t ks f = RefusesWriting t ks f
+RefusesOver (Some pool) t ks f = RefusesWritingWith pool t ks f

@@ -9,6 +9,9 @@ use Rattle.resb_layout.specs.WritingFault.{WritingFault, unexpected}
 use Rattle.resb_layout.specs.TreeFaults.{RefusesWriting, no_memory, at_the_first, too_large}
 use Rattle.resb_write.proofs.Listed.{not_unlisted as no_fault, not_memory, not_large}
 use Rattle.resb_write.specs.FaultOf.{fault_of}
+use Rattle.resb_write.specs.WrittenWith.{RefusesWritingWith, as_alone, too_far}
+use Rattle.resb_pool_bundle.specs.Pool.{Pool}
+use Rattle.resb_compile.specs.CompilingWithPool.{IsRefusedWithPool, IsIcuRefusedWithPool}
 use Rattle.resb_write.specs.declared.error.BinarySerializerError.{BinarySerializerError}
 use Rattle.resb_compile.specs.Compiling.{IsRefused, IsUnwritable}
 use Rattle.resb_compile.specs.declared.compiling.CompileError.{CompileError}
@@ -76,3 +79,46 @@ pub icu_reading_refused : {X : Type 0} (text : List ℕ) (e : IcuTextError) → 
     → IfErr r (IsIcuRefused text)
 icu_reading_refused text e h (Ok x) is = tt
 icu_reading_refused text e h (Err made) is = subst (IsIcuRefused text) (sym is) h
+
+-- nor is one over a pool
+never_unlisted_with : (pool : Pool) (t : Tree) (ks : List (List ℕ))
+    → ((k : List ℕ) → is_key k t ≡ true → Contains ks k) → (f : WritingFault)
+    → RefusesWritingWith pool t ks f
+    → f ≡ unexpected (codes "key not present in position map") → ⊥
+never_unlisted_with pool t ks l f (as_alone h) e = never_unlisted t ks l f h e
+never_unlisted_with pool t ks l f (too_far none far) e = not_large t ks l e
+
+-- what the writer refuses over a pool is refused for its reason
+pub writing_refused_with : {X : Type 0} (pool : Pool) (text name : List ℕ) (fallback : Bool)
+    (t : Tree) (ks : List (List ℕ)) (e : BinarySerializerError)
+    → BundleText text name fallback t ks → RefusesWritingWith pool t ks (fault_of e)
+    → (r : Result X CompileError) → IsErrAnd r (λ made. made ≡ Writing e)
+    → IfErr r (IsRefusedWithPool pool text)
+writing_refused_with pool text name fallback t ks e b h (Ok x) is = tt
+writing_refused_with pool text name fallback t ks e b h (Err made) is =
+    subst (IsRefusedWithPool pool text) (sym is) (record {
+      bundle = record { name = name; fallback = fallback; tree = t; keys = ks; is = b };
+      refused = h;
+      listed = never_unlisted_with pool t ks (listed text name fallback t ks b) (fault_of e) h;
+    })
+
+pub icu_writing_refused_with : {X : Type 0} (pool : Pool) (text name : List ℕ) (fallback : Bool)
+    (t : Tree) (ks : List (List ℕ)) (e : BinarySerializerError)
+    → IcuText text name fallback t ks → RefusesWritingWith pool t ks (fault_of e)
+    → (r : Result X IcuCompileError) → IsErrAnd r (λ made. made ≡ icu.Writing e)
+    → IfErr r (IsIcuRefusedWithPool pool text)
+icu_writing_refused_with pool text name fallback t ks e b h (Ok x) is = tt
+icu_writing_refused_with pool text name fallback t ks e b h (Err made) is =
+    subst (IsIcuRefusedWithPool pool text) (sym is) (record {
+      bundle = record { name = name; fallback = fallback; tree = t; keys = ks; is = b };
+      refused = h;
+      listed = never_unlisted_with pool t ks (icu_listed text name fallback t ks b) (fault_of e) h;
+    })
+
+-- what the reader refuses is refused over each pool
+pub icu_reading_refused_with : {X : Type 0} (pool : Pool) (text : List ℕ) (e : IcuTextError)
+    → IsIcuUnreadable text e → (r : Result X IcuCompileError)
+    → IsErrAnd r (λ made. made ≡ icu.Reading e) → IfErr r (IsIcuRefusedWithPool pool text)
+icu_reading_refused_with pool text e h (Ok x) is = tt
+icu_reading_refused_with pool text e h (Err made) is =
+    subst (IsIcuRefusedWithPool pool text) (sym is) h

@@ -1,13 +1,14 @@
 -- For crates above: those that are `pub`.
 mod Wholes
-mod Standing
+pub mod Standing
 mod Listing
 mod Lying
-mod Once
-mod Beside
-mod PlanRead
-mod ReadBeside
-mod HeadRead
+pub mod Once
+pub mod Beside
+pub mod PlanRead
+pub mod PlanRoom
+pub mod ReadBeside
+pub mod HeadRead
 mod Sorting
 mod Read
 mod Noting

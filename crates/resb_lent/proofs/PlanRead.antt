@@ -34,7 +34,7 @@ only_empty block s i u h z =
     let f : [] ≡ s = cc in
     sym f
 
-behind_more : (i : ℕ) → 0 < i → behind i ≡ i + 1
+pub behind_more : (i : ℕ) → 0 < i → behind i ≡ i + 1
 behind_more i h = ap (λ b. cond b 0 (i + 1)) (ne_eqb i 0 (λ e. omega (arith, e, h)))
 
 -- an index is below the limit, or it is 0

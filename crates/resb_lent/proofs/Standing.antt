@@ -39,7 +39,7 @@ module _ (block : List ℕ) (at : ℕ) (r : List ℕ) (h : StandsAt block at r) 
   abbrev rest : List ℕ
   rest = drop (size r) (drop at block)
 
-  inside : at + size r ≤ length block
+  pub inside : at + size r ≤ length block
   inside =
       let n = sym (ap length h.stands ∙ record_size r) in
       omega (arith, n, length-take (size r) (drop at block), length-drop at block)

@@ -1,10 +1,12 @@
 -- Whose keys and texts are lent.
 --     lent_keys l                 the pool's keys, in bytes
+--     lent_place l k              where the pool has the key k
 --     LendsTexts l block          l has the records of this block, in the order from the end
-use Rattle.std.specs.Prelude.{◌≡◌, ℕ, List, Some, All, Contains, slice_get}
+use Rattle.std.specs.Prelude.{◌≡◌, ℕ, List, Option, Some, All, Contains, slice_get}
 use Rattle.std.specs.Bool.{MatchBool}
 use Rattle.std.specs.List.Sorted.{IsSortedBy}
 use Rattle.std.specs.Ordering.{is_lt}
+use Rattle.resb_pool.specs.Plan.{at_text}
 use Rattle.resb_lent.specs.LentTexts.{IsLentRecord}
 use Rattle.resb_lent.specs.Entries.{IsLentEntry, pairs, entry_cmp}
 use Rattle.resb_lent.specs.declared.keys.LentKeys.{LentKeys}
@@ -13,6 +15,10 @@ use Rattle.resb_lent.specs.declared.texts.LentTexts.{LentTexts}
 -- the pool's keys, in bytes
 abbrev pub lent_keys : LentKeys → List ℕ
 lent_keys l = l.keys.now
+
+-- where the pool has a key, as it was noted
+abbrev pub lent_place : LentKeys → List ℕ → Option ℕ
+lent_place l k = at_text l.places k
 
 -- whether the block begins with 0, and just the records of the block, sorted
 pub record LendsTexts (l : LentTexts) (block : List ℕ) : Type 0 where

@@ -8,6 +8,8 @@
 --     NotPlannedWith block S e    the error e is the answer for the strings S
 use Rattle.std.specs.Prelude.{◌≡◌, ℕ, ◌+◌, ◌*◌, ◌/◌, ◌^◌, ◌<◌, ◌≤◌, List, [], ◌∷◌, map, max}
 use Rattle.std.specs.Prelude.{Option, Some, None, ◌&&◌, nat_le, nat_eq, slice_get, if◌then◌else◌}
+use Rattle.std.specs.Prelude.{All}
+use Rattle.std.specs.Str.{IsUtf8}
 use Rattle.resb_pool.specs.Plan.{IsPlan, NotPlanned}
 use Rattle.resb_pool.specs.declared.error.PlanError.{PlanError}
 use Rattle.resb_pool.specs.declared.error.PlanError.TheVariants.{TooLarge, OutOfMemory}
@@ -65,6 +67,7 @@ StandAt S is offset =
 -- used. The others are planned as if there were no others, and stand from the limit on.
 pub record IsPlanWith (block : List ℕ) (S : List (List ℕ)) (us is : List ℕ) (limit short : ℕ)
     : Type 0 where
+  pub texts : All IsUtf8 S
   pub found : List (Option ℕ)
   pub lent : AreLent block S found
   pub offset : List ℕ → Option ℕ

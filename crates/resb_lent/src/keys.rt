@@ -51,7 +51,7 @@ impl<'a> LentKeys<'a> {
     ghost use Rattle.std.specs.Prelude.{◌≡◌, ℕ, List, IfOk};
     ghost use Rattle.resb_pool.specs.Plan.{at_text};
     ghost use Rattle.resb_lent.specs.LentKeys.{LendsKey};
-    ghost use Rattle.resb_lent.specs.Lending.{lent_keys};
+    ghost use Rattle.resb_lent.specs.Lending.{lent_keys, lent_place};
 
     /// What the keys of a pool bundle lend, given as its bytes from behind its index up to the
     /// keys' end. They are gone through once. Keys that are no UTF-8 are passed over.
@@ -77,7 +77,8 @@ impl<'a> LentKeys<'a> {
     /// start or behind a zero byte, and up to the next one. There is none where the pool lacks the
     /// key, nor where only positions of more than 31 bits would reach it.
     pub fn place(&self, key: &str) -> Option<u32>
-        ensures { LendsKey (lent_keys self.now) key.now result }
+        ensures lends { LendsKey (lent_keys self.now) key.now result }
+        ensures noted { result ≡ lent_place self.now key.now }
     {
         self.places.get(key).copied()
     }

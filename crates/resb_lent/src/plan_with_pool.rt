@@ -2,9 +2,11 @@
 //! its record of the file's own stands.
 //! In which of its records the pool has a text is said in `texts`.
 ghost use Rattle.std.specs.Prelude.{◌≡◌, ◌+◌, ◌≤◌, ◌^◌, ◌∷◌, ◌++◌, [], ℕ, List, Option, IfOk};
-ghost use Rattle.std.specs.Prelude.{OnOk, MatchOption};
+ghost use Rattle.std.specs.Prelude.{OnOk, MatchOption, All};
+ghost use Rattle.std.specs.Str.{IsUtf8};
 ghost use Rattle.resb_pool.specs.Plan.{nows};
 ghost use Rattle.resb_lent.specs.Lending.{LendsTexts};
+ghost use Rattle.resb_lent.specs.LentTexts.{LendsText};
 ghost use Rattle.resb_lent.specs.PlanWithPool.{AreLent, lacking as lacking_of, given, behind};
 ghost use Rattle.resb_lent.specs.PlanWithPool.{limit_of, short_limit_of, in_turn as in_turn_of};
 
@@ -33,14 +35,24 @@ pub struct PlanWithPool {
     pub short_limit: u32,
 }
 
+/// What the pool has of a text.
+fn answer_for(lent: &LentTexts, text: &str) -> Option<u32>
+    ensures lends { (block : List ℕ) → LendsTexts lent.now block
+        → LendsText block text.now result }
+    ensures utf8 { IsUtf8 text.now }
+{
+    lent.index(text)
+}
+
 /// What the pool has of each text.
 fn answers(alloc: Global, lent: &LentTexts, texts: &[&str]) -> Result<Vec<Option<u32>>, AllocError>
-    ensures { IfOk result (λ v. (block : List ℕ) → LendsTexts lent.now block
+    ensures lends { IfOk result (λ v. (block : List ℕ) → LendsTexts lent.now block
         → AreLent block (nows texts.now) v.items) }
+    ensures utf8 { OnOk result (All IsUtf8 (nows texts.now)) }
 {
     let mut found = Vec::with_capacity(alloc, texts.len())?;
     for text in texts {
-        found.push(lent.index(*text))?;
+        found.push(answer_for(lent, *text))?;
     }
     Ok(found)
 }

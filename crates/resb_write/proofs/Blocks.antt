@@ -29,18 +29,18 @@ key_at-found front k rest u z =
     ∙ ap (λ b. cond b (Some k) None) (is_utf8-from_IsUtf8 k u)
 
 -- a key is read at its position
-pub written_key_read : (head pad : List ℕ) (js : List (List ℕ)) → length head ≡ 32
+pub written_key_read : (start : ℕ) (head pad : List ℕ) (js : List (List ℕ)) → length head ≡ start
     → (k : List ℕ) (n : ℕ)
     → last_place k js ≡ Some n → IsUtf8 k → has_nul k ≡ false
-    → key_at (head ++ (key_bytes js ++ pad)) (32 + n) ≡ Some k
-written_key_read head pad js front k n e u z =
+    → key_at (head ++ (key_bytes js ++ pad)) (start + n) ≡ Some k
+written_key_read start head pad js front k n e u z =
     let s = last_of-stands k js n e in
     let f : head ++ (key_bytes js ++ pad) ≡ (head ++ s.front) ++ (k ++ 0 ∷ (s.back ++ pad)) =
     ap (λ l. head ++ (l ++ pad)) s.is
     ∙ ap (λ l. head ++ l) (append_assoc s.front (k ++ 0 ∷ s.back) pad
     ∙ ap (λ l. s.front ++ l) (append_assoc k (0 ∷ s.back) pad))
     ∙ sym (append_assoc head s.front (k ++ 0 ∷ (s.back ++ pad))) in
-    let at : 32 + n ≡ length (head ++ s.front) =
+    let at : start + n ≡ length (head ++ s.front) =
     omega (arith, front, s.place, length-append head s.front) in
     (λ i. key_at (f i) (at i)) ∙ key_at-found (head ++ s.front) k (s.back ++ pad) u z
 

@@ -190,7 +190,7 @@ module _ (t : Tree) (ks js : List (List ℕ)) (m : Made t ks js) (largest : ℕ)
       by (Some n) h f =
           let q : 32 + n ≡ at = (let f' : Some (32 + n) ≡ Some at = f in cc) in
           ap (key_at parts.keys) (sym q)
-          ∙ written_key_read (heads.head whole) (fill ((4 - length (key_bytes js) % 4) % 4)) js
+          ∙ written_key_read 32 (heads.head whole) (fill ((4 - length (key_bytes js) % 4) % 4)) js
           (heads.head_length whole) k n h
           (All-contains IsUtf8 js k m.utf8 (place_contained k js n h))
           (no_nul (keys_of t) js m.faultless k (is_used (keys_of t) js m.faultless ks m.js_are k n

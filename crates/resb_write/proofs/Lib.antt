@@ -27,5 +27,8 @@ mod Refusals
 pub mod Listed
 mod Examples
 mod OneFile
+mod KeysBeside
+mod FilesBeside
+mod OneFileBeside
 mod Filled
 mod Lists

@@ -1,8 +1,10 @@
 -- Why a tree is refused, by the step that found it.
 use Rattle.std.proofs.Common.{◌≡◌, ℕ, ◌+◌, ◌^◌, ◌<◌, List, Some, None, ◌⊎◌, inl, inr, sym, ◌∙◌, ap}
+use Rattle.std.proofs.Common.{length, Option}
 use Rattle.std.proofs.Common.{subst, arith}
 use Rattle.std.specs.List.{flat_map}
 use Rattle.resb_tree.specs.Tree.{Tree}
+use Rattle.resb_format.specs.Units.{units, size}
 use Rattle.resb_layout.specs.WritingFault.{WritingFault, out_of_memory}
 use Rattle.resb_pool.specs.declared.error.PlanError.{PlanError}
 use Rattle.resb_pool.specs.Plan.{NotPlanned, no_memory as no_memory_to_plan, too_long}
@@ -17,7 +19,15 @@ use Rattle.resb_layout.specs.TreeFaults.{too_large}
 use Rattle.resb_write.specs.FaultOf.{plan_fault}
 use Rattle.resb_write.specs.Inner.Sizes.{size_fault, IsTooMuch, at_fault}
 use Rattle.resb_write.specs.Inner.Sizes.{too_large as too_large_sizes}
-use Rattle.resb_write.proofs.Room.{small_texts_fit, texts_within}
+use Rattle.resb_write.proofs.Room.{small_texts_fit, texts_within, small_sizes, pool_room}
+use Rattle.resb_write.proofs.Room.{units_room}
+use Rattle.resb_write.proofs.Blocks.{laying_order_long}
+use Rattle.resb_pool_bundle.specs.Pool.{Pool}
+use Rattle.resb_lent.specs.PlanWithPool.{lacking, NotPlannedWith, own_fault}
+use Rattle.resb_lent.specs.PlanWithPool.{no_memory as no_memory_beside, too_far as too_far_beside}
+use Rattle.resb_lent.proofs.PlanRoom.{lacking_sum, limit_within, own_within}
+use Rattle.resb_write.specs.WrittenWith.{RefusesWritingWith, as_alone, too_far}
+use Rattle.resb_write.specs.Inner.Beside.{IsUnplanned, RefusesOver}
 
 module _ (t : Tree) (ks : List (List ℕ)) where
   pub key_refused : (us : List (List ℕ)) (f : WritingFault) → us ≡ keys_of t → (f ≡ out_of_memory)
@@ -56,3 +66,58 @@ module _ (t : Tree) (ks : List (List ℕ)) where
       cc
   plan_refused S e is small (too_large_to_plan h l) =
       absurd (omega (arith, texts_within (laying_order t), small, l, ap texts_size is))
+
+-- what is not planned over a pool
+module _ (t : Tree) (ks : List (List ℕ)) (pool : Pool)
+    (no_key : key_fault (keys_of t) (used (keys_of t) ks) ≡ None)
+    (small : list_size ks + resources_size (laying_order t) < 2 ^ 28) where
+  texts_small : (os : List (Option ℕ)) → texts_size (lacking (texts_of t) os) < 2 ^ 28
+  texts_small os = omega (
+    arith,
+    lacking_sum (λ s. 16 + length (units s)) (texts_of t) os,
+    texts_within (laying_order t),
+    small,
+  )
+
+  no_fault : tree_fault t ks ≡ None
+  no_fault =
+      ap (λ o. first_of o (size_fault (laying_order t))) no_key
+      ∙ small_sizes (laying_order t) (omega (arith, small))
+
+  own_refused : (os : List (Option ℕ)) (e : PlanError) → NotPlanned (lacking (texts_of t) os) e
+      → RefusesWritingWith pool t ks (plan_fault e)
+  own_refused os e no_memory_to_plan = as_alone no_memory
+  own_refused os e (too_long {n} h) =
+      let none = small_texts_fit (lacking (texts_of t) os) (texts_small os) in
+      let no : Some n ≡ None = sym h ∙ none in
+      cc
+  own_refused os e (too_large_to_plan h l) = absurd (omega (arith, texts_small os, l))
+
+  not_planned : (e : PlanError) → NotPlannedWith pool.block (texts_of t) e
+      → RefusesWritingWith pool t ks (plan_fault e)
+  not_planned e no_memory_beside = as_alone no_memory
+  not_planned e (own_fault found lent h) = own_refused found e h
+  not_planned e (too_far_beside found us offsets offset lent plan are far) =
+      too_far no_fault (omega (
+        arith,
+        far,
+        limit_within pool.block (texts_of t) found lent,
+        own_within (lacking (texts_of t) found) us offset plan (lacking (texts_of t) found) offsets
+            are,
+        pool_room (lacking (texts_of t) found) us offset plan,
+        lacking_sum size (texts_of t) found,
+        units_room (laying_order t),
+        laying_order_long t,
+      ))
+
+  pub unplanned : (S : List (List ℕ)) (f : WritingFault) → S ≡ texts_of t
+      → IsUnplanned pool.block S f → RefusesWritingWith pool t ks f
+  unplanned S f is u =
+      subst (RefusesWritingWith pool t ks) (sym u.answered) (not_planned u.error
+      (subst (λ T. NotPlannedWith pool.block T u.error) is u.refused))
+
+-- want of memory is answered over each pool, and over none
+pub no_memory_over : (o : Option Pool) (t : Tree) (ks : List (List ℕ))
+    → RefusesOver o t ks out_of_memory
+no_memory_over None t ks = no_memory
+no_memory_over (Some pool) t ks = as_alone no_memory

@@ -1,5 +1,5 @@
 -- Words of private functions: what a resource is, what is gathered, where keys stand while
--- they are placed, laying resources one by one over a stack of words and the room for it, how many
+-- they are placed, also beside a pool, laying resources one by one over a stack of words and the room for it, how many
 -- units they take, and what a file is put together from.
 pub mod Lending
 pub mod Nodes
@@ -13,3 +13,4 @@ pub mod Seen
 pub mod Counted
 pub mod Files
 pub mod Numbered
+pub mod Beside

@@ -3,7 +3,9 @@
 --     OneFile                 a bundle and a list of keys leave one file
 --     WrittenIsDenoted        it denotes the tree, each resource once
 --     WrittenInOrder          its tail is the bodies of the tree's resources, without a gap
-use Rattle.std.specs.Prelude.{◌≡◌, ℕ, ◌*◌, List, ◌++◌, drop, Bool, false, Option}
+--     OneFileWithPool         a bundle, a list of keys and a pool bundle leave one file
+--     WrittenWithPoolIsRead   beside the pool it denotes the tree, each resource once
+use Rattle.std.specs.Prelude.{◌≡◌, ℕ, ◌*◌, List, ◌++◌, drop, Bool, false, Option, Some}
 use Rattle.resb_tree.specs.Tree.{Tree, tree_count}
 use Rattle.resb_tree.specs.Aliases.{has_alias}
 use Rattle.resb_tree.specs.LayingOrder.{laying_order}
@@ -12,6 +14,9 @@ use Rattle.resb_layout.specs.InOrder.{FillsTail, FillsBlock}
 use Rattle.resb_layout.specs.Laid.{Given, Lends, Laid, LaysBy}
 use Rattle.resb_format.specs.Laws.{EachFits}
 use Rattle.resb_layout.specs.Written.{Written}
+use Rattle.resb_pool_bundle.specs.Pool.{Pool}
+use Rattle.resb_pool_bundle.specs.FileWith.{DenotesWith}
+use Rattle.resb_write.specs.WrittenWith.{WrittenWith}
 
 -- where the units before a tree are the same, so are those behind it, wherever the tail begins
 abbrev pub OneBlock : Type 0
@@ -51,3 +56,15 @@ abbrev pub OneFile : Type 0
 OneFile =
     (a b : List ℕ) (t : Tree) (fallback : Bool) (ks : List (List ℕ)) → EachFits 8 a → EachFits 8 b
     → Written a t fallback ks → Written b t fallback ks → a ≡ b
+
+-- two files of a bundle and a list of keys that are written over one pool are the same bytes
+abbrev pub OneFileWithPool : Type 0
+OneFileWithPool =
+    (pool : Pool) (a b : List ℕ) (t : Tree) (fallback : Bool) (ks : List (List ℕ))
+    → WrittenWith pool a t fallback ks → WrittenWith pool b t fallback ks → a ≡ b
+
+-- a file that is written over a pool denotes its tree beside that pool
+abbrev pub WrittenWithPoolIsRead : Type 0
+WrittenWithPoolIsRead =
+    (pool : Pool) (bytes : List ℕ) (t : Tree) (fallback : Bool) (ks : List (List ℕ))
+    → WrittenWith pool bytes t fallback ks → DenotesWith (Some pool) bytes t (tree_count t)

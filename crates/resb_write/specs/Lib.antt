@@ -1,5 +1,6 @@
--- The words of the contracts: what the laws of written files say, and, from the crates below, why
--- a file isn't written, what a written file is, and for which tree a draft stands.
+-- The words of the contracts: what a file is that is written over a pool bundle, what the laws of
+-- written files say, and, from the crates below, why a file isn't written, what a written file is,
+-- and for which tree a draft stands.
 pub use Rattle.resb_tree.specs.Tree
 pub use Rattle.resb_tree.specs.View
 pub use Rattle.resb_tree.specs.Bundle
@@ -17,6 +18,12 @@ pub use Rattle.resb_layout.specs.WritingFault
 pub use Rattle.resb_layout.specs.TreeFaults
 pub use Rattle.resb_layout.specs.WrittenHead
 pub use Rattle.resb_layout.specs.Written
+pub use Rattle.resb_pool_bundle.specs.Pool
+pub use Rattle.resb_pool_bundle.specs.FileWith
+pub use Rattle.resb_lent.specs.LentKeys
+pub use Rattle.resb_lent.specs.PlanWithPool
+pub use Rattle.resb_lent.specs.HeadWithPool
 pub mod FaultOf
+pub mod WrittenWith
 pub mod Laws
 pub mod Inner

@@ -63,7 +63,7 @@ fn put_units(place: &mut [u8], units: &[u16])
 }
 
 /// Appends the 16-bit block, with a unit that fills its last word.
-fn append_units(file: &mut Vec<u8>, units: &[u16]) -> Result<(), AllocError>
+pub(crate) fn append_units(file: &mut Vec<u8>, units: &[u16]) -> Result<(), AllocError>
     ensures appends { OnOk result (file.new.items
         ≡ file.old.items ++ units_as_bytes (even units.now)) }
     ensures fits { (k : ℕ) → slice_index units.now k < 2 ^ 16 }

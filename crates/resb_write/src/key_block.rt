@@ -114,7 +114,7 @@ pub(crate) fn append_block(file: &mut Vec<u8>, keys: &[&str]) -> Result<(), Allo
 }
 
 /// The keys of a list that are in a set, in the list's order.
-fn used_keys<'k>(
+pub(crate) fn used_keys<'k>(
     alloc: Global,
     set: &IndexMap<&str, ()>,
     list: &'k [Key<'_>],
@@ -134,7 +134,10 @@ fn used_keys<'k>(
 }
 
 /// The position of the last occurrence of each key, or the greatest number of 32 bits.
-fn last_positions<'k>(alloc: Global, keys: &[&'k str]) -> Result<IndexMap<&'k str, u32>, AllocError>
+pub(crate) fn last_positions<'k>(
+    alloc: Global,
+    keys: &[&'k str],
+) -> Result<IndexMap<&'k str, u32>, AllocError>
     ensures { IfOk result (λ m. (q : List ℕ) → at_text m q ≡ near_position_in (nows keys.now) q) }
 {
     let mut positions = IndexMap::new(alloc);
@@ -181,7 +184,7 @@ fn positions_in(
 }
 
 /// The value at each of these indexes, put in its place.
-fn values_at(values: &[u32], indexes: Vec<u32>) -> Vec<u32>
+pub(crate) fn values_at(values: &[u32], indexes: Vec<u32>) -> Vec<u32>
     ensures { result.items ≡ map (slice_index values.now) indexes.items }
 {
     let mut found = indexes;
@@ -215,7 +218,10 @@ fn has_far_key(keys: &[&str], positions: &IndexMap<&str, u32>) -> bool
 
 /// Refuses the first fault of used keys, whose last positions are given: a key that isn't in the
 /// list, one with U+0000, one past the greatest position.
-fn check_keys(keys: &[&str], positions: &IndexMap<&str, u32>) -> Result<(), BinarySerializerError>
+pub(crate) fn check_keys(
+    keys: &[&str],
+    positions: &IndexMap<&str, u32>,
+) -> Result<(), BinarySerializerError>
     ensures ok { OnOk result ((js : List (List ℕ))
         → ((q : List ℕ) → at_text positions.now q ≡ near_position_in js q)
         → key_fault (nows keys.now) js ≡ None) }

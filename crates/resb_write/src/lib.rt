@@ -8,6 +8,7 @@ mod drafts;
 mod error;
 mod file;
 mod key_block;
+mod keys_beside;
 pub mod laws;
 mod lends;
 mod limits;
@@ -21,6 +22,7 @@ mod strings;
 mod tail_bytes;
 mod tree_bodies;
 mod unit_count;
+mod with_pool;
 
 pub use error::BinarySerializerError;
 pub use resb_pool::pool;

@@ -1,7 +1,7 @@
 //! Writes a bundle, or a draft of one: its faults in their order, and then the parts of the file,
 //! one after another.
 //! Each part is made in a module or crate of its own.
-ghost use Rattle.std.specs.Prelude.{◌≡◌, ◌+◌, ◌<◌, ◌^◌, true, map, IfOk, IfErr};
+ghost use Rattle.std.specs.Prelude.{◌≡◌, ◌+◌, ◌<◌, ◌^◌, true, map, IfOk, IfErr, option_map};
 ghost use Rattle.resb_tree.specs.Borrowing.{all_true};
 ghost use Rattle.resb_tree.specs.Tree.{Tree};
 ghost use Rattle.resb_tree.specs.Bundle.{root_of};
@@ -10,12 +10,15 @@ ghost use Rattle.resb_draft.specs.Drafts.{draft_tree, is_ready, tree_at, is_whol
 ghost use Rattle.resb_draft.specs.Pieces.{are_pieces};
 ghost use Rattle.resb_write.specs.FaultOf.{fault_of};
 ghost use Rattle.resb_pool.specs.Plan.{nows};
+ghost use Rattle.resb_write.specs.Inner.Beside.{IsFileOver, RefusesOver};
 ghost use Rattle.resb_write.specs.Inner.Gathered.{Gathered};
 ghost use Rattle.resb_write.specs.Inner.NearPositions.{IsKeyBlock};
 ghost use Rattle.resb_write.specs.Inner.Numbered.{NumbersKeys};
 ghost use Rattle.resb_layout.specs.PlainSize.{list_size, resources_size};
 ghost use Rattle.resb_layout.specs.TreeFaults.{RefusesWriting};
 ghost use Rattle.resb_layout.specs.Written.{Written};
+ghost use Rattle.resb_pool_bundle.specs.Pool.{pool_in};
+ghost use Rattle.resb_write.specs.WrittenWith.{WrittenWith, RefusesWritingWith};
 
 use crate::contents::Contents;
 use crate::drafts::{NumberedPieces, draft_keys};
@@ -28,7 +31,9 @@ use crate::numbered_keys::NumberedKeys;
 use crate::sites::Sites;
 use crate::strings::Strings;
 use crate::tree_bodies::lay_bodies;
+use crate::with_pool::{Wanted, write_order_with_pool};
 use resb_draft::Draft;
+use resb_pool_bundle::PoolBundle;
 use resb_tree::{Key, ResourceBundle, in_laying_order};
 use std::alloc::Global;
 
@@ -56,18 +61,29 @@ impl Serializer {
         ensures err { IfErr result (λ e. RefusesWriting (root_of bundle.now)
             keys_in_discovery_order.now (fault_of e)) }
     {
-        let order = in_laying_order(alloc, bundle.root())?;
-        let keys = table_keys(alloc, &order)?;
-        let nodes = nodes_of(alloc, &order)?;
-        drop(order);
-        let is_locale_fallback_enabled = bundle.is_locale_fallback_enabled;
-        write_order(
-            alloc,
-            &nodes,
-            keys,
-            is_locale_fallback_enabled,
-            keys_in_discovery_order,
-        )
+        write_bundle(alloc, bundle, keys_in_discovery_order, None)
+    }
+
+    /// The `.res` file of a bundle over a pool bundle: its keys and strings that the pool has stay
+    /// there. A key stands in the pool where the pool has it whole, and a string where a record of
+    /// the pool is that string, or ends with it if it has no marker; the others are the file's own.
+    /// The version is 3.0 where a string stands in the pool, and else 2.0. Which pool is used the
+    /// file says by the pool's checksum. (ICU's `uresdata.h`: pool bundles.)
+    ///
+    /// Refused is what `to_bytes` refuses, and, as `file too large`, strings whose indexes would
+    /// take more than 28 bits with those of the pool.
+    pub fn to_bytes_with_pool(
+        alloc: Global,
+        bundle: &ResourceBundle<'_>,
+        keys_in_discovery_order: &[Key<'_>],
+        pool: &PoolBundle<'_>,
+    ) -> Result<Vec<u8>, BinarySerializerError>
+        ensures ok { IfOk result (λ v. WrittenWith (pool_in pool.now) v.items (root_of bundle.now)
+            bundle.now.is_locale_fallback_enabled keys_in_discovery_order.now) }
+        ensures err { IfErr result (λ e. RefusesWritingWith (pool_in pool.now)
+            (root_of bundle.now) keys_in_discovery_order.now (fault_of e)) }
+    {
+        write_bundle(alloc, bundle, keys_in_discovery_order, Some(*pool))
     }
 
     /// The `.res` file of a bundle whose root is given as a draft: what `to_bytes` gives, and what
@@ -84,38 +100,92 @@ impl Serializer {
         ensures err { IfErr result (λ e. RefusesWriting (draft_tree root.entry)
             keys_in_discovery_order.now (fault_of e)) }
     {
-        if root.stands_in_order(alloc)? {
-            return write_standing(
-                alloc,
-                root,
-                is_locale_fallback_enabled,
-                keys_in_discovery_order,
-            );
-        }
-        let order = root.in_laying_order(alloc)?;
-        write_by_number(
-            alloc,
-            root,
-            order,
+        let wanted = Wanted {
             is_locale_fallback_enabled,
-            keys_in_discovery_order,
-        )
+            list: keys_in_discovery_order,
+        };
+        write_draft(alloc, root, &wanted, None)
     }
+
+    /// The `.res` file of a bundle over a pool bundle, whose root is given as a draft: what
+    /// `to_bytes_with_pool` gives, and what it refuses, for the tree for which the draft stands.
+    pub fn draft_to_bytes_with_pool(
+        alloc: Global,
+        root: Draft<'_>,
+        is_locale_fallback_enabled: bool,
+        keys_in_discovery_order: &[Key<'_>],
+        pool: &PoolBundle<'_>,
+    ) -> Result<Vec<u8>, BinarySerializerError>
+        requires { is_ready root ≡ true }
+        ensures ok { IfOk result (λ v. WrittenWith (pool_in pool.now) v.items
+            (draft_tree root.entry) is_locale_fallback_enabled keys_in_discovery_order.now) }
+        ensures err { IfErr result (λ e. RefusesWritingWith (pool_in pool.now)
+            (draft_tree root.entry) keys_in_discovery_order.now (fault_of e)) }
+    {
+        let wanted = Wanted {
+            is_locale_fallback_enabled,
+            list: keys_in_discovery_order,
+        };
+        write_draft(alloc, root, &wanted, Some(*pool))
+    }
+}
+
+/// The file of a bundle, over a pool bundle if one is given.
+fn write_bundle(
+    alloc: Global,
+    bundle: &ResourceBundle<'_>,
+    list: &[Key<'_>],
+    pool: Option<PoolBundle<'_>>,
+) -> Result<Vec<u8>, BinarySerializerError>
+    ensures ok { IfOk result (λ v. IsFileOver (option_map pool_in pool.entry) v.items
+        (root_of bundle.now) bundle.now.is_locale_fallback_enabled list.now) }
+    ensures err { IfErr result (λ e. RefusesOver (option_map pool_in pool.entry) (root_of bundle.now)
+        list.now (fault_of e)) }
+{
+    let order = in_laying_order(alloc, bundle.root())?;
+    let keys = table_keys(alloc, &order)?;
+    let nodes = nodes_of(alloc, &order)?;
+    drop(order);
+    let wanted = Wanted {
+        is_locale_fallback_enabled: bundle.is_locale_fallback_enabled,
+        list,
+    };
+    write_nodes(alloc, &nodes, keys, &wanted, pool)
+}
+
+/// The file of a draft, over a pool bundle if one is given.
+fn write_draft(
+    alloc: Global,
+    root: Draft<'_>,
+    wanted: &Wanted<'_>,
+    pool: Option<PoolBundle<'_>>,
+) -> Result<Vec<u8>, BinarySerializerError>
+    requires { is_ready root ≡ true }
+    ensures ok { IfOk result (λ v. IsFileOver (option_map pool_in pool.entry) v.items
+        (draft_tree root.entry) wanted.now.is_locale_fallback_enabled wanted.now.list.now) }
+    ensures err { IfErr result (λ e. RefusesOver (option_map pool_in pool.entry)
+        (draft_tree root.entry) wanted.now.list.now (fault_of e)) }
+{
+    if root.stands_in_order(alloc)? {
+        return write_standing(alloc, root, wanted, pool);
+    }
+    let order = root.in_laying_order(alloc)?;
+    write_by_number(alloc, root, order, wanted, pool)
 }
 
 /// The file of a draft whose pieces and keys stand in laying order. Its other lists go first.
 fn write_standing(
     alloc: Global,
     draft: Draft<'_>,
-    is_locale_fallback_enabled: bool,
-    list: &[Key<'_>],
+    wanted: &Wanted<'_>,
+    pool: Option<PoolBundle<'_>>,
 ) -> Result<Vec<u8>, BinarySerializerError>
     requires pieces { are_pieces draft.pieces.items (laying_order (draft_tree draft)) ≡ true }
     requires keys { texts draft.keys.items ≡ keys_of (draft_tree draft) }
-    ensures ok { IfOk result (λ v. Written v.items (draft_tree draft.entry)
-        is_locale_fallback_enabled list.now) }
-    ensures err { IfErr result
-        (λ e. RefusesWriting (draft_tree draft.entry) list.now (fault_of e)) }
+    ensures ok { IfOk result (λ v. IsFileOver (option_map pool_in pool.entry) v.items
+        (draft_tree draft.entry) wanted.now.is_locale_fallback_enabled wanted.now.list.now) }
+    ensures err { IfErr result (λ e. RefusesOver (option_map pool_in pool.entry)
+        (draft_tree draft.entry) wanted.now.list.now (fault_of e)) }
 {
     let Draft {
         pieces,
@@ -126,7 +196,7 @@ fn write_standing(
     drop(members);
     let numbered = NumberedKeys::of_list(alloc, &keys)?;
     drop(keys);
-    write_order(alloc, &pieces, numbered, is_locale_fallback_enabled, list)
+    write_nodes(alloc, &pieces, numbered, wanted, pool)
 }
 
 /// The file of a draft, whose pieces have these numbers in laying order. Its other lists go first.
@@ -134,15 +204,15 @@ fn write_by_number(
     alloc: Global,
     draft: Draft<'_>,
     order: Vec<u32>,
-    is_locale_fallback_enabled: bool,
-    list: &[Key<'_>],
+    wanted: &Wanted<'_>,
+    pool: Option<PoolBundle<'_>>,
 ) -> Result<Vec<u8>, BinarySerializerError>
     requires trees { map (tree_at draft) order.items ≡ laying_order (draft_tree draft) }
     requires whole { all_true (map (is_whole draft) order.items) ≡ true }
-    ensures ok { IfOk result (λ v. Written v.items (draft_tree draft.entry)
-        is_locale_fallback_enabled list.now) }
-    ensures err { IfErr result
-        (λ e. RefusesWriting (draft_tree draft.entry) list.now (fault_of e)) }
+    ensures ok { IfOk result (λ v. IsFileOver (option_map pool_in pool.entry) v.items
+        (draft_tree draft.entry) wanted.now.is_locale_fallback_enabled wanted.now.list.now) }
+    ensures err { IfErr result (λ e. RefusesOver (option_map pool_in pool.entry)
+        (draft_tree draft.entry) wanted.now.list.now (fault_of e)) }
 {
     let keys = draft_keys(alloc, &draft, &order)?;
     let Draft {
@@ -157,7 +227,37 @@ fn write_by_number(
         pieces,
         numbers: order,
     };
-    write_order(alloc, &numbered, keys, is_locale_fallback_enabled, list)
+    write_nodes(alloc, &numbered, keys, wanted, pool)
+}
+
+/// The file of a tree, over a pool bundle if one is given. The tree's resources are given in laying
+/// order, and beside them the keys of its tables.
+fn write_nodes<N: Nodes>(
+    alloc: Global,
+    order: &N,
+    tree_keys: NumberedKeys<'_>,
+    wanted: &Wanted<'_>,
+    pool: Option<PoolBundle<'_>>,
+) -> Result<Vec<u8>, BinarySerializerError>
+    requires { (t : Tree) × N.fit order.now (laying_order t) × NumbersKeys tree_keys (keys_of t) }
+    ensures ok { IfOk result (λ v. (t : Tree) → N.fit order.now (laying_order t)
+        → NumbersKeys tree_keys.entry (keys_of t)
+        → IsFileOver (option_map pool_in pool.entry) v.items t wanted.now.is_locale_fallback_enabled
+        wanted.now.list.now) }
+    ensures err { IfErr result (λ e. (t : Tree) → N.fit order.now (laying_order t)
+        → NumbersKeys tree_keys.entry (keys_of t)
+        → RefusesOver (option_map pool_in pool.entry) t wanted.now.list.now (fault_of e)) }
+{
+    match pool {
+        Some(pool) => write_order_with_pool(alloc, order, tree_keys, wanted, &pool),
+        None => write_order(
+            alloc,
+            order,
+            tree_keys,
+            wanted.is_locale_fallback_enabled,
+            wanted.list,
+        ),
+    }
 }
 
 /// What a tree holds and the block of its keys, once none of the refusals holds; the first of them

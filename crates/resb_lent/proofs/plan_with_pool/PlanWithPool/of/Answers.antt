@@ -24,7 +24,7 @@ returns-in_err-units-clause-err c =
     let found = c.in_ok-found.found.items in
     let own = c.in_ok-own.ensures ∙ ap (lacking (nows c.args.strings.now)) c.deref.ensures.value in
     rw p.1 (λ block h. subst (NotPlannedWith block (nows c.args.strings.now)) (sym p.2)
-    (own_fault found (c.in_ok-found.ensures block h)
+    (own_fault found (c.in_ok-found.ensures.lends block h)
     (subst (λ ss. NotPlanned ss c.in_err-units.field-0.0) own c.in_err-units.ensures.err)))
 
 pub returns-then-limit-own_limit-gt-INDEX_LIMIT-clause-err
@@ -34,7 +34,7 @@ returns-then-limit-own_limit-gt-INDEX_LIMIT-clause-err c = λ block h.
     let own = c.in_ok-own.ensures ∙ ap (lacking (nows c.args.strings.now)) c.deref.ensures.value in
     let made = c.in_ok-units.ensures.ok in
     too_far found c.in_ok-units.units.items c.in_ok-units.offsets.items made.0
-    (c.in_ok-found.ensures block h)
+    (c.in_ok-found.ensures.lends block h)
     (subst (λ ss. IsPlan ss c.in_ok-units.units.items made.0) own made.1)
     (subst (λ ss. map made.0 ss ≡ map Some c.in_ok-units.offsets.items) own made.2)
     (omega (

@@ -1,0 +1,59 @@
+//! From a text of either form to the bytes of its file over a pool bundle.
+//! The way to a file that uses none is in `compiling` and `compiling_icu`, with the errors.
+ghost use Rattle.std.specs.Prelude.{IfOk, IfErr};
+ghost use Rattle.resb_pool_bundle.specs.Pool.{pool_in};
+ghost use Rattle.resb_compile.specs.CompilingWithPool.{IsCompiledWithPool, IsRefusedWithPool};
+ghost use Rattle.resb_compile.specs.CompilingWithPool.{IsIcuCompiledWithPool, IsIcuRefusedWithPool};
+
+use crate::compiling::CompileError;
+use crate::compiling_icu::IcuCompileError;
+use resb_icu_text::IcuReader;
+use resb_pool_bundle::PoolBundle;
+use resb_text::Reader;
+use resb_write::Serializer;
+use std::alloc::Global;
+
+/// The bytes of the `.res` file of a bundle's text over a pool bundle, as
+/// `Serializer::to_bytes_with_pool` writes it.
+pub fn compile_with_pool(
+    alloc: Global,
+    text: &str,
+    pool: &PoolBundle<'_>,
+) -> Result<Vec<u8>, CompileError>
+    ensures ok { IfOk result (λ file. IsCompiledWithPool (pool_in pool.now) text.now file.items) }
+    ensures err { IfErr result (IsRefusedWithPool (pool_in pool.now) text.now) }
+{
+    let (bundle, keys) = Reader::read_draft(alloc, text)?;
+    let flag = bundle.is_locale_fallback_enabled;
+    let file = Serializer::draft_to_bytes_with_pool(
+        alloc,
+        bundle.root,
+        flag,
+        keys.as_slice(),
+        pool,
+    )?;
+    Ok(file)
+}
+
+/// The bytes of the `.res` file of a bundle's text in ICU's own form over a pool bundle, as
+/// `Serializer::to_bytes_with_pool` writes it.
+pub fn compile_icu_with_pool(
+    alloc: Global,
+    text: &str,
+    pool: &PoolBundle<'_>,
+) -> Result<Vec<u8>, IcuCompileError>
+    ensures ok { IfOk result
+        (λ file. IsIcuCompiledWithPool (pool_in pool.now) text.now file.items) }
+    ensures err { IfErr result (IsIcuRefusedWithPool (pool_in pool.now) text.now) }
+{
+    let (bundle, keys) = IcuReader::read_draft(alloc, text)?;
+    let flag = bundle.is_locale_fallback_enabled;
+    let file = Serializer::draft_to_bytes_with_pool(
+        alloc,
+        bundle.root,
+        flag,
+        keys.as_slice(),
+        pool,
+    )?;
+    Ok(file)
+}

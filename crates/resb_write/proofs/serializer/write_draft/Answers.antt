@@ -1,0 +1,24 @@
+-- A draft stands in laying order, or is laid by its numbers.
+use Rattle.std.proofs.Common.{sym, subst, Option, option_map}
+use Rattle.std.proofs.lemmas.Result.{err_from_is_err_and}
+use Rattle.resb_pool_bundle.specs.Pool.{Pool, pool_in}
+use Rattle.resb_pool_bundle.specs.declared.pool_bundle.PoolBundle.{PoolBundle}
+use Rattle.resb_write.specs.Inner.Beside.{RefusesOver}
+use Rattle.resb_write.proofs.Refusals.{no_memory_over}
+use Rattle.resb_write.proofs.serializer.write_draft.Goals as goal
+
+abbrev over : Option PoolBundle → Option Pool
+over o = option_map pool_in o
+
+pub returns-in_err-order-clause-err : goal.returns-in_err-order-clause-err
+returns-in_err-order-clause-err c =
+    let p = err_from_is_err_and c.from_residual-in_err-order.result
+    c.from_residual-in_err-order.ensures.1 in
+    rw p.1 (subst (RefusesOver (over c.args.pool) _ c.args.wanted.now.list.now) (sym p.2)
+    (no_memory_over (over c.args.pool) _ c.args.wanted.now.list.now))
+
+pub returns-in_err-stands_in_order-clause-err : goal.returns-in_err-stands_in_order-clause-err
+returns-in_err-stands_in_order-clause-err c =
+    let p = err_from_is_err_and c.from_residual.result c.from_residual.ensures.1 in
+    rw p.1 (subst (RefusesOver (over c.args.pool) _ c.args.wanted.now.list.now) (sym p.2)
+    (no_memory_over (over c.args.pool) _ c.args.wanted.now.list.now))

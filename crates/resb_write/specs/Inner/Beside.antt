@@ -1,0 +1,72 @@
+-- Where keys stand in a file over a pool, while they are placed; what is refused where strings aren't
+-- planned beside it; and the file's head.
+--     told_beside place own   the position of a key that stands there in the pool, or else there
+--                             among the file's own, as if these began at byte 32
+--     IsKeyBlockBeside place us ks js ps   of used keys us and a list ks: those that the pool
+--                             lacks, and where the used ones stand
+--     IsUnplanned block S f   the fault f may be answered where the strings S have no plan
+--     IsFileOver o bytes t f ks, RefusesOver o t ks e     a file over the pool o or over none, and why
+--                             there is none
+--     head_with c l n         the head of a file of these parts, to which so much is lent by a
+--                             pool of the checksum n
+use Rattle.std.specs.Prelude.{◌≡◌, ℕ, ◌+◌, ◌-◌, ◌/◌, ◌<◌, ◌≤◌, ◌^◌, min, List, length, map, filter}
+use Rattle.std.specs.Prelude.{Option, Some, None, All, unwrap_or, Bool}
+use Rattle.std.specs.Option.{is_none}
+use Rattle.std.specs.Str.{IsUtf8}
+use Rattle.resb_pool.specs.declared.error.PlanError.{PlanError}
+use Rattle.resb_layout.specs.KeyBlock.{used, key_bytes}
+use Rattle.resb_layout.specs.TreeFaults.{key_fault, RefusesWriting}
+use Rattle.resb_layout.specs.WritingFault.{WritingFault}
+use Rattle.resb_layout.specs.Written.{Written}
+use Rattle.resb_tree.specs.Tree.{Tree}
+use Rattle.resb_pool_bundle.specs.Pool.{Pool}
+use Rattle.resb_lent.specs.PlanWithPool.{NotPlannedWith}
+use Rattle.resb_lent.specs.declared.head_with_pool.HeadWithPool.{HeadWithPool}
+use Rattle.resb_write.specs.FaultOf.{plan_fault}
+use Rattle.resb_write.specs.WrittenWith.{position_beside, WrittenWith, RefusesWritingWith}
+use Rattle.resb_write.specs.Inner.Files.{keys_in_file, units_in_file}
+use Rattle.resb_write.specs.declared.file.FileParts.{FileParts}
+use Rattle.resb_write.specs.declared.lends.Lends.{Lends}
+
+abbrev pub told_beside : Option ℕ → Option ℕ → ℕ
+told_beside (Some n) own = n + 2 ^ 31
+told_beside None own = min (unwrap_or own 0 + 4) (2 ^ 32 - 1)
+
+pub record IsKeyBlockBeside (place : List ℕ → Option ℕ) (us ks js : List (List ℕ))
+    (ps : List ℕ) : Type 0 where
+  pub keys : js ≡ filter (λ k. is_none (place k)) (used us ks)
+  pub positions : length (key_bytes js) < 2 ^ 28 → map (position_beside place js) us ≡ map Some ps
+  pub utf8 : All IsUtf8 js
+  pub faultless : key_fault us (used us ks) ≡ None
+
+pub record IsUnplanned (block : List ℕ) (S : List (List ℕ)) (f : WritingFault) : Type 0 where
+  pub error : PlanError
+  pub refused : NotPlannedWith block S error
+  pub answered : f ≡ plan_fault error
+
+abbrev pub head_with : FileParts → Lends → ℕ → HeadWithPool
+head_with c l n = record {
+  root = c.root;
+  largest_table = c.largest_table;
+  is_locale_fallback_enabled = c.is_locale_fallback_enabled;
+  limit = l.limit;
+  short_limit = l.short_limit;
+  checksum = n;
+  key_words = length (keys_in_file c) / 4;
+  block_words = length (units_in_file c) / 2;
+  tail_words = length c.bodies.now.tail.items / 4;
+}
+
+-- the limits fit their bits
+pub record FitsLimits (l : Lends) : Type 0 where
+  pub limit : l.limit < 2 ^ 28
+  pub short : l.short_limit ≤ 65535
+  pub none : l.limit ≡ 0 → l.short_limit ≡ 0
+
+abbrev pub IsFileOver : Option Pool → List ℕ → Tree → Bool → List (List ℕ) → Type 0
+IsFileOver None bytes t fallback ks = Written bytes t fallback ks
+IsFileOver (Some pool) bytes t fallback ks = WrittenWith pool bytes t fallback ks
+
+abbrev pub RefusesOver : Option Pool → Tree → List (List ℕ) → WritingFault → Type 0
+RefusesOver None t ks f = RefusesWriting t ks f
+RefusesOver (Some pool) t ks f = RefusesWritingWith pool t ks f

@@ -1,0 +1,121 @@
+//! The key block of a file over a pool bundle: which used keys the pool lacks, and where each key
+//! of the tables stands.
+//! The block of a file that uses no pool, and the faults of keys, are in `key_block`.
+ghost use Rattle.std.specs.Prelude.{◌≡◌, ◌⊎◌, ℕ, List, Some, None, IfOk, IfErr, OnOk, map, filter};
+ghost use Rattle.std.specs.Option.{is_none};
+ghost use Rattle.resb_pool.specs.Plan.{nows, at_text};
+ghost use Rattle.resb_layout.specs.KeyBlock.{used as used_of};
+ghost use Rattle.resb_layout.specs.TreeFaults.{key_fault};
+ghost use Rattle.resb_layout.specs.WritingFault.{out_of_memory};
+ghost use Rattle.resb_lent.specs.Lending.{lent_place};
+ghost use Rattle.resb_write.specs.FaultOf.{fault_of};
+ghost use Rattle.resb_write.specs.Inner.NearPositions.{near_position_in};
+ghost use Rattle.resb_write.specs.Inner.Numbered.{NumbersKeys};
+ghost use Rattle.resb_write.specs.Inner.Beside.{told_beside, IsKeyBlockBeside};
+
+use crate::error::BinarySerializerError;
+use crate::key_block::{KeyBlock, check_keys, last_positions, used_keys, values_at};
+use crate::numbered_keys::NumberedKeys;
+use indexmap::IndexMap;
+use resb_lent::LentKeys;
+use resb_tree::Key;
+use std::alloc::{AllocError, Global};
+
+/// By how much a position of a key in the pool is over its place there.
+const LENT_KEY: u32 = 0x8000_0000;
+
+/// By how much the file's own keys begin later: the index of a file over a pool has a word more.
+const WORD: u32 = 4;
+
+/// The block of a list of keys for a tree whose tables have these keys, which are dropped then: of
+/// the used keys those that the pool lacks. Refuses the first fault of a key.
+pub(crate) fn key_block_beside<'k>(
+    alloc: Global,
+    tree_keys: NumberedKeys<'_>,
+    list: &'k [Key<'_>],
+    lent: &LentKeys<'_>,
+) -> Result<KeyBlock<'k>, BinarySerializerError>
+    ensures ok { IfOk result (λ b. (us : List (List ℕ)) → NumbersKeys tree_keys.entry us
+        → IsKeyBlockBeside (lent_place lent.now) us list.now (nows b.keys.items)
+        b.positions.items) }
+    ensures err { IfErr result (λ e. (us : List (List ℕ)) → NumbersKeys tree_keys.entry us
+        → (fault_of e ≡ out_of_memory) ⊎ (key_fault us (used_of us list.now)
+        ≡ Some (fault_of e))) }
+{
+    let (distinct, numbers) = tree_keys.into_parts();
+    let used = used_keys(alloc, &distinct, list)?;
+    check_used(alloc, distinct.keys().as_slice(), &used)?;
+    let keys = own_keys(alloc, &used, lent)?;
+    let places = places_beside(alloc, distinct.keys().as_slice(), &keys, lent)?;
+    let positions = values_at(&places, numbers);
+    Ok(KeyBlock { keys, positions })
+}
+
+/// Refuses the first fault of the tables' keys, of which these are listed.
+fn check_used(alloc: Global, names: &[&str], used: &[&str]) -> Result<(), BinarySerializerError>
+    ensures ok { OnOk result (key_fault (nows names.now) (nows used.now) ≡ None) }
+    ensures err { IfErr result (λ e. (fault_of e ≡ out_of_memory)
+        ⊎ (key_fault (nows names.now) (nows used.now) ≡ Some (fault_of e))) }
+{
+    let last = last_positions(alloc, used)?;
+    check_keys(names, &last)
+}
+
+/// The keys that the pool lacks, in their order.
+fn own_keys<'k>(
+    alloc: Global,
+    keys: &[&'k str],
+    lent: &LentKeys<'_>,
+) -> Result<Vec<&'k str>, AllocError>
+    ensures { IfOk result (λ v. nows v.items
+        ≡ filter (λ k. is_none (lent_place lent.now k)) (nows keys.now)) }
+{
+    let mut own = Vec::new(alloc);
+    for key in keys {
+        if lent.place(*key).is_none() {
+            own.push(*key)?;
+        }
+    }
+    Ok(own)
+}
+
+/// The position of each key: in the pool, or where it stands last among the file's own.
+fn places_beside(
+    alloc: Global,
+    keys: &[&str],
+    own: &[&str],
+    lent: &LentKeys<'_>,
+) -> Result<Vec<u32>, AllocError>
+    ensures { IfOk result (λ v. v.items ≡ map (λ k. told_beside (lent_place lent.now k)
+        (near_position_in (nows own.now) k)) (nows keys.now)) }
+{
+    let last = last_positions(alloc, own)?;
+    told_places(alloc, keys, &last, lent)
+}
+
+/// The position of each key, where the last ones of the file's own are given.
+fn told_places(
+    alloc: Global,
+    keys: &[&str],
+    last: &IndexMap<&str, u32>,
+    lent: &LentKeys<'_>,
+) -> Result<Vec<u32>, AllocError>
+    ensures { IfOk result (λ v. v.items ≡ map (λ k. told_beside (lent_place lent.now k)
+        (at_text last.now k)) (nows keys.now)) }
+{
+    let mut places = Vec::with_capacity(alloc, keys.len())?;
+    for key in keys {
+        places.push(place_beside(*key, last, lent))?;
+    }
+    Ok(places)
+}
+
+/// The position of a key: 2^31 and its place in the pool, or its last one among the file's own.
+fn place_beside(key: &str, last: &IndexMap<&str, u32>, lent: &LentKeys<'_>) -> u32
+    ensures { result ≡ told_beside (lent_place lent.now key.now) (at_text last.now key.now) }
+{
+    match lent.place(key) {
+        Some(place) => LENT_KEY + place,
+        None => last.get(key).copied().unwrap_or(0).saturating_add(WORD),
+    }
+}

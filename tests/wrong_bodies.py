@@ -10,9 +10,11 @@ crates/CRATE/wrong-bodies, which this script alone does. Each is applied to a co
 in a temporary folder, never in place, and the copy takes over what out/ keeps, so that little more
 than the changed function is proved. First each crate is checked as it stands. N checks run side by
 side (1 if left out); --logs keeps what each of them printed.
-With --gate each is tried by a check of the one function that tests/gate_bodies.txt names beside it,
-and of those that it calls, over the libraries that `rt ci` has built. First these functions are
-checked as they stand. N crates are tried side by side.
+With --gate those of a crate are tried together, by a check of the functions that
+tests/gate_bodies.txt names beside them, and of those that these call, over the libraries that
+`rt ci` has built: what a function is refused for depends on its own body alone. Two that change one
+function are tried one after the other. What they don't change has to be proved there. N crates are
+tried side by side.
 
 A line for each wrong body has the crate, the edit, the kind of the goal, the goal, and how it was
 refused. The kinds:
@@ -102,9 +104,10 @@ class Edit:
                     self.steps[-1][3] = text
                     self.same = True
 
-    def texts(self, right=False):
-        """The files' texts with the wrong body, or with the right one written otherwise."""
-        texts = {}
+    def texts(self, right=False, before=None):
+        """The files' texts with the wrong body, or with the right one written otherwise, where
+        other edits have made the texts `before`."""
+        texts = dict(before or {})
         for file, old, new, same in self.steps:
             if file not in texts:
                 with open(f'{ROOT}/crates/{self.crate}/{file}', encoding='utf-8') as it:
@@ -131,6 +134,12 @@ class Edit:
             if names and before.count('{') > before.count('}'):
                 found.add(names[-1])
         return found
+
+    def changes(self, path):
+        """Whether a function that a check names is one that the edit changes or adds."""
+        module, name = path.rpartition('::')[0], path.split('::')[-1]
+        is_here = any(f'{module}::'.startswith(f'{it}::') for it in self.modules())
+        return path == self.function or is_here and name in self.functions() | self.helpers()
 
     def helpers(self):
         """The names of the functions that the edit adds."""
@@ -347,28 +356,91 @@ def judged(edit, room, without=False):
     if not found:
         first = next((it for it in said.split('\n') if 'error' in it), said[-200:])
         return False, f'{label}: it did not reach the prover: {first[:160]}', said
-    for path, goal, _ in found:
-        if path.split('::')[-1] in edit.helpers():
-            return False, f'{label}: its own helper is not proved: {goal} of {path}', said
-    changed = edit.functions()
-    kinds = [(kind_of(goal, path, changed), path, goal, how) for path, goal, how in found]
-    if all(it[2].startswith('name') for it in found):
-        kinds = [('name', *it[1:]) for it in kinds]
-    kind, path, goal, how = next((it for it in kinds if it[0] == 'contract'), kinds[0])
-    line = f'{label}: {kind}: {goal} of {path} ({how})'
+    is_well, line = named(edit, found)
+    if not is_well:
+        return False, line, said
     if edit.same:
         told, is_proved = room.check(edit.crate, edit.texts(right=True), modules)
         said += '\n-- the right body written otherwise\n' + told
         if not is_proved:
             return False, f'{line}; the right body written otherwise is refused too', said
         line += '; the right body written otherwise is proved'
-    if without and how.startswith('answer'):
+    if without and '(answer' in line:
         is_well, words, told = tried_without_answers(edit, room, refusal)
         said += f'\n-- without the answer\n{told}'
         line += f'; {words}'
-        if not is_well:
-            return False, line, said
-    return kind != 'name', line, said
+    return is_well, line, said
+
+
+def named(edit, found):
+    """Whether the goals by which a wrong body is refused show its meaning, and the line that says
+    the first of them."""
+    for path, goal, _ in found:
+        if path.split('::')[-1] in edit.helpers():
+            return False, f'{edit.label}: its own helper is not proved: {goal} of {path}'
+    changed = edit.functions()
+    kinds = [(kind_of(goal, path, changed), path, goal, how) for path, goal, how in found]
+    if all(it[2].startswith('name') for it in found):
+        kinds = [('name', *it[1:]) for it in kinds]
+    kind, path, goal, how = next((it for it in kinds if it[0] == 'contract'), kinds[0])
+    return kind != 'name', f'{edit.label}: {kind}: {goal} of {path} ({how})'
+
+
+def combined(group, right=False):
+    """The texts with all these wrong bodies, or with the right ones written otherwise."""
+    texts = {}
+    for edit in group:
+        texts = edit.texts(right, texts)
+    return texts
+
+
+def can_join(edit, group):
+    """Whether a wrong body can be tried by one check with others of its crate."""
+    shared = {name for it in group for name in it.functions() | it.helpers()}
+    if not edit.functions() or shared & (edit.functions() | edit.helpers()):
+        return False
+    try:
+        combined([*group, edit])
+    except ValueError:
+        return False
+    return all(it.function != edit.function for it in group)
+
+
+def rounds(edits):
+    """The wrong bodies of a crate in as few checks as can be."""
+    found = []
+    for edit in edits:
+        group = next((it for it in found if can_join(edit, it)), None)
+        if group is None:
+            found.append([edit])
+        else:
+            group.append(edit)
+    return found
+
+
+def judged_together(group, room):
+    """Each of the wrong bodies that one check tries, whether it is refused as it must be, the line
+    that says so, and the log."""
+    crate, paths = group[0].crate, sorted({it.function for it in group})
+    said, _ = room.check(crate, combined(group), paths)
+    found = Refusal(said).found()
+    others = [it for it in found if not any(edit.changes(it[0]) for edit in group)]
+    again = [it for it in group if it.same]
+    are_right = not again or room.check(crate, combined(again, right=True),
+                                        sorted({it.function for it in again}))[1]
+    for edit in group:
+        goals = [it for it in found if edit.changes(it[0])]
+        if others:
+            path, goal, how = others[0]
+            is_well = False
+            line = f'{edit.label}: {path} is not proved as it stands: {goal} ({how})'
+        elif not goals:
+            is_well, line = False, f'{edit.label}: not refused'
+        else:
+            is_well, line = named(edit, goals)
+        if edit.same and not are_right:
+            is_well, line = False, f'{line}; a right body written otherwise is refused too'
+        yield edit, is_well, line, said
 
 
 def chosen(words, below):
@@ -430,11 +502,6 @@ def of_crates(edits):
     return sorted(found.values(), key=lambda it: -len(it))
 
 
-def is_right(group, room):
-    """Whether the functions that a crate's wrong bodies change are proved as they stand."""
-    return room.check(group[0].crate, {}, sorted({it.function for it in group}))[1]
-
-
 def kit():
     """The toolchain's folder, where its first page stands."""
     page = subprocess.run(['rt', 'doc'], text=True, stdout=subprocess.PIPE, check=True).stdout
@@ -485,9 +552,8 @@ def main():
         def tried(group):
             room = rooms.get()
             try:
-                if given.gate and not is_right(group, room):
-                    return [(it, False, f'{it.label}: is not proved as it stands', '')
-                            for it in group]
+                if given.gate:
+                    return [it for some in rounds(group) for it in judged_together(some, room)]
                 return [(it, *judged(it, room, given.without_answers)) for it in group]
             finally:
                 rooms.put(room)

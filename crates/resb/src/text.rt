@@ -3,9 +3,11 @@
 //! The way on to a file is `compile`, or `compile_icu`, at the top.
 
 pub use resb_icu_grammar::IcuExpected;
-pub use resb_icu_print::{
-    IcuCause, IcuPrintError, icu_cause_path, print_icu_text, print_icu_text_within,
-};
+pub use resb_icu_print::{IcuCause, IcuPrintError};
 pub use resb_icu_text::{IcuLimitError, IcuReader, IcuTextError, IcuTurns};
-pub use resb_print::{Cause, PathStep, PrintError, cause_path, print_text, print_text_within};
+pub use resb_lines::{
+    cause_path, icu_cause_path, print_icu_text, print_icu_text_within, print_text,
+    print_text_within,
+};
+pub use resb_print::{Cause, PathStep, PrintError};
 pub use resb_text::{DraftBundle, Expected, LimitError, Reader, TextParserError, Turns};

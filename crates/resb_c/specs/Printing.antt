@@ -9,8 +9,7 @@ use Rattle.resb_grammar.specs.BundleText.{BundleText}
 use Rattle.resb_icu_grammar.specs.Bundle.{IcuText}
 use Rattle.resb_print.specs.Laws.{HasNoText}
 use Rattle.resb_print.specs.Printed.{IsBundleText, IsLongBundle}
-use Rattle.resb_print.specs.Quotes.{first_cause}
-use Rattle.resb_print.specs.Inner.Jobs.{SaysCause}
+use Rattle.resb_print.specs.Quotes.{first_cause, SaysCause}
 use Rattle.resb_print.specs.declared.error.PrintError.TheVariants.{OutOfMemory}
 use Rattle.resb_icu_print.specs.Laws.{NoTextHas}
 use Rattle.resb_icu_print.specs.Printed.{IsIcuBundleText, IsLongIcuBundle}

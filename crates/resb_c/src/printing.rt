@@ -8,8 +8,9 @@ ghost use Rattle.resb_c.specs.Faults.{print_message, print_number};
 ghost use Rattle.resb_c.specs.Printing.{IsTextOf, IsPrintOf, IsLongPrint, IsUnprintable};
 
 use crate::form::Form;
-use resb_icu_print::{IcuPrintError, print_icu_text_within};
-use resb_print::{PrintError, print_text_within};
+use resb_icu_print::IcuPrintError;
+use resb_lines::{print_icu_text_within, print_text_within};
+use resb_print::PrintError;
 use resb_tree::ResourceBundle;
 use std::alloc::Global;
 use std::error::Error;

@@ -6,11 +6,14 @@ use crate::least::least_bytes;
 use crate::refusal::refuse;
 use crate::save::{Bytes, Content, cause_of_printing, print};
 use crate::say::{NoText, complain, fail, refuse_memory, say_no_text};
-use resb_icu_print::{IcuPrintError, icu_cause_path, print_icu_text_within};
+use resb_icu_print::IcuPrintError;
 use resb_json::{json_fits, json_length_within, write_json};
-use resb_lines::{Icu, Plain, ShownBundle, has_text, lines_fit, lines_length_within, write_lines};
+use resb_lines::{
+    Icu, Plain, ShownBundle, cause_path, has_text, icu_cause_path, lines_fit, lines_length_within,
+    print_icu_text_within, print_text_within, write_lines,
+};
 use resb_opened::Opened;
-use resb_print::{PrintError, cause_path, print_text_within};
+use resb_print::PrintError;
 use resb_program::{open_file, open_file_within, read_bundle};
 use resb_shown::Shown;
 use resb_tree::{Resource, ResourceBundle};

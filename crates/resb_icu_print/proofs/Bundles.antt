@@ -3,12 +3,10 @@ use Rattle.std.proofs.Common.{◌≡◌, ℕ, ◌+◌, ◌<◌, Bool, true, fals
 use Rattle.std.proofs.Common.{length, refl, sym, ◌∙◌, ap, subst, arith, Some, None, inl, inr}
 use Rattle.std.proofs.lemmas.List.{get_or_past}
 use Rattle.std.proofs.lemmas.Bool.{false≢true}
-use Rattle.std.specs.Prelude.{slice_index, codes, not, ◌⊎◌}
-use Rattle.std.specs.String.{string_bytes}
-use Rattle.std.specs.declared.alloc.Global.{Global}
-use Rattle.std.specs.declared.string.String.{String}
+use Rattle.std.specs.Prelude.{slice_index, codes, ◌⊎◌}
 use Rattle.std.specs.List.Sorted.{IsStrictlySortedBy}
-use Rattle.resb_tree.specs.Tree.{Tree, table, Entries}
+use Rattle.resb_tree.specs.Tree.{Tree, string, alias, array, table, binary, integer, int_vector}
+use Rattle.resb_tree.specs.Tree.{Entries}
 use Rattle.resb_tree.specs.Maps.{text_cmp, keyed_trees}
 use Rattle.resb_tree.specs.LayingOrder.{entry_keys}
 use Rattle.resb_grammar.specs.Ascii as ascii
@@ -20,23 +18,16 @@ use Rattle.resb_icu_grammar.specs.Words.{a_word, no_fallback_type}
 use Rattle.resb_icu_grammar.specs.Bundle.{Typing, without, with, IcuText}
 use Rattle.resb_print.specs.Printed.{root_type_on}
 use Rattle.resb_print.specs.Held.{HeldIn}
-use Rattle.resb_print.specs.Inner.Jobs.{Appends}
-use Rattle.resb_print.proofs.Lists.{writes_bytes}
 use Rattle.resb_print.proofs.Places.{From, byte_at, from_behind, from_next, at_end, from_inside}
 use Rattle.resb_print.proofs.Bundles.{stands}
 use Rattle.resb_tree.proofs.MapsLemmas.{map_of-keyed_trees}
 use Rattle.resb_icu_print.specs.Printed.{is_bare, entries_on, printed_icu_bundle}
-use Rattle.resb_icu_print.specs.Printed.{IsLongIcuBundle}
 use Rattle.resb_icu_print.specs.Causes.{TakenIn, causes_in_else, first_cause, SaysIcuCause}
-use Rattle.resb_icu_print.specs.Laws.{NoTextHas}
-use Rattle.resb_icu_print.specs.Inner.Jobs.{ArePrinted, AreLonger}
+use Rattle.resb_icu_print.specs.Laws.{NoTextHas, PrintedIcuIsABundle}
 use Rattle.resb_icu_print.specs.declared.cause.IcuCause.{IcuCause}
-use Rattle.resb_icu_print.specs.declared.cause.IcuCause.TheVariants.{NameIsNoWord}
 use Rattle.resb_icu_print.specs.declared.error.IcuPrintError.{IcuPrintError}
 use Rattle.resb_icu_print.specs.declared.error.IcuPrintError.TheVariants.{OutOfMemory}
-use Rattle.resb_icu_print.specs.declared.error.IcuPrintError.TheVariants.{NotPrintable}
-use Rattle.resb_icu_print.proofs.Taken.{none_in_taken, no_cause}
-use Rattle.resb_icu_print.proofs.Steps.{missed_if, found_if}
+use Rattle.resb_icu_print.proofs.Taken.{none_named, none_in_taken, no_cause}
 use Rattle.resb_icu_print.proofs.Places.{solid_byte, solid_at, no_skip, white_on}
 use Rattle.resb_icu_print.proofs.Strings.{word_read, word_each, bare_words, bare_some, words_key}
 use Rattle.resb_icu_print.proofs.Groups.{root_starts, entries_at, close_line}
@@ -165,65 +156,23 @@ printed_is_icu name fallback es bare ascend held taken =
     bundle_read (printed_icu_bundle name fallback es) name fallback es bare ascend held taken
     (record { is = refl })
 
--- the last bytes of a bundle's text
-abbrev pub bundle_end : List ℕ
-bundle_end = ascii.line_feed ∷ ascii.right_brace ∷ ascii.line_feed ∷ []
+-- so for what is printed of a bundle without a cause
+pub printed_without_cause : PrintedIcuIsABundle
+printed_without_cause = λ name fallback es held none.
+    let a = none_named name (causes_in_else es None) none in
+    let b = none_in_taken es None a.1 in
+    printed_is_icu name fallback es a.0 held.0 held.1 b.0
 
--- what is written before the entries, with them and the end behind it, is the text of the bundle
-pub bundle_begun : (s0 s1 s2 s3 : String Global) (name own : List ℕ) (f : Bool) (es : Entries)
-    → string_bytes s0 ≡ [] → string_bytes s1 ≡ string_bytes s0 ++ name
-    → Appends s1 s2 (root_type_on f)
-    → string_bytes s3 ≡ string_bytes s2 ++ codes "{" → name ≡ own
-    → string_bytes s3 ++ entries_on 1 es bundle_end ≡ printed_icu_bundle own f es
-bundle_begun s0 s1 s2 s3 name own f es e0 e1 w2 e3 e =
-    let entries = entries_on 1 es bundle_end in
-    let typed = root_type_on f (ascii.left_brace ∷ entries) in
-    writes_bytes s2 s3 (codes "{") e3 entries ∙ w2 (ascii.left_brace ∷ entries)
-    ∙ writes_bytes s0 s1 name e1 typed
-    ∙ ap (λ l. l ++ (name ++ typed)) e0
-    ∙ ap (λ n. n ++ typed) e
-
--- what is printed in turn is the text of the bundle
-pub bundle_printed : (s3 s4 s5 : String Global) (own : List ℕ) (f : Bool) (es : Entries)
-    → string_bytes s3 ++ entries_on 1 es bundle_end ≡ printed_icu_bundle own f es
-    → ArePrinted s3 s4 es → string_bytes s5 ≡ string_bytes s4 ++ bundle_end
-    → string_bytes s5 ≡ printed_icu_bundle own f es
-bundle_printed s3 s4 s5 own f es begun w4 e5 = e5 ∙ w4.text bundle_end ∙ begun
-
--- where the entries have no room, the bundle has none
-pub entries_are_long : (limit : ℕ) (s3 : String Global) (own : List ℕ) (f : Bool) (es : Entries)
-    (t : Tree)
-    → string_bytes s3 ++ entries_on 1 es bundle_end ≡ printed_icu_bundle own f es
-    → AreLonger limit s3 es → t ≡ table es → IsLongIcuBundle limit own f t
-entries_are_long limit s3 own f es t begun long r = record {
-  entries = es;
-  root = r;
-  longer = omega (arith, long bundle_end, ap length begun);
-}
-
--- nor has it where its whole text is too long
-pub text_is_long : (limit : ℕ) (s5 : String Global) (own : List ℕ) (f : Bool) (es : Entries)
-    (t : Tree)
-    → string_bytes s5 ≡ printed_icu_bundle own f es → limit < length (string_bytes s5)
-    → t ≡ table es → IsLongIcuBundle limit own f t
-text_is_long limit s5 own f es t is long r = record {
-  entries = es;
-  root = r;
-  longer = omega (arith, ap length is);
-}
-
--- and that is a text of ICU's form
-pub printed_is_whole : (text own : List ℕ) (f : Bool) (es : Entries) (t : Tree)
-    (s3 s4 : String Global)
-    → text ≡ printed_icu_bundle own f es → ArePrinted s3 s4 es → is_bare own ≡ true → t ≡ table es
-    → (keys : List (List ℕ)) × IcuText text own f t keys
-printed_is_whole text own f es t s3 s4 same w bare r =
-    let (keys, b) = printed_is_icu own f es bare w.ascend w.held
-    (none_in_taken es None w.no_cause).0 in (
-      keys,
-      subst (λ (u : Tree). IcuText text own f u keys) (sym r)
-          (subst (λ w. IcuText w own f (table es) keys) (sym same) b),
-    )
+-- a bundle without a cause has a table for its root
+pub root_without_cause : (name : List ℕ) (t : Tree) → first_cause name t ≡ None
+    → (es : Entries) × (t ≡ table es)
+root_without_cause name (string s) e = absurd (cc)
+root_without_cause name (alias s) e = absurd (cc)
+root_without_cause name (array ts) e = absurd (cc)
+root_without_cause name (table es) e = (es, refl)
+root_without_cause name (binary bs) e = absurd (cc)
+root_without_cause name (integer n) e = absurd (cc)
+root_without_cause name (int_vector ns) e = absurd (cc)
 
 -- a cause is in the way of each text
 pub no_text : (name : List ℕ) (f : Bool) (t : Tree) (e : IcuPrintError)
@@ -234,23 +183,3 @@ no_text name f t e (inr (x, h, found)) =
   where
     none_some : (x : IcuCause) → None ≡ Some x → ⊥
     none_some x e = cc
-
--- a cause in the entries is one of the bundle
-pub root_has_a_cause : (name : List ℕ) (es : Entries) (e : IcuPrintError) → is_bare name ≡ true
-    → SaysIcuCause e (causes_in_else es None) → SaysIcuCause e (first_cause name (table es))
-root_has_a_cause name es e bare (inl h) = inl h
-root_has_a_cause name es e bare (inr (x, h, found)) =
-    inr (
-      x,
-      h,
-      missed_if (not (is_bare name)) NameIsNoWord (causes_in_else es None) (ap not bare) ∙ found,
-    )
-
-pub name_refused : (name : List ℕ) (es : Entries) → is_bare name ≡ false
-    → SaysIcuCause (NotPrintable NameIsNoWord) (first_cause name (table es))
-name_refused name es h =
-    inr (
-      NameIsNoWord,
-      refl,
-      found_if (not (is_bare name)) NameIsNoWord (causes_in_else es None) (ap not h),
-    )

@@ -5,8 +5,6 @@ pub mod Numbers
 pub mod Groups
 pub mod Bundles
 pub mod Taken
-pub mod Steps
 pub mod Sizes
-mod RoomLemmas
-mod CausePaths
+pub mod CausePaths
 mod Examples

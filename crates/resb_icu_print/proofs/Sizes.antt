@@ -21,7 +21,7 @@ use Rattle.resb_print.proofs.Sizes.{entries_end_length, table_length, root_type_
 use Rattle.resb_icu_grammar.specs.Bytes.{backslash}
 use Rattle.resb_icu_print.specs.Printed.{is_marked, is_control, escaped_on, inside_on}
 use Rattle.resb_icu_print.specs.Printed.{is_bare, key_on, string_on, tree_on, trees_on, entries_on}
-use Rattle.resb_icu_print.specs.Printed.{printed_icu_bundle}
+use Rattle.resb_icu_print.specs.Printed.{piece_on, printed_icu_bundle}
 use Rattle.resb_icu_print.specs.Sizes.{data_length, data_lengths, data_length_in, icu_text_limit}
 
 escaped_length : (b : ℕ) (rest : List ℕ) → length (escaped_on b rest) ≤ 6 + length rest
@@ -115,6 +115,32 @@ mutual
         tree_length InTable n t (entries_on n es rest) h held.0,
         entries_length n es rest h held.1,
       )
+
+escaped_least : (b : ℕ) (rest : List ℕ) → 1 + length rest ≤ length (escaped_on b rest)
+escaped_least b rest = by (is_marked b) (is_control b)
+  where
+    by : (m c : Bool)
+        → 1 + length rest ≤ length (cond m (backslash ∷ b ∷ rest) (cond c (codes "\\u00"
+        ++ (encode_lower (b ∷ []) ++ rest)) (b ∷ rest)))
+    by true c = omega arith
+    by false true = omega (arith, length-append (encode_lower (b ∷ [])) rest)
+    by false false = omega arith
+
+inside_least : (s rest : List ℕ) → length s + length rest ≤ length (inside_on s rest)
+inside_least [] rest = omega arith
+inside_least (b ∷ s) rest =
+    omega (arith, escaped_least b (inside_on s rest), inside_least s rest)
+
+-- a key and a string are no shorter as they are printed
+pub key_grows : (k rest : List ℕ) → length k + length rest ≤ length (key_on k rest)
+key_grows k rest = by (is_bare k)
+  where
+    by : (b : Bool) → length k + length rest ≤ length (cond b (k ++ rest) (quoted_on k rest))
+    by true = omega (arith, length-append k rest)
+    by false = omega (arith, quoted_length k rest)
+
+pub piece_grows : (s rest : List ℕ) → length s ≤ length (piece_on s rest)
+piece_grows s rest = omega (arith, inside_least s (34 ∷ rest))
 
 -- no text of a bundle is longer than its limit
 pub within_limit : (name : List ℕ) (fallback : Bool) (es : Entries) → HeldIn es

@@ -37,10 +37,22 @@ use Rattle.resb_icu_print.specs.declared.cause.IcuCause.TheVariants.{KeyHasOther
 use Rattle.resb_icu_print.specs.declared.cause.IcuCause.TheVariants.{TableOfCollations}
 use Rattle.resb_icu_print.specs.Printed.{are_words, is_bare}
 use Rattle.resb_icu_print.specs.Causes.{is_icu_key, has_collation, IsTaken, AreTaken, TakenIn}
-use Rattle.resb_icu_print.specs.Causes.{cause_if, cause_else, causes_else}
+use Rattle.resb_icu_print.specs.Causes.{cause_if, key_cause_else, cause_else, causes_else}
 use Rattle.resb_icu_print.specs.Causes.{causes_in_else, first_cause}
 use Rattle.resb_icu_print.proofs.Lists.{true_from_not}
-use Rattle.resb_icu_print.proofs.Steps.{missed_if, key_passed}
+
+-- a test that finds no cause
+missed_if : (b : Bool) (x : IcuCause) (later : Option IcuCause) → b ≡ false
+    → cause_if b x later ≡ later
+missed_if b x later h = rw h refl
+
+-- a key that is no cause
+key_passed : (k : List ℕ) (t : Tree) (later : Option IcuCause) → is_icu_key k ≡ true
+    → has_collation k t ≡ false → key_cause_else k t later ≡ later
+key_passed k t later q c =
+    missed_if (not (is_icu_key k)) KeyHasOtherBytes
+    (cause_if (has_collation k t) TableOfCollations later) (ap not q)
+    ∙ missed_if (has_collation k t) TableOfCollations later c
 
 -- a byte that is no quote, before others
 free_more : (b : ℕ) (s : List ℕ) → b ≢ ascii.quote → NoQuote s → NoQuote (b ∷ s)

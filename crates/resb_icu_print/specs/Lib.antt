@@ -6,4 +6,3 @@ pub mod CausePaths
 pub mod Sizes
 pub mod Laws
 pub mod Message
-pub mod Inner

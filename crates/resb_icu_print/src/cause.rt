@@ -1,5 +1,5 @@
 //! Why a bundle has no text of ICU's form, whoever prints it.
-//! Where the cause stands in the bundle is found in `path`.
+//! Where the cause stands in the bundle is found by `resb_lines`.
 
 /// What keeps a bundle from having a text of ICU's form. No string does, and no alias.
 #[derive(Clone, Copy, Debug, PartialEq, Eq)]

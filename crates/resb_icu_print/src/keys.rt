@@ -1,13 +1,11 @@
-//! What may be a name or a key of ICU's form, and what may not stand under a key.
+//! What may be a name or a key of ICU's form.
 //! How a key is printed stands in `quoting`.
 ghost use Rattle.std.specs.Prelude.{◌≡◌};
-ghost use Rattle.resb_tree.specs.View.{tree_of};
 ghost use Rattle.resb_icu_print.specs.Printed as printed;
 ghost use Rattle.resb_icu_print.specs.Causes as causes;
 
-use resb_icu_grammar::{are_key_bytes, is_collation, is_table, is_word};
+use resb_icu_grammar::{are_key_bytes, is_word};
 use resb_print::has_quote;
-use resb_tree::Resource;
 
 /// Whether the bytes are word characters.
 fn are_words(bytes: &[u8]) -> bool
@@ -33,11 +31,4 @@ pub fn is_key(text: &str) -> bool
     ensures { result ≡ causes.is_icu_key text.now }
 {
     are_key_bytes(text.as_bytes()) && !has_quote(text)
-}
-
-/// Whether a table stands under a key whose tables hold rules of collation.
-pub(crate) fn has_collation(key: &str, resource: &Resource<'_>) -> bool
-    ensures { result ≡ causes.has_collation key.now (tree_of resource.now) }
-{
-    is_collation(key) && is_table(resource)
 }

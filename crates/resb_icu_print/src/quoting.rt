@@ -1,8 +1,8 @@
 //! Keys and strings of a text printed in ICU's form.
-//! What a resource is made of stands in `step`. Numbers are those of `resb_print`.
+//! In which order they make a text is said in `resb_lines`. Numbers are those of `resb_print`.
 ghost use Rattle.std.specs.Prelude.{◌≡◌, ◌++◌, ◌∷◌, [], OnOk, codes, encode_utf8};
 ghost use Rattle.hex.specs.Hex.{encode_lower};
-ghost use Rattle.resb_print.specs.Inner.Jobs.{Appends};
+ghost use Rattle.resb_print.specs.Inner.Appends.{Appends};
 ghost use Rattle.resb_icu_print.specs.Printed.{inside_on, piece_on, key_on};
 
 use crate::keys::is_bare;

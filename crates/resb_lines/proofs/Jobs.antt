@@ -1,12 +1,12 @@
 -- Jobs behind jobs, and what it takes that one is done.
-use Rattle.std.specs.Prelude.{◌≡◌, ℕ, ◌+◌, ◌<◌, List, [], ◌∷◌, ◌++◌}
+use Rattle.std.specs.Prelude.{◌≡◌, ℕ, ◌+◌, ◌<◌, List, [], ◌∷◌, ◌++◌, length}
 use Rattle.std.specs.String.{string_bytes}
 use Rattle.std.specs.declared.alloc.Global.{Global}
 use Rattle.std.specs.declared.string.String.{String}
 use Rattle.std.proofs.Common.{refl, sym, ap, ◌∙◌, arith, append_assoc, append-nil}
-use Rattle.std.proofs.lemmas.List.{map_push}
+use Rattle.std.proofs.lemmas.List.{map_push, length-append}
 use Rattle.resb_tree.specs.Tree.{Tree, Trees, Entries}
-use Rattle.resb_print.specs.Inner.Jobs.{Appends}
+use Rattle.resb_print.specs.Inner.Appends.{Appends}
 use Rattle.resb_print.specs.declared.place.Place.{Place}
 use Rattle.resb_lines.specs.Spelling.{Spelling}
 use Rattle.resb_lines.specs.Lines.{tree_on}
@@ -106,3 +106,21 @@ block_grows f empty line old now new first last left rest j e none n w d =
     ∙ ap (λ l. l ++ job_on f j (jobs_on f left [])) none
     ∙ sym (ap (λ js. jobs_on f js []) e ∙ jobs_behind f left (j ∷ []) []))
     ∙ w
+
+-- where a text is made and nothing left out, what was made and what is left are the text
+pub text_grows : (f : Spelling) (now new : String Global) (first last left rest : List Job)
+    (j : Job)
+    → last ≡ left ++ j ∷ [] → string_bytes now ++ jobs_on f last [] ≡ jobs_on f first []
+    → DoesJob f now new left rest j
+    → string_bytes new ++ jobs_on f rest [] ≡ jobs_on f first []
+text_grows f now new first last left rest j e w d =
+    d.text []
+    ∙ ap (λ l. string_bytes now ++ l) (sym (ap (λ js. jobs_on f js []) e
+    ∙ jobs_behind f left (j ∷ []) []))
+    ∙ w
+
+-- a text that was made in part has more bytes than a limit where that part has
+pub part_is_long : (limit : ℕ) (new : String Global) (rest all : List ℕ)
+    → string_bytes new ++ rest ≡ all → limit < length (string_bytes new) → limit < length all
+part_is_long limit new rest all e h =
+    omega (arith, h, length-append (string_bytes new) rest, ap length e)

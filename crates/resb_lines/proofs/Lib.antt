@@ -1,9 +1,12 @@
 -- For crates above: none.
-mod IcuCauses
+mod Ascending
+mod Bundles
 mod IcuLines
+mod IcuPrinted
 mod Jobs
 mod Looking
 mod Nothing
-mod PlainCauses
 mod PlainLines
+mod PlainPrinted
+mod RoomLemmas
 mod Values

@@ -1,149 +1,209 @@
 -- Looks behind looks, and what it takes that one is done.
-use Rattle.std.specs.Prelude.{◌≡◌, ℕ, ◌+◌, ◌<◌, List, [], ◌∷◌, ◌++◌, Bool, true, false, ◌||◌}
+use Rattle.std.specs.Prelude.{◌≡◌, ℕ, zero, suc, ◌+◌, ◌-◌, ◌<◌, List, [], ◌∷◌, ◌++◌, Option, Some}
+use Rattle.std.specs.Prelude.{None, MatchOption, length, take}
 use Rattle.std.proofs.Common.{refl, sym, ap, subst, ◌∙◌, arith}
 use Rattle.std.proofs.lemmas.List.{map_push}
-use Rattle.resb_tree.specs.Tree.{Tree}
-use Rattle.resb_tree.specs.Tree.{Trees, more_trees, Entries, entry}
-use Rattle.resb_tree.specs.Tree.{tree_count}
-use Rattle.resb_lines.specs.Causes.{Tests, has_cause, is_table, any_cause, cause_in}
+use Rattle.resb_tree.specs.Tree.{Tree, Trees, more_trees, Entries, entry, tree_count}
+use Rattle.resb_print.specs.Held.{IsHeld}
+use Rattle.resb_print.specs.Paths.{Step, Tests, by_key, by_number, steps_in, step_of, is_table}
+use Rattle.resb_print.specs.Paths.{found_else, found_at, found_among, found_in}
+use Rattle.resb_print.specs.declared.path.PathStep.{PathStep}
 use Rattle.resb_lines.specs.declared.inside.Inside.{Inside}
 use Rattle.resb_lines.specs.Inner.Looks.{Look, members_look, entries_look, look_of, looks_in}
-use Rattle.resb_lines.specs.Inner.Looks.{look_cause, looks_cause, look_turns, looks_turns}
-use Rattle.resb_lines.specs.Inner.Looks.{Enters, LooksOnce}
+use Rattle.resb_lines.specs.Inner.Looks.{without_last, Finding, look_found, nowhere, fold_looks}
+use Rattle.resb_lines.specs.Inner.Looks.{looks_found, IsHeldLook, AreHeldLooks, look_turns}
+use Rattle.resb_lines.specs.Inner.Looks.{looks_turns, Enters, LooksOnce}
 
-or_swap : (a b c : Bool) → ((a || b) || c) ≡ ((a || c) || b)
-or_swap true b c = refl
-or_swap false true true = refl
-or_swap false true false = refl
-or_swap false false true = refl
-or_swap false false false = refl
+fold_look : {X : Type 0} (f : Look → X → X) (ls : List Look) (l : Look) (x : X)
+    → fold_looks f (ls ++ l ∷ []) x ≡ f l (fold_looks f ls x)
+fold_look f [] l x = refl
+fold_look f (k ∷ ls) l x = fold_look f ls l (f k x)
 
-or_assoc : (a b c : Bool) → ((a || b) || c) ≡ (a || (b || c))
-or_assoc true b c = refl
-or_assoc false b c = refl
+found_behind : {C : Type 0} (c : Tests C) (ls : List Look) (l : Look) (path : List Step)
+    → looks_found c (ls ++ l ∷ []) path ≡ look_found c l (looks_found c ls) path
+found_behind c ls l path = ap (λ f. f path) (fold_look (look_found c) ls l nowhere)
 
-or_none : (a : Bool) → (a || false) ≡ a
-or_none true = refl
-or_none false = refl
-
-or_either : (a b : Bool) → a ≡ true → (a || b) ≡ true
-or_either a b e = rw e refl
-
-pub cause_behind : (c : Tests) (ls : List Look) (l : Look)
-    → looks_cause c (ls ++ l ∷ []) ≡ (looks_cause c ls || look_cause c l)
-cause_behind c [] l = refl
-cause_behind c (k ∷ ls) l =
-    ap (λ b. b || look_cause c k) (cause_behind c ls l)
-    ∙ or_swap (looks_cause c ls) (look_cause c l) (look_cause c k)
-
-pub turns_behind : (ls : List Look) (l : Look)
+turns_behind : (ls : List Look) (l : Look)
     → looks_turns (ls ++ l ∷ []) ≡ looks_turns ls + look_turns l
 turns_behind [] l = omega arith
 turns_behind (k ∷ ls) l = omega (arith, turns_behind ls l)
+
+held_behind : (ls : List Look) (l : Look) → AreHeldLooks (ls ++ l ∷ [])
+    → AreHeldLooks ls × IsHeldLook l
+held_behind [] l h = h
+held_behind (k ∷ ls) l h = let r = held_behind ls l h.0 in ((r.0, h.1), r.1)
+
+held_before : (ls : List Look) (l : Look) → AreHeldLooks ls × IsHeldLook l
+    → AreHeldLooks (ls ++ l ∷ [])
+held_before [] l h = h
+held_before (k ∷ ls) l h = (held_before ls l ((h.0).0, h.1), (h.0).1)
+
+last_off : (ps : List Step) (p : Step) → without_last (ps ++ p ∷ []) ≡ ps
+last_off [] p = refl
+last_off (q ∷ []) p = refl
+last_off (q ∷ r ∷ ps) p = ap (λ l. q ∷ l) (last_off (r ∷ ps) p)
+
+-- a path whose last step was taken back
+pub popped_last : (ps : List PathStep) (m : ℕ) → m ≡ length ps - 1
+    → steps_in (take m ps) ≡ without_last (steps_in ps)
+popped_last [] zero e = refl
+popped_last [] (suc m) e = absurd (omega arith)
+popped_last (p ∷ []) zero e = refl
+popped_last (p ∷ []) (suc m) e = absurd (omega arith)
+popped_last (p ∷ q ∷ ps) zero e = absurd (omega arith)
+popped_last (p ∷ q ∷ ps) (suc m) e =
+    ap (λ l. step_of p ∷ l) (popped_last (q ∷ ps) m (omega arith))
 
 module _ {M E : Type 0} (m : M → Trees) (e : E → Entries) where
   pub look_put : (old new : List (Inside M E)) (x : Inside M E) → new ≡ old ++ x ∷ []
       → looks_in m e new ≡ looks_in m e old ++ look_of m e x ∷ []
   look_put old new x f = ap (looks_in m e) f ∙ map_push (look_of m e) old x
 
-true_is_no_false : {A : Type 0} (b : Bool) → b ≡ true → b ≡ false → A
-true_is_no_false b e f = absurd (cc)
-
-module _ (c : Tests) (before after : List Look) (t : Tree) where
+module _ {C : Type 0} (c : Tests C) (before after : List Look) (path next : List Step) where
   -- a resource that leaves nothing to be looked at
-  pub enters_leaf : (found : Bool) → found ≡ has_cause c t → after ≡ before → 0 < tree_count t
-      → Enters c before after t found
-  enters_leaf found e a some = record {
-    met = λ f. sym e ∙ f;
-    passed = λ f. ap (looks_cause c) a
-        ∙ sym (ap (λ b. looks_cause c before || b) (sym e ∙ f) ∙ or_none (looks_cause c before));
+  pub enters_leaf : (t : Tree) (own found : Option C) → found ≡ own
+      → ((later : Option (List Step × C)) → found_at c path t later ≡ found_else own path later)
+      → after ≡ before → MatchOption found (next ≡ without_last path) (λ x. next ≡ path)
+      → IsHeld t → 0 < tree_count t → Enters c before after path next t found
+  enters_leaf t own None e is a m held some = record {
+    same = λ x f. absurd (cc);
+    met = λ x f. absurd (cc);
+    passed = λ f. ap (λ ls. looks_found c ls next) a ∙ ap (looks_found c before) m
+        ∙ sym (is (looks_found c before (without_last path))
+        ∙ ap (λ o. found_else o path (looks_found c before (without_last path))) (sym e));
+    held = λ f h. (subst AreHeldLooks a h, held);
+    fewer = omega (arith, ap looks_turns a);
+  }
+  enters_leaf t own (Some x) e is a m held some = record {
+    same = λ y f. m;
+    met = λ y f later. is later ∙ ap (λ o. found_else o path later) (sym e ∙ f);
+    passed = λ f. absurd (cc);
+    held = λ f h. absurd (cc);
     fewer = omega (arith, ap looks_turns a);
   }
 
   -- a collection, which is no cause itself
-  pub enters_inside : (l : Look) → look_cause c l ≡ has_cause c t
-      → look_turns l < tree_count t + tree_count t → after ≡ before ++ l ∷ []
-      → Enters c before after t false
-  enters_inside l e h a = record {
-    met = λ f. absurd (cc);
-    passed = λ f. ap (looks_cause c) a ∙ cause_behind c before l
-        ∙ ap (λ b. looks_cause c before || b) e;
+  pub enters_inside : (t : Tree) (l : Look)
+      → ((later : Finding C) → look_found c l later path
+      ≡ found_at c path t (later (without_last path)))
+      → (IsHeldLook l → IsHeld t) → look_turns l < tree_count t + tree_count t
+      → after ≡ before ++ l ∷ [] → next ≡ path → Enters c before after path next t None
+  enters_inside t l is held h a p = record {
+    same = λ x f. absurd (cc);
+    met = λ x f. absurd (cc);
+    passed = λ f. ap (λ ls. looks_found c ls next) a ∙ found_behind c before l next
+        ∙ ap (look_found c l (looks_found c before)) p ∙ is (looks_found c before);
+    held = λ f g. (let r = held_behind before l (subst AreHeldLooks a g) in (r.0, held r.1));
     fewer = omega (arith, ap looks_turns a, turns_behind before l);
   }
 
-module _ (c : Tests) (before now after : List Look) where
   -- nothing is left inside a collection
-  pub looked_all : (l : Look) → look_cause c l ≡ false → 0 < look_turns l → after ≡ before
-      → LooksOnce c before after l false
-  looked_all l e h a = record {
-    met = λ f. absurd (cc);
-    passed = λ f. ap (looks_cause c) a
-        ∙ sym (ap (λ b. looks_cause c before || b) e ∙ or_none (looks_cause c before));
+  pub looked_all : (l : Look)
+      → ((later : Finding C) → look_found c l later path ≡ later (without_last path))
+      → IsHeldLook l → 0 < look_turns l → after ≡ before → next ≡ without_last path
+      → LooksOnce c before after path next l None
+  looked_all l is held h a p = record {
+    met = λ x f. absurd (cc);
+    passed = λ f. ap (λ ls. looks_found c ls next) a ∙ ap (looks_found c before) p
+        ∙ sym (is (looks_found c before));
+    held = λ f g. (subst AreHeldLooks a g, held);
     fewer = omega (arith, ap looks_turns a);
   }
 
-  -- the next member is looked at
-  pub looked_member : (all left : Trees) (t : Tree) (found : Bool) → all ≡ more_trees t left
-      → now ≡ before ++ members_look left ∷ [] → Enters c now after t found
-      → LooksOnce c before after (members_look all) found
-  looked_member all left t found e a d =
-      subst (λ x. LooksOnce c before after (members_look x) found) (sym e) (record {
-        met = λ f. or_either (has_cause c t) (any_cause c left) (d.met f);
-        passed = λ f. d.passed f
-            ∙ ap (λ b. b || has_cause c t) (ap (looks_cause c) a
-            ∙ cause_behind c before (members_look left))
-            ∙ or_swap (looks_cause c before) (any_cause c left) (has_cause c t)
-            ∙ or_assoc (looks_cause c before) (has_cause c t) (any_cause c left);
-        fewer = omega (arith, d.fewer, ap looks_turns a, turns_behind before (members_look left));
-      })
-
   -- the next key is a cause
-  pub key_met : (all left : Entries) (k : List ℕ) (t : Tree) → all ≡ entry k t left
-      → c.of_entry k (is_table t) ≡ true → after ≡ before
-      → LooksOnce c before after (entries_look all) true
-  key_met all left k t e h a =
-      subst (λ x. LooksOnce c before after (entries_look x) true) (sym e) (record {
-        met = λ f. or_either (c.of_entry k (is_table t) || has_cause c t) (cause_in c left)
-            (or_either (c.of_entry k (is_table t)) (has_cause c t) h);
+  pub key_met : (all left : Entries) (k : List ℕ) (t : Tree) (x : C) → all ≡ entry k t left
+      → Some x ≡ c.of_entry k (is_table t) → next ≡ path ++ by_key k ∷ [] → after ≡ before
+      → LooksOnce c before after path next (entries_look all) (Some x)
+  key_met all left k t x e h p a =
+      subst (λ es. LooksOnce c before after path next (entries_look es) (Some x)) (sym e) (record {
+        met = λ y f later. (
+            let here = path ++ by_key k ∷ [] in
+            let rest = found_at c here t (found_in c path left (later (without_last path))) in
+            ap (λ o. found_else o here rest) (sym h ∙ f) ∙ ap (λ q. Some (q, y)) (sym p)
+            );
         passed = λ f. absurd (cc);
+        held = λ f g. absurd (cc);
         fewer = omega (arith, ap looks_turns a);
       })
 
-  -- the next entry is looked at, whose key is none
-  pub looked_entry : (all left : Entries) (k : List ℕ) (t : Tree) (found : Bool)
-      → all ≡ entry k t left → c.of_entry k (is_table t) ≡ false
-      → now ≡ before ++ entries_look left ∷ [] → Enters c now after t found
-      → LooksOnce c before after (entries_look all) found
-  looked_entry all left k t found e h a d =
-      let key = c.of_entry k (is_table t) in
-      let none : ((key || has_cause c t) || cause_in c left) ≡ (has_cause c t || cause_in c left) =
-      ap (λ b. (b || has_cause c t) || cause_in c left) h in
-      subst (λ x. LooksOnce c before after (entries_look x) found) (sym e) (record {
-        met = λ f. none ∙ or_either (has_cause c t) (cause_in c left) (d.met f);
-        passed = λ f. d.passed f
-            ∙ ap (λ b. b || has_cause c t) (ap (looks_cause c) a
-            ∙ cause_behind c before (entries_look left))
-            ∙ or_swap (looks_cause c before) (cause_in c left) (has_cause c t)
-            ∙ or_assoc (looks_cause c before) (has_cause c t) (cause_in c left)
-            ∙ ap (λ b. looks_cause c before || b) (sym none);
-        fewer = omega (arith, d.fewer, ap looks_turns a, turns_behind before (entries_look left));
-      })
+module _ {C : Type 0} (c : Tests C) (before now after : List Look) (path here next : List Step)
+  where
+    -- the next member is looked at
+    pub looked_member : (all left : Trees) (n m : ℕ) (t : Tree) (found : Option C)
+        → all ≡ more_trees t left → m ≡ suc n → here ≡ path ++ by_number n ∷ []
+        → now ≡ before ++ members_look m left ∷ [] → Enters c now after here next t found
+        → LooksOnce c before after path next (members_look n all) found
+    looked_member all left n m t found e s p a d =
+        let l = members_look m left in
+        let own = path ++ by_number n ∷ [] in
+        let back : without_last here ≡ path = ap without_last p ∙ last_off path (by_number n) in
+        subst (λ ts. LooksOnce c before after path next (members_look n ts) found) (sym e) (record {
+          met = λ x f later. (
+              let rest = found_among c path (suc n) left (later (without_last path)) in
+              ap (λ q. found_at c q t rest) (sym p) ∙ d.met x f rest
+              ∙ ap (λ q. Some (q, x)) (sym (d.same x f))
+              );
+          passed = λ f. d.passed f
+              ∙ ap (found_at c here t) (ap (looks_found c now) back
+              ∙ ap (λ ls. looks_found c ls path) a ∙ found_behind c before l path
+              ∙ ap (λ k. found_among c path k left (looks_found c before (without_last path))) s)
+              ∙ ap (λ q. found_at c q t (found_among c path (suc n) left
+              (looks_found c before (without_last path)))) p;
+          held = λ f g. (
+              let r = d.held f g in
+              let q = held_behind before l (subst AreHeldLooks a r.0) in
+              (q.0, (r.1, q.1))
+              );
+          fewer = omega (arith, d.fewer, ap looks_turns a, turns_behind before l);
+        })
 
-module _ (c : Tests) (all left after : List Look) (l : Look) where
-  -- where the last look finds a cause, there is one, and else as much is left as before
-  pub found_met : all ≡ left ++ l ∷ [] → LooksOnce c left after l true → looks_cause c all ≡ true
-  found_met a d =
-      ap (looks_cause c) a ∙ cause_behind c left l ∙ last_true (looks_cause c left) (d.met refl)
-    where
-      last_true : (b : Bool) → look_cause c l ≡ true → (b || look_cause c l) ≡ true
-      last_true true e = refl
-      last_true false e = e
+    -- the next entry is looked at, whose key is no cause
+    pub looked_entry : (all left : Entries) (k : List ℕ) (t : Tree) (found : Option C)
+        → all ≡ entry k t left → None ≡ c.of_entry k (is_table t) → here ≡ path ++ by_key k ∷ []
+        → now ≡ before ++ entries_look left ∷ [] → Enters c now after here next t found
+        → LooksOnce c before after path next (entries_look all) found
+    looked_entry all left k t found e h p a d =
+        let l = entries_look left in
+        let own = path ++ by_key k ∷ [] in
+        let back : without_last here ≡ path = ap without_last p ∙ last_off path (by_key k) in
+        subst (λ es. LooksOnce c before after path next (entries_look es) found) (sym e) (record {
+          met = λ x f later. (
+              let rest = found_in c path left (later (without_last path)) in
+              ap (λ o. found_else o own (found_at c own t rest)) (sym h)
+              ∙ ap (λ q. found_at c q t rest) (sym p) ∙ d.met x f rest
+              ∙ ap (λ q. Some (q, x)) (sym (d.same x f))
+              );
+          passed = λ f. (
+              let rest = found_in c path left (looks_found c before (without_last path)) in
+              d.passed f
+              ∙ ap (found_at c here t) (ap (looks_found c now) back
+              ∙ ap (λ ls. looks_found c ls path) a ∙ found_behind c before l path)
+              ∙ ap (λ q. found_at c q t rest) p
+              ∙ ap (λ o. found_else o own (found_at c own t rest)) h
+              );
+          held = λ f g. (
+              let r = d.held f g in
+              let q = held_behind before l (subst AreHeldLooks a r.0) in
+              (q.0, (r.1, q.1))
+              );
+          fewer = omega (arith, d.fewer, ap looks_turns a, turns_behind before l);
+        })
 
-  pub found_none : all ≡ left ++ l ∷ [] → LooksOnce c left after l false
-      → looks_cause c after ≡ looks_cause c all
-  found_none a d =
-      d.passed refl ∙ sym (ap (looks_cause c) a ∙ cause_behind c left l)
+module _ {C : Type 0} (c : Tests C) (all left after : List Look) (path next : List Step) (l : Look)
+    (found : Option C) (a : all ≡ left ++ l ∷ []) (d : LooksOnce c left after path next l found)
+  where
+    last_look : looks_found c all path ≡ look_found c l (looks_found c left) path
+    last_look = ap (λ ls. looks_found c ls path) a ∙ found_behind c left l path
 
-  pub fewer_looks : (found : Bool) → all ≡ left ++ l ∷ [] → LooksOnce c left after l found
-      → looks_turns after < looks_turns all
-  fewer_looks found a d = omega (arith, d.fewer, ap looks_turns a, turns_behind left l)
+    -- where the last look finds a cause, it is the first, and else as much is left as before
+    pub cause_met : (x : C) → found ≡ Some x → looks_found c all path ≡ Some (next, x)
+    cause_met x f = last_look ∙ d.met x f (looks_found c left)
+
+    pub cause_passed : found ≡ None → looks_found c after next ≡ looks_found c all path
+    cause_passed f = d.passed f ∙ sym last_look
+
+    pub held_passed : found ≡ None → AreHeldLooks after → AreHeldLooks all
+    held_passed f h = subst AreHeldLooks (sym a) (held_before left l (d.held f h))
+
+    pub fewer_looks : looks_turns after < looks_turns all
+    fewer_looks = omega (arith, d.fewer, ap looks_turns a, turns_behind left l)

@@ -11,7 +11,7 @@ use Rattle.std.proofs.lemmas.Option.{none-some, same_Some}
 use Rattle.std.proofs.Math.Seq.{drop-nil}
 use Rattle.hex.specs.Hex.{encode_lower, encode_with, lower_digits}
 use Rattle.resb_grammar.specs.Ascii as ascii
-use Rattle.resb_print.specs.Inner.Jobs.{Appends}
+use Rattle.resb_print.specs.Inner.Appends.{Appends}
 use Rattle.resb_print.specs.Printed.{deeper, end_on, more_numbers_on}
 use Rattle.resb_print.specs.declared.place.Place.{Place}
 use Rattle.resb_shown.specs.Shown.{text_in, numbers_in}

@@ -1,7 +1,13 @@
 -- The lines of a bundle in a form: what `resb_print` and `resb_icu_print` print, with one
 -- definition for both.
 --     bundle_on f name fallback es    the text of a bundle whose root has these entries
-use Rattle.std.specs.Prelude.{ℕ, List, [], ◌∷◌, ◌++◌, Bool, codes, decimal}
+--     lines_of f name fallback t      the same of a root, which has none where it is no table
+--     IsTextWithin limit text found   the text is found where it has no more bytes than the limit
+use Rattle.std.specs.Prelude.{◌≡◌, ◌<◌, ◌≤◌, ℕ, List, [], ◌∷◌, ◌++◌, Bool, codes, decimal, length}
+use Rattle.std.specs.Prelude.{Option, MatchOption}
+use Rattle.std.specs.String.{string_bytes}
+use Rattle.std.specs.declared.alloc.Global.{Global}
+use Rattle.std.specs.declared.string.String.{String}
 use Rattle.hex.specs.Hex.{encode_lower}
 use Rattle.resb_tree.specs.Tree.{Tree, string, alias, array, table, binary, integer, int_vector}
 use Rattle.resb_tree.specs.Tree.{Trees, no_trees, more_trees, Entries, no_entries, entry}
@@ -67,3 +73,8 @@ lines_of f name fallback (table es) = bundle_on f name fallback es
 lines_of f name fallback (binary bs) = []
 lines_of f name fallback (integer n) = []
 lines_of f name fallback (int_vector ns) = []
+
+-- a text as a string, where it has no more bytes than a limit, or nothing where it has more
+abbrev pub IsTextWithin : ℕ → List ℕ → Option (String Global) → Type 0
+IsTextWithin limit text found =
+    MatchOption found (limit < length text) (λ s. (string_bytes s ≡ text) × (length text ≤ limit))

@@ -1,18 +1,23 @@
 //! The two forms of texts, by what differs in them.
 //! What a line is made of else is said in `text`.
-ghost use Rattle.std.specs.Prelude.{◌≡◌, ℕ, List, false, OnOk, MatchOption};
-ghost use Rattle.resb_print.specs.Inner.Jobs.{Appends};
-ghost use Rattle.resb_lines.specs.Spelling.{Spelling};
-ghost use Rattle.resb_lines.specs.Causes.{Tests, IsCauseByItself};
+ghost use Rattle.std.specs.Prelude.{◌≡◌, ℕ, List, None, OnOk, MatchOption};
+ghost use Rattle.resb_print.specs.Inner.Appends.{Appends};
+ghost use Rattle.resb_print.specs.Paths as paths;
+ghost use Rattle.resb_print.specs.Paths.{Tests};
+ghost use Rattle.resb_lines.specs.Spelling.{Spelling, Grows};
+ghost use Rattle.resb_lines.specs.Causes.{IsCauseByItself};
 
 use resb_icu_grammar::is_collation;
-use resb_icu_print::{is_bare, is_key};
-use resb_print::has_quote;
+use resb_icu_print::{IcuCause, is_bare, is_key};
+use resb_print::{Cause, has_quote};
 use std::alloc::{AllocError, Global};
 
-/// A form of texts: how names, keys and strings are spelled.
+/// A form of texts: how names, keys and strings are spelled, and what has no text of it.
 pub trait Form: Copy {
-    /// The same as functions of them.
+    /// What keeps a bundle from having a text of the form.
+    type Cause: Copy;
+
+    /// How names, keys and strings are spelled, as functions of them.
     ghost spelling: { Spelling };
 
     /// Writes a bundle's name.
@@ -28,32 +33,50 @@ pub trait Form: Copy {
         ensures { OnOk result (Appends out.old out.new (spelling.piece_on text.now)) };
 
     /// What keeps a bundle from having a text of the form, as tests.
-    ghost tests: { Tests };
+    ghost tests: { Tests Self.Cause };
 
-    /// Whether a name does.
-    fn is_name_cause(self, name: &str) -> bool
+    /// Which cause a root is that is no table.
+    fn root_cause(self) -> Self::Cause
+        ensures { result ≡ tests.of_root };
+
+    /// Which cause a name is, if it is one.
+    fn name_cause(self, name: &str) -> Option<Self::Cause>
         ensures { result ≡ tests.of_name name.now };
 
-    /// Whether a key does, by itself or where a table stands under it.
-    fn is_entry_cause(self, key: &str, is_table: bool) -> bool
+    /// Which cause a key is, by itself or where a table stands under it, if it is one.
+    fn entry_cause(self, key: &str, is_table: bool) -> Option<Self::Cause>
         ensures { result ≡ tests.of_entry key.now is_table };
 
-    /// The character of ASCII by which a string does, if there is one.
-    fn string_cause(self) -> Option<u8>
-        ensures { MatchOption result ((text : List ℕ) → tests.of_string text ≡ false)
-            (IsCauseByItself tests) };
+    /// The character of ASCII by which a string is a cause, and which one, if strings are any.
+    fn string_cause(self) -> Option<(u8, Self::Cause)>
+        ensures { MatchOption result ((text : List ℕ) → tests.of_string text ≡ None)
+            (λ found. IsCauseByItself tests found.0 found.1) };
 
-    /// Whether each alias does.
-    fn is_alias_cause(self) -> bool
+    /// Which cause each alias is, if it is one.
+    fn alias_cause(self) -> Option<Self::Cause>
         ensures { result ≡ tests.of_alias };
+
+    /// Keys and strings are no shorter as they are spelled.
+    ghost grows: { Grows spelling };
 }
 
 /// The form of `resb_print`.
 #[derive(Clone, Copy)]
 pub struct Plain;
 
+/// Which cause a text is that holds a quote.
+fn quote_cause(text: &str, cause: Cause) -> Option<Cause>
+    ensures { result ≡ paths.quote_cause cause text.now }
+{
+    if has_quote(text) { Some(cause) } else { None }
+}
+
 impl Form for Plain {
-    ghost use Rattle.resb_lines.specs.Laws.{plain, plain_tests};
+    ghost use Rattle.resb_print.specs.Paths.{plain_tests};
+    ghost use Rattle.resb_lines.specs.Laws.{plain};
+    ghost use Rattle.resb_print.proofs.Sizes.{name_grows, quoted_grows};
+
+    type Cause = Cause;
 
     ghost spelling = { plain };
 
@@ -71,22 +94,28 @@ impl Form for Plain {
         resb_print::push_quoted(out, text)
     }
 
-    fn is_name_cause(self, name: &str) -> bool {
-        has_quote(name)
+    fn root_cause(self) -> Cause {
+        Cause::RootIsNoTable
     }
 
-    fn is_entry_cause(self, key: &str, _is_table: bool) -> bool {
-        has_quote(key)
+    fn name_cause(self, name: &str) -> Option<Cause> {
+        quote_cause(name, Cause::QuoteInName)
     }
 
-    #[tactic(auto, using(crate::proofs::PlainCauses::quotes_alone))]
-    fn string_cause(self) -> Option<u8> {
-        Some(b'"')
+    fn entry_cause(self, key: &str, _is_table: bool) -> Option<Cause> {
+        quote_cause(key, Cause::QuoteInKey)
     }
 
-    fn is_alias_cause(self) -> bool {
-        true
+    #[tactic(auto, using(crate::proofs::PlainPrinted::quotes_alone))]
+    fn string_cause(self) -> Option<(u8, Cause)> {
+        Some((b'"', Cause::QuoteInString))
     }
+
+    fn alias_cause(self) -> Option<Cause> {
+        Some(Cause::Alias)
+    }
+
+    ghost grows = { record { keys = name_grows; pieces = quoted_grows } };
 }
 
 /// ICU's form, that of `resb_icu_print`.
@@ -94,7 +123,11 @@ impl Form for Plain {
 pub struct Icu;
 
 impl Form for Icu {
-    ghost use Rattle.resb_lines.specs.Laws.{icu, icu_tests};
+    ghost use Rattle.resb_icu_print.specs.CausePaths.{icu_tests};
+    ghost use Rattle.resb_lines.specs.Laws.{icu};
+    ghost use Rattle.resb_icu_print.proofs.Sizes.{key_grows, piece_grows};
+
+    type Cause = IcuCause;
 
     ghost spelling = { icu };
 
@@ -112,19 +145,35 @@ impl Form for Icu {
         resb_icu_print::push_piece(alloc, out, text)
     }
 
-    fn is_name_cause(self, name: &str) -> bool {
-        !is_bare(name)
+    fn root_cause(self) -> IcuCause {
+        IcuCause::RootIsNoTable
     }
 
-    fn is_entry_cause(self, key: &str, is_table: bool) -> bool {
-        !is_key(key) || is_collation(key) && is_table
+    fn name_cause(self, name: &str) -> Option<IcuCause> {
+        if is_bare(name) {
+            None
+        } else {
+            Some(IcuCause::NameIsNoWord)
+        }
     }
 
-    fn string_cause(self) -> Option<u8> {
+    fn entry_cause(self, key: &str, is_table: bool) -> Option<IcuCause> {
+        if !is_key(key) {
+            Some(IcuCause::KeyHasOtherBytes)
+        } else if is_collation(key) && is_table {
+            Some(IcuCause::TableOfCollations)
+        } else {
+            None
+        }
+    }
+
+    fn string_cause(self) -> Option<(u8, IcuCause)> {
         None
     }
 
-    fn is_alias_cause(self) -> bool {
-        false
+    fn alias_cause(self) -> Option<IcuCause> {
+        None
     }
+
+    ghost grows = { record { keys = key_grows; pieces = piece_grows } };
 }

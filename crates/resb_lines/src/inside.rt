@@ -4,8 +4,8 @@
 /// The members of an array or the entries of a table that are still to come.
 #[derive(Drop)]
 pub(crate) enum Inside<M, E> {
-    /// Members.
-    Members(M),
+    /// Members, the next of which has this number.
+    Members(M, usize),
     /// Entries.
     Entries(E),
 }

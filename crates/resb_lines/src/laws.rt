@@ -3,23 +3,22 @@
 ghost use Rattle.resb_lines.specs.Laws.{PlainLinesArePrinted, PlainCausesAreFound};
 ghost use Rattle.resb_lines.specs.Laws.{IcuLinesArePrinted, IcuCausesAreFound};
 
-/// The lines of a bundle in the plain form are the text that `resb_print` prints.
+/// The lines of a bundle in the plain form are the text that `resb_print` describes.
 pub fn plain_lines_are_printed()
     ensures { PlainLinesArePrinted }
 {}
 
-/// A bundle has a plain text exactly where `resb_print` finds no cause that keeps it from one.
+/// What is found to keep a bundle from having a plain text is its first cause.
 pub fn plain_causes_are_found()
     ensures { PlainCausesAreFound }
 {}
 
-/// The lines of a bundle in ICU's form are the text that `resb_icu_print` prints.
+/// The lines of a bundle in ICU's form are the text that `resb_icu_print` describes.
 pub fn icu_lines_are_printed()
     ensures { IcuLinesArePrinted }
 {}
 
-/// A bundle has a text of ICU's form exactly where `resb_icu_print` finds no cause that keeps it
-/// from one.
+/// What is found to keep a bundle from having a text of ICU's form is its first cause of that form.
 pub fn icu_causes_are_found()
     ensures { IcuCausesAreFound }
 {}

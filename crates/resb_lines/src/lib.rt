@@ -1,16 +1,21 @@
-//! The text of a bundle in either form, line by line into any writer, from whatever holds the
-//! bundle. What a text of a form is stands in `resb_print` and `resb_icu_print`, whose texts these
-//! are.
+//! The printer of bundles: their texts in either form, as a text or line by line into any writer,
+//! from whatever holds the bundle, and what keeps it from having one. What a text of a form is
+//! stands in `resb_print` and `resb_icu_print`.
 #![tactic(auto)]
 
 mod causes;
 mod form;
+mod icu_print;
 mod inside;
 pub mod laws;
+mod print;
+mod room;
 mod task;
 mod text;
 mod write;
 
-pub use causes::has_text;
+pub use causes::{find_cause, has_text};
 pub use form::{Form, Icu, Plain};
-pub use write::{ShownBundle, lines_fit, lines_length_within, write_lines};
+pub use icu_print::{icu_cause_path, print_icu_text, print_icu_text_within};
+pub use print::{cause_path, print_text, print_text_within};
+pub use write::{ShownBundle, lines_fit, lines_length_within, lines_within, write_lines};

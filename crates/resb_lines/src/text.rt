@@ -2,17 +2,20 @@
 //! last.
 //! What a line is made of is written by `resb_print`, and by the form in `form`.
 ghost use Rattle.std.specs.Prelude.{◌≡◌, ◌++◌, ◌∷◌, [], OnOk, IfOk, drop, nat_lt};
+ghost use Rattle.std.specs.String.{string_bytes};
 ghost use Rattle.hex.specs.Hex.{encode_lower};
-ghost use Rattle.resb_print.specs.Inner.Jobs.{Appends};
+ghost use Rattle.resb_print.specs.Inner.Appends.{Appends};
 ghost use Rattle.resb_shown.specs.Shown.{numbers_in, text_in};
 ghost use Rattle.resb_tree.specs.Tree.{array, table};
 ghost use Rattle.resb_lines.specs.Lines as lines;
+ghost use Rattle.resb_lines.specs.Lines.{IsTextWithin};
 ghost use Rattle.resb_lines.specs.Inner.Jobs.{jobs_in, job_of, all_on, turns_of, DoesJob};
 ghost use Rattle.resb_lines.specs.Inner.Jobs.{value_job, entries_job, members_job, numbers_job};
 ghost use Rattle.resb_lines.specs.Inner.Jobs.{entry_job, member_job, head_job, digits_job};
 ghost use Rattle.resb_lines.specs.Inner.Jobs.{comma_on};
 
 use crate::form::Form;
+use crate::room::has_room;
 use crate::task::Task;
 use resb_print::{Place, deeper, push_end, push_integer, push_line, push_number, push_root_type};
 use resb_shown::{BLOCK_LEN, Blocks, Node, Shown};
@@ -43,7 +46,7 @@ pub(crate) struct LinesText<'s, F: Copy, S: Copy, M: Drop, E: Drop> {
     pending: Vec<Task<'s, S, M, E>>,
     /// The line that is made.
     line: String,
-    /// Room for a string's text.
+    /// Room for the text of a string that stands nowhere as it is.
     room: String,
 }
 
@@ -56,9 +59,10 @@ impl<'s, F: Form, S: Shown<'s>> LinesText<'s, F, S, S::Members, S::Entries> {
         fallback: bool,
         entries: S::Entries,
     ) -> Result<LinesText<'s, F, S, S::Members, S::Entries>, AllocError>
-        ensures { IfOk result (λ text. all_on F.spelling
+        ensures ahead { IfOk result (λ text. all_on F.spelling
             (jobs_in S.tree S.members S.entries text.pending.items)
             ≡ lines.bundle_on F.spelling name.now fallback (S.entries entries)) }
+        ensures line { IfOk result (λ text. string_bytes text.line ≡ []) }
     {
         let mut pending = Vec::with_capacity(alloc, 32)?;
         pending.push(Task::LineFeed)?;
@@ -72,6 +76,24 @@ impl<'s, F: Form, S: Shown<'s>> LinesText<'s, F, S, S::Members, S::Entries> {
         })
     }
 
+    /// The whole text, where it has no more bytes than a limit: it is made as far as that shows.
+    pub(crate) fn into_text(mut self, limit: u64) -> Result<Option<String>, AllocError>
+        requires { string_bytes self.line ≡ [] }
+        ensures { IfOk result (IsTextWithin limit
+            (all_on F.spelling (jobs_in S.tree S.members S.entries self.entry.pending.items))) }
+    {
+        while let Some(task) = self.pending.pop() {
+            if !has_room::<S>(self.line.len(), &task, limit) {
+                return Ok(None);
+            }
+            self.step(task)?;
+            if self.line.len() as u64 > limit {
+                return Ok(None);
+            }
+        }
+        Ok(Some(self.line))
+    }
+
     /// Puts a task, to be done before those that were put.
     fn put(&mut self, task: Task<'s, S, S::Members, S::Entries>) -> Result<(), AllocError>
         ensures put { OnOk result
@@ -82,15 +104,19 @@ impl<'s, F: Form, S: Shown<'s>> LinesText<'s, F, S, S::Members, S::Entries> {
         Ok(())
     }
 
-    /// Reads a string's text or an alias's path into the room for it, and writes it in quotes.
+    /// Writes a string's text or an alias's path in quotes: as it stands, or else read into the room
+    /// for it.
     fn push_text(&mut self, shown: S) -> Result<(), AllocError>
         ensures written { OnOk result
             (Appends self.old.line self.new.line (F.spelling.piece_on (text_in (S.tree shown)))) }
         ensures kept { self.new.pending ≡ self.old.pending }
     {
+        let alloc = *self.pending.allocator();
+        if let Some(text) = shown.text() {
+            return self.form.push_piece(alloc, &mut self.line, text);
+        }
         self.room.clear();
         shown.push_text(&mut self.room)?;
-        let alloc = *self.pending.allocator();
         self.form
             .push_piece(alloc, &mut self.line, self.room.as_str())
     }

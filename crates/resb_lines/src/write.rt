@@ -1,13 +1,16 @@
-//! The calls that write a bundle's text, and that look how long it is.
+//! The calls that write the lines of a bundle, make a text of them, and look how long they are.
 //! What is written, and in which order, is said in `text`.
-ghost use Rattle.std.specs.Prelude.{◌<◌, ◌≤◌, OnOk, OnErr, IfOk, MatchBool, length};
+ghost use Rattle.std.specs.Prelude.{◌≡◌, ◌<◌, ◌≤◌, OnOk, OnErr, IfOk, MatchBool, length};
 ghost use Rattle.std.specs.Io.KnownBytes.{Appends};
+ghost use Rattle.resb_tree.specs.Bundle.{name_of, root_of};
+ghost use Rattle.resb_tree.specs.View.{tree_of};
 ghost use Rattle.resb_shown.specs.Sink.{AppendsPart, IsLengthWithin};
-ghost use Rattle.resb_lines.specs.Lines.{lines_of};
+ghost use Rattle.resb_lines.specs.Lines.{lines_of, IsTextWithin};
 
 use crate::form::Form;
 use crate::text::LinesText;
 use resb_shown::{Node, Shown, length_within, write_blocks};
+use resb_tree::{Resource, ResourceBundle};
 use std::alloc::{AllocError, Global};
 use std::io;
 use std::io::Write;
@@ -21,6 +24,22 @@ pub struct ShownBundle<'s, S: Copy> {
     pub root: S,
     /// Whether fallback is on.
     pub is_locale_fallback_enabled: bool,
+}
+
+impl<'t, 'a> ShownBundle<'t, &'t Resource<'a>> {
+    /// A bundle's tree, as it is shown.
+    pub fn of(bundle: &'t ResourceBundle<'a>) -> ShownBundle<'t, &'t Resource<'a>>
+        ensures name { result.name.now ≡ name_of bundle.now }
+        ensures root { tree_of result.root.now ≡ root_of bundle.now }
+        ensures fallback { result.is_locale_fallback_enabled
+            ≡ bundle.now.is_locale_fallback_enabled }
+    {
+        ShownBundle {
+            name: bundle.name(),
+            root: bundle.root(),
+            is_locale_fallback_enabled: bundle.is_locale_fallback_enabled,
+        }
+    }
 }
 
 /// Writes the lines of a bundle in a form, in blocks, however deep it nests. These are its text of
@@ -51,6 +70,32 @@ pub fn write_lines<'s, F: Form, S: Shown<'s>, W: Write>(
         entries,
     )?;
     write_blocks(alloc, writer, &mut text)
+}
+
+/// The lines of a bundle in a form, where they have no more bytes than a limit. They are made line
+/// by line, as far as that shows.
+pub fn lines_within<'s, F: Form, S: Shown<'s>>(
+    alloc: Global,
+    form: F,
+    bundle: ShownBundle<'s, S>,
+    limit: u64,
+) -> Result<Option<String>, AllocError>
+    ensures { let text = lines_of F.spelling bundle.entry.name.now
+        bundle.entry.is_locale_fallback_enabled (S.tree bundle.entry.root) in
+        IfOk result (IsTextWithin limit text) }
+{
+    let Node::Table(entries) = bundle.root.node() else {
+        return Ok(Some(String::new(alloc)));
+    };
+    let fallback = bundle.is_locale_fallback_enabled;
+    let text: LinesText<'s, F, S, S::Members, S::Entries> = LinesText::new(
+        alloc,
+        form,
+        bundle.name,
+        fallback,
+        entries,
+    )?;
+    text.into_text(limit)
 }
 
 /// How many bytes the lines of a bundle in a form have, if those are no more than a limit. They are

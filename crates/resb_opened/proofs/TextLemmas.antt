@@ -1,9 +1,11 @@
--- The text of no units, and where a vector has no number.
-use Rattle.std.proofs.Common.{◌≡◌, ◌≤◌, ℕ, List, [], None, refl, arith, length, slice_get}
+-- The text of no units, and which numbers a vector has.
+use Rattle.std.proofs.Common.{◌≡◌, ◌≤◌, ◌<◌, ℕ, zero, suc, List, [], ◌∷◌, None, refl, arith}
+use Rattle.std.proofs.Common.{length, slice_get, slice_index}
 use Rattle.std.specs.Char.Utf16.{utf16_chars, utf16_lossy_chars}
 use Rattle.std.proofs.lemmas.Option.{slice_get_past}
 use Rattle.resb_format.proofs.Spelled.{words_length}
 use Rattle.resb_format.specs.Bytes.{units_of, words_of}
+use Rattle.resb_shown.specs.Shown.{AreWords}
 use Rattle.resb_walk.specs.Inner.Members.{text_of_bytes}
 
 no_units : units_of [] ≡ []
@@ -16,6 +18,19 @@ no_chars = refl
 
 pub empty_text : text_of_bytes [] ≡ []
 empty_text = rw (no_units, no_chars) refl
+
+-- the words of bytes are below 2 ^ 32
+pub words_small : (bytes : List ℕ) → ((k : ℕ) → k < length bytes → slice_index bytes k < 256)
+    → AreWords (words_of bytes)
+unfolding words_of
+words_small (a ∷ b ∷ c ∷ d ∷ bytes) h zero l =
+    omega (arith, h 0 (omega arith), h 1 (omega arith), h 2 (omega arith), h 3 (omega arith))
+words_small (a ∷ b ∷ c ∷ d ∷ bytes) h (suc k) l =
+    words_small bytes (λ j m. h (suc (suc (suc (suc j)))) (omega arith)) k (omega arith)
+words_small (a ∷ b ∷ c ∷ []) h k l = absurd (omega (arith, l))
+words_small (a ∷ b ∷ []) h k l = absurd (omega (arith, l))
+words_small (a ∷ []) h k l = absurd (omega (arith, l))
+words_small [] h k l = absurd (omega (arith, l))
 
 -- behind a vector's bytes it has no number
 pub no_word : (bytes : List ℕ) (at : ℕ) → length bytes ≤ at

@@ -1,4 +1,6 @@
 //! An opened file as it is shown, without a tree of it. What is shown is said in `resb_shown`.
+ghost use Rattle.resb_format.specs.Bytes.{words_of};
+ghost use Rattle.resb_shown.specs.Shown.{AreWords};
 ghost use Rattle.resb_opened.specs.Shown.{shown_tree, members_ahead, entries_ahead};
 
 use crate::ahead::{EntriesAhead, MembersAhead};
@@ -8,6 +10,11 @@ use resb_shown::{Node, Shown};
 use resb_tree::Int28;
 use resb_walk::{Leaf, Standing, key_at};
 use std::alloc::AllocError;
+
+/// The words of bytes are numbers of 32 bits.
+fn spell_words(_bytes: &[u8])
+    ensures { AreWords (words_of _bytes.now) }
+{}
 
 impl<'a> Shown<'a> for Ascending<'a> {
     type Members = MembersAhead<'a>;
@@ -30,10 +37,17 @@ impl<'a> Shown<'a> for Ascending<'a> {
             Standing::Leaf(Leaf::Alias(_)) => Node::Alias,
             Standing::Leaf(Leaf::Binary(bytes)) => Node::Binary(bytes),
             Standing::Leaf(Leaf::Integer(word)) => Node::Integer(Int28::from(word)),
-            Standing::Leaf(Leaf::Numbers(_)) => Node::IntVector,
+            Standing::Leaf(Leaf::Numbers(bytes)) => {
+                spell_words(bytes);
+                Node::IntVector
+            }
             Standing::List(rest) => Node::Array(MembersAhead::at(file, rest)),
             Standing::Table(rest) => Node::Table(EntriesAhead::at(file, rest)),
         }
+    }
+
+    fn text(self) -> Option<&'a str> {
+        None
     }
 
     fn push_text(self, text: &mut String) -> Result<(), AllocError> {

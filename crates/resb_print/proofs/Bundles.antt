@@ -1,14 +1,12 @@
 -- The text that a bundle is printed as is a bundle text of its name, flag and tree.
-use Rattle.std.proofs.Common.{◌≡◌, ◌<◌, ℕ, ◌+◌, Bool, true, false, List, [], ◌∷◌, ◌++◌, length}
+use Rattle.std.proofs.Common.{◌≡◌, ℕ, ◌+◌, Bool, true, false, List, [], ◌∷◌, ◌++◌, length}
 use Rattle.std.proofs.Common.{refl, sym, ◌∙◌, ap, subst, arith, Some, drop, zero, suc}
 use Rattle.std.proofs.lemmas.List.{get_or_past}
 use Rattle.std.specs.Prelude.{slice_index, slice_get, codes, ◌⊎◌}
 use Rattle.std.proofs.Common.{None, inl, inr}
-use Rattle.std.specs.String.{string_bytes}
-use Rattle.std.specs.declared.alloc.Global.{Global}
-use Rattle.std.specs.declared.string.String.{String}
 use Rattle.std.specs.List.Sorted.{IsStrictlySortedBy}
-use Rattle.resb_tree.specs.Tree.{Tree, table, Entries, map_of}
+use Rattle.resb_tree.specs.Tree.{Tree, string, alias, array, table, binary, integer, int_vector}
+use Rattle.resb_tree.specs.Tree.{Entries, map_of}
 use Rattle.resb_tree.specs.Maps.{text_cmp}
 use Rattle.resb_tree.specs.LayingOrder.{entry_keys}
 use Rattle.resb_grammar.specs.Ascii as ascii
@@ -18,18 +16,13 @@ use Rattle.resb_grammar.specs.Items.{a_table, keys_in}
 use Rattle.resb_grammar.specs.GroupTypes.{Stands, no_fallback_type}
 use Rattle.resb_grammar.specs.BundleText.{first_places, Typing, without, with, BundleText}
 use Rattle.resb_print.specs.Printed.{name_on, root_type_on, entries_on, printed_bundle}
-use Rattle.resb_print.specs.Printed.{IsLongBundle}
 use Rattle.resb_print.specs.Held.{HeldIn}
 use Rattle.resb_print.specs.declared.cause.Cause.{Cause}
-use Rattle.resb_print.specs.declared.cause.Cause.TheVariants.{QuoteInName}
 use Rattle.resb_print.specs.declared.error.PrintError.{PrintError}
-use Rattle.resb_print.specs.declared.error.PrintError.TheVariants.{NotPrintable, OutOfMemory}
-use Rattle.resb_print.specs.Laws.{HasNoText}
-use Rattle.resb_print.specs.Inner.Jobs.{Appends, ArePrinted, AreLonger, SaysCause}
-use Rattle.resb_print.specs.Quotes.{NoQuote, FreeIn, has_quote, causes_in_else, first_cause}
-use Rattle.resb_print.proofs.Steps.{quote_is_cause, quote_missed}
-use Rattle.resb_print.proofs.Lists.{writes_bytes}
-use Rattle.resb_print.proofs.Free.{none_in_free, no_cause}
+use Rattle.resb_print.specs.declared.error.PrintError.TheVariants.{OutOfMemory}
+use Rattle.resb_print.specs.Laws.{HasNoText, PrintedIsABundle}
+use Rattle.resb_print.specs.Quotes.{NoQuote, FreeIn, first_cause, SaysCause}
+use Rattle.resb_print.proofs.Free.{no_quote_from_none, none_in_free, no_cause}
 use Rattle.resb_print.proofs.Places.{From, byte_at, from_behind, from_next, solid_at, no_skip}
 use Rattle.resb_print.proofs.Places.{at_end, from_inside}
 use Rattle.resb_print.proofs.Places.{run_at, range_is, white_on, solid_byte}
@@ -167,63 +160,23 @@ printed_is_bundle name fallback es free ascend held frees =
     bundle_read (printed_bundle name fallback es) name fallback es free ascend held frees
     (record { is = refl })
 
--- the last bytes of a bundle's text
-abbrev pub bundle_end : List ℕ
-bundle_end = ascii.line_feed ∷ ascii.right_brace ∷ ascii.line_feed ∷ []
+-- so for what is printed of a bundle without a cause
+pub printed_without_cause : PrintedIsABundle
+printed_without_cause = λ name fallback es held none.
+    let a = no_quote_from_none _ name _ none in
+    let b = none_in_free es None a.1 in
+    printed_is_bundle name fallback es a.0 held.0 held.1 b.0
 
--- what is written before the entries, with them and the end behind it, is the text of the bundle
-pub bundle_begun : (s0 s1 s2 s3 : String Global) (name own : List ℕ) (f : Bool) (es : Entries)
-    → string_bytes s0 ≡ [] → Appends s0 s1 (name_on name) → Appends s1 s2 (root_type_on f)
-    → string_bytes s3 ≡ string_bytes s2 ++ codes "{" → name ≡ own
-    → string_bytes s3 ++ entries_on 1 es bundle_end ≡ printed_bundle own f es
-bundle_begun s0 s1 s2 s3 name own f es e0 w1 w2 e3 e =
-    let entries = entries_on 1 es bundle_end in
-    writes_bytes s2 s3 (codes "{") e3 entries ∙ w2 (ascii.left_brace ∷ entries)
-    ∙ w1 (root_type_on f (ascii.left_brace ∷ entries))
-    ∙ ap (λ l. l ++ name_on name (root_type_on f (ascii.left_brace ∷ entries))) e0
-    ∙ ap (λ n. name_on n (root_type_on f (ascii.left_brace ∷ entries))) e
-
--- what is printed in turn is the text of the bundle
-pub bundle_printed : (s3 s4 s5 : String Global) (own : List ℕ) (f : Bool) (es : Entries)
-    → string_bytes s3 ++ entries_on 1 es bundle_end ≡ printed_bundle own f es
-    → ArePrinted s3 s4 es → string_bytes s5 ≡ string_bytes s4 ++ bundle_end
-    → string_bytes s5 ≡ printed_bundle own f es
-bundle_printed s3 s4 s5 own f es begun w4 e5 = e5 ∙ w4.text bundle_end ∙ begun
-
--- where the entries have no room, the bundle has none
-pub entries_are_long : (limit : ℕ) (s3 : String Global) (own : List ℕ) (f : Bool) (es : Entries)
-    (t : Tree)
-    → string_bytes s3 ++ entries_on 1 es bundle_end ≡ printed_bundle own f es
-    → AreLonger limit s3 es → t ≡ table es → IsLongBundle limit own f t
-entries_are_long limit s3 own f es t begun long r = record {
-  entries = es;
-  root = r;
-  longer = omega (arith, long bundle_end, ap length begun);
-}
-
--- nor has it where its whole text is too long
-pub text_is_long : (limit : ℕ) (s5 : String Global) (own : List ℕ) (f : Bool) (es : Entries)
-    (t : Tree)
-    → string_bytes s5 ≡ printed_bundle own f es → limit < length (string_bytes s5) → t ≡ table es
-    → IsLongBundle limit own f t
-text_is_long limit s5 own f es t is long r = record {
-  entries = es;
-  root = r;
-  longer = omega (arith, ap length is);
-}
-
--- and that is a bundle text
-pub printed_is_whole : (text own : List ℕ) (f : Bool) (es : Entries) (t : Tree)
-    (s3 s4 : String Global)
-    → text ≡ printed_bundle own f es → ArePrinted s3 s4 es → NoQuote own → t ≡ table es
-    → (keys : List (List ℕ)) × BundleText text own f t keys
-printed_is_whole text own f es t s3 s4 same w free r =
-    let (keys, b) = printed_is_bundle own f es free w.ascend w.held
-    (none_in_free es None w.no_cause).0 in (
-      keys,
-      subst (λ (u : Tree). BundleText text own f u keys) (sym r)
-          (subst (λ w. BundleText w own f (table es) keys) (sym same) b),
-    )
+-- a bundle without a cause has a table for its root
+pub root_without_cause : (name : List ℕ) (t : Tree) → first_cause name t ≡ None
+    → (es : Entries) × (t ≡ table es)
+root_without_cause name (string s) e = absurd (cc)
+root_without_cause name (alias s) e = absurd (cc)
+root_without_cause name (array ts) e = absurd (cc)
+root_without_cause name (table es) e = (es, refl)
+root_without_cause name (binary bs) e = absurd (cc)
+root_without_cause name (integer n) e = absurd (cc)
+root_without_cause name (int_vector ns) e = absurd (cc)
 
 -- a cause is in the way of each text
 pub no_text : (name : List ℕ) (f : Bool) (t : Tree) (e : PrintError)
@@ -234,15 +187,3 @@ no_text name f t e (inr (x, h, found)) =
   where
     none_some : (x : Cause) → None ≡ Some x → ⊥
     none_some x e = cc
-
--- a cause in the entries is one of the bundle
-pub root_has_a_cause : (name : List ℕ) (es : Entries) (e : PrintError) → NoQuote name
-    → SaysCause e (causes_in_else es None) → SaysCause e (first_cause name (table es))
-root_has_a_cause name es e free (inl h) = inl h
-root_has_a_cause name es e free (inr (x, h, found)) =
-    inr (x, h, quote_missed QuoteInName name (causes_in_else es None) free ∙ found)
-
-pub name_refused : (name : List ℕ) (es : Entries) → has_quote name ≡ true
-    → SaysCause (NotPrintable QuoteInName) (first_cause name (table es))
-name_refused name es h =
-    inr (QuoteInName, refl, quote_is_cause QuoteInName name (causes_in_else es None) h)

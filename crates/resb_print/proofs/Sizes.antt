@@ -152,6 +152,17 @@ mutual
         entries_length n es rest h held.1,
       )
 
+-- a name and a string are no shorter as they are printed
+pub name_grows : (s rest : List ℕ) → length s + length rest ≤ length (name_on s rest)
+name_grows s rest = by (is_bare s)
+  where
+    by : (b : Bool) → length s + length rest ≤ length (cond b (s ++ rest) (quoted_on s rest))
+    by true = omega (arith, length-append s rest)
+    by false = omega (arith, quoted_length s rest)
+
+pub quoted_grows : (s rest : List ℕ) → length s ≤ length (quoted_on s rest)
+quoted_grows s rest = omega (arith, quoted_length s rest)
+
 -- the type of a root takes 18 bytes at most
 pub root_type_length : (f : Bool) (rest : List ℕ) → length (root_type_on f rest) ≤ 18 + length rest
 root_type_length true rest = omega arith

@@ -1,13 +1,14 @@
 -- Where the first cause stands that keeps a bundle from having a text: the keys and numbers that
--- lead there from the root. Which keys and strings are a cause, and whether aliases are, differs by
--- the form of the text.
-use Rattle.std.specs.Prelude.{ℕ, suc, Bool, true, List, [], ◌∷◌, ◌++◌, Option, Some, None}
+-- lead there from the root. What is a cause, and which, differs by the form of the text.
+use Rattle.std.specs.Prelude.{ℕ, suc, Bool, true, false, List, [], ◌∷◌, ◌++◌, Option, Some, None}
 use Rattle.std.specs.Prelude.{if◌then◌else◌, map, option_map}
 use Rattle.std.specs.declared.alloc.Global.{Global}
 use Rattle.std.specs.declared.vec.Vec.{Vec}
 use Rattle.resb_tree.specs.Tree.{Tree, string, alias, array, table, binary, integer, int_vector}
 use Rattle.resb_tree.specs.Tree.{Trees, no_trees, more_trees, Entries, no_entries, entry}
 use Rattle.resb_print.specs.Quotes.{has_quote}
+use Rattle.resb_print.specs.declared.cause.Cause.{Cause}
+use Rattle.resb_print.specs.declared.cause.Cause.TheVariants as cause
 use Rattle.resb_print.specs.declared.path.PathStep.{PathStep}
 use Rattle.resb_print.specs.declared.path.PathStep.TheVariants as step
 
@@ -29,52 +30,82 @@ steps_in ps = map step_of ps
 abbrev pub path_found : Option (Vec PathStep Global) → Option (List Step)
 path_found found = option_map (λ v. steps_in v.items) found
 
--- which keys, by themselves or for the tree that stands there, and which strings are a cause, and
--- whether each alias is
-pub record CauseTests : Type 0 where
-  pub of_entry : List ℕ → Tree → Bool
-  pub of_string : List ℕ → Bool
-  pub of_alias : Bool
+-- what keeps a bundle from having a text of a form, with causes C: which cause a root is that is no
+-- table, and which, if any, a name, a key by itself or where a table stands under it, a string,
+-- and each alias
+pub record Tests (C : Type 0) : Type 0 where
+  pub of_root : C
+  pub of_name : List ℕ → Option C
+  pub of_entry : List ℕ → Bool → Option C
+  pub of_string : List ℕ → Option C
+  pub of_alias : Option C
 
--- a key that holds a quote, a string that does, and each alias
-abbrev pub quote_tests : CauseTests
-quote_tests = record { of_entry = λ k t. has_quote k; of_string = has_quote; of_alias = true }
+-- this cause where the text holds a quote
+abbrev pub quote_cause : Cause → List ℕ → Option Cause
+quote_cause x s = if has_quote s then Some x else None
 
--- this path where the test says so, and else what comes later
-abbrev pub path_if : Bool → List Step → Option (List Step) → Option (List Step)
-path_if b path later = if b then Some path else later
+-- a name that holds a quote, a key that does, a string that does, and each alias
+abbrev pub plain_tests : Tests Cause
+plain_tests = record {
+  of_root = cause.RootIsNoTable;
+  of_name = quote_cause cause.QuoteInName;
+  of_entry = λ k is_table. quote_cause cause.QuoteInKey k;
+  of_string = quote_cause cause.QuoteInString;
+  of_alias = Some cause.Alias;
+}
 
--- the path to the first cause in the order of the text, and else what comes later
+-- whether the tree is a table
+abbrev pub is_table : Tree → Bool
+is_table (string s) = false
+is_table (alias s) = false
+is_table (array ts) = false
+is_table (table es) = true
+is_table (binary bs) = false
+is_table (integer n) = false
+is_table (int_vector ns) = false
+
+-- a cause at this path where there is one, and else what comes later
+abbrev pub found_else : {C : Type 0} → Option C → List Step → Option (List Step × C)
+    → Option (List Step × C)
+found_else None path later = later
+found_else (Some x) path later = Some (path, x)
+
+-- the first cause in the order of the text, with the path to it, and else what comes later
 abbrev mutual
-  -- the path to the first cause in a tree that stands at a path, a string or an alias that is a
-  -- cause or what is found inside, and else what comes later
-  pub path_else : CauseTests → List Step → Tree → Option (List Step) → Option (List Step)
-  path_else c path (string s) later = path_if (c.of_string s) path later
-  path_else c path (alias s) later = path_if c.of_alias path later
-  path_else c path (array ts) later = member_path_else c path 0 ts later
-  path_else c path (table es) later = entry_path_else c path es later
-  path_else c path (binary bs) later = later
-  path_else c path (integer n) later = later
-  path_else c path (int_vector ns) later = later
+  -- the first cause in a tree that stands at a path, a string or an alias that is a cause or what
+  -- is found inside, and else what comes later
+  pub found_at : {C : Type 0} → Tests C → List Step → Tree → Option (List Step × C)
+      → Option (List Step × C)
+  found_at c path (string s) later = found_else (c.of_string s) path later
+  found_at c path (alias s) later = found_else c.of_alias path later
+  found_at c path (array ts) later = found_among c path 0 ts later
+  found_at c path (table es) later = found_in c path es later
+  found_at c path (binary bs) later = later
+  found_at c path (integer n) later = later
+  found_at c path (int_vector ns) later = later
 
   -- the same in the members of an array that stands at a path, the first of which has this number
-  pub member_path_else : CauseTests → List Step → ℕ → Trees → Option (List Step)
-      → Option (List Step)
-  member_path_else c path n no_trees later = later
-  member_path_else c path n (more_trees t ts) later =
-      path_else c (path ++ by_number n ∷ []) t (member_path_else c path (suc n) ts later)
+  pub found_among : {C : Type 0} → Tests C → List Step → ℕ → Trees → Option (List Step × C)
+      → Option (List Step × C)
+  found_among c path n no_trees later = later
+  found_among c path n (more_trees t ts) later =
+      found_at c (path ++ by_number n ∷ []) t (found_among c path (suc n) ts later)
 
   -- the same in the entries of a table that stands at a path, each key before its tree
-  pub entry_path_else : CauseTests → List Step → Entries → Option (List Step)
-      → Option (List Step)
-  entry_path_else c path no_entries later = later
-  entry_path_else c path (entry k t es) later =
-      path_if (c.of_entry k t) (path ++ by_key k ∷ [])
-      (path_else c (path ++ by_key k ∷ []) t (entry_path_else c path es later))
+  pub found_in : {C : Type 0} → Tests C → List Step → Entries → Option (List Step × C)
+      → Option (List Step × C)
+  found_in c path no_entries later = later
+  found_in c path (entry k t es) later =
+      found_else (c.of_entry k (is_table t)) (path ++ by_key k ∷ [])
+      (found_at c (path ++ by_key k ∷ []) t (found_in c path es later))
+
+-- the first cause of a bundle of this name and root, if it has one, with the path to it: no step
+-- where the root or the name is the cause
+abbrev pub first_found : {C : Type 0} → Tests C → List ℕ → Tree → Option (List Step × C)
+first_found c name (table es) = found_else (c.of_name name) [] (found_in c [] es None)
+first_found c name _ = Some ([], c.of_root)
 
 -- the path to the first cause of a bundle of this name and root, if it has one: no step where the
 -- root or the name is the cause
 abbrev pub cause_path : List ℕ → Tree → Option (List Step)
-cause_path name (table es) =
-    path_if (has_quote name) [] (entry_path_else quote_tests [] es None)
-cause_path name _ = Some []
+cause_path name t = option_map (λ found. found.0) (first_found plain_tests name t)

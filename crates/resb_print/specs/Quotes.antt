@@ -1,11 +1,14 @@
 -- Where a bundle holds a `"`, which no text can give to a string.
-use Rattle.std.specs.Prelude.{◌≡◌, ℕ, Bool, false, ◌||◌, ◌==◌, List, [], ◌∷◌, Option, Some, None}
+use Rattle.std.specs.Prelude.{◌≡◌, ◌⊎◌, ℕ, Bool, false, ◌||◌, ◌==◌, List, [], ◌∷◌, Option, Some}
+use Rattle.std.specs.Prelude.{None}
 use Rattle.std.specs.Prelude.{if◌then◌else◌}
 use Rattle.resb_tree.specs.Tree.{Tree, string, alias, array, table, binary, integer, int_vector}
 use Rattle.resb_tree.specs.Tree.{Trees, no_trees, more_trees, Entries, no_entries, entry}
 use Rattle.resb_grammar.specs.Ascii as ascii
 use Rattle.resb_print.specs.declared.cause.Cause.{Cause}
 use Rattle.resb_print.specs.declared.cause.Cause.TheVariants as cause
+use Rattle.resb_print.specs.declared.error.PrintError.{PrintError}
+use Rattle.resb_print.specs.declared.error.PrintError.TheVariants.{OutOfMemory, NotPrintable}
 
 -- a quote is among the bytes
 abbrev pub has_quote : List ℕ → Bool
@@ -69,3 +72,7 @@ abbrev mutual
 abbrev pub first_cause : List ℕ → Tree → Option Cause
 first_cause name (table es) = quote_else cause.QuoteInName name (causes_in_else es None)
 first_cause name _ = Some cause.RootIsNoTable
+
+-- the answer is want of memory, or the cause that was found
+abbrev pub SaysCause : PrintError → Option Cause → Type 0
+SaysCause e found = (e ≡ OutOfMemory) ⊎ ((x : Cause) × (e ≡ NotPrintable x) × (found ≡ Some x))

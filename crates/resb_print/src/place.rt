@@ -1,5 +1,5 @@
 //! Where a resource stands in a printed text, which says what is written behind it.
-//! Its level is told with its task.
+//! What is written is in `tokens`.
 
 /// Whether a resource stands behind its key or in an array, where a comma follows it.
 #[derive(Clone, Copy)]

@@ -1,12 +1,13 @@
 //! The tokens of a printed text: names, strings, numbers, and the ends of lines.
-//! What a resource is made of stands in `step`.
+//! In which order they make a text is said in `resb_lines`.
 ghost use Rattle.std.specs.Prelude.{◌≡◌, ◌++◌, ◌∷◌, ℕ, List, OnOk, codes, decimal, refl, IsTrue};
 ghost use Rattle.std.specs.String.{string_bytes};
+ghost use Rattle.resb_tree.specs.Tree.{integer};
 ghost use Rattle.resb_print.specs.Quotes as quotes;
 ghost use Rattle.resb_print.specs.Printed as printed;
-ghost use Rattle.resb_print.specs.Printed.{indent_on, line_on, quoted_on, name_on, numbers_on};
+ghost use Rattle.resb_print.specs.Printed.{indent_on, line_on, quoted_on, name_on, tree_on};
 ghost use Rattle.resb_print.specs.Printed.{end_on, root_type_on};
-ghost use Rattle.resb_print.specs.Inner.Jobs.{Appends};
+ghost use Rattle.resb_print.specs.Inner.Appends.{Appends};
 ghost use Rattle.resb_grammar.specs.ByteRuns as bytes;
 
 use crate::place::Place;
@@ -64,6 +65,14 @@ pub fn push_name(out: &mut String, text: &str) -> Result<(), AllocError>
     }
 }
 
+/// The level inside a collection. Indentation ends at 32 levels, so that a text is not longer than
+/// some multiple of what it holds, however deep the tree is.
+pub fn deeper(level: usize) -> usize
+    ensures { result ≡ printed.deeper level }
+{
+    if level < 32 { level + 1 } else { level }
+}
+
 /// Begins a line.
 pub fn push_line(out: &mut String, level: usize) -> Result<(), AllocError>
     ensures { OnOk result (Appends out.old out.new (line_on level)) }
@@ -103,24 +112,12 @@ pub fn push_number(out: &mut String, number: u32) -> Result<(), AllocError>
     write!(out, "{number}")
 }
 
-/// Writes numbers with commas.
-pub fn push_numbers(out: &mut String, numbers: &[u32]) -> Result<(), AllocError>
-    ensures { OnOk result (Appends out.old out.new (numbers_on numbers.now)) }
+/// Writes an integer.
+pub fn push_integer(out: &mut String, place: Place, number: u32) -> Result<(), AllocError>
+    ensures { OnOk result (Appends out.old out.new (tree_on place 0 (integer number))) }
 {
-    let Some((first, more)) = numbers.split_first() else {
-        return Ok(());
-    };
-    push_number(out, *first)?;
-    push_more(out, more)
-}
-
-/// Writes numbers, each behind a comma.
-fn push_more(out: &mut String, numbers: &[u32]) -> Result<(), AllocError>
-    ensures { OnOk result (Appends out.old out.new (printed.more_numbers_on numbers.now)) }
-{
-    for number in numbers {
-        out.push_str(",")?;
-        push_number(out, *number)?;
-    }
-    Ok(())
+    out.push_str(":int{")?;
+    push_number(out, number)?;
+    out.push_str("}")?;
+    push_end(out, place)
 }

@@ -2,6 +2,7 @@
 //! What is shown is said in `shown`.
 ghost use Rattle.std.specs.Slice.Iter.{iter_rest};
 ghost use Rattle.resb_tree.specs.View.{tree_of, items_view, entries_view};
+ghost use Rattle.resb_shown.specs.Shown.{AreWords};
 
 use crate::node::Node;
 use crate::shown::Shown;
@@ -9,6 +10,11 @@ use resb_tree::{Key, Resource};
 use std::alloc::AllocError;
 use std::collections::btree_map;
 use std::slice;
+
+/// Numbers are of 32 bits, as their type says.
+fn are_words(_numbers: &[u32])
+    ensures { AreWords _numbers.now }
+{}
 
 impl<'t, 'a> Shown<'t> for &'t Resource<'a> {
     type Members = slice::Iter<'t, Resource<'a>>;
@@ -31,7 +37,17 @@ impl<'t, 'a> Shown<'t> for &'t Resource<'a> {
             Resource::Table(table) => Node::Table(table.iter()),
             Resource::Binary(bytes) => Node::Binary(bytes.as_slice()),
             Resource::Integer(number) => Node::Integer(*number),
-            Resource::IntVector(_) => Node::IntVector,
+            Resource::IntVector(numbers) => {
+                are_words(numbers);
+                Node::IntVector
+            }
+        }
+    }
+
+    fn text(self) -> Option<&'t str> {
+        match self {
+            Resource::String(own) | Resource::Alias(own) => Some(own.as_str()),
+            _ => None,
         }
     }
 

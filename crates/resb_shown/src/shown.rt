@@ -32,6 +32,11 @@ pub trait Shown<'s>: Copy {
     fn node(self) -> Node<'s, Self::Members, Self::Entries>
         ensures { IsNode members entries result (tree self) };
 
+    /// A string's text or an alias's path, where it stands somewhere as it is; else, and of any
+    /// other resource, none.
+    fn text(self) -> Option<&'s str>
+        ensures { IfSome result (λ text. text.now ≡ text_in (tree self)) };
+
     /// Puts a string's text, or an alias's path, behind what stands; of any other resource nothing.
     fn push_text(self, text: &mut String) -> Result<(), AllocError>
         ensures { OnOk result

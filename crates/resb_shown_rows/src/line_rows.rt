@@ -2,7 +2,6 @@
 //! each is a text of the form.
 use resb_icu_text::IcuReader;
 use resb_lines::{Form, Icu, Plain, ShownBundle, has_text, lines_length_within, write_lines};
-use resb_tree::{Resource, ResourceBundle};
 use std::alloc::Global;
 use std::test::Fail;
 
@@ -17,22 +16,13 @@ const ROWS: [(&str, &str); 3] = [
     ),
 ];
 
-/// A bundle as it is shown.
-fn shown<'t, 'a>(bundle: &'t ResourceBundle<'a>) -> ShownBundle<'t, &'t Resource<'a>> {
-    ShownBundle {
-        name: bundle.name(),
-        root: bundle.root(),
-        is_locale_fallback_enabled: bundle.is_locale_fallback_enabled,
-    }
-}
-
 /// The lines of a text's bundle in a form, and whether it has a text of that form.
 fn lines_of<F: Form>(alloc: Global, form: F, text: &str) -> Result<String, Fail> {
     let (bundle, _) = IcuReader::read(alloc, text)?;
     let mut lines = Vec::new(alloc);
-    write_lines(alloc, &mut lines, form, shown(&bundle))?;
+    write_lines(alloc, &mut lines, form, ShownBundle::of(&bundle))?;
     let lines = str::from_utf8(lines.as_slice())?;
-    let has = has_text(alloc, form, shown(&bundle))?;
+    let has = has_text(alloc, form, ShownBundle::of(&bundle))?;
     Ok(format!(in alloc; "{lines}{has}")?)
 }
 
@@ -52,8 +42,13 @@ fn bundles_have_their_lines(rt: HostRuntime) -> Result<(), Fail> {
 /// less.
 fn has_length<F: Form>(alloc: Global, form: F, text: &str, length: u64) -> Result<bool, Fail> {
     let (bundle, _) = IcuReader::read(alloc, text)?;
-    let within = lines_length_within(alloc, form, shown(&bundle), length)?;
-    let over = lines_length_within(alloc, form, shown(&bundle), length.saturating_sub(1))?;
+    let within = lines_length_within(alloc, form, ShownBundle::of(&bundle), length)?;
+    let over = lines_length_within(
+        alloc,
+        form,
+        ShownBundle::of(&bundle),
+        length.saturating_sub(1),
+    )?;
     Ok(within == Some(length) && over.is_none())
 }
 

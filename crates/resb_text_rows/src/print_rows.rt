@@ -1,7 +1,8 @@
 //! Bundles of names that no file has, which are printed in neither form, and aliases, which ICU's
 //! form alone has. What files are printed as is asked of the program, by `tests/rows.py`.
-use resb_icu_print::{IcuCause, IcuPrintError, print_icu_text};
-use resb_print::{Cause, PathStep, PrintError, cause_path, print_text};
+use resb_icu_print::{IcuCause, IcuPrintError};
+use resb_lines::{cause_path, print_icu_text, print_text};
+use resb_print::{Cause, PathStep, PrintError};
 use resb_tree::{Key, Resource, ResourceBundle, Table};
 use std::alloc::{AllocError, Global};
 use std::borrow::CowStr;

@@ -1,5 +1,5 @@
-use Rattle.resb_lines.proofs.IcuCauses.{icu_causes}
+use Rattle.resb_icu_print.proofs.CausePaths.{first_is_found}
 use Rattle.resb_lines.proofs.laws.icu_causes_are_found.Goals as goal
 
 pub returns : goal.returns
-returns c = icu_causes
+returns c = first_is_found

@@ -1,7 +1,9 @@
-use Rattle.std.proofs.Common.{◌∙◌, ap, sym}
+use Rattle.std.proofs.Common.{rules, ◌∙◌, ap, sym, subst, Bor, List, ℕ}
 use Rattle.resb_tree.specs.Tree.{array}
+use Rattle.resb_format.specs.Bytes.{words_of}
 use Rattle.resb_format.specs.Parts.{parts_in}
 use Rattle.resb_walk.specs.Inner.Members.{member_of, members_of, keyed_members}
+use Rattle.resb_shown.specs.Shown.{AreWords}
 use Rattle.resb_opened.specs.Handles.{tree_at, members_in}
 use Rattle.resb_opened.proofs.AheadLemmas.{table_pairs, table_is, table_is_map}
 use Rattle.resb_opened.proofs.InsideLemmas.{members_ordered, values_ordered, keys_ordered}
@@ -51,3 +53,11 @@ returns-in-Table c =
       table_is p es (tree_at self) holds.1 ascend holds.0,
       table_is_map p es (tree_at self) holds.1 ascend,
     )
+
+pub returns-in-Leaf-Numbers : goal.returns-in-Leaf-Numbers
+returns-in-Leaf-Numbers c = (
+  words_of c.in-Leaf-Numbers.bytes.now,
+  search rules,
+  subst (λ (b : Bor (List ℕ)). AreWords (words_of b.now)) c.in-Leaf-Numbers.bytes-is
+      c.spell_words.ensures,
+)

@@ -1,8 +1,9 @@
 -- Each resource is known by its node; a table's keys ascend, as its map says.
 use Rattle.std.specs.Cow.{cow_str_bytes}
-use Rattle.std.proofs.Common.{rules}
+use Rattle.std.proofs.Common.{rules, subst}
 use Rattle.resb_tree.specs.declared.resource.Resource.{the_lemmas}
 use Rattle.resb_tree.proofs.MapsLemmas.{IsMap-view}
+use Rattle.resb_shown.specs.Shown.{AreWords}
 use Rattle.resb_shown.proofs.resource.RefResourceShown.node.Goals as goal
 
 pub returns-in-String : goal.returns-in-String
@@ -19,4 +20,8 @@ returns-in-Table c = (
 )
 
 pub returns-in-IntVector : goal.returns-in-IntVector
-returns-in-IntVector c = (c.in-IntVector.field-0.items, search (rules, the_lemmas))
+returns-in-IntVector c = (
+  c.in-IntVector.numbers.items,
+  search (rules, the_lemmas),
+  subst AreWords c.deref-in-IntVector.ensures.value c.are_words.ensures,
+)

@@ -35,9 +35,9 @@ struct Target {
 
 /// What is asked of texts, and the pool bundle over which their files are written.
 #[derive(Clone, Copy)]
-struct Work<'w> {
-    wanted: &'w CompileWords<'w>,
-    pool: Option<PoolBundle<'w>>,
+struct Work<'w, 'c, 'p> {
+    wanted: &'w CompileWords<'c>,
+    pool: Option<PoolBundle<'p>>,
 }
 
 /// Compiles each text. One that fails doesn't stop the others; the status says whether one did.
@@ -64,7 +64,7 @@ fn compile_over(rt: &HostRuntime, wanted: &CompileWords<'_>, name: &str) -> Resu
 }
 
 /// The same, where the pool bundle is known.
-fn compile_texts(rt: &HostRuntime, work: Work<'_>) -> u8 {
+fn compile_texts(rt: &HostRuntime, work: Work<'_, '_, '_>) -> u8 {
     // the file of one text is named: that isn't one of a folder's
     let kind = if work.wanted.output.is_some() {
         None
@@ -78,7 +78,7 @@ fn compile_texts(rt: &HostRuntime, work: Work<'_>) -> u8 {
 }
 
 /// The same, where the folders' texts are known.
-fn compile_files(rt: &HostRuntime, work: Work<'_>, texts: &[Named]) -> u8 {
+fn compile_files(rt: &HostRuntime, work: Work<'_, '_, '_>, texts: &[Named]) -> u8 {
     let mut taken = Taken::new(rt);
     for text in texts {
         if let Err(cause) = taken.add_text(rt, text.name.as_str()) {
@@ -89,7 +89,12 @@ fn compile_files(rt: &HostRuntime, work: Work<'_>, texts: &[Named]) -> u8 {
 }
 
 /// The same, where none of the taken files is written over.
-fn compile_each(rt: &HostRuntime, work: Work<'_>, texts: &[Named], taken: &mut Taken) -> u8 {
+fn compile_each(
+    rt: &HostRuntime,
+    work: Work<'_, '_, '_>,
+    texts: &[Named],
+    taken: &mut Taken,
+) -> u8 {
     let mut status = 0;
     let shown = if work.wanted.is_quiet { 0 } else { texts.len() };
     let mut progress = Progress::new(rt, shown);
@@ -105,40 +110,27 @@ fn compile_each(rt: &HostRuntime, work: Work<'_>, texts: &[Named], taken: &mut T
     status
 }
 
-/// Compiles a text, and answers its status, or that of what kept it from being compiled.
+/// Compiles a text, and answers its status, or that of what kept it from being compiled. Where its
+/// bundle names the file, that is known once it is compiled, and else before it is read.
 fn compile_one(
     rt: &HostRuntime,
     name: &str,
-    work: Work<'_>,
+    work: Work<'_, '_, '_>,
     taken: &mut Taken,
 ) -> Result<u8, u8> {
     let wanted = work.wanted;
-    if wanted.is_by_name {
-        return compile_named(rt, name, work, taken);
-    }
-    let target = target_of(rt, name, output_of(rt.alloc(), name, wanted))?;
+    let known = if wanted.is_by_name {
+        None
+    } else {
+        Some(target_of(rt, name, output_of(rt.alloc(), name, wanted))?)
+    };
     let source = source_of(rt, name, wanted.limit)?;
     let text = text_in(rt, name, source.as_slice())?;
     let (file, status) = file_of(rt, name, text, work)?;
-    or_fail(rt, name, taken.take(rt, name, &target.place))?;
-    if !wanted.is_check {
-        target.write(rt, file.as_slice())?;
-    }
-    Ok(status)
-}
-
-/// The same, where the bundle names the file.
-fn compile_named(
-    rt: &HostRuntime,
-    name: &str,
-    work: Work<'_>,
-    taken: &mut Taken,
-) -> Result<u8, u8> {
-    let wanted = work.wanted;
-    let source = source_of(rt, name, wanted.limit)?;
-    let text = text_in(rt, name, source.as_slice())?;
-    let (file, status) = file_of(rt, name, text, work)?;
-    let target = named_target(rt, name, text, wanted)?;
+    let target = match known {
+        Some(target) => target,
+        None => named_target(rt, name, text, wanted)?,
+    };
     or_fail(rt, name, taken.take(rt, name, &target.place))?;
     if !wanted.is_check {
         target.write(rt, file.as_slice())?;
@@ -208,7 +200,7 @@ fn file_of(
     rt: &HostRuntime,
     name: &str,
     text: &str,
-    work: Work<'_>,
+    work: Work<'_, '_, '_>,
 ) -> Result<(Vec<u8>, u8), u8> {
     match compiled(rt.alloc(), text, work) {
         Ok(file) => Ok((file, warned(rt, name, text, work.wanted))),
@@ -248,7 +240,7 @@ fn may_pass(length: usize, limit: Option<u64>) -> bool {
 
 /// The bytes of a text's file, over the pool bundle, or where reading the text keeps within the
 /// limit, if there is one.
-fn compiled(alloc: Global, text: &str, work: Work<'_>) -> Result<Vec<u8>, SourceError> {
+fn compiled(alloc: Global, text: &str, work: Work<'_, '_, '_>) -> Result<Vec<u8>, SourceError> {
     let wanted = work.wanted;
     if let Some(pool) = &work.pool {
         return if wanted.is_icu {

@@ -2,6 +2,7 @@
 //! compiler.
 //! How a text is compiled is in `compile`, and which words are taken in `resb_words`.
 use crate::compile::{compile, source_of, text_in};
+use crate::input::pool_in;
 use crate::place::place_of;
 use crate::save::{Bytes, save, saved};
 use crate::say::{complain, fail, or_fail, refuse};
@@ -15,8 +16,8 @@ use resb_words::{CompileWords, GenrbWords};
 use std::alloc::{AllocError, Global};
 use std::path::{Path, PathBuf};
 
-/// The name by which the words of ICU's compiler are taken.
-pub(crate) const NAME: &str = "genrb";
+/// What is said to fail where no text does.
+const NAME: &str = "genrb";
 
 /// The status for words that ICU's compiler doesn't take: its error for an illegal argument.
 pub(crate) const ILLEGAL_ARGUMENT: u8 = 1;
@@ -27,45 +28,24 @@ const INVALID_FORMAT: u8 = 3;
 /// The status for a file that can't be read or written: its error for the access to a file.
 const FILE_ACCESS: u8 = 4;
 
-/// What a pool bundle's file is called.
-const POOL: &str = "pool.res";
-
 /// Compiles each text to a file that its bundle names, and then writes a pool bundle if that is
 /// asked for. The status is that of ICU's compiler.
 pub(crate) fn genrb(rt: &HostRuntime, wanted: &GenrbWords<'_>) -> u8 {
-    let done = match texts_below(rt.alloc(), wanted) {
-        Ok(texts) => make_all(rt, wanted, texts.as_slice()),
-        Err(_) => Err(fail(rt, NAME, NO_MEMORY)),
-    };
-    match settled(done) {
+    match settled(make_all(rt, wanted)) {
         0 => 0,
         1 => INVALID_FORMAT,
         _ => FILE_ACCESS,
     }
 }
 
-/// The same of texts of these names. The status is the program's own.
-fn make_all(rt: &HostRuntime, wanted: &GenrbWords<'_>, texts: &[PathBuf]) -> Result<u8, u8> {
-    let names = texts.iter().map(|text| text.as_path().as_str());
-    let names = or_fail(rt, NAME, made(names.collect::<Vec<&str>>(rt.alloc())))?;
-    let pool = match wanted.used_pool {
-        Some(folder) => Some(or_fail(rt, folder, pool_in(rt.alloc(), folder))?),
-        None => None,
-    };
-    let pool = match &pool {
-        Some(pool) => Some(pool.as_path().as_str()),
-        None => None,
-    };
-    let status = compile_texts(rt, wanted, pool, names);
+/// The same, with the program's own status.
+fn make_all(rt: &HostRuntime, wanted: &GenrbWords<'_>) -> Result<u8, u8> {
+    let texts = or_fail(rt, NAME, made(texts_below(rt.alloc(), wanted)))?;
+    let status = compile_texts(rt, wanted, texts.as_slice());
     match wanted.written_pool {
-        Some(folder) if status == 0 => write_pool(rt, texts, folder),
+        Some(folder) if status == 0 => write_pool(rt, texts.as_slice(), folder),
         _ => Ok(status),
     }
-}
-
-/// The name of the pool bundle in a folder.
-fn pool_in(alloc: Global, folder: &str) -> Result<PathBuf, &'static str> {
-    made(Path::new(folder).join(alloc, POOL))
 }
 
 /// The names of the texts, with the source folder's before each.
@@ -82,13 +62,12 @@ fn texts_below(alloc: Global, wanted: &GenrbWords<'_>) -> Result<Vec<PathBuf>, A
     Ok(texts)
 }
 
-/// Compiles texts of these names, over the pool bundle of a name if there is one.
-fn compile_texts(
-    rt: &HostRuntime,
-    wanted: &GenrbWords<'_>,
-    pool: Option<&str>,
-    texts: Vec<&str>,
-) -> u8 {
+/// Compiles texts of these names.
+fn compile_texts(rt: &HostRuntime, wanted: &GenrbWords<'_>, texts: &[PathBuf]) -> u8 {
+    let names = texts.iter().map(|text| text.as_path().as_str());
+    let Ok(texts) = names.collect::<Vec<&str>>(rt.alloc()) else {
+        return fail(rt, NAME, NO_MEMORY);
+    };
     compile(
         rt,
         &CompileWords {
@@ -98,7 +77,7 @@ fn compile_texts(
             is_by_name: true,
             is_icu: true,
             limit: None,
-            pool,
+            pool: wanted.used_pool,
             is_check: false,
             is_quiet: wanted.is_quiet,
             is_strict: false,

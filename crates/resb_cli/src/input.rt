@@ -1,14 +1,14 @@
 //! Files by their names, which may be those of items inside a package, and the pool bundles beside
 //! them. How bytes are read is in `streams`; what is said of files is in `show`.
 use crate::packages::{found, package_in};
-use crate::say::{fail, fail_input, refuse_memory};
+use crate::say::{fail, fail_input, or_fail, refuse_memory};
 use crate::shown::Shown;
-use crate::streams::read_input;
+use crate::streams::{made, read_input};
 use crate::unread::Unread;
 use resb_package::Package;
 use resb_pool_bundle::{FileHead, PoolBundle};
 use std::alloc::{AllocError, Global};
-use std::path::Path;
+use std::path::{Path, PathBuf};
 
 /// What a pool bundle's file is called.
 const POOL: &str = "pool.res";
@@ -234,12 +234,21 @@ fn pool_beside<'f>(rt: &HostRuntime, name: &str, limit: Option<u64>) -> Result<B
     pool_file(rt, pool.as_str(), limit)
 }
 
-/// The pool bundle of this name over which files are written.
+/// The pool bundle over which files are written: the one of this name, or that in this folder.
 pub(crate) fn lending_pool(rt: &HostRuntime, name: &str, limit: Option<u64>) -> Result<Input, u8> {
     if name == "-" {
         return Err(fail(rt, "resb", FILE_ALONE));
     }
-    Input::read(rt, name, limit)
+    if !Path::new(name).is_dir(rt) {
+        return Input::read(rt, name, limit);
+    }
+    let path = or_fail(rt, name, pool_in(rt.alloc(), name))?;
+    Input::read(rt, path.as_path().as_str(), limit)
+}
+
+/// The name of the pool bundle in a folder.
+pub(crate) fn pool_in(alloc: Global, folder: &str) -> Result<PathBuf, &'static str> {
+    made(Path::new(folder).join(alloc, POOL))
 }
 
 impl Beside<'_> {

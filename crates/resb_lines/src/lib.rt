@@ -18,4 +18,4 @@ pub use causes::{find_cause, has_text};
 pub use form::{Form, Icu, Plain};
 pub use icu_print::{icu_cause_path, print_icu_text, print_icu_text_within};
 pub use print::{cause_path, print_text, print_text_within};
-pub use write::{ShownBundle, lines_fit, lines_length_within, lines_within, write_lines};
+pub use write::{ShownBundle, lines_length_within, lines_within, write_lines};

@@ -123,21 +123,3 @@ pub fn lines_length_within<'s, F: Form, S: Shown<'s>>(
     )?;
     length_within(alloc, &mut text, limit)
 }
-
-/// Whether the lines of a bundle in a form have no more bytes than a limit. They are made as far as
-/// that shows, a block at a time, and not kept.
-pub fn lines_fit<'s, F: Form, S: Shown<'s>>(
-    alloc: Global,
-    form: F,
-    bundle: ShownBundle<'s, S>,
-    limit: u64,
-) -> Result<bool, AllocError>
-    ensures { let text = lines_of F.spelling bundle.entry.name.now
-        bundle.entry.is_locale_fallback_enabled (S.tree bundle.entry.root) in
-        IfOk result (λ fits. MatchBool fits (length text ≤ limit) (limit < length text)) }
-{
-    match lines_length_within(alloc, form, bundle, limit)? {
-        Some(_) => Ok(true),
-        None => Ok(false),
-    }
-}

@@ -1,7 +1,7 @@
 //! The words that the program knows: its commands, their arguments and their help.
 //! What is read from words that were given is in `request`, and those of ICU's compiler are in
 //! `icu_command`.
-use crate::described::{Argument, Described, FLAG, VALUE, WORD, WORDS, with_command};
+use crate::described::{Argument, Described, FLAG, VALUE, WORD, WORDS, command_of};
 use crate::icu_command::GENRB;
 use clap::Command;
 use std::alloc::{AllocError, Global};
@@ -91,7 +91,7 @@ const COMPILE: Described<'static> = Described {
         Argument {
             id: "POOL",
             option: Some("pool"),
-            help: "Leaves what this pool bundle has out of the files, which are read beside it then",
+            help: "Leaves out of the files what this pool bundle, or the pool.res in this folder, has",
             against: Some("BYTES"),
             ..VALUE
         },
@@ -271,7 +271,7 @@ pub(crate) fn program<'a>(alloc: Global) -> Result<Command<'a>, AllocError> {
         .subcommand_required(true)
         .arg_required_else_help(true);
     for described in &COMMANDS {
-        program = with_command(alloc, program, described)?;
+        program = program.subcommand(command_of(alloc, described)?)?;
     }
     Ok(program)
 }

@@ -83,10 +83,9 @@ pub(crate) const VALUE: Argument<'static> = Argument {
     ..WORD
 };
 
-/// The program with the command that is described.
-pub(crate) fn with_command<'a>(
+/// The command that is described.
+pub(crate) fn command_of<'a>(
     alloc: Global,
-    program: Command<'a>,
     described: &Described<'a>,
 ) -> Result<Command<'a>, AllocError> {
     let mut command = Command::new(alloc, described.name)
@@ -98,7 +97,7 @@ pub(crate) fn with_command<'a>(
     for argument in described.arguments {
         command = with_argument(alloc, command, argument)?;
     }
-    program.subcommand(command)
+    Ok(command)
 }
 
 /// The command with one argument more.

@@ -1,6 +1,11 @@
 //! The words of ICU's own compiler, `genrb`, as a command of the program.
 //! What is read from such words is in `icu_request`.
-use crate::described::{Argument, Described, FLAG, Takes, VALUE, WORDS};
+use crate::described::{Argument, Described, FLAG, Takes, VALUE, WORDS, command_of};
+use clap::Command;
+use std::alloc::{AllocError, Global};
+
+/// The name of ICU's compiler.
+pub(crate) const NAME: &str = "genrb";
 
 /// The words of ICU's compiler that ask for what isn't done, without the dashes.
 pub(crate) const NOT_DONE: [&str; 3] = ["write-java", "write-xliff", "filterDir"];
@@ -25,7 +30,7 @@ const REFUSED: Argument<'static> = Argument {
 
 /// ICU's compiler, by its own words.
 pub(crate) const GENRB: Described<'static> = Described {
-    name: "genrb",
+    name: NAME,
     version: Some("0.2.0"),
     about: "Compiles texts in ICU's own form, by the words of ICU's compiler",
     example: "Example: resb genrb -s curr -d out/curr root.txt de.txt",
@@ -148,3 +153,9 @@ pub(crate) const GENRB: Described<'static> = Described {
         },
     ],
 };
+
+/// The same as the program itself, which is called so.
+pub(crate) fn genrb_itself<'a>(alloc: Global) -> Result<Command<'a>, AllocError> {
+    let example = "Example: genrb -s curr -d out/curr root.txt de.txt";
+    command_of(alloc, &Described { example, ..GENRB })
+}

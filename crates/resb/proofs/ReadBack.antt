@@ -1,7 +1,7 @@
 -- A written file is read back as its tree, and so is a compiled text; a text of a bundle, in either
 -- form, is read back as that bundle; and what isn't read as a tree denotes none.
 use Rattle.std.proofs.Common.{◌⊎◌, ◌≤◌, ◌<◌, ◌≡◌, ℕ, Result, Ok, Err, inl, inr, Bool, true, false}
-use Rattle.std.proofs.Common.{List, refl, sym, ap, ◌∙◌, subst, arith, ◌==◌}
+use Rattle.std.proofs.Common.{List, Some, refl, sym, ap, ◌∙◌, subst, arith, ◌==◌}
 use Rattle.std.specs.Prelude.{◌/◌, ◌%◌, ◌^◌, ◌&&◌, ◌||◌, nat_le, if◌then◌else◌}
 use Rattle.std.specs.Result.{IfErr}
 use Rattle.resb_tree.specs.declared.resource.Resource.{Resource}
@@ -24,6 +24,8 @@ use Rattle.resb_grammar.proofs.NoAlias.{bundle_none}
 use Rattle.resb_icu_grammar.proofs.Groups.{one_icu_text}
 use Rattle.resb.specs.Laws.{WrittenIsRead, CompiledIsRead, BundleTextIsRead, IcuTextIsRead}
 use Rattle.resb.specs.Laws.{WrittenIsReadWithPool, IcuCompiledIsRead}
+use Rattle.resb.specs.Laws.{WrittenOverPoolIsRead, CompiledWithPoolIsRead}
+use Rattle.resb.specs.Laws.{IcuCompiledWithPoolIsRead}
 
 pub written_is_read : WrittenIsRead
 written_is_read bytes t f ks (Ok r) none w h =
@@ -81,6 +83,22 @@ written_is_read_with_pool pool bytes t f ks (Err e) w (inr lacks) =
 pub icu_compiled_is_read : IcuCompiledIsRead
 icu_compiled_is_read pool text bytes c r h =
     written_is_read_with_pool pool bytes c.bundle.tree c.bundle.fallback c.bundle.keys r c.file h
+
+pub written_over_pool_is_read : WrittenOverPoolIsRead
+written_over_pool_is_read pool bytes t f ks (Ok r) w h =
+    (unique (parts_with (Some pool) bytes) h.1.root.0 w.tree.root).0
+written_over_pool_is_read pool bytes t f ks (Err e) w (inl m) = m
+written_over_pool_is_read pool bytes t f ks (Err e) w (inr lacks) =
+    absurd (lacks (tree_count t) (record { head = w.tree.head; root = (t, w.tree.root) })
+    w.within_budget)
+
+pub compiled_with_pool_is_read : CompiledWithPoolIsRead
+compiled_with_pool_is_read pool text bytes c r h =
+    written_over_pool_is_read pool bytes c.bundle.tree c.bundle.fallback c.bundle.keys r c.file h
+
+pub icu_compiled_with_pool_is_read : IcuCompiledWithPoolIsRead
+icu_compiled_with_pool_is_read pool text bytes c r h =
+    written_over_pool_is_read pool bytes c.bundle.tree c.bundle.fallback c.bundle.keys r c.file h
 
 -- where no tree is counted, none is denoted
 pub tree_or_none : (w : Whole)

@@ -3,11 +3,13 @@
 --     ReadsRootWithPool pool bytes r      the same of `from_bytes_with_pool::<Resource>`
 --     WrittenIsRead           a file of a tree is read back as that tree, memory aside
 --     WrittenIsReadWithPool   so it is by the calls that take a pool, aliases too
+--     WrittenOverPoolIsRead   a file over a pool is read back beside it, memory aside
 --     CompiledIsRead          a compiled text is read back as its tree, memory aside
 --     IcuCompiledIsRead       so is a compiled text of ICU's form
+--     CompiledWithPoolIsRead, IcuCompiledWithPoolIsRead   and a text that is compiled over a pool
 --     BundleTextIsRead        a text of a bundle is read back as that bundle, memory aside
 --     IcuTextIsRead           so is a text of ICU's form
-use Rattle.std.specs.Prelude.{◌≡◌, ◌≤◌, ◌⊎◌, ℕ, Bool, false, List, Option, Result, Ok, Err}
+use Rattle.std.specs.Prelude.{◌≡◌, ◌≤◌, ◌⊎◌, ℕ, Bool, false, List, Option, Some, Result, Ok, Err}
 use Rattle.std.specs.declared.vec.Vec.{Vec}
 use Rattle.std.specs.declared.alloc.Global.{Global}
 use Rattle.resb_tree.specs.Aliases.{has_alias}
@@ -34,8 +36,10 @@ use Rattle.resb_pool_bundle.specs.Pool.{Pool}
 use Rattle.resb_read.specs.Roots.{HoldsAt, HoldsAtRoot}
 use Rattle.resb_read.specs.WithPool.{over}
 use Rattle.resb_layout.specs.Written.{Written}
+use Rattle.resb_write.specs.WrittenWith.{WrittenWith}
 use Rattle.resb_compile.specs.Compiling.{IsCompiled}
 use Rattle.resb_compile.specs.CompilingIcu.{IsIcuCompiled}
+use Rattle.resb_compile.specs.CompilingWithPool.{IsCompiledWithPool, IsIcuCompiledWithPool}
 
 -- what reading a file as a tree promises: a tree at the root, paid for, or memory, or no such tree
 abbrev pub ReadsRoot : List ℕ → Result Resource ReadingError → Type 0
@@ -71,6 +75,14 @@ WrittenIsReadWithPool =
     (r : Result Resource ReadingError)
     → Written bytes t fallback ks → ReadsRootWithPool pool bytes r → IsTree t r
 
+-- what was written of any tree over a pool bundle is read back as that tree by the calls that are
+-- given this pool bundle
+abbrev pub WrittenOverPoolIsRead : Type 0
+WrittenOverPoolIsRead =
+    (pool : Pool) (bytes : List ℕ) (t : Tree) (fallback : Bool) (ks : List (List ℕ))
+    (r : Result Resource ReadingError)
+    → WrittenWith pool bytes t fallback ks → ReadsRootWithPool (Some pool) bytes r → IsTree t r
+
 -- whatever reads a compiled file as a tree answers the text's tree, memory aside
 abbrev pub CompiledIsRead : Type 0
 CompiledIsRead =
@@ -83,6 +95,21 @@ abbrev pub IcuCompiledIsRead : Type 0
 IcuCompiledIsRead =
     (pool : Option Pool) (text bytes : List ℕ) (c : IsIcuCompiled text bytes)
     (r : Result Resource ReadingError) → ReadsRootWithPool pool bytes r → IsTree c.bundle.tree r
+
+-- whatever reads a text that was compiled over a pool bundle as a tree, by the calls that are given
+-- this pool bundle, answers the text's tree, memory aside
+abbrev pub CompiledWithPoolIsRead : Type 0
+CompiledWithPoolIsRead =
+    (pool : Pool) (text bytes : List ℕ) (c : IsCompiledWithPool pool text bytes)
+    (r : Result Resource ReadingError) → ReadsRootWithPool (Some pool) bytes r
+    → IsTree c.bundle.tree r
+
+-- so does it of a text of ICU's form
+abbrev pub IcuCompiledWithPoolIsRead : Type 0
+IcuCompiledWithPoolIsRead =
+    (pool : Pool) (text bytes : List ℕ) (c : IsIcuCompiledWithPool pool text bytes)
+    (r : Result Resource ReadingError) → ReadsRootWithPool (Some pool) bytes r
+    → IsTree c.bundle.tree r
 
 -- what reading a text promises: a bundle that the text is, or want of memory, or it is none
 abbrev pub AnswersText : List ℕ → Result (ResourceBundle × Vec Key Global) TextParserError → Type 0

@@ -132,6 +132,7 @@ pub use Rattle.resb_layout.specs.TreeFaults
 pub use Rattle.resb_layout.specs.WrittenHead
 pub use Rattle.resb_layout.specs.Written
 pub use Rattle.resb_write.specs.FaultOf
+pub use Rattle.resb_write.specs.WrittenWith
 pub use Rattle.resb_write.specs.Laws as WriteLaws
 pub use Rattle.resb_pool.specs.Shared as SharedPools
 pub use Rattle.resb_pool_bundle.specs.Checksum

@@ -3,6 +3,8 @@
 //! the headline needs stand beside its calls, in `headline`.
 ghost use Rattle.resb.specs.Laws.{BundleTextIsRead, IcuTextIsRead, CompiledIsRead, WrittenIsRead};
 ghost use Rattle.resb.specs.Laws.{WrittenIsReadWithPool, IcuCompiledIsRead};
+ghost use Rattle.resb.specs.Laws.{WrittenOverPoolIsRead, CompiledWithPoolIsRead};
+ghost use Rattle.resb.specs.Laws.{IcuCompiledWithPoolIsRead};
 
 // Trees and integers.
 
@@ -154,6 +156,10 @@ pub use resb_write::laws::written_in_order;
 pub use resb_write::laws::written_is_denoted;
 // A bundle and a list of keys leave one file.
 pub use resb_write::laws::one_file;
+// A bundle, a list of keys and a pool bundle leave one file.
+pub use resb_write::laws::one_file_with_pool;
+// A file that is written over a pool bundle denotes its tree beside it.
+pub use resb_write::laws::written_with_pool_is_read;
 // A pool bundle that was made is read, and lends just the keys and strings that it is made of.
 pub use resb_pool_maker::laws::made_pool_is_read;
 
@@ -210,4 +216,21 @@ pub fn icu_compiled_is_read()
 /// A compiled text is read back by `from_bytes::<Resource>` as the text's tree, memory aside.
 pub fn compiled_is_read()
     ensures { CompiledIsRead }
+{}
+
+/// What was written over a pool bundle is read back by `from_bytes_with_pool::<Resource>` beside
+/// that pool bundle as its tree, memory aside.
+pub fn written_over_pool_is_read()
+    ensures { WrittenOverPoolIsRead }
+{}
+
+/// A text that was compiled over a pool bundle is read back beside it as the text's tree, memory
+/// aside.
+pub fn compiled_with_pool_is_read()
+    ensures { CompiledWithPoolIsRead }
+{}
+
+/// So is a text of ICU's form.
+pub fn icu_compiled_with_pool_is_read()
+    ensures { IcuCompiledWithPoolIsRead }
 {}

@@ -1,7 +1,7 @@
 //! The tests of the rows that are lines of text: what answers a row of each kind, and one loop,
 //! which is proved once. The rows and what answers them stand in the other modules.
 use crate::answers::{assert_said, parts};
-use crate::{pool_rows, write_rows};
+use crate::{over_pool_rows, pool_rows, write_rows};
 use std::alloc::Global;
 use std::process::Abort;
 use std::test::Fail;
@@ -22,6 +22,8 @@ enum Kind {
     Error,
     Large,
     Deep,
+    OverPool,
+    Compiled,
 }
 
 /// The line of a row of this kind.
@@ -40,6 +42,8 @@ fn answered(alloc: Global, kind: Kind, input: &str) -> Result<String, Fail> {
         Kind::Error => write_rows::line_of_error(alloc, input),
         Kind::Large => write_rows::line_of_large(alloc, input),
         Kind::Deep => write_rows::line_of_deep(alloc, input),
+        Kind::OverPool => over_pool_rows::line_of_pool(alloc, input),
+        Kind::Compiled => over_pool_rows::line_of_compiled(alloc, input),
     }
 }
 
@@ -80,6 +84,12 @@ fn trees_have_their_files(rt: HostRuntime) -> Result<(), Fail> {
     assert_rows(&rt, rt.alloc(), Kind::FarTable, write_rows::FAR_TABLES)?;
     assert_rows(&rt, rt.alloc(), Kind::KeyFault, write_rows::KEY_FAULTS)?;
     assert_rows(&rt, rt.alloc(), Kind::Error, write_rows::ERRORS)
+}
+
+#[test]
+fn trees_over_pools_have_their_files(rt: HostRuntime) -> Result<(), Fail> {
+    assert_rows(&rt, rt.alloc(), Kind::OverPool, over_pool_rows::OVER_POOLS)?;
+    assert_rows(&rt, rt.alloc(), Kind::Compiled, over_pool_rows::COMPILED)
 }
 
 #[test]

@@ -1,0 +1,146 @@
+//! Bundles that are written over a pool bundle, and their files, as the format's rules ask for
+//! them. Each row is an input and its answer, up to a `;`: a row more costs no proof.
+use resb_compile::{compile_icu_with_pool, compile_with_pool};
+use resb_pool_bundle::PoolBundle;
+use resb_text::Reader;
+use resb_tree::Key;
+use resb_write::Serializer;
+use std::alloc::Global;
+use std::test::Fail;
+
+/// The pool bundle of `a{alpha{"one two three"}beta{"x"}}` and
+/// `b{alpha{"one two three"}gamma{"three"}}`, of version 3.0, as ICU's compiler writes it: its
+/// words.
+const POOL_3: [u32; 30] = [
+    0x27da0020, 0x14, 0x20000, 0x42736552, 3, 0x401, 0, 0, 0x20000000, 8, 0xe, 0x16, 0x16, 0, 3,
+    0x16, 0xe31610fa, 0x68706c61, 0x65620061, 0x67006174, 0x616d6d61, 0xaaaaaa00, 0x6f0000,
+    0x65006e, 0x740020, 0x6f0077, 0x740020, 0x720068, 0x650065, 0xaaaa0000,
+];
+
+/// The same of version 2.0, which has the keys alone.
+const POOL_2: [u32; 23] = [
+    0x27da0020, 0x14, 0x20000, 0x42736552, 2, 0x401, 0, 0, 0x20000000, 8, 0xe, 0xf, 0xf, 0, 3, 0xf,
+    0x1baba403, 0x68706c61, 0x65620061, 0x67006174, 0x616d6d61, 0xaaaaaa00, 0xaaaa0000,
+];
+
+/// The version of a pool, a text and keys in the order of a list; then the version of the file over
+/// that pool, and its words behind the header.
+pub(crate) const OVER_POOLS: &str = r#"3 a{alpha{"one two three"}beta{"x"}} | alpha beta =>
+    3:50000003,208,9,d,d,2,20004,d,e31610fa,780000,20000,60000,30001,;
+3 a:table(nofallback){alpha{"one two three"}beta{"x"}} | beta alpha =>
+    3:50000003,208,9,d,d,2,20005,d,e31610fa,780000,20000,60000,30001,;
+3 b{alpha{"one two three"}gamma{"three"}} | alpha gamma =>
+    3:50000001,a08,9,c,c,2,a0004,c,e31610fa,20000,b0000,90001,;
+3 c{alpha{"two three"}delta{"x","","three"}} | alpha delta =>
+    3:2000000f,a08,b,13,13,2,a0004,f,e31610fa,746c6564,aaaa0061,780000,30000,b,aaaa0009,
+    2c0002,aaaa0024,60000005,90000003,;
+3 e{delta{"two three"}gamma{"zwei"}eta{alpha{""}d{"o three"}}} | gamma delta eta alpha d =>
+    3:20000012,808,c,17,17,3,80004,12,e31610fa,746c6564,74650061,640061,7a0000,650077,69,300002,
+    2e,aaaa0007,240003,3b002a,60000005,50000006,60000009,;
+3 f{z{"x"}alpha{"three"}y:intvector{1,2}b:bin{616263}n:int{5}} | y alpha z n b =>
+    3:20000014,a08,b,1c,1c,5,a0004,d,e31610fa,7a0079,62006e,780000,aaaa0000,aaaaaaaa,aaaaaaaa,3,
+    aa636261,2,1,2,2c0005,28002a,260024,60000009,1000000f,70000005,e0000011,6000000b,;
+3 g{} | alpha => 2:20000000,8,9,a,a,0,4,a,e31610fa,aaaa0000,;
+2 a{alpha{"one two three"}beta{"x"}} | alpha beta =>
+    2:50000011,8,9,14,14,2,4,14,1baba403,780000,6f0000,65006e,740020,6f0077,740020,720068,
+    650065,20000,60000,10003,;
+2 c{alpha{"two three"}delta{"x","","three"}} | alpha delta =>
+    2:20000014,8,b,18,18,2,4,14,1baba403,746c6564,aaaa0061,780000,740000,6f0077,740020,720068,
+    650065,30000,1,aaaa0007,2c0002,aaaa0024,60000003,9000000d,;
+3 a{alpha{"one two three"}zeta{"x"}} | alpha beta =>
+    refused: Unexpected error: key not present in position map;
+"#;
+
+/// A form, the version of a pool and a text of that form, whose keys stand as they come first; then
+/// its file.
+pub(crate) const COMPILED: &str = r#"plain 3 c{alpha{"two three"}delta{"x","","three"}} =>
+    3:2000000f,a08,b,13,13,2,a0004,f,e31610fa,746c6564,aaaa0061,780000,30000,b,aaaa0009,
+    2c0002,aaaa0024,60000005,90000003,;
+icu 3 c{alpha{"two three"}delta:array{"x","","three"}} =>
+    3:2000000f,a08,b,13,13,2,a0004,f,e31610fa,746c6564,aaaa0061,780000,30000,b,aaaa0009,
+    2c0002,aaaa0024,60000005,90000003,;
+icu 3 d{alpha:alias{"/LOCALE/beta"}beta:int{5}} =>
+    2:20000012,8,9,16,16,2,4,a,e31610fa,aaaa0000,c,4c002f,43004f,4c0041,2f0045,650062,610074,
+    aaaa0000,2,aaaa0006,3000000a,70000005,;
+"#;
+
+/// Words as bytes.
+fn bytes_of(alloc: Global, words: &[u32]) -> Result<Vec<u8>, Fail> {
+    let mut bytes = Vec::new(alloc);
+    for word in words {
+        bytes.extend_from_slice(&word.to_le_bytes())?;
+    }
+    Ok(bytes)
+}
+
+/// The version of a file, and its words behind the header.
+fn words_of(alloc: Global, file: &[u8]) -> Result<String, Fail> {
+    let version = file.get(16).copied().unwrap_or(0);
+    let mut line = format!(in alloc; "{version}:")?;
+    let (_, body) = file.split_at_checked(32).ok_or("short")?;
+    for at in 0..body.len() / 4 {
+        let (_, rest) = body.split_at(4 * at);
+        let (bytes, _) = rest.split_at(4);
+        let bytes: [u8; 4] = bytes.try_into()?;
+        let word = u32::from_le_bytes(bytes);
+        line.push_str(format!(in alloc; "{word:x},")?.as_str())?;
+    }
+    Ok(line)
+}
+
+/// The file of a text with these keys over a pool.
+fn line_over(alloc: Global, pool: &PoolBundle<'_>, text: &str, list: &str) -> Result<String, Fail> {
+    let mut keys = Vec::new(alloc);
+    for word in list.split(' ') {
+        keys.push(Key::from(word))?;
+    }
+    let (bundle, _) = Reader::read(alloc, text)?;
+    match Serializer::to_bytes_with_pool(alloc, &bundle, &keys, pool) {
+        Ok(written) => words_of(alloc, &written),
+        Err(error) => Ok(format!(in alloc; "refused: {error}")?),
+    }
+}
+
+/// The bytes of the pool bundle of a version.
+fn pool_named(alloc: Global, version: &str) -> Result<Vec<u8>, Fail> {
+    match version {
+        "2" => bytes_of(alloc, &POOL_2),
+        _ => bytes_of(alloc, &POOL_3),
+    }
+}
+
+/// The line of a pool, a text and a list of keys.
+pub(crate) fn line_of_pool(alloc: Global, input: &str) -> Result<String, Fail> {
+    let (version, input) = input.split_once(' ').ok_or("a row without a pool")?;
+    let (text, list) = input.split_once(" | ").ok_or("a row without keys")?;
+    let file = pool_named(alloc, version)?;
+    line_over(alloc, &PoolBundle::read(&file)?, text, list)
+}
+
+/// The line of the file that a text has over a pool.
+fn line_compiled(alloc: Global, pool: &PoolBundle<'_>, text: &str) -> Result<String, Fail> {
+    match compile_with_pool(alloc, text, pool) {
+        Ok(written) => words_of(alloc, &written),
+        Err(error) => Ok(format!(in alloc; "refused: {error}")?),
+    }
+}
+
+/// The line of the file that a text of ICU's form has over a pool.
+fn line_compiled_icu(alloc: Global, pool: &PoolBundle<'_>, text: &str) -> Result<String, Fail> {
+    match compile_icu_with_pool(alloc, text, pool) {
+        Ok(written) => words_of(alloc, &written),
+        Err(error) => Ok(format!(in alloc; "refused: {error}")?),
+    }
+}
+
+/// The line of a form, a pool and a text.
+pub(crate) fn line_of_compiled(alloc: Global, input: &str) -> Result<String, Fail> {
+    let (form, input) = input.split_once(' ').ok_or("a row without a form")?;
+    let (version, text) = input.split_once(' ').ok_or("a row without a pool")?;
+    let file = pool_named(alloc, version)?;
+    let pool = PoolBundle::read(&file)?;
+    match form {
+        "icu" => line_compiled_icu(alloc, &pool, text),
+        _ => line_compiled(alloc, &pool, text),
+    }
+}

@@ -229,7 +229,8 @@ module _ (pool : Pool) (t : Tree) (ks : List (List ℕ)) (b : BlocksWith pool t 
               length-padded (key_bytes js),
             ),
             ap (λ l. key_at l (36 + n)) here
-                ∙ written_key_read 36 front (fill (to_word (length (key_bytes js)))) js front_long k n e
+                ∙ written_key_read 36 front (fill (to_word (length (key_bytes js)))) js front_long k
+                n e
                 (All-contains IsUtf8 js k utf8 (place_contained k js n e))
                 (no_nul (keys_of t) (used (keys_of t) ks) faultless k
                 (own_used b.place (keys_of t) ks faultless k n e)),

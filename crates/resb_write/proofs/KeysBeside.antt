@@ -1,6 +1,7 @@
 -- Where keys stand in a file over a pool: in the pool, or among the file's own.
 use Rattle.std.proofs.Common.{◌≡◌, ℕ, ◌+◌, ◌-◌, ◌^◌, ◌<◌, ◌≤◌, min, List, [], ◌∷◌, ◌++◌}
-use Rattle.std.proofs.Common.{length, filter, map, Option, Some, None, option_map, Bool, true, false}
+use Rattle.std.proofs.Common.{length, filter, map, Option, Some, None, option_map, Bool, true}
+use Rattle.std.proofs.Common.{false}
 use Rattle.std.proofs.Common.{cond, refl, sym, ◌∙◌, ap, subst, length-append, arith}
 use Rattle.std.specs.List.{All, Contains}
 use Rattle.std.specs.Option.{is_none, option_or}

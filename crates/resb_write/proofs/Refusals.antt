@@ -1,6 +1,6 @@
 -- Why a tree is refused, by the step that found it.
 use Rattle.std.proofs.Common.{◌≡◌, ℕ, ◌+◌, ◌^◌, ◌<◌, List, Some, None, ◌⊎◌, inl, inr, sym, ◌∙◌, ap}
-use Rattle.std.proofs.Common.{length, Option}
+use Rattle.std.proofs.Common.{length, Option, option_map}
 use Rattle.std.proofs.Common.{subst, arith}
 use Rattle.std.specs.List.{flat_map}
 use Rattle.resb_tree.specs.Tree.{Tree}
@@ -22,7 +22,8 @@ use Rattle.resb_write.specs.Inner.Sizes.{too_large as too_large_sizes}
 use Rattle.resb_write.proofs.Room.{small_texts_fit, texts_within, small_sizes, pool_room}
 use Rattle.resb_write.proofs.Room.{units_room}
 use Rattle.resb_write.proofs.Blocks.{laying_order_long}
-use Rattle.resb_pool_bundle.specs.Pool.{Pool}
+use Rattle.resb_pool_bundle.specs.Pool.{Pool, pool_in}
+use Rattle.resb_pool_bundle.specs.declared.pool_bundle.PoolBundle.{PoolBundle}
 use Rattle.resb_lent.specs.PlanWithPool.{lacking, NotPlannedWith, own_fault}
 use Rattle.resb_lent.specs.PlanWithPool.{no_memory as no_memory_beside, too_far as too_far_beside}
 use Rattle.resb_lent.proofs.PlanRoom.{lacking_sum, limit_within, own_within}
@@ -115,6 +116,10 @@ module _ (t : Tree) (ks : List (List ℕ)) (pool : Pool)
   unplanned S f is u =
       subst (RefusesWritingWith pool t ks) (sym u.answered) (not_planned u.error
       (subst (λ T. NotPlannedWith pool.block T u.error) is u.refused))
+
+-- the pool that is given, if one is
+abbrev pub over : Option PoolBundle → Option Pool
+over o = option_map pool_in o
 
 -- want of memory is answered over each pool, and over none
 pub no_memory_over : (o : Option Pool) (t : Tree) (ks : List (List ℕ))

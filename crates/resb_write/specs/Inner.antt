@@ -1,6 +1,6 @@
 -- Words of private functions: what a resource is, what is gathered, where keys stand while
--- they are placed, also beside a pool, laying resources one by one over a stack of words and the room for it, how many
--- units they take, and what a file is put together from.
+-- they are placed, also beside a pool, laying resources one by one over a stack of words and the
+-- room for it, how many units they take, and what a file is put together from.
 pub mod Lending
 pub mod Nodes
 pub mod Gathered

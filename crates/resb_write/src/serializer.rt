@@ -139,8 +139,8 @@ fn write_bundle(
 ) -> Result<Vec<u8>, BinarySerializerError>
     ensures ok { IfOk result (λ v. IsFileOver (option_map pool_in pool.entry) v.items
         (root_of bundle.now) bundle.now.is_locale_fallback_enabled list.now) }
-    ensures err { IfErr result (λ e. RefusesOver (option_map pool_in pool.entry) (root_of bundle.now)
-        list.now (fault_of e)) }
+    ensures err { IfErr result (λ e. RefusesOver (option_map pool_in pool.entry)
+        (root_of bundle.now) list.now (fault_of e)) }
 {
     let order = in_laying_order(alloc, bundle.root())?;
     let keys = table_keys(alloc, &order)?;

@@ -1,12 +1,12 @@
--- Where keys stand in a file over a pool, while they are placed; what is refused where strings aren't
--- planned beside it; and the file's head.
+-- Where keys stand in a file over a pool, while they are placed; what is refused where strings
+-- aren't planned beside it; the file's head; and a file over a pool or over none.
 --     told_beside place own   the position of a key that stands there in the pool, or else there
 --                             among the file's own, as if these began at byte 32
 --     IsKeyBlockBeside place us ks js ps   of used keys us and a list ks: those that the pool
 --                             lacks, and where the used ones stand
 --     IsUnplanned block S f   the fault f may be answered where the strings S have no plan
---     IsFileOver o bytes t f ks, RefusesOver o t ks e     a file over the pool o or over none, and why
---                             there is none
+--     IsFileOver o bytes t f ks, RefusesOver o t ks e     a file over the pool o or over none, and
+--                             why there is none
 --     head_with c l n         the head of a file of these parts, to which so much is lent by a
 --                             pool of the checksum n
 use Rattle.std.specs.Prelude.{◌≡◌, ℕ, ◌+◌, ◌-◌, ◌/◌, ◌<◌, ◌≤◌, ◌^◌, min, List, length, map, filter}

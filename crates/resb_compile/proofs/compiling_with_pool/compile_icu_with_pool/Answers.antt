@@ -18,7 +18,8 @@ returns-clause-ok c = record {
   file =
       let b = c.in_ok-bundle.bundle in
       let file = c.in_ok-file.file.items in
-      subst (λ ks. WrittenWith (pool_in c.args.pool.now) file (draft_tree b.root) b.is_locale_fallback_enabled ks)
+      let pool = pool_in c.args.pool.now in
+      subst (λ ks. WrittenWith pool file (draft_tree b.root) b.is_locale_fallback_enabled ks)
       c.as_slice.ensures.value c.in_ok-file.ensures.ok;
 }
 

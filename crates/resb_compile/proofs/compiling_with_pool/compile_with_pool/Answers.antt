@@ -18,7 +18,8 @@ returns-clause-ok c = record {
   file =
       let b = c.in_ok-bundle.bundle in
       let file = c.in_ok-file.file.items in
-      subst (λ ks. WrittenWith (pool_in c.args.pool.now) file (draft_tree b.root) b.is_locale_fallback_enabled ks)
+      let pool = pool_in c.args.pool.now in
+      subst (λ ks. WrittenWith pool file (draft_tree b.root) b.is_locale_fallback_enabled ks)
       c.as_slice.ensures.value c.in_ok-file.ensures.ok;
 }
 
@@ -34,5 +35,6 @@ returns-in_err-file-clause-err c =
     subst (λ ks. RefusesWritingWith pool t ks (fault_of e)) c.as_slice.ensures.value
     c.in_err-file.ensures.err in
     let r = c.from_residual-in_err-file in
-    writing_refused_with pool c.args.text.now bundle.name.now bundle.is_locale_fallback_enabled t keys e b h
+    writing_refused_with pool c.args.text.now bundle.name.now bundle.is_locale_fallback_enabled t
+    keys e b h
     r.result r.ensures.1

@@ -1,5 +1,5 @@
 -- The nodes of a bundle's resources stand for the trees of its root.
-use Rattle.std.proofs.Common.{ap, sym, subst, Option, option_map}
+use Rattle.std.proofs.Common.{ap, sym, subst}
 use Rattle.std.specs.List.{flat_map}
 use Rattle.std.proofs.lemmas.Result.{err_from_is_err_and, IfOk-weaker, IfErr-weaker}
 use Rattle.resb_tree.specs.View.{tree_of}
@@ -7,14 +7,9 @@ use Rattle.resb_tree.specs.LayingOrder.{own_keys}
 use Rattle.resb_write.specs.FaultOf.{fault_of}
 use Rattle.resb_write.specs.Inner.Nodes.{AreNodes}
 use Rattle.resb_write.specs.Inner.Numbered.{NumbersKeys}
-use Rattle.resb_pool_bundle.specs.Pool.{Pool, pool_in}
-use Rattle.resb_pool_bundle.specs.declared.pool_bundle.PoolBundle.{PoolBundle}
 use Rattle.resb_write.specs.Inner.Beside.{IsFileOver, RefusesOver}
-use Rattle.resb_write.proofs.Refusals.{no_memory_over}
+use Rattle.resb_write.proofs.Refusals.{no_memory_over, over}
 use Rattle.resb_write.proofs.serializer.write_bundle.Goals as goal
-
-abbrev over : Option PoolBundle → Option Pool
-over o = option_map pool_in o
 
 pub returns-in_err-order-clause-err : goal.returns-in_err-order-clause-err
 returns-in_err-order-clause-err c =

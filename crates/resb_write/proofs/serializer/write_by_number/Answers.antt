@@ -1,6 +1,5 @@
 -- The pieces of a draft, by their numbers, stand for the trees of its tree.
 use Rattle.std.proofs.Common.{◌≡◌, ◌∙◌, ℕ, List, ap, sym, map, refl, subst, true}
-use Rattle.std.proofs.Common.{Option, option_map}
 use Rattle.std.specs.List.{flat_map}
 use Rattle.std.proofs.lemmas.Result.{err_from_is_err_and, IfOk-weaker, IfErr-weaker}
 use Rattle.resb_tree.specs.Borrowing.{all_true}
@@ -8,14 +7,9 @@ use Rattle.resb_draft.specs.Drafts.{draft_tree, tree_at, is_whole}
 use Rattle.resb_tree.specs.LayingOrder.{laying_order, own_keys}
 use Rattle.resb_draft.specs.declared.draft.Draft.{Draft}
 use Rattle.resb_write.specs.Inner.Numbered.{NumbersKeys, TakesPieces}
-use Rattle.resb_pool_bundle.specs.Pool.{Pool, pool_in}
-use Rattle.resb_pool_bundle.specs.declared.pool_bundle.PoolBundle.{PoolBundle}
 use Rattle.resb_write.specs.Inner.Beside.{RefusesOver}
-use Rattle.resb_write.proofs.Refusals.{no_memory_over}
+use Rattle.resb_write.proofs.Refusals.{no_memory_over, over}
 use Rattle.resb_write.proofs.serializer.write_by_number.Goals as goal
-
-abbrev over : Option PoolBundle → Option Pool
-over o = option_map pool_in o
 
 pub returns-in_err-keys-clause-err : goal.returns-in_err-keys-clause-err
 returns-in_err-keys-clause-err c =

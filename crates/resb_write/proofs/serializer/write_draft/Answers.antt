@@ -1,14 +1,9 @@
 -- A draft stands in laying order, or is laid by its numbers.
-use Rattle.std.proofs.Common.{sym, subst, Option, option_map}
+use Rattle.std.proofs.Common.{sym, subst}
 use Rattle.std.proofs.lemmas.Result.{err_from_is_err_and}
-use Rattle.resb_pool_bundle.specs.Pool.{Pool, pool_in}
-use Rattle.resb_pool_bundle.specs.declared.pool_bundle.PoolBundle.{PoolBundle}
 use Rattle.resb_write.specs.Inner.Beside.{RefusesOver}
-use Rattle.resb_write.proofs.Refusals.{no_memory_over}
+use Rattle.resb_write.proofs.Refusals.{no_memory_over, over}
 use Rattle.resb_write.proofs.serializer.write_draft.Goals as goal
-
-abbrev over : Option PoolBundle → Option Pool
-over o = option_map pool_in o
 
 pub returns-in_err-order-clause-err : goal.returns-in_err-order-clause-err
 returns-in_err-order-clause-err c =

@@ -1,17 +1,12 @@
 -- The pieces of a draft fit the resources of its tree, and its keys are those of its tables.
-use Rattle.std.proofs.Common.{ap, sym, subst, ◌∙◌, Option, option_map}
+use Rattle.std.proofs.Common.{ap, sym, subst, ◌∙◌}
 use Rattle.std.proofs.lemmas.Result.{err_from_is_err_and, IfOk-weaker, IfErr-weaker}
 use Rattle.resb_pool.specs.Plan.{nows}
 use Rattle.resb_draft.specs.Drafts.{draft_tree}
-use Rattle.resb_pool_bundle.specs.Pool.{Pool, pool_in}
-use Rattle.resb_pool_bundle.specs.declared.pool_bundle.PoolBundle.{PoolBundle}
 use Rattle.resb_write.specs.Inner.Beside.{RefusesOver}
 use Rattle.resb_write.specs.Inner.Numbered.{NumbersKeys}
-use Rattle.resb_write.proofs.Refusals.{no_memory_over}
+use Rattle.resb_write.proofs.Refusals.{no_memory_over, over}
 use Rattle.resb_write.proofs.serializer.write_standing.Goals as goal
-
-abbrev over : Option PoolBundle → Option Pool
-over o = option_map pool_in o
 
 pub returns-in_err-numbered-clause-err : goal.returns-in_err-numbered-clause-err
 returns-in_err-numbered-clause-err c =

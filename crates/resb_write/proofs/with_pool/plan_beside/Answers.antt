@@ -16,7 +16,8 @@ returns-in_err-lent-clause-err c =
 pub returns-clause-ok : goal.returns-clause-ok
 returns-clause-ok c =
     let p = c.in_ok-of.field-0 in
-    subst (λ S. IsPlanWith (pool_in c.args.pool.now).block S p.units.items p.indexes.items p.limit p.short_limit)
+    let block = (pool_in c.args.pool.now).block in
+    subst (λ S. IsPlanWith block S p.units.items p.indexes.items p.limit p.short_limit)
     (ap nows c.deref.ensures.value)
     (c.in_ok-of.ensures.ok _ (subst (LendsTexts c.in_ok-lent.lent) c.block.ensures
     c.in_ok-lent.ensures))

@@ -115,7 +115,8 @@ numbered g c base t f us =
       texts = looked_up block (texts_of t) p.units.items p.indexes.items p.limit p.short_limit
           plan ∙ ap (map Some) (sym c.deref-3.ensures.value);
       near = subst (All (λ k. k < 2 ^ 28)) (sym c.deref-3.ensures.value)
-          (near_indexes block (texts_of t) p.units.items p.indexes.items p.limit p.short_limit plan);
+          (near_indexes block (texts_of t) p.units.items p.indexes.items p.limit p.short_limit
+          plan);
     }
 
 -- the plan's units are few
@@ -235,7 +236,8 @@ returns-clause-ok g c = λ t f k.
       short = p.short_limit;
       plan = plan;
       offset = look (texts_of t) p.indexes.items;
-      offsets = looked_up pool.block (texts_of t) p.units.items p.indexes.items p.limit p.short_limit plan;
+      offsets = looked_up pool.block (texts_of t) p.units.items p.indexes.items p.limit
+          p.short_limit plan;
       others = look_others (texts_of t) p.indexes.items;
       laid = laid;
       root = word;

@@ -1,7 +1,10 @@
 //! Texts with the lines of their bundles in both forms, by the rules of printed texts, and whether
 //! each is a text of the form.
 use resb_icu_text::IcuReader;
-use resb_lines::{Form, Icu, Plain, ShownBundle, has_text, lines_length_within, write_lines};
+use resb_lines::{
+    Form, Icu, Plain, ShownBundle, find_cause, has_text, lines_length_within, lines_within,
+    write_lines,
+};
 use std::alloc::Global;
 use std::test::Fail;
 
@@ -73,5 +76,59 @@ fn quotes_and_aliases_have_no_plain_text(rt: HostRuntime) -> Result<(), Fail> {
     assert_eq!(rt; plain.as_str(), "b{\n    x:alias{\"/p\"}\n}\nfalse");
     let plain = lines_of(rt.alloc(), Plain, "b{q{\"a\\\"b\"}}")?;
     assert!(rt; plain.as_str().ends_with("false"));
+    Ok(())
+}
+
+/// Texts of ICU's form whose bundles have no plain text, each with the first cause of that and the
+/// path to it.
+const CAUSES: [(&str, &str); 4] = [
+    (
+        "b{t{l:array{\"y\",:alias{\"/p\"}}}u{\"\\\"\"}}",
+        "Alias [Key(\"t\"), Key(\"l\"), Member(1)]",
+    ),
+    (
+        "b{a:array{:array{},\"x\"}q{\"a\\\"b\"}x:alias{\"/p\"}}",
+        "QuoteInString [Key(\"q\")]",
+    ),
+    ("b{x:alias{\"/p\"}}", "Alias [Key(\"x\")]"),
+    ("b{e:table{}v:intvector{1}w{:bin{\"00\"}}}", "none"),
+];
+
+/// What keeps a text's bundle from having a plain text.
+fn cause_in(alloc: Global, text: &str) -> Result<String, Fail> {
+    let (bundle, _) = IcuReader::read(alloc, text)?;
+    match find_cause(alloc, Plain, ShownBundle::of(&bundle))? {
+        Some((path, cause)) => Ok(format!(in alloc; "{cause:?} {path:?}")?),
+        None => Ok(format!(in alloc; "none")?),
+    }
+}
+
+#[test]
+fn the_first_cause_has_a_path(rt: HostRuntime) -> Result<(), Fail> {
+    for (text, wanted) in CAUSES {
+        let found = cause_in(rt.alloc(), text)?;
+        assert_eq!(rt; found.as_str(), wanted);
+    }
+    Ok(())
+}
+
+/// The lines of a text's bundle within a limit of bytes.
+fn within(alloc: Global, text: &str, limit: u64) -> Result<String, Fail> {
+    let (bundle, _) = IcuReader::read(alloc, text)?;
+    match lines_within(alloc, Plain, ShownBundle::of(&bundle), limit)? {
+        Some(lines) => Ok(lines),
+        None => Ok(format!(in alloc; "more")?),
+    }
+}
+
+#[test]
+fn lines_are_made_within_a_limit(rt: HostRuntime) -> Result<(), Fail> {
+    for (text, wanted) in ROWS {
+        let length = wanted.len() as u64;
+        let whole = within(rt.alloc(), text, length)?;
+        assert_eq!(rt; whole.as_str(), wanted);
+        let more = within(rt.alloc(), text, length.saturating_sub(1))?;
+        assert_eq!(rt; more.as_str(), "more");
+    }
     Ok(())
 }

@@ -472,6 +472,38 @@ lines_of() {
   done < .out
 }
 
+# one_file: the file of two texts is the first one's, or there is none; it is the second one's where
+# it is said that the first has none. There is always a status, and a word of each text without one.
+one_file() {
+  [ "$got" -gt 0 ] && [ "$got" -lt 3 ] || return 1
+  if cmp -s into/t.res second/want; then
+    grep -q '^first/t.txt: .*[Oo]ut of memory' .err
+  elif cmp -s into/t.res first/want; then
+    grep -q '^second/t.txt: ' .err
+  else
+    [ ! -e into/t.res ] && grep -q '[Oo]ut of memory' .err
+  fi
+}
+
+# in_turn: two texts of one file in one call, each request refused in turn
+in_turn() {
+  mkdir first second into
+  printf 'b{a{"1"}}' > first/t.txt
+  printf 'b{a{"2"}}' > second/t.txt
+  resb compile first/t.txt -o first/want
+  resb compile second/t.txt -o second/want
+  for ((number = 1; number <= 400; number++)); do
+    rm -f into/t.res
+    : > mark
+    REFUSED_REQUEST=$number LD_PRELOAD=$work/refuse.so resb compile first/t.txt second/t.txt \
+      -d into > .out 2> .err 9> mark
+    got=$?
+    holds "one file of two texts at request $number" one_file
+    [ -s mark ] || break
+  done
+  holds 'all requests of two texts' [ "$number" -lt 400 ]
+}
+
 printf 'b{a{"x\\y"} a{"z"} "k\xe2\x80\xae"{"q" "r"}}' > w.txt
 printf 'b{a:int{x}}' > refused.txt
 printf old > old
@@ -507,8 +539,9 @@ if make_refusing "$work/refuse.so"; then
   reads list x.dat
   reads check many
   reads check --json many
+  in_turn
 else
-  passed=$((passed + 17))
+  passed=$((passed + 18))
 fi
 
 echo "files: $passed passed, $failed failed"

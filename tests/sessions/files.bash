@@ -25,6 +25,10 @@ told 0 'c' '' get names.res list/1
 told 0 '["a","c"]' '' get names.res list
 told 1 '' 'names.res: nothing stands at list/2' get names.res list/2
 told 1 '' 'names.res: nothing stands at hi/x' get names.res hi/x
+told 1 '' "names.res: nothing stands at ''" get names.res ''
+told 1 '' "names.res: nothing stands at ''" get --check names.res ''
+# a file that uses no pool bundle: none is looked at, also one that is named
+told 0 'hello' '' get --pool nowhere.res names.res hi
 told 0 'hello' '' get --check names.res hi
 # what is no array or table is read though the last member of the root leads outside the file
 { head -c -4 names.res; printf '\xff\xff\xff\xef'; } > cut.res

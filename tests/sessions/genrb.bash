@@ -14,6 +14,16 @@ same built/root.res wanted.res
 (cd source && exec -a genrb "$program" --quiet root.txt) && same source/root.res wanted.res
 (exec -a genrb "$program" -q -s source -d built broken.txt) 2> /dev/null
 [ $? = 3 ] && passed=$((passed + 1)) || { failed=$((failed + 1)); echo 'genrb: a broken text'; }
+# help and mistakes name the program as it was called
+(exec -a genrb "$program" --help) > help.txt
+grep -q '^Usage: genrb \[OPTIONS\] <FILE>...$' help.txt && grep -q '^Example: genrb -s' help.txt \
+  && passed=$((passed + 1)) || { failed=$((failed + 1)); cat help.txt; }
+(exec -a genrb "$program" --unknown) 2> err
+[ $? = 1 ] && grep -q '^Usage: genrb ' err \
+  && passed=$((passed + 1)) || { failed=$((failed + 1)); cat err; }
+(exec -a resb "$program" genrb --help) > help.txt
+grep -q '^Usage: resb genrb \[OPTIONS\] <FILE>...$' help.txt \
+  && passed=$((passed + 1)) || { failed=$((failed + 1)); cat help.txt; }
 told 3 '' "source/broken.txt:1:10: expected '}', a comma, '{' or a type before the text ends \
 inside this
 broken{ a{ \"x\" 

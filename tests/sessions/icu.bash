@@ -119,6 +119,12 @@ told 0 "$marks" '' dump --icu marks.res
 printf '%s' "$marks" > again.txt
 told 0 '' '' compile --icu again.txt
 told 0 "${marks/marks/again}" '' dump --icu again.res
+# an alias has a text in ICU's form alone
+printf 'alias{b:alias{"/c"}}' > alias.txt
+told 0 '' '' compile --icu alias.txt
+told 0 '{"b":{"alias":"/c"}}' "alias.res: this has no text, since an alias stands at b, which \
+--icu prints; here is its JSON" dump alias.res
+told 0 $'alias{\n    b:alias{"/c"}\n}' '' dump --icu alias.res
 printf 'keys{"a["{"x"}}' > keys.txt
 told 0 '' '' compile keys.txt
 told 0 '{"a[":"x"}' "keys.res: this has no text in ICU's form, since a key has a character \

@@ -76,38 +76,26 @@ fn compile_each(
     status
 }
 
-/// Compiles a text, and answers its status, or that of what kept it from being compiled.
+/// Compiles a text, and answers its status, or that of what kept it from being compiled. Where its
+/// bundle names the file, that is known once it is compiled, and else before it is read.
 fn compile_one(
     rt: &HostRuntime,
     name: &str,
     wanted: &CompileWords<'_>,
     taken: &mut Taken,
 ) -> Result<u8, u8> {
-    if wanted.is_by_name {
-        return compile_named(rt, name, wanted, taken);
-    }
-    let target = target_of(rt, name, output_of(rt.alloc(), name, wanted))?;
+    let known = if wanted.is_by_name {
+        None
+    } else {
+        Some(target_of(rt, name, output_of(rt.alloc(), name, wanted))?)
+    };
     let source = source_of(rt, name, wanted)?;
     let text = text_in(rt, name, source.as_slice())?;
     let (file, status) = file_of(rt, name, text, wanted)?;
-    or_fail(rt, name, taken.take(rt, name, &target.place))?;
-    if !wanted.is_check {
-        target.write(rt, file.as_slice())?;
-    }
-    Ok(status)
-}
-
-/// The same, where the bundle names the file.
-fn compile_named(
-    rt: &HostRuntime,
-    name: &str,
-    wanted: &CompileWords<'_>,
-    taken: &mut Taken,
-) -> Result<u8, u8> {
-    let source = source_of(rt, name, wanted)?;
-    let text = text_in(rt, name, source.as_slice())?;
-    let (file, status) = file_of(rt, name, text, wanted)?;
-    let target = named_target(rt, name, text, wanted)?;
+    let target = match known {
+        Some(target) => target,
+        None => named_target(rt, name, text, wanted)?,
+    };
     or_fail(rt, name, taken.take(rt, name, &target.place))?;
     if !wanted.is_check {
         target.write(rt, file.as_slice())?;

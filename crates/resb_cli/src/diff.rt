@@ -7,7 +7,7 @@ use crate::say::{fail, refuse_memory};
 use crate::show::{Length, TooLong, bundle_of, refuse_long, show};
 use crate::shown::{Shown, shown_bytes, shown_json};
 use resb_diff::{Change, ChangeAt, PathStep, differences_between};
-use resb_json::{json_fits, json_text};
+use resb_json::json_text_within;
 use resb_tree::Resource;
 use resb_words::DiffWords;
 use std::alloc::{AllocError, Global};
@@ -197,10 +197,9 @@ fn push_object(
 
 /// A value as JSON with nothing hidden, which has no more bytes than the limit.
 fn json_of(alloc: Global, value: &Resource<'_>, limit: u64) -> Result<String, Unsaid> {
-    if !json_fits(alloc, value, limit)? {
+    let Some(text) = json_text_within(alloc, value, limit)? else {
         return Err(Unsaid::Long(least_bytes(alloc, value)?.max(limit.saturating_add(1))));
-    }
-    let text = json_text(alloc, value)?;
+    };
     let length = shown_bytes(text.as_str());
     if length > limit {
         return Err(Unsaid::Long(length));

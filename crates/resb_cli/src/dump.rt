@@ -118,6 +118,7 @@ impl Source<'_> {
         };
         NoText {
             form: self.form(),
+            hint: "",
             instead,
         }
     }

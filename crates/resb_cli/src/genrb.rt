@@ -12,8 +12,8 @@ use resb_words::{CompileWords, GenrbWords};
 use std::alloc::{AllocError, Global};
 use std::path::{Path, PathBuf};
 
-/// The name by which the words of ICU's compiler are taken.
-pub(crate) const NAME: &str = "genrb";
+/// What is said to fail where no text does.
+const NAME: &str = "genrb";
 
 /// The status for words that ICU's compiler doesn't take: its error for an illegal argument.
 pub(crate) const ILLEGAL_ARGUMENT: u8 = 1;

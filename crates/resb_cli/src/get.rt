@@ -153,8 +153,9 @@ fn get_one<'f>(
     }
 }
 
-/// Says that nothing stands at a path, and gives the status of that.
+/// Says that nothing stands at a path, and gives the status of that. An empty path has quotes.
 fn say_nothing(rt: &HostRuntime, name: &str, path: &str) -> u8 {
+    let path = if path.is_empty() { "''" } else { path };
     let (name, path) = (Shown(name), Shown(path));
     let _ = eprintln!(rt; "{name}: nothing stands at {path}");
     1

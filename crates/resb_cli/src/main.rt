@@ -30,7 +30,7 @@ mod warn;
 mod words;
 
 use resb_program::keep_freed_memory;
-use resb_words::{Request, WordsError, request_of};
+use resb_words::{Request, WordsError, is_of_genrb, request_of};
 use std::process::ExitCode;
 
 /// Ends the process with the status of what its words ask for.
@@ -48,7 +48,7 @@ fn perform(rt: &HostRuntime) -> u8 {
     match request_of(rt.alloc(), words.as_slice()) {
         Ok(request) => perform_request(rt, &request),
         Err(e) => match answer(rt, &e) {
-            2 if words::is_of_genrb(words.as_slice()) => genrb::ILLEGAL_ARGUMENT,
+            2 if is_of_genrb(words.as_slice()) => genrb::ILLEGAL_ARGUMENT,
             status => status,
         },
     }
@@ -56,8 +56,10 @@ fn perform(rt: &HostRuntime) -> u8 {
 
 /// Prints help or the version, or says what is wrong with the words.
 fn answer(rt: &HostRuntime, e: &WordsError) -> u8 {
-    if e.status() != 0 {
-        return say::say_lines(rt, e);
+    let status = e.status();
+    if status != 0 {
+        say::say_lines(rt, e);
+        return status;
     }
     match print!(rt; "{e}") {
         Ok(()) => 0,

@@ -60,8 +60,8 @@ pub(crate) fn fail_input<R: Eprint>(rt: &R, name: &str, e: InputError) -> u8 {
     e.status()
 }
 
-/// Says what is wrong with the process's words, in lines of its own, and gives the status of that.
-pub(crate) fn say_lines<R: Eprint + AllocGlobal, C: Display>(rt: &R, cause: &C) -> u8 {
+/// Says what is wrong with the process's words, in lines of its own.
+pub(crate) fn say_lines<R: Eprint + AllocGlobal, C: Display>(rt: &R, cause: &C) {
     match format!(in rt.alloc(); "{cause}") {
         Ok(text) => {
             for line in text.as_str().lines() {
@@ -71,7 +71,6 @@ pub(crate) fn say_lines<R: Eprint + AllocGlobal, C: Display>(rt: &R, cause: &C) 
         }
         Err(_) => complain(rt, "resb", NO_MEMORY),
     }
-    2
 }
 
 /// A form of text that a bundle has none of.
@@ -79,6 +78,8 @@ pub(crate) fn say_lines<R: Eprint + AllocGlobal, C: Display>(rt: &R, cause: &C) 
 pub(crate) struct NoText {
     /// The form.
     pub(crate) form: Form,
+    /// What is said of where it has a text, or nothing.
+    pub(crate) hint: &'static str,
     /// What is said of the JSON that stands in its place, or nothing.
     pub(crate) instead: &'static str,
 }
@@ -100,12 +101,13 @@ pub(crate) fn say_no_text<R: Eprint + AllocGlobal, C: Display + Drop>(
     let Ok(at) = at else {
         return Err(refuse_memory(rt, name));
     };
-    let (name, what, end) = (Shown(name), missing.form.name(), missing.instead);
+    let (name, what) = (Shown(name), missing.form.name());
+    let (hint, end) = (missing.hint, missing.instead);
     if at.is_empty() {
-        let _ = eprintln!(rt; "{name}: this has no {what}, since {cause}{end}");
+        let _ = eprintln!(rt; "{name}: this has no {what}, since {cause}{hint}{end}");
     } else {
         let at = Shown(at.as_str());
-        let _ = eprintln!(rt; "{name}: this has no {what}, since {cause} at {at}{end}");
+        let _ = eprintln!(rt; "{name}: this has no {what}, since {cause} at {at}{hint}{end}");
     }
     Ok(())
 }

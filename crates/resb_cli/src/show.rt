@@ -7,10 +7,10 @@ use crate::refusal::refuse;
 use crate::save::{Bytes, Content, cause_of_printing, print};
 use crate::say::{NoText, complain, fail, refuse_memory, say_no_text};
 use resb_icu_print::{IcuPrintError, icu_cause_path, print_icu_text_within};
-use resb_json::{json_fits, json_length_within, write_json};
-use resb_lines::{Icu, Plain, ShownBundle, has_text, lines_fit, lines_length_within, write_lines};
+use resb_json::{json_length_within, write_json};
+use resb_lines::{Icu, Plain, ShownBundle, has_text, lines_length_within, write_lines};
 use resb_opened::Opened;
-use resb_print::{PrintError, cause_path, print_text_within};
+use resb_print::{Cause, PrintError, cause_path, print_text_within};
 use resb_program::{open_file, open_file_within, read_bundle};
 use resb_shown::Shown;
 use resb_tree::{Resource, ResourceBundle};
@@ -89,32 +89,33 @@ impl<'s, S: Shown<'s>> Showing<'s, S> {
         }
     }
 
-    /// Whether what is shown has no more bytes than the limit, if there is one: those of JSON
-    /// without its line feed.
-    pub(crate) fn fits(&self, alloc: Global, limit: Option<u64>) -> Result<bool, AllocError> {
-        match (limit, self.form) {
-            (None, _) => Ok(true),
-            (Some(limit), Form::Text) => lines_fit(alloc, Plain, self.bundle(), limit),
-            (Some(limit), Form::IcuText) => lines_fit(alloc, Icu, self.bundle(), limit),
-            (Some(limit), Form::Json) => json_fits(alloc, self.root, limit),
+    /// How many bytes what is shown has, if those are no more than a limit: those of JSON without
+    /// its line feed.
+    fn length_within(&self, alloc: Global, limit: u64) -> Result<Option<u64>, AllocError> {
+        match self.form {
+            Form::Text => lines_length_within(alloc, Plain, self.bundle(), limit),
+            Form::IcuText => lines_length_within(alloc, Icu, self.bundle(), limit),
+            Form::Json => json_length_within(alloc, self.root, limit),
         }
     }
 
-    /// How many bytes what is shown has, in the same way. A tree is not counted for the bytes of
-    /// its binaries, so that they may be far over the limit: where they and the keys alone are over
-    /// it, no more is counted. Else all is made and counted, which is some ten times the limit at
-    /// most.
+    /// Whether what is shown has no more bytes than the limit, if there is one.
+    pub(crate) fn fits(&self, alloc: Global, limit: Option<u64>) -> Result<bool, AllocError> {
+        match limit {
+            Some(limit) => Ok(self.length_within(alloc, limit)?.is_some()),
+            None => Ok(true),
+        }
+    }
+
+    /// How many bytes what is shown has. A tree is not counted for the bytes of its binaries, so
+    /// that they may be far over the limit: where they and the keys alone are over it, no more is
+    /// counted. Else all is made and counted, which is some ten times the limit at most.
     fn length(&self, alloc: Global, limit: u64) -> Result<Length, AllocError> {
         let least = least_bytes(alloc, self.root)?;
         if least > limit {
             return Ok(Length::AtLeast(least));
         }
-        let length = match self.form {
-            Form::Text => lines_length_within(alloc, Plain, self.bundle(), u64::MAX),
-            Form::IcuText => lines_length_within(alloc, Icu, self.bundle(), u64::MAX),
-            Form::Json => json_length_within(alloc, self.root, u64::MAX),
-        };
-        match length? {
+        match self.length_within(alloc, u64::MAX)? {
             Some(length) => Ok(Length::Exactly(length)),
             None => Ok(Length::AtLeast(u64::MAX)),
         }
@@ -242,6 +243,12 @@ pub(crate) fn say_cause(
     } else {
         match print_text_within(alloc, bundle, most) {
             Err(PrintError::OutOfMemory) => Err(refuse_memory(rt, name)),
+            Err(PrintError::NotPrintable(Cause::Alias)) => {
+                let hint = ", which --icu prints";
+                let missing = NoText { hint, ..missing };
+                let path = cause_path(alloc, bundle);
+                say_no_text(rt, name, missing, "an alias stands", path)
+            }
             Err(e) => say_no_text(rt, name, missing, e, cause_path(alloc, bundle)),
             Ok(_) => lines_of(bundle, missing.form).check(rt, name, limit),
         }

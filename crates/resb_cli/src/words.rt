@@ -1,9 +1,7 @@
 //! The process's words, as text.
 //! What they ask for is in `resb_words`.
-use crate::genrb::NAME;
 use std::alloc::{AllocError, Global};
 use std::env::{Env, FillError};
-use std::path::Path;
 
 /// What stands before the bytes of a word that is no UTF-8. The system's words can't have it.
 pub(crate) const MARK: char = '\0';
@@ -12,8 +10,7 @@ pub(crate) const MARK: char = '\0';
 pub(crate) const NO_UTF8: &str = "this name is no UTF-8";
 
 /// The process's words, its own name first. One that is no UTF-8 becomes a mark and its bytes, of
-/// which those that are no ASCII are spelled as `\xff`. Behind the name `genrb` the command of that
-/// name is put in.
+/// which those that are no ASCII are spelled as `\xff`.
 pub(crate) fn words_of<R: Env + AllocGlobal>(rt: &R) -> Result<Vec<String>, AllocError> {
     let mut words = Vec::new(rt.alloc());
     for number in 0..usize::MAX {
@@ -21,27 +18,8 @@ pub(crate) fn words_of<R: Env + AllocGlobal>(rt: &R) -> Result<Vec<String>, Allo
             Some(bytes) => words.push(text_of(rt.alloc(), bytes.as_slice())?)?,
             None => break,
         }
-        if number == 0 && is_called_genrb(words.as_slice()) {
-            words.push(String::from_str(rt.alloc(), NAME)?)?;
-        }
     }
     Ok(words)
-}
-
-/// Whether the first word, the process's own name, is that of ICU's compiler.
-fn is_called_genrb(words: &[String]) -> bool {
-    match words {
-        [name, ..] => Path::new(name.as_str()).file_name() == Some(NAME),
-        [] => false,
-    }
-}
-
-/// Whether the words are those of ICU's compiler.
-pub(crate) fn is_of_genrb(words: &[String]) -> bool {
-    match words {
-        [_, command, ..] => command.as_str() == NAME,
-        _ => false,
-    }
 }
 
 /// The bytes of the word of this number, if there is one.

@@ -8,4 +8,4 @@ mod task;
 mod text;
 mod write;
 
-pub use write::{json_fits, json_length_within, json_text, write_json};
+pub use write::{json_length_within, json_text, json_text_within, write_json};

@@ -1,6 +1,6 @@
 //! The calls that write JSON, and that look how long it is.
 //! What is written, and in which order, is said in `text`.
-ghost use Rattle.std.specs.Prelude.{◌≡◌, ◌<◌, ◌≤◌, OnOk, OnErr, IfOk, MatchBool, length};
+ghost use Rattle.std.specs.Prelude.{◌≡◌, ◌<◌, ◌≤◌, OnOk, OnErr, IfOk, MatchOption, length};
 ghost use Rattle.std.specs.String.{string_bytes};
 ghost use Rattle.std.specs.Io.KnownBytes.{Appends};
 ghost use Rattle.serde_json.specs.Written.{compact_text};
@@ -8,7 +8,7 @@ ghost use Rattle.resb_shown.specs.Sink.{AppendsPart, IsLengthWithin};
 ghost use Rattle.resb_json.specs.Json.{json_of};
 
 use crate::text::JsonText;
-use resb_shown::{Shown, length_within, write_blocks};
+use resb_shown::{Blocks, Shown, length_within, write_blocks};
 use std::alloc::{AllocError, Global};
 use std::io;
 use std::io::Write;
@@ -43,18 +43,6 @@ pub fn json_length_within<'s, S: Shown<'s>>(
     length_within(alloc, &mut text, limit)
 }
 
-/// Whether the JSON of what is shown has no more bytes than a limit. It is made as far as that
-/// shows, a block at a time, and not kept.
-pub fn json_fits<'s, S: Shown<'s>>(alloc: Global, shown: S, limit: u64) -> Result<bool, AllocError>
-    ensures { let text = compact_text (json_of (S.tree shown)) in
-        IfOk result (λ fits. MatchBool fits (length text ≤ limit) (limit < length text)) }
-{
-    match json_length_within(alloc, shown, limit)? {
-        Some(_) => Ok(true),
-        None => Ok(false),
-    }
-}
-
 /// The JSON of what is shown, without blanks.
 pub fn json_text<'s, S: Shown<'s>>(alloc: Global, shown: S) -> Result<String, AllocError>
     ensures { IfOk result (λ s. string_bytes s ≡ compact_text (json_of (S.tree shown))) }
@@ -65,4 +53,31 @@ pub fn json_text<'s, S: Shown<'s>>(alloc: Global, shown: S) -> Result<String, Al
         return Err(AllocError);
     }
     String::from_utf8(text).ok().ok_or(AllocError)
+}
+
+/// The JSON of what is shown, without blanks, or none where it has more bytes than a limit. It is
+/// made as far as that shows.
+pub fn json_text_within<'s, S: Shown<'s>>(
+    alloc: Global,
+    shown: S,
+    limit: u64,
+) -> Result<Option<String>, AllocError>
+    ensures { let text = compact_text (json_of (S.tree shown)) in
+        IfOk result (λ found. MatchOption found (limit < length text)
+        (λ s. (string_bytes s ≡ text) × (length (string_bytes s) ≤ limit))) }
+{
+    let mut text = JsonText::new(alloc, shown)?;
+    let mut bytes = Vec::new(alloc);
+    while text.push_block(&mut bytes)? {
+        if bytes.len() as u64 > limit {
+            return Ok(None);
+        }
+    }
+    let length = bytes.len() as u64;
+    if length > limit {
+        return Ok(None);
+    }
+    // no clause says that JSON is UTF-8
+    let text = String::from_utf8(bytes).ok().ok_or(AllocError)?;
+    Ok(Some(text))
 }

@@ -4,18 +4,34 @@ use crate::command::{flag, several, with_arg};
 use clap::{Arg, ArgAction, Command};
 use std::alloc::{AllocError, Global};
 
+/// The name of ICU's compiler.
+pub(crate) const NAME: &str = "genrb";
+
 /// The words of ICU's compiler that ask for what isn't done, without the dashes.
 pub(crate) const NOT_DONE: [&str; 3] = ["write-java", "write-xliff", "filterDir"];
 
 /// What is said of words that change nothing.
 const NOT_LOOKED_AT: &str = "Is not looked at";
 
-/// ICU's compiler, by its own words.
+/// ICU's compiler, by its own words, as a command of the program.
 pub(crate) fn genrb<'a>(alloc: Global) -> Result<Command<'a>, AllocError> {
-    let command = Command::new(alloc, "genrb")
+    genrb_like(
+        alloc,
+        "Example: resb genrb -s curr -d out/curr root.txt de.txt",
+    )
+}
+
+/// The same as the program itself, which is called so.
+pub(crate) fn genrb_itself<'a>(alloc: Global) -> Result<Command<'a>, AllocError> {
+    genrb_like(alloc, "Example: genrb -s curr -d out/curr root.txt de.txt")
+}
+
+/// The same with this example.
+fn genrb_like<'a>(alloc: Global, example: &'a str) -> Result<Command<'a>, AllocError> {
+    let command = Command::new(alloc, NAME)
         .version("0.2.0")
         .about("Compiles texts in ICU's own form, by the words of ICU's compiler")
-        .after_help("Example: resb genrb -s curr -d out/curr root.txt de.txt")
+        .after_help(example)
         .arg(several(alloc, "The names of texts, below the source folder"))?;
     let command = with_places(alloc, command)?;
     let command = with_pools(alloc, command)?;

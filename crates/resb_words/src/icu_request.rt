@@ -1,10 +1,11 @@
 //! What is asked in the words of ICU's own compiler, `genrb`.
 //! The words that it takes are in `icu_command`.
 use crate::error::WordsError;
-use crate::icu_command::NOT_DONE;
+use crate::icu_command::{NAME, NOT_DONE};
 use crate::request::{Request, names};
 use clap::ArgMatches;
 use std::alloc::Global;
+use std::path::Path;
 
 /// What is asked of texts in ICU's own form by the words of ICU's compiler.
 #[derive(Debug, Drop)]
@@ -19,6 +20,22 @@ pub struct GenrbWords<'w> {
     pub pool: Option<&'w str>,
     /// Whether warnings are left unsaid.
     pub is_quiet: bool,
+}
+
+/// Whether the first word, the process's own name, is that of ICU's compiler.
+pub(crate) fn is_called_genrb(words: &[String]) -> bool {
+    match words {
+        [name, ..] => Path::new(name.as_str()).file_name() == Some(NAME),
+        [] => false,
+    }
+}
+
+/// Whether words, of which the first is the process's own name, are those of ICU's compiler.
+pub fn is_of_genrb(words: &[String]) -> bool {
+    match words {
+        [_, command, ..] if command.as_str() == NAME => true,
+        _ => is_called_genrb(words),
+    }
 }
 
 /// What is asked of texts by the words of ICU's compiler.

@@ -3,7 +3,8 @@
 
 use crate::command::program;
 use crate::error::WordsError;
-use crate::icu_request::{GenrbWords, genrb};
+use crate::icu_command::genrb_itself;
+use crate::icu_request::{GenrbWords, genrb, is_called_genrb};
 use clap::ArgMatches;
 use std::alloc::Global;
 
@@ -120,8 +121,13 @@ pub struct ExtractWords<'w> {
     pub output: Option<&'w str>,
 }
 
-/// What the words ask for, of which the first is the program's own name.
+/// What the words ask for, of which the first is the program's own name. Under the name `genrb` the
+/// others are those of ICU's compiler.
 pub fn request_of<'w>(alloc: Global, words: &'w [String]) -> Result<Request<'w>, WordsError> {
+    if is_called_genrb(words) {
+        let matches = genrb_itself(alloc)?.try_get_matches_from(words)?;
+        return genrb(alloc, &matches);
+    }
     let matches = program(alloc)?.try_get_matches_from(words)?;
     asked(alloc, &matches)
 }

@@ -1,5 +1,5 @@
-/* resb.h: ICU resource bundles, from a text to a .res file and back, checks of such files, and what
- * stands at a path in one.
+/* resb.h: ICU resource bundles, from a text to a .res file and back, checks of such files, what
+ * stands at a path in one, and the offsets of time zones.
  *
  * Link with libresb_c.a and with the toolchain's liblibc_c.a, in this order.
  *
@@ -28,7 +28,7 @@ extern "C" {
 #endif
 
 /* The version of this header. It grows where a call, an answer or a kind is added. */
-#define RESB_VERSION 2u
+#define RESB_VERSION 3u
 
 /* The version of the header that the library was built with. */
 uint32_t resb_version(void);
@@ -37,14 +37,14 @@ uint32_t resb_version(void);
 #define RESB_OK 0u
 /* The buffer is too short: nothing was written to it, and *length is the length that is needed. */
 #define RESB_TOO_SHORT 1u
-/* The text, the name of a dump, or a path is not UTF-8 from the error's place on. */
+/* The text, the name of a dump or of a zone, or a path is not UTF-8 from the error's place on. */
 #define RESB_NOT_UTF8 2u
 /* The text is no bundle: it can't be read on at the error's place. */
 #define RESB_NOT_A_BUNDLE 3u
 /* The text is a bundle, but its tree has no file: a key holds U+0000, or a key, a string or a count
  * is over what the format holds. */
 #define RESB_NO_FILE 4u
-/* The bytes are no file of a bundle. */
+/* The bytes are no file of a bundle, or, where a zone is asked for, none of zones. */
 #define RESB_NOT_A_FILE 5u
 /* The file has version 1.0 of the format, another order of bytes, characters of another size than 2
  * bytes, or EBCDIC. Versions 1.1 to 3.0 are read by each call, with their aliases. A version or a
@@ -63,17 +63,20 @@ uint32_t resb_version(void);
 #define RESB_OVER_LIMIT 10u
 /* The bytes that were given as a pool bundle are none. */
 #define RESB_NOT_A_POOL 11u
-/* Nothing stands at the path. */
+/* Nothing stands at the path, or no zone has the name. */
 #define RESB_NOT_FOUND 12u
 /* What stands at the path is of another kind. */
 #define RESB_OTHER_KIND 13u
+/* The zone has a fault, which the message names: its link leads nowhere, its numbers don't fit each
+ * other, or its final rule is none. */
+#define RESB_NOT_A_ZONE 14u
 
 /* Why a call failed. Each call writes all of it: after RESB_OK it holds zeros alone. */
 typedef struct resb_error {
   /* what the call answered */
   uint32_t kind;
-  /* for RESB_NOT_UTF8 and RESB_NOT_A_BUNDLE a byte of the text, of a dump's name or of a path,
-   * counted from 0; else 0 */
+  /* for RESB_NOT_UTF8 and RESB_NOT_A_BUNDLE a byte of the text, of a name or of a path, counted
+   * from 0; else 0 */
   size_t place;
   /* what went wrong, in English, perhaps in several lines, cut at 255 bytes wherever that is, and
    * zero bytes behind it; empty where memory is wanted for it */
@@ -315,6 +318,19 @@ uint32_t resb_get_bytes(const uint8_t *file, size_t file_length, const uint8_t *
 uint32_t resb_key(const uint8_t *file, size_t file_length, const uint8_t *pool, size_t pool_length,
                   const uint8_t *path, size_t path_length, size_t number, uint8_t *out,
                   size_t out_length, size_t *length, resb_error *error);
+
+/* Tells the offset of a time zone from universal time at a moment, out of ICU's file of zones,
+ * zoneinfo64.res. The moment is in seconds since 1970-01-01T00:00:00Z, and may lie before. The
+ * offset is in seconds, greater than 0 in the east, and has in it what is saved in summer. The
+ * zone's name is that of the file, as "Europe/Berlin", in the same letters.
+ *
+ * The whole file is read by each call, in some 150 microseconds for ICU's: keep what you need
+ * often.
+ *
+ * RESB_OK: *offset is the offset. Else it is 0: RESB_NOT_UTF8 for the name, which is looked at
+ * first, RESB_NOT_FOUND, RESB_NOT_A_ZONE, or a reason of resb_check. */
+uint32_t resb_zone_offset(const uint8_t *file, size_t file_length, const uint8_t *zone,
+                          size_t zone_length, int64_t moment, int64_t *offset, resb_error *error);
 
 #ifdef __cplusplus
 }

@@ -1,8 +1,8 @@
 #!/usr/bin/env bash
 # The examples of the library for C, built and run: a bundle's text, a text that is none, bytes that
-# are no UTF-8, a text over the limit, texts of ICU's form; and files beside pool bundles. Then what
-# each call of the library that takes a file answers to one that is none. Where the library isn't
-# built, `rt lib` builds it. A missing compiler is no failure.
+# are no UTF-8, a text over the limit, texts of ICU's form; files beside pool bundles; and offsets
+# of zones. Then what each call that takes a file answers to one that is none. Where the library
+# isn't built, `rt lib` builds it. A missing compiler is no failure.
 # RATTLE_C is the folder of the toolchain's liblibc_c.a.
 set -uo pipefail
 top=$(cd "$(dirname "$(readlink -f "$0")")/.." && pwd)
@@ -39,7 +39,7 @@ bundle{
 at byte 6: expected '}'" 'a {\n  ' "$@"
   expect "$language: no UTF-8" 1 '1:2: fault 2: not UTF-8 from byte 1 on' 'a\377' "$@"
   expect "$language: over the limit" 1 \
-    '1:1: fault 10: reading the text takes more bytes than the limit' \
+    'fault 10: reading the text takes more bytes than the limit' \
     "a {$(printf 'k {%.0s' {1..9000})" "$@"
   expect "$language: a bundle of ICU's form" 0 '80 bytes, 2 resources, 1 entries
 bundle{
@@ -112,53 +112,124 @@ bundle{
     "$@" "$folder/a.res" "$folder/a.res"
 }
 
+# write_zones FILE: the file of a few zones, of which one has the wrong number of types. Their
+# offsets are those of `zoneinfo_rows`.
+write_zones() {
+  cat > "$folder/zones.c" << 'C'
+#include "resb.h"
+
+#include <stdio.h>
+
+static uint8_t text[4000], file[4000];
+
+int main(void) {
+  size_t text_length = fread(text, 1, sizeof text, stdin), length;
+  resb_error error;
+  uint32_t status = resb_compile(text, text_length, file, sizeof file, &length, &error);
+  fwrite(file, 1, length, stdout);
+  return (int)status;
+}
+C
+  cc -std=c99 -Wall -Wextra -Werror ${CFLAGS:-} -I "$top/include" "$folder/zones.c" \
+    "$RESB_LIB/libresb_c.a" "$RATTLE_C/liblibc_c.a" -o "$folder/zones" || return 1
+  "$folder/zones" > "$1" << 'T'
+zoneinfo64:table(nofallback){
+  TZVersion{"made"}
+  Names{"A/Old","B/Link","C/Rule","Types",}
+  Zones:array{
+    :table{
+      transPre32:intvector{4294967295,2147483647}
+      trans:intvector{0,100}
+      transPost32:intvector{1,0}
+      typeMap:bin{"01000102"}
+      typeOffsets:intvector{-100,0,3600,0,3600,1800}
+    }
+    :int{0}
+    :table{
+      typeOffsets:intvector{-100,0}
+      finalRule{"EU"}
+      finalRaw:int{3600}
+      finalYear:int{1997}
+    }
+    :table{trans:intvector{0} typeOffsets:intvector{0,0}}
+  }
+  Rules{EU:intvector{2,-31,-1,3600,2,9,-31,-1,3600,2,3600}}
+  Regions{"001",}
+}
+T
+}
+
+# zone_rows LANGUAGE COMMAND..: the rows of the built example that prints the offsets of a zone
+zone_rows() {
+  local language=$1
+  shift
+  expect "$language: a zone of transitions" 0 $'-100\n3600\n-100\n5400' '' \
+    "$@" "$folder/zones.res" A/Old -2147483650 -2147483649 0 4294967296
+  expect "$language: a zone of a rule, and a link" 0 $'3600\n7200\n7200\n3600' '' \
+    "$@" "$folder/zones.res" C/Rule 1679792399 1679792400 1698541199 1698541200
+  expect "$language: a linked zone" 0 '3600' '' "$@" "$folder/zones.res" B/Link 100
+  expect "$language: no zone" 1 'fault 12: no zone has this name' '' \
+    "$@" "$folder/zones.res" A/Older 0
+  expect "$language: a zone with a fault" 1 \
+    'fault 14: the zone has not as many transitions as types' '' "$@" "$folder/zones.res" Types 0
+  expect "$language: no file of zones" 1 'fault 5: Unknown: field missing' '' \
+    "$@" "$folder/large.res" Types 0
+  expect "$language: a file that lacks its pool" 1 \
+    'fault 9: the file uses a pool bundle, and none was given' '' "$@" "$folder/a.res" Types 0
+}
+
 # write_statuses FILE: the program that asks each call that takes a file about the bytes of standard
-# input: check, measure and dump, in either form and as JSON; the same beside no pool bundle, and
-# what stands at the root; and where these are the pool too
+# input: check, measure and dump, in either form and as JSON, and a zone; the same beside no pool
+# bundle, and what stands at the root; and where these are the pool too. It prints each status and
+# each message, once where calls in a row say the same.
 write_statuses() {
   cat > "$1" << 'C'
 #include "resb.h"
 
 #include <stdio.h>
+#include <string.h>
 
-static uint8_t bytes[1000], out[1000];
+static uint8_t bytes[1000], out[1000], said[256];
 static const uint8_t name[] = "b";
+static resb_error error;
+
+/* Prints the status of a call, and its message where that is another than the last one. */
+static void note(uint32_t status) {
+  printf("%u ", (unsigned)status);
+  if (memcmp(said, error.message, sizeof said) != 0) printf("%s; ", (const char *)error.message);
+  memcpy(said, error.message, sizeof said);
+}
 
 int main(void) {
   size_t length = fread(bytes, 1, sizeof bytes, stdin);
-  size_t number, count = 0;
+  size_t number;
   resb_measured measured;
-  resb_error error;
-  uint32_t kind, got[25];
+  uint32_t kind;
   int32_t value;
+  int64_t offset;
   if (resb_version() != RESB_VERSION) return 1;
-  got[count++] = resb_check(bytes, length, &number, &error);
-  got[count++] = resb_measure(bytes, length, &measured, &error);
-  got[count++] = resb_dump(bytes, length, name, 1, UINT64_MAX, out, sizeof out, &number, &error);
-  got[count++] =
-      resb_dump_icu(bytes, length, name, 1, UINT64_MAX, out, sizeof out, &number, &error);
-  got[count++] = resb_dump_json(bytes, length, UINT64_MAX, out, sizeof out, &number, &error);
+  note(resb_check(bytes, length, &number, &error));
+  note(resb_measure(bytes, length, &measured, &error));
+  note(resb_dump(bytes, length, name, 1, UINT64_MAX, out, sizeof out, &number, &error));
+  note(resb_dump_icu(bytes, length, name, 1, UINT64_MAX, out, sizeof out, &number, &error));
+  note(resb_dump_json(bytes, length, UINT64_MAX, out, sizeof out, &number, &error));
+  note(resb_zone_offset(bytes, length, name, 1, 0, &offset, &error));
   for (size_t pools = 0; pools < 2; pools++) {
     size_t pool = pools * length;
-    got[count++] = resb_check_with_pool(bytes, length, bytes, pool, &number, &error);
-    got[count++] = resb_measure_with_pool(bytes, length, bytes, pool, &measured, &error);
-    got[count++] = resb_dump_with_pool(bytes, length, bytes, pool, name, 1, UINT64_MAX, out,
-                                       sizeof out, &number, &error);
-    got[count++] = resb_dump_icu_with_pool(bytes, length, bytes, pool, name, 1, UINT64_MAX, out,
-                                           sizeof out, &number, &error);
-    got[count++] = resb_dump_json_with_pool(bytes, length, bytes, pool, UINT64_MAX, out, sizeof out,
-                                            &number, &error);
-    got[count++] = resb_kind(bytes, length, bytes, pool, name, 0, &kind, &number, &error);
-    got[count++] = resb_get_integer(bytes, length, bytes, pool, name, 0, &value, &error);
-    got[count++] = resb_get_string(bytes, length, bytes, pool, name, 0, out, sizeof out, &number,
-                                   &error);
-    got[count++] = resb_get_bytes(bytes, length, bytes, pool, name, 0, out, sizeof out, &number,
-                                  &error);
-    got[count++] = resb_key(bytes, length, bytes, pool, name, 0, 0, out, sizeof out, &number,
-                            &error);
+    note(resb_check_with_pool(bytes, length, bytes, pool, &number, &error));
+    note(resb_measure_with_pool(bytes, length, bytes, pool, &measured, &error));
+    note(resb_dump_with_pool(bytes, length, bytes, pool, name, 1, UINT64_MAX, out, sizeof out,
+                             &number, &error));
+    note(resb_dump_icu_with_pool(bytes, length, bytes, pool, name, 1, UINT64_MAX, out, sizeof out,
+                                 &number, &error));
+    note(resb_dump_json_with_pool(bytes, length, bytes, pool, UINT64_MAX, out, sizeof out, &number,
+                                  &error));
+    note(resb_kind(bytes, length, bytes, pool, name, 0, &kind, &number, &error));
+    note(resb_get_integer(bytes, length, bytes, pool, name, 0, &value, &error));
+    note(resb_get_string(bytes, length, bytes, pool, name, 0, out, sizeof out, &number, &error));
+    note(resb_get_bytes(bytes, length, bytes, pool, name, 0, out, sizeof out, &number, &error));
+    note(resb_key(bytes, length, bytes, pool, name, 0, 0, out, sizeof out, &number, &error));
   }
-  for (size_t call = 0; call < count; call++)
-    printf("%s%u", call > 0 ? " " : "", (unsigned)got[call]);
   return 0;
 }
 C
@@ -169,11 +240,12 @@ C
 status_rows() {
   local front='\030\000\332\047\024\000\000\000\000\000'
   local back='\000ResB\002\000\000\000\001\004\000\000'
-  local pools='11 11 11 11 11 11 11 11 11 11'
-  expect 'C: characters of another size' 0 "6 6 6 6 6 6 6 6 6 6 6 6 6 6 6 $pools" \
-    "$front\020$back" "$@"
-  expect 'C: no body' 0 "5 5 5 5 5 5 5 5 5 5 5 5 5 5 5 $pools" \
-    "$front\002$back" "$@"
+  local size='characters of size other than 2 are not supported'
+  local end='Invalid resource bundle data: unexpected end of input'
+  local alone=' 6 6 6 6 6 6 6 6 6 6 6 6 6 6 6 ' pools='11 11 11 11 11 11 11 11 11 11 '
+  expect 'C: characters of another size' 0 \
+    "6 Unsupported resource bundle format: $size;${alone}$pools" "$front\020$back" "$@"
+  expect 'C: no body' 0 "5 $end;${alone//6/5}$pools" "$front\002$back" "$@"
 }
 
 # built NAME COMMAND..: whether the example is built, which counts only where it fails
@@ -210,7 +282,8 @@ if command -v cargo > /dev/null; then
   built 'the Rust example' cargo build --quiet --offline --manifest-path \
     "$top/examples/rust/Cargo.toml" --target-dir "$folder/target" &&
     rows Rust "$folder/target/debug/resb_example" &&
-    path_rows Rust "$folder/target/debug/resb_example"
+    path_rows Rust "$folder/target/debug/resb_example" &&
+    zone_rows Rust "$folder/target/debug/resb_example" --zone
 fi
 echo "$passed passed, $failed failed"
 [ "$failed" = 0 ]

@@ -14,11 +14,13 @@ static int fail(const resb_error *error) {
   return 1;
 }
 
-/* The same of a text, with the line and the column of the error's place. */
+/* The same of a text, with the line and the column of the error's place, if it has one. */
 static int fail_at(const uint8_t *text, size_t length, const resb_error *error) {
-  size_t line, column;
-  resb_location(text, length, error->place, &line, &column);
-  fprintf(stderr, "%zu:%zu: ", line, column);
+  if (error->kind == RESB_NOT_UTF8 || error->kind == RESB_NOT_A_BUNDLE) {
+    size_t line, column;
+    resb_location(text, length, error->place, &line, &column);
+    fprintf(stderr, "%zu:%zu: ", line, column);
+  }
   return fail(error);
 }
 

@@ -2,3 +2,4 @@
 mod HeadLemmas
 mod PathLemmas
 mod ThereLemmas
+mod ZoneLemmas

@@ -23,6 +23,9 @@ use Rattle.resb_compile.specs.Compiling as compile
 use Rattle.resb_compile.specs.CompilingIcu as compile_icu
 use Rattle.resb_program.specs.Messages.{file_message}
 use Rattle.resb_program.specs.declared.errors.FileError.TheVariants as file_error
+use Rattle.resb_zoneinfo.specs.Message.{zone_message}
+use Rattle.resb_zoneinfo.specs.declared.checking.ZoneError.{ZoneError}
+use Rattle.resb_zoneinfo.specs.declared.checking.ZoneError.TheVariants as zone
 use Rattle.resb_c.specs.declared.compiling.CompilingFault.{CompilingFault}
 use Rattle.resb_c.specs.declared.compiling.CompilingFault.TheVariants.{Plain, Icu}
 use Rattle.resb_c.specs.declared.printing.PrintingFault.{PrintingFault}
@@ -32,7 +35,7 @@ use Rattle.resb_c.specs.declared.fault.Fault.TheVariants as the
 use Rattle.resb_c.specs.declared.fault.Fault.TheVariants.{TooShort, NotUtf8, Compiling}
 use Rattle.resb_c.specs.declared.fault.Fault.TheVariants.{UsesPool, Pool, Larger, LongKeys}
 use Rattle.resb_c.specs.declared.fault.Fault.TheVariants.{LongText, LargerText, Printing}
-use Rattle.resb_c.specs.declared.fault.Fault.TheVariants.{NotFound, OtherKind}
+use Rattle.resb_c.specs.declared.fault.Fault.TheVariants.{NotFound, OtherKind, Zone}
 
 -- a text that isn't read is 3, want of memory 8
 abbrev pub text_number : Expected → ℕ
@@ -69,6 +72,11 @@ compile_number (Plain (Writing e)) = tree_number (fault_of e)
 compile_number (Icu (icu.Reading e)) = icu_text_number e.expected
 compile_number (Icu (icu.Writing e)) = tree_number (fault_of e)
 
+-- no zone of a name is 12, a zone with a fault 14
+abbrev pub zone_number : ZoneError → ℕ
+zone_number zone.NoZone = 12
+zone_number _ = 14
+
 -- a buffer that is too short is 1, bytes that aren't UTF-8 are 2, a file that lacks its pool bundle
 -- is 9, a tree, its keys or a text over the limit 10, a pool's bytes that are no pool bundle 11,
 -- nothing at a path 12, another kind at it 13, and else the fault's own number
@@ -86,6 +94,7 @@ number_of LargerText = 10
 number_of (Printing e) = print_number e
 number_of NotFound = 12
 number_of OtherKind = 13
+number_of (Zone e) = zone_number e
 
 -- the reader's place in the text, and 0 for a tree that isn't written
 abbrev pub compile_place : CompilingFault → ℕ
@@ -109,6 +118,7 @@ place_of LargerText = 0
 place_of (Printing e) = 0
 place_of NotFound = 0
 place_of OtherKind = 0
+place_of (Zone e) = 0
 
 -- what the error of its form prints
 abbrev pub compile_message : CompilingFault → List ℕ
@@ -137,3 +147,4 @@ message_of LargerText = codes "reading the text takes more bytes than the limit"
 message_of (Printing e) = print_message e
 message_of NotFound = codes "nothing stands at the path"
 message_of OtherKind = codes "what stands at the path is of another kind"
+message_of (Zone e) = zone_message e

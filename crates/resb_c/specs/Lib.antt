@@ -9,4 +9,5 @@ pub mod JsonDumping
 pub mod Measures
 pub mod AtPlaces
 pub mod AtPaths
+pub mod Zones
 pub mod Inner

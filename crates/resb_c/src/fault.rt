@@ -1,12 +1,14 @@
 //! Why a call for C fails: its number, its place and what it prints.
 //! How that reaches the caller is in `report`.
 ghost use Rattle.std.specs.Prelude.{◌≡◌, Some};
+ghost use Rattle.resb_c.specs.Faults as faults;
 ghost use Rattle.resb_c.specs.Faults.{message_of, number_of, place_of};
 
 use crate::compiling::CompilingFault;
 use crate::printing::PrintingFault;
 use resb_format::{BinaryDeserializerError, ErrorKind};
 use resb_program::FileError;
+use resb_zoneinfo::ZoneError;
 use std::error::Error;
 use std::fmt;
 
@@ -40,6 +42,18 @@ pub enum Fault {
     OtherKind,
     /// The tree has no text.
     Printing(PrintingFault),
+    /// The file has no zone of that name, or the zone has a fault.
+    Zone(ZoneError),
+}
+
+/// The number of a zone's fault: that of nothing where there is no such zone.
+fn zone_number(e: ZoneError) -> u32
+    ensures { result ≡ faults.zone_number e }
+{
+    match e {
+        ZoneError::NoZone => 12,
+        _ => 14,
+    }
 }
 
 impl Fault {
@@ -63,6 +77,7 @@ impl Fault {
             Fault::Pool(_) => 11,
             Fault::NotFound => 12,
             Fault::OtherKind => 13,
+            Fault::Zone(e) => zone_number(*e),
         }
     }
 
@@ -106,6 +121,7 @@ impl fmt::Display for Fault {
             Fault::Printing(e) => write!(f, "{e}"),
             Fault::NotFound => write!(f, "nothing stands at the path"),
             Fault::OtherKind => write!(f, "what stands at the path is of another kind"),
+            Fault::Zone(e) => write!(f, "{e}"),
         }
     }
 }

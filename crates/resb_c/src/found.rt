@@ -20,7 +20,11 @@ use std::alloc::Global;
 
 /// Why a file isn't read beside the pool bundle that is given, if one is: that it lacks one, or the
 /// reader's refusal.
-fn fault_of(file: &[u8], pool: Option<PoolBundle<'_>>, refusal: BinaryDeserializerError) -> Fault
+pub(crate) fn fault_of(
+    file: &[u8],
+    pool: Option<PoolBundle<'_>>,
+    refusal: BinaryDeserializerError,
+) -> Fault
     ensures { IsToldAs (option_map pool_in pool.entry) file.now refusal.entry result }
 {
     match FileHead::read(file) {

@@ -1,32 +1,14 @@
 //! What the calls for C give of a file's tree as JSON.
 //! Its texts in either form are printed in `printing`.
-ghost use Rattle.std.specs.Prelude.{◌≡◌, ◌<◌, ◌≤◌, IfOk, IfErr, MatchOption, length};
+ghost use Rattle.std.specs.Prelude.{IfOk, IfErr};
 ghost use Rattle.std.specs.String.{string_bytes};
-ghost use Rattle.serde_json.specs.Written.{compact_text};
-ghost use Rattle.resb_tree.specs.View.{tree_of};
-ghost use Rattle.resb_json.specs.Json.{json_of};
 ghost use Rattle.resb_c.specs.JsonDumping.{DumpsJsonInto, HasNoJson, IsJsonDump};
 
 use crate::fault::Fault;
 use crate::files::{Input, bundle_of, fill};
 use resb_format::BinaryDeserializerError;
-use resb_json::{json_fits, json_text};
-use resb_tree::Resource;
-use std::alloc::{AllocError, Global};
-
-/// The JSON of a tree, or none where it has more bytes than the limit: its length is found first.
-fn json_within(alloc: Global, tree: &Resource<'_>, limit: u64) -> Result<Option<String>, AllocError>
-    ensures { IfOk result (λ found. MatchOption found
-        (limit < length (compact_text (json_of (tree_of tree.now))))
-        (λ text. (string_bytes text ≡ compact_text (json_of (tree_of tree.now)))
-        × (length (string_bytes text) ≤ limit))) }
-{
-    if !json_fits(alloc, tree, limit)? {
-        return Ok(None);
-    }
-    let text = json_text(alloc, tree)?;
-    Ok(Some(text))
-}
+use resb_json::json_text_within;
+use std::alloc::Global;
 
 /// The JSON of a file's tree, which has no more bytes than the limit.
 fn json_of_file(alloc: Global, input: Input<'_>, limit: u64) -> Result<String, Fault>
@@ -35,7 +17,7 @@ fn json_of_file(alloc: Global, input: Input<'_>, limit: u64) -> Result<String, F
     ensures err { IfErr result (HasNoJson input.entry.pool.now input.entry.file.now limit) }
 {
     let bundle = bundle_of(alloc, "", input, limit)?;
-    match json_within(alloc, bundle.root(), limit) {
+    match json_text_within(alloc, bundle.root(), limit) {
         Ok(Some(text)) => Ok(text),
         Ok(None) => Err(Fault::LongText(limit)),
         Err(_) => Err(Fault::Reading(BinaryDeserializerError::out_of_memory())),

@@ -1,11 +1,12 @@
 //! The library for C, whose header is `include/resb.h`: each call hands the caller's buffers on,
 //! and writes its status, a length and an error where the caller wants them. What is done over the
-//! bytes is in `compiling`, `files`, `json` and `found`, why a call fails in `fault`.
+//! bytes is in `compiling`, `files`, `json`, `found` and `zones`, why a call fails in `fault`.
 #![tactic(auto)]
 
 ghost use Rattle.std.specs.Prelude.{◌≡◌, ℕ, ℤ, [], Result, length, min};
 ghost use Rattle.resb_read.specs.declared.measuring.Measured.{Measured};
 ghost use Rattle.resb_diagnostics.specs.Location.{line_at, column_at};
+ghost use Rattle.resb_zoneinfo.specs.Reading.{ReadsInfo, RefusesInfo};
 ghost use Rattle.resb_c.specs.declared.form.Form.TheVariants.{Plain, Icu};
 ghost use Rattle.resb_c.specs.AtPaths.{GivesBytes, GivesKey, GivesString, TellsInteger};
 ghost use Rattle.resb_c.specs.AtPaths.{TellsKind, integer_told, kind_told};
@@ -14,6 +15,7 @@ ghost use Rattle.resb_c.specs.Compiling.{CompilesInto, CompilesWithin};
 ghost use Rattle.resb_c.specs.Dumping.{DumpsInto};
 ghost use Rattle.resb_c.specs.JsonDumping.{DumpsJsonInto};
 ghost use Rattle.resb_c.specs.Measures.{MeasuresFile, ShowsSums};
+ghost use Rattle.resb_c.specs.Zones.{TellsOffset};
 
 mod compiling;
 mod fault;
@@ -26,12 +28,14 @@ mod path;
 mod printing;
 mod report;
 mod there;
+mod zones;
 
 use crate::compiling::{compile_into, compile_within_into};
 use crate::files::{Input, Wanted, count_file, dump_into, measure_file};
 use crate::found::{bytes_into, key_into, string_into, tell_integer, tell_kind};
 use crate::json::dump_json_into;
 use crate::report::{report, tell};
+use crate::zones::tell_offset;
 pub use compiling::CompilingFault;
 pub use fault::Fault;
 pub use form::Form;
@@ -39,14 +43,16 @@ pub use measured::ResbMeasured;
 pub use printing::PrintingFault;
 pub use report::ResbError;
 use resb_diagnostics::location_of;
+use resb_fields::Fields;
+use resb_zoneinfo::InfoFields;
 use std::alloc::Global;
 
 /// The version of the header that this library has the calls of: its `RESB_VERSION`.
 #[unsafe(no_mangle)]
 pub extern "C" fn resb_version() -> u32
-    ensures { result ≡ 2 }
+    ensures { result ≡ 3 }
 {
-    2
+    3
 }
 
 /// Compiles a bundle's text to the front of `out`. `length` gets the file's length, for
@@ -421,4 +427,31 @@ pub extern "C" fn resb_key(
 {
     let answer = key_into(alloc, Input { file, pool }, path, number, out);
     report(alloc, answer, length, error)
+}
+
+/// Tells the offset of a time zone from universal time in seconds, at a moment in seconds since
+/// 1970, out of ICU's file of zones. It is 0 where it isn't told. Names of zones are ASCII.
+#[unsafe(no_mangle)]
+pub extern "C" fn resb_zone_offset(
+    alloc: Global,
+    file: &[u8],
+    zone: &[u8],
+    moment: i64,
+    offset: &mut i64,
+    error: &mut ResbError,
+) -> u32
+    ensures { (r : Result ℤ Fault)
+        × TellsOffset
+        (λ bytes i. ReadsInfo ⟦<InfoFields<'static> as Fields<'static>>⟧.reads bytes
+        (i.version, i.names, i.zones, i.rules, i.regions))
+        (RefusesInfo ⟦<InfoFields<'static> as Fields<'static>>⟧.counts
+        ⟦<InfoFields<'static> as Fields<'static>>⟧.refuses) file.now zone.now moment r
+        × (offset.new ≡ integer_told r) × Tells r result error.new }
+{
+    let answer = tell_offset(alloc, file, zone, moment);
+    *offset = match &answer {
+        Ok(told) => *told,
+        Err(_) => 0,
+    };
+    tell(alloc, &answer, error)
 }

@@ -1,7 +1,6 @@
 //! Offsets of a small made file, by hand from the rules: moments before, within and after the
 //! range of 32 bits, a link, a final rule of the last Sundays of March and October at 1:00, and one
 //! of the south; and a zone for each thing that a file may have wrong.
-use resb::binary::Cursor;
 use resb::compile;
 use resb_zoneinfo::{RuleError, ZoneError, ZoneInfo};
 use std::alloc::Global;
@@ -117,10 +116,18 @@ const REFUSED: [(&str, ZoneError); 19] = [
     ("Saving", ZoneError::Rule(RuleError::Saving)),
 ];
 
+/// What two of these print.
+const PRINTED: [(ZoneError, &str); 2] = [
+    (ZoneError::NoZone, "no zone has this name"),
+    (
+        ZoneError::Rule(RuleError::Clock),
+        "the zone's final rule is none: a clock is not 0, 1 or 2",
+    ),
+];
+
 /// The records of a file.
 fn info_of<'de>(alloc: Global, file: &'de [u8]) -> Option<ZoneInfo<'de>> {
-    let (root, mut walk) = Cursor::root(file).ok()?;
-    ZoneInfo::read(alloc, root, &mut walk).ok()
+    ZoneInfo::from_bytes(alloc, file).ok()
 }
 
 /// Whether a name has no zone, and this is why.
@@ -144,6 +151,15 @@ fn a_made_file_has_its_offsets(rt: HostRuntime) -> Result<(), Fail> {
     for (name, moment, wanted) in ROWS {
         let found = offset_of(&info, name, moment).ok_or("no such zone")?;
         assert_eq!(rt; found, wanted, "{name} {moment}");
+    }
+    Ok(())
+}
+
+#[test]
+fn faults_print_as_they_are(rt: HostRuntime) -> Result<(), Fail> {
+    for (error, wanted) in PRINTED {
+        let printed = format!(in rt.alloc(); "{error}")?;
+        assert_eq!(rt; printed.as_str(), wanted);
     }
     Ok(())
 }

@@ -1,8 +1,14 @@
--- What a whole file lacks where the fields of its table are refused.
+-- What a whole file lacks where the fields of its table are refused, and what is said of its root
+-- where the file is read alone.
 use Rattle.std.proofs.Common.{ℕ, List, ◌≡◌, ◌+◌, Some, length, sym, ap, subst, ◌∙◌, inl, inr}
-use Rattle.std.proofs.Common.{arith}
+use Rattle.std.proofs.Common.{arith, ◌≤◌, None, Result, Ok, Err}
+use Rattle.std.specs.Result.{IfErr}
 use Rattle.std.proofs.lemmas.Option.{same_Some}
+use Rattle.resb.specs.File.{budget}
 use Rattle.resb.specs.Places.{Place}
+use Rattle.resb.specs.PoolBundleChecks.{refusal_with}
+use Rattle.resb.specs.Roots.{HoldsAt, RefusesAt, place_of_root}
+use Rattle.resb.specs.WithPool.{over}
 use Rattle.resb.specs.Sequences.{entries_at}
 use Rattle.resb.specs.Fields.{Entry, CountsRecord}
 use Rattle.resb.specs.Reading.{Lacks, LacksOrMemory}
@@ -26,3 +32,36 @@ pub record_refused : (counts : List (List ℕ) → List Entry → ℕ → Type 0
 record_refused counts names p es left inside e are paid (inl memory) = inl memory
 record_refused counts names p es left inside e are paid (inr lacks) =
     inr (lacks_record counts names p es left inside are paid lacks)
+
+-- this holds of the place of the root
+pub rooted : (P : Place → Type 0) (bytes : List ℕ) (p : Place) → refusal_with None bytes ≡ None
+    → p ≡ place_of_root (over None bytes) → P p → HoldsAt P (over None bytes)
+rooted P bytes p none same h = record { head = none; root = subst P same h }
+
+-- no count that can be paid for stands at the root
+lacks_there : (counts : Place → ℕ → Type 0) (bytes : List ℕ) (p : Place) (left : ℕ)
+    (e : ReadingError) → p ≡ place_of_root (over None bytes) → left ≡ budget bytes
+    → LacksOrMemory (counts p) left e
+    → LacksOrMemory (λ n. HoldsAt (λ q. counts q n) (over None bytes)) (budget bytes) e
+lacks_there counts bytes p left e same all (inl m) = inl m
+lacks_there counts bytes p left e same all (inr lacks) =
+    inr (λ n h paid. lacks n (subst (λ q. counts q n) (sym same) h.root) (omega (arith, all, paid)))
+
+-- what is refused at the root
+pub refused_there : {X : Type 0} (counts : Place → ℕ → Type 0)
+    (refuses : Place → ℕ → ℕ → ReadingError → Type 0) (bytes : List ℕ) (p : Place)
+    (left left' : ℕ) (r : Result X ReadingError) → refusal_with None bytes ≡ None
+    → p ≡ place_of_root (over None bytes) → left ≡ budget bytes
+    → IfErr r (λ e. (left' ≤ left) × LacksOrMemory (counts p) left e)
+    → IfErr r (refuses p left left')
+    → IfErr r (λ e. LacksOrMemory (λ n. HoldsAt (λ q. counts q n) (over None bytes)) (budget bytes) e
+    × RefusesAt refuses (over None bytes) e)
+refused_there counts refuses bytes p left left' (Ok x) none same all a b = tt
+refused_there counts refuses bytes p left left' (Err e) none same all (falls, a) b = (
+  lacks_there counts bytes p left e same all a,
+  inr (
+    left',
+    rooted (λ q. refuses q (budget bytes) left' e) bytes p none same
+        (subst (λ n. refuses p n left' e) all b),
+  ),
+)

@@ -1,5 +1,5 @@
 -- The words of the contracts: civil dates, rules for when clocks change, a zone's moments and
--- offsets, links between zones, faults of records, and the whole file.
+-- offsets, links between zones, faults of records and what they print, and the whole file.
 pub mod Civil
 pub mod RuleDays
 pub mod Numbers
@@ -11,6 +11,7 @@ pub mod Offsets
 pub mod Linked
 pub mod LinkedLaws
 pub mod Checking
+pub mod Message
 pub mod Names
 pub mod Leading
 pub mod Info

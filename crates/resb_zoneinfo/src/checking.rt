@@ -1,15 +1,18 @@
 //! A zone's record checked, so that an offset can be looked up without a fault.
 //! Which zone a name stands for is said in `info`.
 ghost use Rattle.std.specs.Prelude.{◌≡◌, ◌≤◌, ◌<◌, ℕ, IfOk, IfErr, MatchOption, length};
-ghost use Rattle.std.specs.Prelude.{slice_index};
+ghost use Rattle.std.specs.Prelude.{slice_index, Some};
 ghost use Rattle.resb_zoneinfo.specs.Checking.{IsChecked, IsZoneFault, IsLast, IsFinalFault};
 ghost use Rattle.resb_zoneinfo.specs.Checking.{SaysNamed, IsNamedFault, rule_named};
+ghost use Rattle.resb_zoneinfo.specs.Message.{zone_message};
 
 use crate::data::{ZoneData, ZoneInfo};
 use crate::numbers::RuleError;
 use crate::rule::FinalRule;
 use crate::zone::{FinalYears, Zone};
 use resb::binary::helpers::I32View;
+use std::error::Error;
+use std::fmt;
 
 /// Why a file has no offsets of a zone.
 #[derive(Clone, Copy, Debug, PartialEq, Eq)]
@@ -35,6 +38,27 @@ pub enum ZoneError {
     /// The numbers of the final rule are no rule.
     Rule(RuleError),
 }
+
+impl fmt::Display for ZoneError {
+    ghost output = { λ e. Some (zone_message e) };
+
+    fn fmt<W: fmt::Write>(&self, f: &mut fmt::Formatter<W>) -> fmt::Result {
+        match self {
+            ZoneError::NoZone => write!(f, "no zone has this name"),
+            ZoneError::Link => write!(f, "the zone's link leads to no zone"),
+            ZoneError::Count => write!(f, "the zone has not as many transitions as types"),
+            ZoneError::NoOffset => write!(f, "the zone has no offset"),
+            ZoneError::Type => write!(f, "a transition of the zone has no offset"),
+            ZoneError::NoRule => write!(f, "the zone's final rule is none of the file"),
+            ZoneError::NoFinalRaw => write!(f, "the zone's final rule has no offset"),
+            ZoneError::NoFinalYear => write!(f, "the zone's final rule has no year"),
+            ZoneError::FinalYear => write!(f, "the zone's final year is before 1970"),
+            ZoneError::Rule(e) => write!(f, "the zone's final rule is none: {e}"),
+        }
+    }
+}
+
+impl Error for ZoneError {}
 
 impl<'de> ZoneData<'de> {
     /// The zone, where each transition has a type, each type an offset, and the final years, if

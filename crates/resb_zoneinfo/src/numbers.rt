@@ -3,11 +3,14 @@
 ghost use Rattle.std.specs.Prelude.{◌≡◌, ◌<◌, ◌≤◌, pos, Some, None, false, true, IsTrue};
 ghost use Rattle.std.specs.Prelude.{MatchOption, MatchResult};
 ghost use Rattle.resb_zoneinfo.specs.RuleDays.{is_real};
+ghost use Rattle.resb_zoneinfo.specs.Message.{rule_message};
 ghost use Rattle.resb_zoneinfo.specs.Numbers as numbers;
 ghost use Rattle.resb_zoneinfo.specs.Numbers.{is_within, SaysDay, IsSigned};
 
 use crate::civil::month_length;
 use crate::day::RuleDay;
+use std::error::Error;
+use std::fmt;
 
 /// Why numbers of a file are no rule.
 #[derive(Clone, Copy, Debug, PartialEq, Eq)]
@@ -27,6 +30,24 @@ pub enum RuleError {
     /// Nothing, or less than nothing, is saved.
     Saving,
 }
+
+impl fmt::Display for RuleError {
+    ghost output = { λ e. Some (rule_message e) };
+
+    fn fmt<W: fmt::Write>(&self, f: &mut fmt::Formatter<W>) -> fmt::Result {
+        match self {
+            RuleError::Length => write!(f, "it has not eleven numbers"),
+            RuleError::Month => write!(f, "a month is not 0 to 11"),
+            RuleError::Weekday => write!(f, "a weekday is not -7 to 7"),
+            RuleError::Day => write!(f, "its month has no such day"),
+            RuleError::Time => write!(f, "a time is not within a day"),
+            RuleError::Clock => write!(f, "a clock is not 0, 1 or 2"),
+            RuleError::Saving => write!(f, "it saves nothing"),
+        }
+    }
+}
+
+impl Error for RuleError {}
 
 /// A number of a file that is to be one from 0 up to a limit.
 pub(crate) fn natural(number: i32, limit: u64) -> Option<u64>

@@ -5,7 +5,7 @@ ghost use Rattle.resb.specs.Fields.{ReadsRecord, CountsRecord, RefusesRecord};
 ghost use Rattle.resb.specs.Places.{place_of};
 ghost use Rattle.resb.specs.Reading.{LacksOrMemory};
 ghost use Rattle.resb.specs.Tables.{view_entries};
-ghost use Rattle.resb_zoneinfo.specs.Reading.{info_names};
+ghost use Rattle.resb_zoneinfo.specs.Reading.{info_names, ReadsInfo, RefusesInfo};
 
 use crate::data::{InfoFields, ZoneInfo};
 use resb::binary::{Cursor, ReadingError, TableView, Walk};
@@ -13,6 +13,21 @@ use resb::fields::Fields;
 use std::alloc::Global;
 
 impl<'de> ZoneInfo<'de> {
+    /// Reads the root of a file of any version, with the whole budget of the file. A file that uses
+    /// a pool bundle is refused.
+    pub fn from_bytes<'m>(
+        alloc: Global,
+        bytes: &'de [u8],
+    ) -> Result<ZoneInfo<'de>, ReadingError<'m>>
+        ensures read { IfOk result (λ i. ReadsInfo ⟦<InfoFields<'de> as Fields<'de>>⟧.reads
+            bytes.entry.now (i.version, i.names, i.zones, i.rules, i.regions)) }
+        ensures refused { IfErr result (RefusesInfo ⟦<InfoFields<'de> as Fields<'de>>⟧.counts
+            ⟦<InfoFields<'de> as Fields<'de>>⟧.refuses bytes.entry.now) }
+    {
+        let (root, mut walk) = Cursor::root_with_pool(bytes, None)?;
+        ZoneInfo::read(alloc, root, &mut walk)
+    }
+
     /// Reads the values of the keys `TZVersion`, `Names`, `Zones`, `Rules` and `Regions` of the
     /// table that stands here, which in a file is the root. Of equal keys the last stands; what
     /// stands at other keys isn't looked at. It takes one from the budget for the table, one for

@@ -2,6 +2,7 @@
 //! With `--icu` both texts have ICU's form; with `--json` it is printed back as JSON.
 //! Where paths are given, what stands at each is printed alone: a string or a number as it is, a
 //! binary in hexadecimal, and of all else its kind and size, with the keys of a table.
+//! `--zone FILE NAME MOMENT..` prints the offsets of a time zone out of ICU's file of zones.
 mod resb;
 
 use resb::Form;
@@ -70,10 +71,32 @@ fn show_paths(text: &[u8], paths: &[String]) -> Result<bool, resb::Error> {
     Ok(is_all)
 }
 
+/// Prints the offset of a zone at each moment, and gives whether it is told at all of them.
+fn show_zone(file: &[u8], zone: &str, moments: &[String]) -> bool {
+    let mut is_all = true;
+    for moment in moments {
+        let moment = moment.parse().expect("a moment in seconds since 1970");
+        match resb::zone_offset(file, zone, moment) {
+            Ok(offset) => println!("{offset}"),
+            Err(e) => {
+                println!("{e}");
+                is_all = false;
+            }
+        }
+    }
+    is_all
+}
+
 fn main() -> ExitCode {
+    let words: Vec<String> = std::env::args().skip(1).collect();
+    if let [option, name, zone, moments @ ..] = words.as_slice() {
+        if option == "--zone" {
+            let file = std::fs::read(name).expect("a file of zones");
+            return ExitCode::from(u8::from(!show_zone(&file, zone, moments)));
+        }
+    }
     let mut text = Vec::new();
     std::io::stdin().read_to_end(&mut text).expect("standard input");
-    let words: Vec<String> = std::env::args().skip(1).collect();
     let answer = match words.first().map(String::as_str) {
         None => show(Form::Plain, &text, |file| resb::dump(Form::Plain, file, NAME, LIMIT)),
         Some("--icu") => show(Form::Icu, &text, |file| resb::dump(Form::Icu, file, NAME, LIMIT)),
@@ -84,8 +107,11 @@ fn main() -> ExitCode {
         Ok(true) => ExitCode::SUCCESS,
         Ok(false) => ExitCode::FAILURE,
         Err(e) => {
-            let (line, column) = resb::location(&text, e.place);
-            eprintln!("{line}:{column}: {e}");
+            if e.has_place() {
+                let (line, column) = resb::location(&text, e.place);
+                eprint!("{line}:{column}: ");
+            }
+            eprintln!("{e}");
             ExitCode::FAILURE
         }
     }

@@ -13,6 +13,11 @@ impl Error {
     fn none() -> Error {
         Error { kind: 0, place: 0, message: [0; 256] }
     }
+
+    /// Whether the fault is at its place of the text.
+    pub fn has_place(&self) -> bool {
+        matches!(self.kind, NOT_UTF8 | NOT_A_BUNDLE)
+    }
 }
 
 impl fmt::Display for Error {
@@ -39,6 +44,8 @@ pub struct Measured {
 
 const OK: u32 = 0;
 const TOO_SHORT: u32 = 1;
+const NOT_UTF8: u32 = 2;
+const NOT_A_BUNDLE: u32 = 3;
 
 /// What stands at the path is of another kind.
 pub const OTHER_KIND: u32 = 13;
@@ -195,6 +202,15 @@ extern "C" {
         out: *mut u8,
         out_length: usize,
         length: *mut usize,
+        error: *mut Error,
+    ) -> u32;
+    fn resb_zone_offset(
+        file: *const u8,
+        file_length: usize,
+        zone: *const u8,
+        zone_length: usize,
+        moment: i64,
+        offset: *mut i64,
         error: *mut Error,
     ) -> u32;
 }
@@ -526,4 +542,25 @@ pub fn key(input: Input<'_>, path: &str, number: usize) -> Result<String, Error>
     let mut text = vec![0; length];
     key_to(input, path, number, &mut text)?;
     Ok(String::from_utf8_lossy(&text).into_owned())
+}
+
+/// The offset of a time zone in seconds, at a moment in seconds since 1970, out of ICU's file of
+/// zones.
+pub fn zone_offset(file: &[u8], zone: &str, moment: i64) -> Result<i64, Error> {
+    let (mut offset, mut error) = (0, Error::none());
+    let status = unsafe {
+        resb_zone_offset(
+            file.as_ptr(),
+            file.len(),
+            zone.as_ptr(),
+            zone.len(),
+            moment,
+            &mut offset,
+            &mut error,
+        )
+    };
+    match status {
+        OK => Ok(offset),
+        _ => Err(error),
+    }
 }

@@ -172,7 +172,7 @@ zone_rows() {
     "$@" "$folder/zones.res" A/Older 0
   expect "$language: a zone with a fault" 1 \
     'fault 14: the zone has not as many transitions as types' '' "$@" "$folder/zones.res" Types 0
-  expect "$language: no file of zones" 1 'fault 5: Unknown: field missing' '' \
+  expect "$language: no file of zones" 1 'fault 5: Unknown error: field missing' '' \
     "$@" "$folder/large.res" Types 0
   expect "$language: a file that lacks its pool" 1 \
     'fault 9: the file uses a pool bundle, and none was given' '' "$@" "$folder/a.res" Types 0
@@ -273,6 +273,10 @@ if command -v cc > /dev/null; then
   built 'the C example of paths' cc -std=c99 -Wall -Wextra -Werror -O2 ${CFLAGS:-} \
     -I "$top/include" "$top/examples/c/get.c" "$RESB_LIB/libresb_c.a" "$RATTLE_C/liblibc_c.a" \
     -o "$folder/get" && path_rows C "$folder/get"
+  built 'the file of zones' write_zones "$folder/zones.res"
+  built 'the C example of zones' cc -std=c99 -Wall -Wextra -Werror -O2 ${CFLAGS:-} \
+    -I "$top/include" "$top/examples/c/zone.c" "$RESB_LIB/libresb_c.a" "$RATTLE_C/liblibc_c.a" \
+    -o "$folder/zone" && zone_rows C "$folder/zone"
   write_statuses "$folder/statuses.c"
   built 'the program of statuses' cc -std=c99 -Wall -Wextra -Werror -O2 ${CFLAGS:-} \
     -I "$top/include" "$folder/statuses.c" "$RESB_LIB/libresb_c.a" "$RATTLE_C/liblibc_c.a" \

@@ -473,13 +473,14 @@ lines_of() {
 }
 
 # one_file: the file of two texts is the first one's, or there is none; it is the second one's where
-# it is said that the first has none. There is always a status, and a word of each text without one.
+# it is said that the first has none. There is always a status, and a word of a text without a file:
+# it names the text, or the file where its place isn't known.
 one_file() {
   [ "$got" -gt 0 ] && [ "$got" -lt 3 ] || return 1
   if cmp -s into/t.res second/want; then
-    grep -q '^first/t.txt: .*[Oo]ut of memory' .err
+    grep -q '^\(first/t.txt\|into/t.res\): .*[Oo]ut of memory' .err
   elif cmp -s into/t.res first/want; then
-    grep -q '^second/t.txt: ' .err
+    grep -q '^\(second/t.txt\|into/t.res\): ' .err
   else
     [ ! -e into/t.res ] && grep -q '[Oo]ut of memory' .err
   fi

@@ -36,7 +36,8 @@ told 1 '' 'resb: --encoding is UTF-8, or UTF-16 by the mark that a text begins w
   genrb -e latin1 -s source root.txt
 told 1 '' 'resb: --formatVersion is 2 or 3' genrb --formatVersion 1 -s source root.txt
 # the pool bundle that ICU 72's compiler writes for texts without a key and a string
-told 0 '' '' genrb -q -s source -d built --writePoolBundle -k root.txt
+printf 'none{}' > source/none.txt
+told 0 '' '' genrb -q -s source -d built --writePoolBundle -k none.txt
 printf '%b' '\x20\x00\xda\x27\x14\x00\x00\x00\x00\x00\x02\x00\x52\x65\x73\x42\x02\x00\x00\x00' \
   '\x01\x04\x00\x00\x00\x00\x00\x00\x00\x00\x00\x00\x00\x00\x00\x20\x08\x00\x00\x00' \
   '\x09\x00\x00\x00\x0a\x00\x00\x00\x0a\x00\x00\x00\x00\x00\x00\x00\x03\x00\x00\x00' \
@@ -76,5 +77,6 @@ told 0 'three' '' get --pool shared/pool.res over/c.res delta/2
 told 0 '' '' compile --icu source/c.txt -o one.res --pool shared/pool.res
 same one.res wanted.res
 told 4 '' 'source/pool.res: no such file' genrb -q -s source -d over --usePoolBundle -k a.txt
-told 1 '' 'over/a.res: file is not a pool bundle' compile source/a.txt --pool over/a.res
+told 1 '' 'over/a.res: Invalid resource bundle data: file is not a pool bundle' \
+  compile source/a.txt --pool over/a.res
 told 2 '' 'resb: a pool bundle is read from a file alone' compile source/a.txt --pool -

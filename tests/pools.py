@@ -143,7 +143,7 @@ def read_beside():
     says('d{\n    alpha:alias{"/LOCALE/beta"}\n    beta:int{5}\n}\n',
          'dump', '--icu', 'three/d.res')
     seen((0, '{"alpha":{"alias":"/LOCALE/beta"},"beta":5}\n',
-          'three/d.res: this has no text, since the plain form has no aliases at alpha; '
+          'three/d.res: this has no text, since an alias stands at alpha, which --icu prints; '
           'here is its JSON\n'), run('dump', 'three/d.res'), 'dump three/d.res')
 
 

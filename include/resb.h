@@ -1,6 +1,9 @@
 /* resb.h: ICU resource bundles, from a text to a .res file and back, checks of such files, what
  * stands at a path in one, and the offsets of time zones.
  *
+ * It is for strangers' texts and files: whatever bytes they have, a call stays inside its buffers,
+ * ends, and says what is wrong with them.
+ *
  * Link with libresb_c.a and with the toolchain's liblibc_c.a, in this order.
  *
  * Nothing is allocated for the caller, so there is nothing to free. A call asks malloc for memory

@@ -1,12 +1,12 @@
 //! The calls that begin with a text or with keys: reading, writing, compiling, planning a pool.
 //! Those that begin with a file are in `files`.
 
-use crate::example::{FILE, OTHERS, TEXT};
+use crate::example::{FILE, OTHERS, OVER_POOL, POOL, TEXT};
 use crate::outcome::{Outcome, Refused};
-use resb::binary::{Serializer, pool, tree_from_bytes};
+use resb::binary::{PoolBundle, Serializer, pool, tree_from_bytes};
 use resb::bundle::Key;
 use resb::text::{Expected, IcuReader, Reader, Turns};
-use resb::{CompileError, compile, compile_icu};
+use resb::{CompileError, compile, compile_icu, compile_icu_with_pool, compile_with_pool};
 use std::alloc::Global;
 
 pub(crate) fn reads(alloc: Global) -> Result<bool, Refused> {
@@ -43,6 +43,18 @@ pub(crate) fn compiles_icu(alloc: Global) -> Result<bool, Refused> {
     let file = compile_icu(alloc, text)?;
     let other = compile(alloc, "b{a{\"x\ny\"}e:array{}l:array{{\"z\"}}}")?;
     Ok(bundle.name() == "b" && keys.len() == 3 && file.as_slice() == other.as_slice())
+}
+
+/// A text of either form, and its tree, have one file over a pool bundle.
+pub(crate) fn compiles_over_a_pool(alloc: Global) -> Result<bool, Refused> {
+    let pool = PoolBundle::read(&POOL)?;
+    let text = "a{alpha{\"one two three\"}beta{\"x\"}}";
+    let file = compile_with_pool(alloc, text, &pool)?;
+    let icu_file = compile_icu_with_pool(alloc, text, &pool)?;
+    let (bundle, keys) = Reader::read(alloc, text)?;
+    let written = Serializer::to_bytes_with_pool(alloc, &bundle, keys.as_slice(), &pool)?;
+    let over = OVER_POOL.as_slice();
+    Ok(file.as_slice() == over && icu_file.as_slice() == over && written.as_slice() == over)
 }
 
 /// Whether the text has a file that ends with this, and that is read back as the text's tree.

@@ -18,7 +18,7 @@ use resb_shown::{Node, Shown};
 use resb_tree::Int28;
 use std::alloc::{AllocError, Global};
 
-/// The first cause, in the order of the text, that keeps a bundle from having a text of a form, with
+/// The first cause, in the text's order, that keeps a bundle from having a text of a form, with
 /// the path to it, if there is one. Where the root is no table or the name is the cause, the path
 /// has no steps.
 pub fn find_cause<'s, F: Form, S: Shown<'s>>(

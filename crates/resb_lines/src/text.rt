@@ -104,7 +104,7 @@ impl<'s, F: Form, S: Shown<'s>> LinesText<'s, F, S, S::Members, S::Entries> {
         Ok(())
     }
 
-    /// Writes a string's text or an alias's path in quotes: as it stands, or else read into the room
+    /// Writes a string's text or an alias's path in quotes: as it stands, or read into the room
     /// for it.
     fn push_text(&mut self, shown: S) -> Result<(), AllocError>
         ensures written { OnOk result

@@ -14,7 +14,7 @@ use resb_format::bytes::{some_word, unit_at};
 use resb_tree::{Int28, NoMemory};
 use resb_walk::{Leaf, Standing, push_text_of_units};
 
-/// Whether a text, as the bytes of its UTF-16 units, has this character of ASCII, which is a unit by
+/// Whether a text, as bytes of its 16-bit units, has this character of ASCII, which is a unit by
 /// itself there.
 fn has_unit(units: &[u8], character: u8) -> bool
     requires { character < 128 }

@@ -62,7 +62,7 @@ abbrev pub looks_turns : List Look → ℕ
 looks_turns [] = 0
 looks_turns (l ∷ ls) = looks_turns ls + look_turns l
 
--- a resource at a path is a cause itself, or what is inside it is to be looked at; where nothing is,
+-- a resource at a path is a cause itself, or what is in it is to be looked at; where nothing is,
 -- the last step is taken back
 pub record Enters {C : Type 0} (c : Tests C) (before after : List Look) (path next : List Step)
     (t : Tree) (found : Option C) : Type 0 where

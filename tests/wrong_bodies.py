@@ -395,9 +395,12 @@ def combined(group, right=False):
 
 
 def can_join(edit, group):
-    """Whether a wrong body can be tried by one check with others of its crate."""
+    """Whether a wrong body can be tried by one check with others of its crate: each changes
+    functions alone, which no other one changes."""
     shared = {name for it in group for name in it.functions() | it.helpers()}
-    if not edit.functions() or shared & (edit.functions() | edit.helpers()):
+    if not all(it.functions() for it in [edit, *group]):
+        return False
+    if shared & (edit.functions() | edit.helpers()):
         return False
     try:
         combined([*group, edit])

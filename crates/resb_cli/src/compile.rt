@@ -1,6 +1,7 @@
 //! The command `compile`: each text to a file of its own.
 //! What a text's file is, and why it has none, is in `resb_program`.
 use crate::encoding::utf8_of;
+use crate::filter::filtered_file;
 use crate::folders::{Named, TEXTS, named_files};
 use crate::input::lending_pool;
 use crate::place::{Place, place_of};
@@ -202,10 +203,14 @@ fn file_of(
     text: &str,
     work: Work<'_, '_, '_>,
 ) -> Result<(Vec<u8>, u8), u8> {
-    match compiled(rt.alloc(), text, work) {
-        Ok(file) => Ok((file, warned(rt, name, text, work.wanted))),
-        Err(e) => Err(refuse(rt, name, text.as_bytes(), &e)),
-    }
+    let file = match work.wanted.filters {
+        Some(filters) => filtered_file(rt, name, text, filters, work.pool.as_ref())?,
+        None => match compiled(rt.alloc(), text, work) {
+            Ok(file) => file,
+            Err(e) => return Err(refuse(rt, name, text.as_bytes(), &e)),
+        },
+    };
+    Ok((file, warned(rt, name, text, work.wanted)))
 }
 
 /// The status of a text's warnings, once they are said.

@@ -2,19 +2,18 @@
 //! compiler.
 //! How a text is compiled is in `compile`, and which words are taken in `resb_words`.
 use crate::compile::{compile, source_of, text_in};
+use crate::filter::filtered_draft;
 use crate::input::pool_in;
+use crate::below::{as_names, below};
 use crate::place::place_of;
 use crate::save::{Bytes, save, saved};
-use crate::say::{complain, fail, or_fail, refuse};
+use crate::say::{complain, fail, or_fail};
 use crate::show::settled;
 use crate::streams::{NO_MEMORY, made};
-use resb_compile::IcuCompileError;
-use resb_icu_text::IcuReader;
 use resb_pool_maker::{PoolMaker, PoolMakerError};
-use resb_program::SourceError;
-use resb_words::{CompileWords, GenrbWords};
+use resb_words::{CompileWords, Filters, GenrbWords};
 use std::alloc::{AllocError, Global};
-use std::path::{Path, PathBuf};
+use std::path::PathBuf;
 
 /// What is said to fail where no text does.
 const NAME: &str = "genrb";
@@ -28,12 +27,16 @@ const INVALID_FORMAT: u8 = 3;
 /// The status for a file that can't be read or written: its error for the access to a file.
 const FILE_ACCESS: u8 = 4;
 
+/// The status for a file of rules that says none: its error for a failed parse.
+pub(crate) const PARSE_ERROR: u8 = 9;
+
 /// Compiles each text to a file that its bundle names, and then writes a pool bundle if that is
 /// asked for. The status is that of ICU's compiler.
 pub(crate) fn genrb(rt: &HostRuntime, wanted: &GenrbWords<'_>) -> u8 {
     match settled(make_all(rt, wanted)) {
         0 => 0,
         1 => INVALID_FORMAT,
+        PARSE_ERROR => PARSE_ERROR,
         _ => FILE_ACCESS,
     }
 }
@@ -43,29 +46,23 @@ fn make_all(rt: &HostRuntime, wanted: &GenrbWords<'_>) -> Result<u8, u8> {
     let texts = or_fail(rt, NAME, made(texts_below(rt.alloc(), wanted)))?;
     let status = compile_texts(rt, wanted, texts.as_slice());
     match wanted.written_pool {
-        Some(folder) if status == 0 => write_pool(rt, texts.as_slice(), folder),
+        Some(folder) if status == 0 => write_pool(rt, wanted, texts.as_slice(), folder),
         _ => Ok(status),
     }
 }
 
 /// The names of the texts, with the source folder's before each.
 fn texts_below(alloc: Global, wanted: &GenrbWords<'_>) -> Result<Vec<PathBuf>, AllocError> {
-    let source = Path::new(wanted.source);
     let mut texts = Vec::new(alloc);
     for text in wanted.texts.iter().copied() {
-        texts.push(if wanted.source == "." {
-            PathBuf::from_str(alloc, text)?
-        } else {
-            source.join(alloc, text)?
-        })?;
+        texts.push(below(alloc, wanted.source, text)?)?;
     }
     Ok(texts)
 }
 
 /// Compiles texts of these names.
 fn compile_texts(rt: &HostRuntime, wanted: &GenrbWords<'_>, texts: &[PathBuf]) -> u8 {
-    let names = texts.iter().map(|text| text.as_path().as_str());
-    let Ok(texts) = names.collect::<Vec<&str>>(rt.alloc()) else {
+    let Ok(texts) = as_names(rt.alloc(), texts) else {
         return fail(rt, NAME, NO_MEMORY);
     };
     compile(
@@ -78,6 +75,7 @@ fn compile_texts(rt: &HostRuntime, wanted: &GenrbWords<'_>, texts: &[PathBuf]) -
             is_icu: true,
             limit: None,
             pool: wanted.used_pool,
+            filters: wanted.filters,
             is_check: false,
             is_quiet: wanted.is_quiet,
             is_strict: false,
@@ -86,13 +84,18 @@ fn compile_texts(rt: &HostRuntime, wanted: &GenrbWords<'_>, texts: &[PathBuf]) -
 }
 
 /// Writes the pool bundle of what texts share into a folder.
-fn write_pool(rt: &HostRuntime, texts: &[PathBuf], folder: &str) -> Result<u8, u8> {
+fn write_pool(
+    rt: &HostRuntime,
+    wanted: &GenrbWords<'_>,
+    texts: &[PathBuf],
+    folder: &str,
+) -> Result<u8, u8> {
     let path = or_fail(rt, folder, pool_in(rt.alloc(), folder))?;
     let name = path.as_path().as_str();
     let place = or_fail(rt, name, place_of(rt, name))?;
     let mut maker = PoolMaker::new(rt.alloc());
     for text in texts {
-        add_text(rt, &mut maker, text.as_path().as_str())?;
+        add_text(rt, &mut maker, text.as_path().as_str(), wanted.filters)?;
     }
     let pool = maker
         .finish(rt.alloc())
@@ -103,18 +106,17 @@ fn write_pool(rt: &HostRuntime, texts: &[PathBuf], folder: &str) -> Result<u8, u
 }
 
 /// Adds the bundle of the text of a name to those of which a pool bundle is made.
-fn add_text(rt: &HostRuntime, maker: &mut PoolMaker, name: &str) -> Result<(), u8> {
+fn add_text(
+    rt: &HostRuntime,
+    maker: &mut PoolMaker,
+    name: &str,
+    filters: Option<Filters<'_>>,
+) -> Result<(), u8> {
     let source = source_of(rt, name, None)?;
     let text = text_in(rt, name, source.as_slice())?;
-    let (bundle, keys) = match IcuReader::read(rt.alloc(), text) {
-        Ok(read) => read,
-        Err(e) => {
-            let error = SourceError::IcuRefused(IcuCompileError::Reading(e));
-            return Err(refuse(rt, name, text.as_bytes(), &error));
-        }
-    };
+    let (bundle, keys) = filtered_draft(rt, name, text, filters)?;
     maker
-        .add(rt.alloc(), bundle.root(), keys.as_slice())
+        .add_draft(rt.alloc(), &bundle.root, keys.as_slice())
         .map_err(|e| refuse_pool(rt, name, e))
 }
 

@@ -1,12 +1,16 @@
-//! The program `resb` that people call: compile, check, dump, get, diff, list, extract, genrb.
+//! The program `resb` that people call: compile, check, dump, get, diff, list, extract, and
+//! ICU's genrb and derb.
 //! What its words ask for is in `resb_words`, and what it does with bytes in `resb_program`.
 #![tactic(auto)]
 
+mod below;
 mod check;
 mod compile;
+mod derb;
 mod diff;
 mod dump;
 mod encoding;
+mod filter;
 mod folders;
 mod genrb;
 mod get;
@@ -30,7 +34,7 @@ mod warn;
 mod words;
 
 use resb_program::keep_freed_memory;
-use resb_words::{Request, WordsError, is_of_genrb, request_of};
+use resb_words::{Request, WordsError, are_of_icu, request_of};
 use std::process::ExitCode;
 
 /// Ends the process with the status of what its words ask for.
@@ -40,7 +44,7 @@ fn main(rt: HostRuntime) -> ExitCode {
 }
 
 /// Does what the words ask: 0, 1 where a text or file is refused, 2 for other words and for files
-/// and streams that fail. The words of ICU's compiler have its statuses.
+/// and streams that fail. The words of ICU's tools have their statuses.
 fn perform(rt: &HostRuntime) -> u8 {
     let Ok(words) = words::words_of(rt) else {
         return say::fail(rt, "resb", streams::NO_MEMORY);
@@ -48,7 +52,7 @@ fn perform(rt: &HostRuntime) -> u8 {
     match request_of(rt.alloc(), words.as_slice()) {
         Ok(request) => perform_request(rt, &request),
         Err(e) => match answer(rt, &e) {
-            2 if is_of_genrb(words.as_slice()) => genrb::ILLEGAL_ARGUMENT,
+            2 if are_of_icu(words.as_slice()) => genrb::ILLEGAL_ARGUMENT,
             status => status,
         },
     }
@@ -81,5 +85,6 @@ fn perform_request(rt: &HostRuntime, request: &Request<'_>) -> u8 {
         }
         Request::Extract(words) => packages::extract(rt, words),
         Request::Genrb(words) => genrb::genrb(rt, words),
+        Request::Derb(words) => derb::derb(rt, words),
     }
 }

@@ -1,6 +1,6 @@
 //! What a bundle gives to a pool, found in the laying order of its resources: the keys of its
 //! tables, and the texts of its strings that get a record.
-//! What a pool makes of them is said in `maker`.
+//! What a pool makes of them is said in `maker`, and what a draft gives is found in `drafts`.
 ghost use Rattle.std.specs.Prelude.{◌≡◌, ◌++◌, IfOk, IfErr, OnOk, filter, fold};
 ghost use Rattle.std.specs.List.{flat_map, list_any};
 ghost use Rattle.std.specs.String.{string_bytes};
@@ -86,7 +86,11 @@ fn is_in(set: &KeySet<'_>, key: &str) -> bool
 }
 
 /// The keys of a list that are among others, in the list's order.
-fn keys_among(alloc: Global, set: &KeySet<'_>, list: &[Key<'_>]) -> Result<Vec<String>, AllocError>
+pub(crate) fn keys_among(
+    alloc: Global,
+    set: &KeySet<'_>,
+    list: &[Key<'_>],
+) -> Result<Vec<String>, AllocError>
     ensures { IfOk result (λ v.
         bytes_each v.items ≡ filter (is_among (nows set.now.keys)) list.now) }
 {
@@ -102,7 +106,10 @@ fn keys_among(alloc: Global, set: &KeySet<'_>, list: &[Key<'_>]) -> Result<Vec<S
 }
 
 /// Adds the text of a resource, if it is a string.
-fn add_text<'t>(texts: &mut Vec<&'t str>, resource: &'t Resource<'_>) -> Result<(), AllocError>
+pub(crate) fn add_text<'t>(
+    texts: &mut Vec<&'t str>,
+    resource: &'t Resource<'_>,
+) -> Result<(), AllocError>
     ensures { OnOk result (nows texts.new.items
         ≡ nows texts.old.items ++ text_in (tree_of resource.now)) }
 {
@@ -163,6 +170,15 @@ pub(crate) fn has_nul_key(keys: &[String]) -> bool
     keys.iter().any(|key| key.as_bytes().contains(&0))
 }
 
+/// Those of texts that get a record among them.
+pub(crate) fn records_of(alloc: Global, texts: &[&str]) -> Result<Vec<String>, PlanError>
+    ensures ok { IfOk result (λ v. IsRecords (nows texts.now) (bytes_each v.items)) }
+    ensures err { IfErr result (NotPlanned (nows texts.now)) }
+{
+    let records = shared_pool::records(alloc, texts)?;
+    Ok(owned(alloc, &records)?)
+}
+
 /// The texts that get a record among the strings of resources.
 fn own_records(alloc: Global, order: &LayingOrder<'_, '_>) -> Result<Vec<String>, PlanError>
     ensures ok { IfOk result (λ v. IsRecords (flat_map text_in (trees_in order.now.items))
@@ -170,8 +186,7 @@ fn own_records(alloc: Global, order: &LayingOrder<'_, '_>) -> Result<Vec<String>
     ensures err { IfErr result (NotPlanned (flat_map text_in (trees_in order.now.items))) }
 {
     let texts = texts_in(alloc, order)?;
-    let records = shared_pool::records(alloc, &texts)?;
-    Ok(owned(alloc, &records)?)
+    records_of(alloc, &texts)
 }
 
 /// What the bundle of a tree and a list of its keys gives.

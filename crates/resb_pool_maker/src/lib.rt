@@ -2,6 +2,7 @@
 //! Files over a pool bundle are not written here, and reading one is done in `resb_pool_bundle`.
 #![tactic(auto)]
 
+mod drafts;
 mod error;
 mod file;
 mod gathering;

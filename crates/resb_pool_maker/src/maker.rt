@@ -11,10 +11,12 @@ ghost use Rattle.resb_pool_maker.specs.Inner.Given.{gift_keys, gift_records};
 ghost use Rattle.resb_pool_maker.specs.PoolOf.{each_once, join_key, least_saved};
 ghost use Rattle.resb_pool_maker.specs.declared.error.PoolMakerError.TheVariants.{KeysTooLarge};
 
+use crate::drafts::draft_gift_of;
 use crate::error::PoolMakerError;
 use crate::file::assemble;
 use crate::gathering::{Gift, KeySet, gift_of, has_nul_key, join};
 use indexmap::IndexSet;
+use resb_draft::Draft;
 use resb_pool::{PlanError, shared_pool};
 use resb_tree::{Key, Resource};
 use std::alloc::{AllocError, Global};
@@ -34,8 +36,11 @@ pub struct PoolMaker {
 
 impl PoolMaker {
     ghost use Rattle.std.specs.Prelude.{◌≡◌, ◌++◌, ◌∷◌, [], List, IfOk, IfErr, OnOk, OnErr};
+    ghost use Rattle.std.specs.Prelude.{true};
+    ghost use Rattle.resb_draft.specs.Drafts.{draft_tree, is_ready};
     ghost use Rattle.resb_tree.specs.View.{tree_of};
     ghost use Rattle.resb_pool_maker.specs.Holding.{Holds};
+    ghost use Rattle.resb_pool_maker.specs.Inner.Given.{Gives};
     ghost use Rattle.resb_pool_maker.specs.PoolFault.{RefusesBundle, RefusesPool};
     ghost use Rattle.resb_pool_maker.specs.PoolOf.{Bundle, IsPoolOf};
 
@@ -71,7 +76,42 @@ impl PoolMaker {
           keys = keys_in_discovery_order.now;
         })) }
     {
-        let gift = gift_of(alloc, root, keys_in_discovery_order)?;
+        self.keep(gift_of(alloc, root, keys_in_discovery_order)?)
+    }
+
+    /// Adds the bundle of a draft: as `add` does, for the tree for which the draft stands, which is
+    /// whole.
+    pub fn add_draft(
+        &mut self,
+        alloc: Global,
+        root: &Draft<'_>,
+        keys_in_discovery_order: &[Key<'_>],
+    ) -> Result<(), PoolMakerError>
+        requires { is_ready root.now ≡ true }
+        ensures adds { OnOk result ((bs : List Bundle) → Holds self.old bs
+            → Holds self.new (bs ++ (record {
+              tree = draft_tree root.now;
+              keys = keys_in_discovery_order.now;
+            }) ∷ [])) }
+        ensures stays { OnErr result ((bs : List Bundle) → Holds self.old bs
+            → Holds self.new bs) }
+        ensures err { IfErr result (RefusesBundle (record {
+          tree = draft_tree root.now;
+          keys = keys_in_discovery_order.now;
+        })) }
+    {
+        self.keep(draft_gift_of(alloc, root, keys_in_discovery_order)?)
+    }
+
+    /// Keeps what a bundle gives, unless a key holds U+0000.
+    fn keep(&mut self, gift: Gift) -> Result<(), PoolMakerError>
+        ensures adds { OnOk result ((b : Bundle) → Gives b gift → (bs : List Bundle)
+            → Holds self.old bs → Holds self.new (bs ++ b ∷ [])) }
+        ensures stays { OnErr result ((bs : List Bundle) → Holds self.old bs
+            → Holds self.new bs) }
+        ensures err { IfErr result (λ e. (b : Bundle) → Gives b gift
+            → RefusesBundle b e) }
+    {
         if has_nul_key(&gift.keys) {
             return Err(PoolMakerError::KeyWithNul);
         }

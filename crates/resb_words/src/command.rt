@@ -1,8 +1,8 @@
 //! The words that the program knows: its commands, their arguments and their help.
-//! What is read from words that were given is in `request`, and those of ICU's compiler are in
+//! What is read from words that were given is in `request`, and those of ICU's tools are in
 //! `icu_command`.
 use crate::described::{Argument, Described, FLAG, VALUE, WORD, WORDS, command_of};
-use crate::icu_command::GENRB;
+use crate::icu_command::{DERB, GENRB};
 use clap::Command;
 use std::alloc::{AllocError, Global};
 
@@ -40,7 +40,9 @@ const PACKAGE: Argument<'static> = Argument {
 };
 
 /// The program's commands, in the order in which they are shown.
-const COMMANDS: [Described<'static>; 8] = [COMPILE, CHECK, DUMP, GET, DIFF, LIST, EXTRACT, GENRB];
+const COMMANDS: [Described<'static>; 9] = [
+    COMPILE, CHECK, DUMP, GET, DIFF, LIST, EXTRACT, GENRB, DERB,
+];
 
 /// Texts to files.
 const COMPILE: Described<'static> = Described {

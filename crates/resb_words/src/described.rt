@@ -33,6 +33,8 @@ pub(crate) enum Takes {
     AtMostOne,
     /// The same, and the option isn't shown.
     Hidden,
+    /// None: the option asks for help, and isn't shown.
+    Help,
 }
 
 /// An argument of a command.
@@ -141,5 +143,6 @@ fn taking(arg: Arg<'_>, takes: Takes) -> Arg<'_> {
         Takes::Value => arg,
         Takes::AtMostOne => arg.num_args(0..=1).action(ArgAction::Append),
         Takes::Hidden => arg.num_args(0..=1).action(ArgAction::Append).hide(true),
+        Takes::Help => arg.action(ArgAction::Help).hide(true),
     }
 }

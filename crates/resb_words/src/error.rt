@@ -25,6 +25,8 @@ pub enum WordsError {
     NotDone(&'static str),
     /// `--encoding` names one that isn't read.
     NoEncoding,
+    /// `--encoding` names one that isn't written.
+    NoUtf8,
     /// `--formatVersion` names one that isn't written.
     NoVersion,
     /// A request for memory was refused.
@@ -63,6 +65,7 @@ impl fmt::Display for WordsError {
                 f,
                 "resb: --encoding is UTF-8, or UTF-16 by the mark that a text begins with"
             ),
+            WordsError::NoUtf8 => write!(f, "resb: --encoding is UTF-8"),
             WordsError::NoVersion => write!(f, "resb: --formatVersion is 2 or 3"),
             WordsError::Memory => write!(f, "resb: out of memory"),
         }

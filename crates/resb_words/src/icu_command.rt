@@ -1,17 +1,79 @@
-//! The words of ICU's own compiler, `genrb`, as a command of the program.
+//! The words of ICU's own tools, `genrb` and `derb`, as commands of the program.
 //! What is read from such words is in `icu_request`.
 use crate::described::{Argument, Described, FLAG, Takes, VALUE, WORDS, command_of};
 use clap::Command;
 use std::alloc::{AllocError, Global};
 
-/// The name of ICU's compiler.
-pub(crate) const NAME: &str = "genrb";
+/// A tool of ICU's, by whose name the program may be called.
+#[derive(Clone, Copy, PartialEq)]
+pub(crate) enum IcuTool {
+    /// ICU's compiler.
+    Genrb,
+    /// ICU's printer of compiled files.
+    Derb,
+}
+
+impl IcuTool {
+    /// The tool of a name, if it is one.
+    pub(crate) fn named(name: &str) -> Option<IcuTool> {
+        match name {
+            "genrb" => Some(IcuTool::Genrb),
+            "derb" => Some(IcuTool::Derb),
+            _ => None,
+        }
+    }
+}
 
 /// The words of ICU's compiler that ask for what isn't done, without the dashes.
-pub(crate) const NOT_DONE: [&str; 3] = ["write-java", "write-xliff", "filterDir"];
+pub(crate) const NOT_DONE: [&str; 2] = ["write-java", "write-xliff"];
 
 /// What is said of words that change nothing.
 const NOT_LOOKED_AT: &str = "Is not looked at";
+
+/// The usual folder for what is written.
+const DESTINATION: Argument<'static> = Argument {
+    id: "destdir",
+    letter: Some('d'),
+    option: Some("destdir"),
+    value: Some("DIR"),
+    help: "The folder for the files, else the current one",
+    ..VALUE
+};
+
+/// The folder of ICU's own data.
+const DATA: Argument<'static> = Argument {
+    id: "icudatadir",
+    letter: Some('i'),
+    option: Some("icudatadir"),
+    value: Some("DIR"),
+    help: NOT_LOOKED_AT,
+    ..VALUE
+};
+
+/// The wish for many words.
+const VERBOSE: Argument<'static> = Argument {
+    id: "verbose",
+    letter: Some('v'),
+    option: Some("verbose"),
+    help: NOT_LOOKED_AT,
+    ..FLAG
+};
+
+/// The wish for help by a question mark, as all of ICU's tools take it.
+const QUESTION: Argument<'static> = Argument {
+    takes: Takes::Help,
+    id: "question",
+    letter: Some('?'),
+    help: "Print help",
+    ..FLAG
+};
+
+/// An option that isn't shown, and not looked at.
+const IDLE: Argument<'static> = Argument {
+    takes: Takes::Hidden,
+    help: NOT_LOOKED_AT,
+    ..VALUE
+};
 
 /// An option that may name a folder.
 const FOLDER_OR_NONE: Argument<'static> = Argument {
@@ -30,7 +92,7 @@ const REFUSED: Argument<'static> = Argument {
 
 /// ICU's compiler, by its own words.
 pub(crate) const GENRB: Described<'static> = Described {
-    name: NAME,
+    name: "genrb",
     version: Some("0.2.0"),
     about: "Compiles texts in ICU's own form, by the words of ICU's compiler",
     example: "Example: resb genrb -s curr -d out/curr root.txt de.txt",
@@ -48,22 +110,8 @@ pub(crate) const GENRB: Described<'static> = Described {
             help: "The folder of the texts, else the current one",
             ..VALUE
         },
-        Argument {
-            id: "destdir",
-            letter: Some('d'),
-            option: Some("destdir"),
-            value: Some("DIR"),
-            help: "The folder for the files, else the current one",
-            ..VALUE
-        },
-        Argument {
-            id: "icudatadir",
-            letter: Some('i'),
-            option: Some("icudatadir"),
-            value: Some("DIR"),
-            help: NOT_LOOKED_AT,
-            ..VALUE
-        },
+        DESTINATION,
+        DATA,
         Argument {
             id: "encoding",
             letter: Some('e'),
@@ -86,19 +134,20 @@ pub(crate) const GENRB: Described<'static> = Described {
             ..FOLDER_OR_NONE
         },
         Argument {
+            id: "filterDir",
+            option: Some("filterDir"),
+            value: Some("DIR"),
+            help: "Leaves out of each file what the rules in the file of its text's name there say",
+            ..VALUE
+        },
+        Argument {
             id: "quiet",
             letter: Some('q'),
             option: Some("quiet"),
             help: "Says no warnings",
             ..FLAG
         },
-        Argument {
-            id: "verbose",
-            letter: Some('v'),
-            option: Some("verbose"),
-            help: NOT_LOOKED_AT,
-            ..FLAG
-        },
+        VERBOSE,
         Argument {
             id: "strict",
             letter: Some('k'),
@@ -147,15 +196,104 @@ pub(crate) const GENRB: Described<'static> = Described {
             ..REFUSED
         },
         Argument {
-            id: "filterDir",
-            option: Some("filterDir"),
-            ..REFUSED
+            id: "java-package",
+            option: Some("java-package"),
+            ..IDLE
         },
+        Argument {
+            id: "bundle-name",
+            letter: Some('b'),
+            option: Some("bundle-name"),
+            ..IDLE
+        },
+        Argument {
+            id: "language",
+            letter: Some('l'),
+            option: Some("language"),
+            ..IDLE
+        },
+        QUESTION,
     ],
 };
 
-/// The same as the program itself, which is called so.
-pub(crate) fn genrb_itself<'a>(alloc: Global) -> Result<Command<'a>, AllocError> {
-    let example = "Example: genrb -s curr -d out/curr root.txt de.txt";
-    command_of(alloc, &Described { example, ..GENRB })
+/// ICU's printer of compiled files, by its own words.
+pub(crate) const DERB: Described<'static> = Described {
+    name: "derb",
+    version: Some("0.2.0"),
+    about: "Writes the texts of .res files in ICU's own form, by the words of ICU's derb",
+    example: "Example: resb derb -s out/curr -d texts root.res de.res",
+    arguments: &[
+        Argument {
+            id: "FILE",
+            help: "The names of files, below the source folder; '.res' may be left out",
+            ..WORDS
+        },
+        Argument {
+            id: "sourcedir",
+            letter: Some('s'),
+            option: Some("sourcedir"),
+            value: Some("DIR"),
+            help: "The folder of the files, else the current one",
+            ..VALUE
+        },
+        Argument {
+            help: "The folder for the texts, else the current one",
+            ..DESTINATION
+        },
+        Argument {
+            id: "to-stdout",
+            letter: Some('c'),
+            option: Some("to-stdout"),
+            help: "Prints the texts to standard output",
+            ..FLAG
+        },
+        Argument {
+            id: "suppressAliases",
+            letter: Some('A'),
+            option: Some("suppressAliases"),
+            help: "Is not looked at: an alias is shown as one, and never followed",
+            ..FLAG
+        },
+        Argument {
+            id: "truncate",
+            letter: Some('t'),
+            option: Some("truncate"),
+            takes: Takes::AtMostOne,
+            value: Some("SIZE"),
+            help: "Is not looked at: nothing is cut",
+            ..VALUE
+        },
+        Argument {
+            id: "encoding",
+            letter: Some('e'),
+            option: Some("encoding"),
+            value: Some("NAME"),
+            help: "UTF-8",
+            ..VALUE
+        },
+        Argument {
+            id: "bom",
+            option: Some("bom"),
+            help: NOT_LOOKED_AT,
+            ..FLAG
+        },
+        DATA,
+        VERBOSE,
+        QUESTION,
+    ],
+};
+
+/// A tool's words, those of the program itself, which is called so.
+pub(crate) fn tool_itself<'a>(alloc: Global, tool: IcuTool) -> Result<Command<'a>, AllocError> {
+    let described = match tool {
+        IcuTool::Genrb => Described {
+            example: "Example: genrb -s curr -d out/curr root.txt de.txt",
+            ..GENRB
+        },
+        IcuTool::Derb => Described {
+            example: "Example: derb -s out/curr -d texts root.res de.res",
+            ..DERB
+        },
+    };
+    command_of(alloc, &described)
 }

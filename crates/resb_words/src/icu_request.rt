@@ -1,7 +1,7 @@
-//! What is asked in the words of ICU's own compiler, `genrb`.
-//! The words that it takes are in `icu_command`.
+//! What is asked in the words of ICU's own tools, `genrb` and `derb`.
+//! The words that they take are in `icu_command`.
 use crate::error::WordsError;
-use crate::icu_command::{NAME, NOT_DONE};
+use crate::icu_command::{IcuTool, NOT_DONE};
 use crate::request::{Request, names};
 use clap::ArgMatches;
 use std::alloc::Global;
@@ -20,31 +20,62 @@ pub struct GenrbWords<'w> {
     pub used_pool: Option<&'w str>,
     /// The folder for a pool bundle, if one is written.
     pub written_pool: Option<&'w str>,
+    /// The rules by which parts are left out of the files, if there are some.
+    pub filters: Option<Filters<'w>>,
     /// Whether warnings are left unsaid.
     pub is_quiet: bool,
 }
 
-/// Whether the first word, the process's own name, is that of ICU's compiler.
-pub(crate) fn is_called_genrb(words: &[String]) -> bool {
+/// The rules by which parts are left out of the files of texts.
+#[derive(Clone, Copy)]
+pub struct Filters<'w> {
+    /// The folder of the rules, in a file for each text that has the text's name.
+    pub folder: &'w str,
+    /// The folder of the texts, of which no name of a rule's file says anything.
+    pub source: &'w str,
+}
+
+/// What is asked of files by the words of ICU's `derb`.
+#[derive(Drop)]
+pub struct DerbWords<'w> {
+    /// The names of the files, below the source folder, with or without `.res`.
+    pub files: Vec<&'w str>,
+    /// The folder of the files.
+    pub source: &'w str,
+    /// The folder for the texts; standard output if there is none.
+    pub destination: Option<&'w str>,
+}
+
+/// The tool of ICU's by whose name the process is called, which is the first word.
+pub(crate) fn called_tool(words: &[String]) -> Option<IcuTool> {
     match words {
-        [name, ..] => Path::new(name.as_str()).file_name() == Some(NAME),
-        [] => false,
+        [name, ..] => IcuTool::named(Path::new(name.as_str()).file_name()?),
+        [] => None,
     }
 }
 
-/// Whether words, of which the first is the process's own name, are those of ICU's compiler.
-pub fn is_of_genrb(words: &[String]) -> bool {
+/// Whether words, of which the first is the process's own name, are those of a tool of ICU's.
+pub fn are_of_icu(words: &[String]) -> bool {
     match words {
-        [_, command, ..] if command.as_str() == NAME => true,
-        _ => is_called_genrb(words),
+        [_, command, ..] if IcuTool::named(command.as_str()).is_some() => true,
+        _ => called_tool(words).is_some(),
+    }
+}
+
+/// What is asked by the words of a tool of ICU's.
+pub(crate) fn asked_of<'w>(
+    alloc: Global,
+    tool: IcuTool,
+    matches: &ArgMatches<'w>,
+) -> Result<Request<'w>, WordsError> {
+    match tool {
+        IcuTool::Genrb => genrb(alloc, matches),
+        IcuTool::Derb => derb(alloc, matches),
     }
 }
 
 /// What is asked of texts by the words of ICU's compiler.
-pub(crate) fn genrb<'w>(
-    alloc: Global,
-    matches: &ArgMatches<'w>,
-) -> Result<Request<'w>, WordsError> {
+fn genrb<'w>(alloc: Global, matches: &ArgMatches<'w>) -> Result<Request<'w>, WordsError> {
     for word in NOT_DONE {
         if matches.contains_id(word) {
             return Err(WordsError::NotDone(word));
@@ -64,7 +95,31 @@ pub(crate) fn genrb<'w>(
         destination,
         used_pool: pool(matches, "usePoolBundle", source),
         written_pool: pool(matches, "writePoolBundle", destination),
+        filters: filters(matches, source),
         is_quiet: matches.get_flag("quiet"),
+    }))
+}
+
+/// The rules for the texts of a folder, if the words name a folder of rules.
+fn filters<'w>(matches: &ArgMatches<'w>, source: &'w str) -> Option<Filters<'w>> {
+    let folder = matches.get_str("filterDir")?;
+    Some(Filters { folder, source })
+}
+
+/// What is asked of files by the words of ICU's `derb`.
+fn derb<'w>(alloc: Global, matches: &ArgMatches<'w>) -> Result<Request<'w>, WordsError> {
+    if !is_utf8(matches.get_str("encoding")) {
+        return Err(WordsError::NoUtf8);
+    }
+    let destination = if matches.get_flag("to-stdout") {
+        None
+    } else {
+        Some(folder(matches, "destdir"))
+    };
+    Ok(Request::Derb(DerbWords {
+        files: names(alloc, matches, "FILE")?,
+        source: folder(matches, "sourcedir"),
+        destination,
     }))
 }
 
@@ -90,10 +145,18 @@ fn pool<'w>(matches: &ArgMatches<'w>, word: &str, usual: &'w str) -> Option<&'w 
 /// Whether texts of an encoding are read: UTF-8, which may be left unsaid, and UTF-16, of which the
 /// texts have a mark.
 fn is_known_encoding(encoding: Option<&str>) -> bool {
+    is_utf8(encoding) || is_one_of(encoding, ["utf-16", "utf16"])
+}
+
+/// Whether an encoding is UTF-8, which may be left unsaid.
+fn is_utf8(encoding: Option<&str>) -> bool {
+    matches!(encoding, None | Some("")) || is_one_of(encoding, ["utf-8", "utf8"])
+}
+
+/// Whether an encoding is said by one of two names, in letters of any case.
+fn is_one_of(encoding: Option<&str>, names: [&str; 2]) -> bool {
     match encoding {
-        None | Some("") => true,
-        Some(encoding) => ["utf-8", "utf8", "utf-16", "utf16"]
-            .iter()
-            .any(|known| encoding.eq_ignore_ascii_case(known)),
+        None => false,
+        Some(encoding) => names.iter().any(|name| encoding.eq_ignore_ascii_case(name)),
     }
 }

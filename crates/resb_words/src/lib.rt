@@ -10,7 +10,7 @@ mod icu_request;
 mod request;
 
 pub use error::WordsError;
-pub use icu_request::{GenrbWords, is_of_genrb};
+pub use icu_request::{DerbWords, Filters, GenrbWords, are_of_icu};
 pub use request::{
     CheckWords, CompileWords, DiffWords, DumpWords, ExtractWords, GetWords, Request, request_of,
 };

@@ -3,8 +3,8 @@
 
 use crate::command::program;
 use crate::error::WordsError;
-use crate::icu_command::genrb_itself;
-use crate::icu_request::{GenrbWords, genrb, is_called_genrb};
+use crate::icu_command::{IcuTool, tool_itself};
+use crate::icu_request::{DerbWords, Filters, GenrbWords, asked_of, called_tool};
 use clap::ArgMatches;
 use std::alloc::Global;
 
@@ -27,6 +27,8 @@ pub enum Request<'w> {
     Extract(ExtractWords<'w>),
     /// `genrb`: what ICU's compiler is asked in its own words.
     Genrb(GenrbWords<'w>),
+    /// `derb`: what ICU's printer of files is asked in its own words.
+    Derb(DerbWords<'w>),
 }
 
 /// What is asked of texts. The name `-` is standard input, and standard output.
@@ -46,6 +48,8 @@ pub struct CompileWords<'w> {
     pub limit: Option<u64>,
     /// The name of the pool bundle over which the files are written.
     pub pool: Option<&'w str>,
+    /// The rules by which parts are left out of the files, if there are some.
+    pub filters: Option<Filters<'w>>,
     /// Whether no file is written.
     pub is_check: bool,
     /// Whether warnings and progress are left unsaid.
@@ -123,12 +127,12 @@ pub struct ExtractWords<'w> {
     pub output: Option<&'w str>,
 }
 
-/// What the words ask for, of which the first is the program's own name. Under the name `genrb` the
-/// others are those of ICU's compiler.
+/// What the words ask for, of which the first is the program's own name. Under the name of a tool of
+/// ICU's, `genrb` or `derb`, the others are that tool's.
 pub fn request_of<'w>(alloc: Global, words: &'w [String]) -> Result<Request<'w>, WordsError> {
-    if is_called_genrb(words) {
-        let matches = genrb_itself(alloc)?.try_get_matches_from(words)?;
-        return genrb(alloc, &matches);
+    if let Some(tool) = called_tool(words) {
+        let matches = tool_itself(alloc, tool)?.try_get_matches_from(words)?;
+        return asked_of(alloc, tool, &matches);
     }
     let matches = program(alloc)?.try_get_matches_from(words)?;
     asked(alloc, &matches)
@@ -143,8 +147,11 @@ fn asked<'w>(alloc: Global, matches: &ArgMatches<'w>) -> Result<Request<'w>, Wor
         Some(("diff", matches)) => diff(matches),
         Some(("list", matches)) => Ok(Request::List(word(matches, "FILE"))),
         Some(("extract", matches)) => Ok(extract(matches)),
-        Some(("genrb", matches)) => genrb(alloc, matches),
-        Some((_, matches)) => get(alloc, matches),
+        Some(("get", matches)) => get(alloc, matches),
+        Some((command, matches)) => match IcuTool::named(command) {
+            Some(tool) => asked_of(alloc, tool, matches),
+            None => Err(WordsError::NoCommand),
+        },
         None => Err(WordsError::NoCommand),
     }
 }
@@ -166,6 +173,7 @@ fn compile<'w>(alloc: Global, matches: &ArgMatches<'w>) -> Result<Request<'w>, W
         is_icu: matches.get_flag("ICU"),
         limit,
         pool: matches.get_str("POOL"),
+        filters: None,
         is_check: matches.get_flag("check"),
         is_quiet: matches.get_flag("quiet"),
         is_strict: matches.get_flag("strict"),

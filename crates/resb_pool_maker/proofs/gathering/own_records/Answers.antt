@@ -6,8 +6,3 @@ pub returns-in_err-texts-clause-err : goal.returns-in_err-texts-clause-err
 returns-in_err-texts-clause-err c =
     let r = c.from_residual in
     let p = err_from_is_err_and r.result r.ensures.1 in rw (p.1, p.2) no_memory
-
-pub returns-in_err-owned-clause-err : goal.returns-in_err-owned-clause-err
-returns-in_err-owned-clause-err c =
-    let r = c.from_residual-in_err-owned in
-    let p = err_from_is_err_and r.result r.ensures.1 in rw (p.1, p.2) no_memory

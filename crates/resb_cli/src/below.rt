@@ -1,0 +1,18 @@
+//! Names of files below a folder, as the words of ICU's tools say them.
+//! Folders whose files are all meant are in `folders`.
+use std::alloc::{AllocError, Global};
+use std::path::{Path, PathBuf};
+
+/// The path of the file of a name below a folder; below the current one it is the name alone.
+pub(crate) fn below(alloc: Global, folder: &str, name: &str) -> Result<PathBuf, AllocError> {
+    if folder == "." {
+        return PathBuf::from_str(alloc, name);
+    }
+    Path::new(folder).join(alloc, name)
+}
+
+/// Paths as names.
+pub(crate) fn as_names(alloc: Global, paths: &[PathBuf]) -> Result<Vec<&str>, AllocError> {
+    let names = paths.iter().map(|path| path.as_path().as_str());
+    names.collect::<Vec<&str>>(alloc)
+}

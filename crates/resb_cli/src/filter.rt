@@ -1,0 +1,98 @@
+//! The bundles of texts without what rules leave out, and their files.
+//! What rules say is in `resb_filter`, and how a text without rules is compiled in `compile`.
+ghost use Rattle.std.specs.Prelude.{◌≡◌, true, IfOk};
+ghost use Rattle.resb_draft.specs.Drafts.{is_ready};
+
+use crate::genrb::PARSE_ERROR;
+use crate::input::bytes_of;
+use crate::say::{complain, or_fail, refuse, refuse_memory};
+use resb_compile::IcuCompileError;
+use resb_draft::DraftBundle;
+use resb_filter::{RuleError, Rules};
+use resb_icu_text::IcuReader;
+use resb_pool_bundle::PoolBundle;
+use resb_program::{SourceError, text_of};
+use resb_tree::Key;
+use resb_words::Filters;
+use resb_write::Serializer;
+use std::alloc::{AllocError, Global};
+use std::path::Path;
+
+/// The file of a text in ICU's own form without what its rules leave out, over a pool bundle if
+/// there is one; or the status, once it is said why there is none.
+pub(crate) fn filtered_file(
+    rt: &HostRuntime,
+    name: &str,
+    text: &str,
+    filters: Filters<'_>,
+    pool: Option<&PoolBundle<'_>>,
+) -> Result<Vec<u8>, u8> {
+    let (bundle, keys) = filtered_draft(rt, name, text, Some(filters))?;
+    let has_fallback = bundle.is_locale_fallback_enabled;
+    let (alloc, root, keys) = (rt.alloc(), bundle.root, keys.as_slice());
+    let file = match pool {
+        Some(pool) => Serializer::draft_to_bytes_with_pool(alloc, root, has_fallback, keys, pool),
+        None => Serializer::draft_to_bytes(alloc, root, has_fallback, keys),
+    };
+    file.map_err(|e| refuse_text(rt, name, text, IcuCompileError::Writing(e)))
+}
+
+/// The bundle of a text in ICU's own form, without what its rules leave out if there are some, and
+/// the text's keys; or the status, once it is said why there is none.
+pub(crate) fn filtered_draft<'t>(
+    rt: &HostRuntime,
+    name: &str,
+    text: &'t str,
+    filters: Option<Filters<'_>>,
+) -> Result<(DraftBundle<'t>, Vec<Key<'t>>), u8>
+    ensures { IfOk result (λ r. is_ready r.0.root ≡ true) }
+{
+    let (mut bundle, keys) = match IcuReader::read_draft(rt.alloc(), text) {
+        Ok(read) => read,
+        Err(e) => return Err(refuse_text(rt, name, text, IcuCompileError::Reading(e))),
+    };
+    if let Some(filters) = filters {
+        let rules = rules_of(rt, name, filters)?;
+        bundle.root = match rules.filtered(rt.alloc(), bundle.root) {
+            Ok(root) => root,
+            Err(_) => return Err(refuse_memory(rt, name)),
+        };
+    }
+    Ok((bundle, keys))
+}
+
+/// Says why a text has no file, and gives the status of that.
+fn refuse_text(rt: &HostRuntime, name: &str, text: &str, e: IcuCompileError) -> u8 {
+    refuse(rt, name, text.as_bytes(), &SourceError::IcuRefused(e))
+}
+
+/// The rules for the text of a name, or the status, once it is said why there are none.
+fn rules_of(rt: &HostRuntime, text: &str, filters: Filters<'_>) -> Result<Rules, u8> {
+    let Ok(name) = rules_name(rt.alloc(), text, filters) else {
+        return Err(refuse_memory(rt, text));
+    };
+    let name = name.as_str();
+    let bytes = bytes_of(rt, name, None)?;
+    let rules = or_fail(rt, name, text_of(bytes.as_slice()).map_err(|_| "this is no UTF-8"))?;
+    match Rules::read(rt.alloc(), rules) {
+        Ok(rules) => Ok(rules),
+        Err(RuleError::Memory) => Err(refuse_memory(rt, name)),
+        Err(e) => {
+            complain(rt, name, e);
+            Err(PARSE_ERROR)
+        }
+    }
+}
+
+/// The name of the file of a text's rules: what leads from the texts' folder to the text leads from
+/// the rules' folder to it.
+fn rules_name(alloc: Global, text: &str, filters: Filters<'_>) -> Result<String, AllocError> {
+    let folder = filters.folder;
+    match Path::new(text).strip_prefix(filters.source) {
+        Ok(inner) => {
+            let inner = inner.as_str();
+            format!(in alloc; "{folder}/{inner}")
+        }
+        Err(_) => format!(in alloc; "{folder}/{text}"),
+    }
+}

@@ -1,7 +1,7 @@
 //! The command `derb`: the texts of files in ICU's own form, by the words of ICU's `derb`.
 //! What is made of a file is in `dump`, and which words are taken in `resb_words`.
-use crate::dump::dump;
 use crate::below::{as_names, below};
+use crate::dump::dump;
 use crate::say::or_fail;
 use crate::show::settled;
 use crate::streams::made;
@@ -42,7 +42,11 @@ fn files_below(alloc: Global, wanted: &DerbWords<'_>) -> Result<Vec<PathBuf>, Al
         files.push(if Path::new(name).extension().is_some() {
             below(alloc, wanted.source, name)?
         } else {
-            below(alloc, wanted.source, format!(in alloc; "{name}.res")?.as_str())?
+            below(
+                alloc,
+                wanted.source,
+                format!(in alloc; "{name}.res")?.as_str(),
+            )?
         })?;
     }
     Ok(files)

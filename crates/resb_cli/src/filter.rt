@@ -5,9 +5,9 @@ ghost use Rattle.resb_draft.specs.Drafts.{is_ready};
 
 use crate::genrb::PARSE_ERROR;
 use crate::input::bytes_of;
-use crate::say::{complain, or_fail, refuse, refuse_memory};
+use crate::say::{complain, fail, refuse, refuse_memory};
 use resb_compile::IcuCompileError;
-use resb_draft::DraftBundle;
+use resb_draft::{Draft, DraftBundle};
 use resb_filter::{RuleError, Rules};
 use resb_icu_text::IcuReader;
 use resb_pool_bundle::PoolBundle;
@@ -52,36 +52,52 @@ pub(crate) fn filtered_draft<'t>(
         Err(e) => return Err(refuse_text(rt, name, text, IcuCompileError::Reading(e))),
     };
     if let Some(filters) = filters {
-        let rules = rules_of(rt, name, filters)?;
-        bundle.root = match rules.filtered(rt.alloc(), bundle.root) {
-            Ok(root) => root,
-            Err(_) => return Err(refuse_memory(rt, name)),
-        };
+        bundle.root = filtered(rt, name, bundle.root, filters)?;
     }
     Ok((bundle, keys))
 }
 
-/// Says why a text has no file, and gives the status of that.
-fn refuse_text(rt: &HostRuntime, name: &str, text: &str, e: IcuCompileError) -> u8 {
-    refuse(rt, name, text.as_bytes(), &SourceError::IcuRefused(e))
-}
-
-/// The rules for the text of a name, or the status, once it is said why there are none.
-fn rules_of(rt: &HostRuntime, text: &str, filters: Filters<'_>) -> Result<Rules, u8> {
+/// What the rules for the text of a name leave of a draft, or the status, once it is said why there
+/// are no rules.
+fn filtered<'t>(
+    rt: &HostRuntime,
+    text: &str,
+    root: Draft<'t>,
+    filters: Filters<'_>,
+) -> Result<Draft<'t>, u8>
+    requires { is_ready root ≡ true }
+    ensures { IfOk result (λ d. is_ready d ≡ true) }
+{
     let Ok(name) = rules_name(rt.alloc(), text, filters) else {
         return Err(refuse_memory(rt, text));
     };
     let name = name.as_str();
     let bytes = bytes_of(rt, name, None)?;
-    let rules = or_fail(rt, name, text_of(bytes.as_slice()).map_err(|_| "this is no UTF-8"))?;
-    match Rules::read(rt.alloc(), rules) {
-        Ok(rules) => Ok(rules),
-        Err(RuleError::Memory) => Err(refuse_memory(rt, name)),
-        Err(e) => {
-            complain(rt, name, e);
-            Err(PARSE_ERROR)
-        }
+    let Ok(text) = text_of(bytes.as_slice()) else {
+        return Err(fail(rt, name, "this is no UTF-8"));
+    };
+    let rules = match Rules::read(rt.alloc(), text) {
+        Ok(rules) => rules,
+        Err(e) => return Err(refuse_rules(rt, name, e)),
+    };
+    match rules.filtered(rt.alloc(), root) {
+        Ok(root) => Ok(root),
+        Err(_) => Err(refuse_memory(rt, name)),
     }
+}
+
+/// Says why a text is no rules, and gives the status of that.
+fn refuse_rules(rt: &HostRuntime, name: &str, e: RuleError) -> u8 {
+    complain(rt, name, e);
+    match e {
+        RuleError::OutOfMemory => 1,
+        RuleError::Line(_, _) => PARSE_ERROR,
+    }
+}
+
+/// Says why a text has no file, and gives the status of that.
+fn refuse_text(rt: &HostRuntime, name: &str, text: &str, e: IcuCompileError) -> u8 {
+    refuse(rt, name, text.as_bytes(), &SourceError::IcuRefused(e))
 }
 
 /// The name of the file of a text's rules: what leads from the texts' folder to the text leads from

@@ -1,10 +1,10 @@
 //! The command `genrb`: texts in ICU's own form to files, by the words and the statuses of ICU's
 //! compiler.
 //! How a text is compiled is in `compile`, and which words are taken in `resb_words`.
+use crate::below::{as_names, below};
 use crate::compile::{compile, source_of, text_in};
 use crate::filter::filtered_draft;
 use crate::input::pool_in;
-use crate::below::{as_names, below};
 use crate::place::place_of;
 use crate::save::{Bytes, save, saved};
 use crate::say::{complain, fail, or_fail};

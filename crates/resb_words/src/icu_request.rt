@@ -95,13 +95,13 @@ fn genrb<'w>(alloc: Global, matches: &ArgMatches<'w>) -> Result<Request<'w>, Wor
         destination,
         used_pool: pool(matches, "usePoolBundle", source),
         written_pool: pool(matches, "writePoolBundle", destination),
-        filters: filters(matches, source),
+        filters: rules_of(matches, source),
         is_quiet: matches.get_flag("quiet"),
     }))
 }
 
 /// The rules for the texts of a folder, if the words name a folder of rules.
-fn filters<'w>(matches: &ArgMatches<'w>, source: &'w str) -> Option<Filters<'w>> {
+fn rules_of<'w>(matches: &ArgMatches<'w>, source: &'w str) -> Option<Filters<'w>> {
     let folder = matches.get_str("filterDir")?;
     Some(Filters { folder, source })
 }

@@ -48,7 +48,7 @@ for part in files refusals icu several scripts genrb; do
 done
 
 told 0 'resb 0.2.0' '' --version
-for command in compile check dump get diff list extract genrb; do
+for command in compile check dump get diff list extract genrb derb; do
   (exec -a resb "$program" help "$command") > help.txt \
     && grep -q "^Example: resb $command" help.txt \
     && passed=$((passed + 1)) || { failed=$((failed + 1)); echo "help $command"; }

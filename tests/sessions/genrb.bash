@@ -1,5 +1,5 @@
 # shellcheck shell=bash
-# The command `genrb`, by the words and the statuses of ICU's compiler.
+# The commands `genrb` and `derb`, by the words of ICU's tools and the statuses of its compiler.
 # It is read by tests/resb.sh, behind the parts that stand before it there.
 mkdir -p source/sub built
 printf 'de_AT{ hi{"Servus"} n:int{3} }' > source/sub/first.txt
@@ -31,7 +31,7 @@ broken{ a{ \"x\"
 told 4 '' 'source/nope.txt: no such file' genrb -s source -d built nope.txt
 told 4 '' 'nowhere/root.res: no such folder' genrb -s source -d nowhere root.txt
 told 1 '' 'resb: --write-java isn'"'"'t done here' genrb -j -s source root.txt
-told 1 '' "resb: --filterDir isn't done here" genrb --filterDir x -s source root.txt
+told 4 '' 'x/root.txt: no such file' genrb --filterDir x -s source root.txt
 told 1 '' 'resb: --encoding is UTF-8, or UTF-16 by the mark that a text begins with' \
   genrb -e latin1 -s source root.txt
 told 1 '' 'resb: --formatVersion is 2 or 3' genrb --formatVersion 1 -s source root.txt
@@ -80,3 +80,32 @@ told 4 '' 'source/pool.res: no such file' genrb -q -s source -d over --usePoolBu
 told 1 '' 'over/a.res: Invalid resource bundle data: file is not a pool bundle' \
   compile source/a.txt --pool over/a.res
 told 2 '' 'resb: a pool bundle is read from a file alone' compile source/a.txt --pool -
+# rules leave parts out of the files, and of the pool bundle, as those of ICU 72's compiler do
+mkdir -p rules/sub
+printf 'de{ a{ x{"1"} y{"2"} } b{"s"} c{"p","q"} }' > source/de.txt
+printf '# one entry of a, and what is no table\n\n-/\n+/a/x\n+/c/0\n' > rules/de.txt
+told 0 '' '' genrb -q -s source -d built --filterDir rules de.txt
+told 0 '{"a":{"x":"1"},"c":["p","q"]}' '' dump --json built/de.res
+printf -- '-/a/*\n+/a/y\n-/c\n' > rules/de.txt
+told 0 '' '' genrb -q -s source -d built --filterDir rules --writePoolBundle -k de.txt
+told 0 '{"a":{"y":"2"},"b":"s"}' '' dump --json built/de.res
+told 0 '' '' genrb -q -s source -d built --filterDir rules --usePoolBundle built de.txt
+told 0 '{"a":{"y":"2"},"b":"s"}' '' dump --json built/de.res
+printf -- '-/hi\n' > rules/sub/first.txt
+told 0 '' '' genrb -q -s source -d built --filterDir rules sub/first.txt
+told 0 '{"n":3}' '' dump --json built/de_AT.res
+told 4 '' 'rules/root.txt: no such file' genrb -q -s source -d built --filterDir rules root.txt
+printf -- '-/a\nb\n' > rules/root.txt
+told 9 '' "rules/root.txt: line 2: no + or - at its start" \
+  genrb -q -s source -d built --filterDir rules root.txt
+# the words of ICU's derb
+mkdir -p printed
+told 0 '' '' derb -A -s over -d printed a
+told 0 "$(cat printed/a.txt)" '' dump --icu over/a.res
+told 0 "$(cat printed/a.txt)" '' derb -c -A -t -i elsewhere -e utf-8 -s over a.res
+(cd over && exec -a derb "$program" -d ../printed b.res c) && holds printed 'a.txt b.txt c.txt'
+told 2 '' 'over/nope.res: no such file' derb -s over nope
+told 1 '' 'resb: --encoding is UTF-8' derb -e latin1 -s over a
+(exec -a derb "$program" '-?') > help.txt
+grep -q '^Usage: derb \[OPTIONS\] <FILE>...$' help.txt \
+  && passed=$((passed + 1)) || { failed=$((failed + 1)); cat help.txt; }

@@ -10,6 +10,8 @@ mod blame_rows;
 #[cfg(test)]
 mod page_rows;
 #[cfg(test)]
+mod pool_rows;
+#[cfg(test)]
 mod record_rows;
 #[cfg(test)]
 mod rows;

@@ -1,0 +1,1 @@
+-- For crates above: those that are `pub`.

@@ -1,0 +1,127 @@
+//! What rules leave of a draft. What stays whole keeps its piece; a table on the path of a rule is
+//! put anew behind the others. Which rules decide of an entry is in `remaining`.
+ghost use Rattle.std.specs.Prelude.{◌≡◌, true, map, IfOk, OnOk, MatchOption};
+ghost use Rattle.resb_tree.specs.Borrowing.{all_true};
+ghost use Rattle.resb_tree.specs.Tree.{table, map_of};
+ghost use Rattle.resb_draft.specs.Drafts.{tree_at, is_whole, draft_tree, is_ready};
+ghost use Rattle.resb_draft.specs.Drafts.{IsMade, Keeps};
+ghost use Rattle.resb_filter.specs.Filtered.{filtered, entry_left};
+ghost use Rattle.resb_filter.specs.View.{rules_of, rules_left};
+ghost use Rattle.resb_filter.specs.Inner.Entries.{seen, AreEntries, IsNoTable, StaysAs};
+
+use crate::remaining::{Remaining, Verdict, all_rules, decide, rules_at};
+use crate::rules::Rules;
+use resb_draft::{Draft, Piece};
+use resb_tree::NoMemory;
+use std::alloc::Global;
+
+impl<'r> Rules<'r> {
+    /// The draft of what the rules leave of a draft's tree. Want of memory is the only refusal.
+    pub fn filtered<'a>(&self, alloc: Global, draft: Draft<'a>) -> Result<Draft<'a>, NoMemory>
+        requires { is_ready draft ≡ true }
+        ensures ready { IfOk result (λ d. is_ready d ≡ true) }
+        ensures tree { IfOk result
+            (λ d. draft_tree d ≡ filtered (rules_of self.now) (draft_tree draft.entry)) }
+    {
+        let mut draft = draft;
+        let rules = all_rules(alloc, self)?;
+        let root = draft.root;
+        draft.root = filter_piece(alloc, &mut draft, &rules, root)?;
+        Ok(draft)
+    }
+}
+
+/// The number of what rules leave of the tree of a piece.
+#[cycle(filtering)]
+fn filter_piece<'a>(
+    alloc: Global,
+    draft: &mut Draft<'a>,
+    rules: &[Remaining<'_, '_>],
+    number: u32,
+) -> Result<u32, NoMemory>
+    requires { is_whole draft.old number ≡ true }
+    ensures made { IfOk result (λ n. IsMade draft.new n
+        (filtered (rules_left rules.now) (tree_at draft.old number))) }
+    ensures keeps { OnOk result (Keeps draft.old draft.new) }
+{
+    let Some(entries) = entries_of(alloc, draft, number)? else {
+        return Ok(number);
+    };
+    let mut left = Vec::new(alloc);
+    for entry in &entries {
+        let key = entry.0;
+        if let Some(value) = filter_entry(alloc, draft, rules, key, entry.1)? {
+            left.push((key, value))?;
+        }
+    }
+    push_table(alloc, draft, &left)
+}
+
+/// The number of what rules leave of the value of an entry. None where the entry goes.
+#[cycle(filtering)]
+fn filter_entry<'a>(
+    alloc: Global,
+    draft: &mut Draft<'a>,
+    rules: &[Remaining<'_, '_>],
+    key: &str,
+    value: u32,
+) -> Result<Option<u32>, NoMemory>
+    requires { is_whole draft.old value ≡ true }
+    ensures stays { IfOk result (StaysAs draft.new
+        (entry_left (rules_left rules.now) key.now (tree_at draft.old value))) }
+    ensures keeps { OnOk result (Keeps draft.old draft.new) }
+{
+    let inside = rules_at(alloc, rules, key)?;
+    match decide(&inside) {
+        Verdict::Whole => Ok(Some(value)),
+        Verdict::Out => Ok(None),
+        Verdict::Partly => Ok(Some(filter_piece(alloc, draft, &inside, value)?)),
+    }
+}
+
+/// The entries of the table that a piece stands for: keys, and the numbers of their values. None
+/// for any other piece.
+fn entries_of<'a>(
+    alloc: Global,
+    draft: &Draft<'a>,
+    number: u32,
+) -> Result<Option<Vec<(&'a str, u32)>>, NoMemory>
+    requires { is_whole draft.now number ≡ true }
+    ensures { IfOk result (λ o. MatchOption o (IsNoTable draft.now number)
+        (λ v. AreEntries draft.now number v.items)) }
+{
+    match &draft.pieces[number as usize] {
+        Piece::Table(part, first) => {
+            let from = part.from as usize;
+            let key = *first as usize;
+            let count = part.count as usize;
+            let keys = draft.keys[key..key + count].iter().copied();
+            let values = draft.members[from..from + count].iter().copied();
+            let entries = keys.zip(values).collect(alloc)?;
+            Ok(Some(entries))
+        }
+        Piece::String(_) => Ok(None),
+        Piece::Integer(_) => Ok(None),
+        Piece::Leaf(_) => Ok(None),
+        Piece::Array(_) => Ok(None),
+    }
+}
+
+/// Puts a table of these entries into a draft.
+fn push_table<'a>(
+    alloc: Global,
+    draft: &mut Draft<'a>,
+    entries: &[(&'a str, u32)],
+) -> Result<u32, NoMemory>
+    ensures made { all_true (map (λ p. is_whole draft.old p.1) entries.now) ≡ true
+        → IfOk result (λ n. IsMade draft.new n
+        (table (map_of (seen (tree_at draft.old) entries.now)))) }
+    ensures keeps { OnOk result (Keeps draft.old draft.new) }
+{
+    let first_member = draft.members.len();
+    let first_key = draft.keys.len();
+    for entry in entries {
+        draft.push_entry(entry.0, entry.1)?;
+    }
+    draft.end_table(alloc, first_member, first_key)
+}

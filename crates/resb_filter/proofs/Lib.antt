@@ -1,1 +1,6 @@
 -- For crates above: those that are `pub`.
+mod LineLemmas
+mod RuleLemmas
+mod LeftLemmas
+mod TableLemmas
+mod LawLemmas

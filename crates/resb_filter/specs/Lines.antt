@@ -6,10 +6,10 @@
 --     IsRead text rs      the text is read as these rules
 --     IsOfLine n l e      an error says what is wrong with this line, or is want of memory
 --     Refuses text e      an error says what is wrong with the first wrong line of the text
-use Rattle.std.specs.Prelude.{◌≡◌, ◌<◌, ◌+◌, ℕ, Bool, true, false, ◌||◌, nat_eq, nat_lt}
+use Rattle.std.specs.Prelude.{◌≡◌, ◌<◌, ◌+◌, ◌==◌, ℕ, Bool, true, false, nat_eq, nat_lt}
 use Rattle.std.specs.Prelude.{List, [], ◌∷◌, Option, Some, None, Result, Ok, Err, length, take}
 use Rattle.std.specs.Prelude.{map, get_or, if◌then◌else◌}
-use Rattle.std.specs.List.{slice_split, flat_map}
+use Rattle.std.specs.List.{slice_split, flat_map, list_any}
 use Rattle.resb_tree.specs.Borrowing.{all_true}
 use Rattle.resb_filter.specs.Filtered.{Rule}
 use Rattle.resb_filter.specs.declared.error.RuleError.{RuleError}
@@ -30,9 +30,7 @@ pieces_in (c ∷ cs) = slice_split (λ b. nat_eq b 47) (c ∷ cs)
 
 -- whether one of the texts is empty
 abbrev pub has_empty : List (List ℕ) → Bool
-has_empty [] = false
-has_empty ([] ∷ ps) = true
-has_empty ((c ∷ cs) ∷ ps) = has_empty ps
+has_empty ps = list_any (λ p. length p == 0) ps
 
 -- what a sign and these pieces say: a rule, if none is empty and there are at most 1000
 abbrev pub pieces_say : Bool → List (List ℕ) → Result (Option Rule) RuleFault

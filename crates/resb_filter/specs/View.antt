@@ -1,7 +1,7 @@
 -- What stands for rules in the program.
 --     rules_of rs         the rules of a rule file
 --     rule_left r         a rule of which some pieces are left
-use Rattle.std.specs.Prelude.{ℕ, List, [], ◌∷◌, Option, Some, None, map}
+use Rattle.std.specs.Prelude.{List, [], ◌∷◌, Option, Some, None, map}
 use Rattle.resb_draft.specs.Drafts.{texts}
 use Rattle.resb_filter.specs.Filtered.{Rule}
 use Rattle.resb_filter.specs.declared.remaining.Remaining.{Remaining}

@@ -1,6 +1,8 @@
 //! What rules leave of a draft. What stays whole keeps its piece; a table on the path of a rule is
 //! put anew behind the others. Which rules decide of an entry is in `remaining`.
-ghost use Rattle.std.specs.Prelude.{◌≡◌, true, map, IfOk, OnOk, MatchOption};
+ghost use Rattle.std.specs.Prelude.{◌≡◌, ◌+◌, ◌≤◌, true, map, length, slice_range};
+ghost use Rattle.std.specs.Prelude.{IfOk, OnOk, MatchOption};
+ghost use Rattle.std.specs.List.{zip};
 ghost use Rattle.resb_tree.specs.Borrowing.{all_true};
 ghost use Rattle.resb_tree.specs.Tree.{table, map_of};
 ghost use Rattle.resb_draft.specs.Drafts.{tree_at, is_whole, draft_tree, is_ready};
@@ -92,19 +94,36 @@ fn entries_of<'a>(
 {
     match &draft.pieces[number as usize] {
         Piece::Table(part, first) => {
-            let from = part.from as usize;
-            let key = *first as usize;
-            let count = part.count as usize;
-            let keys = draft.keys[key..key + count].iter().copied();
-            let values = draft.members[from..from + count].iter().copied();
-            let entries = keys.zip(values).collect(alloc)?;
-            Ok(Some(entries))
+            let keys = part_of(&draft.keys, *first, part.count);
+            let values = part_of(&draft.members, part.from, part.count);
+            Ok(Some(pairs_of(alloc, keys, values)?))
         }
         Piece::String(_) => Ok(None),
         Piece::Integer(_) => Ok(None),
         Piece::Leaf(_) => Ok(None),
         Piece::Array(_) => Ok(None),
     }
+}
+
+/// The pairs of a key and the number at its place.
+fn pairs_of<'a>(
+    alloc: Global,
+    keys: &[&'a str],
+    values: &[u32],
+) -> Result<Vec<(&'a str, u32)>, NoMemory>
+    ensures { IfOk result (λ v. v.items ≡ zip keys.now values.now) }
+{
+    let pairs = keys.iter().copied().zip(values.iter().copied());
+    Ok(pairs.collect(alloc)?)
+}
+
+/// The part of a list that begins at a place and has so many elements.
+fn part_of<X>(list: &[X], from: u32, count: u32) -> &[X]
+    requires { from + count ≤ length list.now }
+    ensures { result.now ≡ slice_range list.now from (from + count) }
+{
+    let from = from as usize;
+    &list[from..from + count as usize]
 }
 
 /// Puts a table of these entries into a draft.

@@ -1,10 +1,10 @@
 //! The lines of a rule file: what one says, and its pieces.
 //! The rules of a whole text are read in `rules`.
 ghost use Rattle.std.specs.Prelude.{◌≡◌, Bool, Some, None, Ok, Err, IfOk, MatchOption};
-ghost use Rattle.std.specs.Prelude.{MatchResult};
+ghost use Rattle.std.specs.Prelude.{MatchResult, ◌==◌, length};
+ghost use Rattle.std.specs.List.{list_any};
 ghost use Rattle.resb_draft.specs.Drafts.{texts};
 ghost use Rattle.resb_filter.specs.Lines.{lines_of, line_says, path_says, pieces_say, pieces_in};
-ghost use Rattle.resb_filter.specs.Lines.{has_empty};
 
 use crate::error::RuleFault;
 use std::alloc::{AllocError, Global};
@@ -49,7 +49,10 @@ fn behind_slash(path: &str) -> Result<&str, RuleFault>
         ≡ pieces_say keeps (pieces_in rest.now))
         (λ f. (keeps : Bool) → path_says keeps path.now ≡ Err f) }
 {
-    path.strip_prefix('/').ok_or(RuleFault::NoSlash)
+    let Some(rest) = path.strip_prefix('/') else {
+        return Err(RuleFault::NoSlash);
+    };
+    Ok(rest)
 }
 
 /// The pieces of a path, from what stands behind its first `/`.
@@ -79,12 +82,7 @@ pub(crate) fn pieces_fault(pieces: &[&str]) -> Option<RuleFault>
 
 /// Whether one of the pieces is empty.
 fn one_is_empty(pieces: &[&str]) -> bool
-    ensures { result ≡ has_empty (texts pieces.now) }
+    ensures { result ≡ list_any (λ piece. length piece.now == 0) pieces.now }
 {
-    for piece in pieces {
-        if piece.is_empty() {
-            return true;
-        }
-    }
-    false
+    pieces.iter().any(|piece| piece.is_empty())
 }

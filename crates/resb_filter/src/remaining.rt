@@ -89,14 +89,16 @@ pub(crate) fn rules_at<'p, 'r>(
 pub(crate) fn decide(rules: &[Remaining<'_, '_>]) -> Verdict
     ensures { result ≡ verdict (rules_left rules.now) }
 {
-    let Some(last) = rules.last() else {
+    let Some((last, _)) = rules.split_last() else {
         return Verdict::Whole;
     };
-    if !last.pieces.is_empty() {
-        Verdict::Partly
-    } else if last.keeps {
-        Verdict::Whole
+    if last.pieces.is_empty() {
+        if last.keeps {
+            Verdict::Whole
+        } else {
+            Verdict::Out
+        }
     } else {
-        Verdict::Out
+        Verdict::Partly
     }
 }

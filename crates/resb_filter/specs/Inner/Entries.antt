@@ -3,7 +3,7 @@
 --     AreEntries d n ps       these are the entries of the table for which a piece stands
 --     IsNoTable d n           a piece stands for no table
 --     StaysAs d t o           a piece stands for this tree, if there is one, or none does
-use Rattle.std.specs.Prelude.{◌≡◌, ℕ, ⊥, true, List, Option, Some, None, map}
+use Rattle.std.specs.Prelude.{◌≡◌, ℕ, true, List, Option, Some, None, map}
 use Rattle.std.specs.Borrow.{Bor}
 use Rattle.resb_tree.specs.Borrowing.{all_true}
 use Rattle.resb_tree.specs.Tree.{Tree, table, entries_of}

@@ -1,0 +1,73 @@
+-- What rules leave of entries that stand as a list, and that their keys still ascend.
+use Rattle.std.proofs.Common.{◌≡◌, ℕ, List, [], ◌∷◌, ◌++◌, Less, refl, sym, ap, ◌∙◌}
+use Rattle.std.proofs.Common.{append-nil, append_assoc}
+use Rattle.std.specs.Prelude.{Option, Some, None}
+use Rattle.std.specs.List.{AllByRecursion}
+use Rattle.std.specs.List.Sorted.{IsStrictlySortedBy}
+use Rattle.std.specs.Map.{keys_of}
+use Rattle.resb_tree.specs.Maps.{text_cmp}
+use Rattle.resb_tree.specs.Tree.{Tree, entries_of}
+use Rattle.resb_filter.specs.Filtered.{Rule, entry_before, filtered_entries, entry_left}
+
+-- the tree that is left at a key, as a list of one, or none
+abbrev pub one_left : List ℕ → Option Tree → List (List ℕ × Tree)
+one_left k None = []
+one_left k (Some t) = (k, t) ∷ []
+
+-- what rules leave of entries
+abbrev pub all_left : List Rule → List (List ℕ × Tree) → List (List ℕ × Tree)
+all_left rs [] = []
+all_left rs (p ∷ ps) = one_left p.0 (entry_left rs p.0 p.1) ++ all_left rs ps
+
+before_is : (k : List ℕ) (o : Option Tree) (ps : List (List ℕ × Tree))
+    → entry_before k o (entries_of ps) ≡ entries_of (one_left k o ++ ps)
+before_is k None ps = refl
+before_is k (Some t) ps = refl
+
+-- a table's entries are left so
+pub entries_are_left : (rs : List Rule) (ps : List (List ℕ × Tree))
+    → filtered_entries rs (entries_of ps) ≡ entries_of (all_left rs ps)
+entries_are_left rs [] = refl
+entries_are_left rs (p ∷ ps) =
+    ap (entry_before p.0 (entry_left rs p.0 p.1)) (entries_are_left rs ps)
+    ∙ before_is p.0 (entry_left rs p.0 p.1) (all_left rs ps)
+
+-- with one more entry behind the others
+pub all_left-push : (rs : List Rule) (ps : List (List ℕ × Tree)) (p : List ℕ × Tree)
+    → all_left rs (ps ++ p ∷ []) ≡ all_left rs ps ++ one_left p.0 (entry_left rs p.0 p.1)
+all_left-push rs [] p = append-nil (one_left p.0 (entry_left rs p.0 p.1))
+all_left-push rs (q ∷ ps) p =
+    let first = one_left q.0 (entry_left rs q.0 q.1) in
+    ap (λ l. first ++ l) (all_left-push rs ps p)
+    ∙ sym (append_assoc first (all_left rs ps) (one_left p.0 (entry_left rs p.0 p.1)))
+
+below_one : (k l : List ℕ) (o : Option Tree) (qs : List (List ℕ × Tree)) → text_cmp k l ≡ Less
+    → AllByRecursion (λ y. text_cmp k y ≡ Less) (keys_of qs)
+    → AllByRecursion (λ y. text_cmp k y ≡ Less) (keys_of (one_left l o ++ qs))
+below_one k l None qs e h = h
+below_one k l (Some t) qs e h = (e, h)
+
+below_left : (k : List ℕ) (rs : List Rule) (ps : List (List ℕ × Tree))
+    → AllByRecursion (λ y. text_cmp k y ≡ Less) (keys_of ps)
+    → AllByRecursion (λ y. text_cmp k y ≡ Less) (keys_of (all_left rs ps))
+below_left k rs [] h = tt
+below_left k rs (p ∷ ps) h =
+    below_one k p.0 (entry_left rs p.0 p.1) (all_left rs ps) h.0 (below_left k rs ps h.1)
+
+sorted_one : (l : List ℕ) (o : Option Tree) (qs : List (List ℕ × Tree))
+    → AllByRecursion (λ y. text_cmp l y ≡ Less) (keys_of qs)
+    → IsStrictlySortedBy text_cmp (keys_of qs)
+    → IsStrictlySortedBy text_cmp (keys_of (one_left l o ++ qs))
+unfolding IsStrictlySortedBy
+sorted_one l None qs h s = s
+sorted_one l (Some t) qs h s = (h, s)
+
+-- keys that ascend do so among the entries that are left
+pub left_sorted : (rs : List Rule) (ps : List (List ℕ × Tree))
+    → IsStrictlySortedBy text_cmp (keys_of ps)
+    → IsStrictlySortedBy text_cmp (keys_of (all_left rs ps))
+unfolding IsStrictlySortedBy
+left_sorted rs [] h = tt
+left_sorted rs (p ∷ ps) h =
+    sorted_one p.0 (entry_left rs p.0 p.1) (all_left rs ps) (below_left p.0 rs ps h.0)
+    (left_sorted rs ps h.1)

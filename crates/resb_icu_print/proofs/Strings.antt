@@ -26,6 +26,7 @@ use Rattle.resb_print.proofs.Places.{range_is, run_at}
 use Rattle.resb_print.proofs.Groups.{digit_of, reads_back, all_below, below_passes}
 use Rattle.resb_icu_print.specs.Printed.{is_control, is_marked, escaped_on, inside_on, piece_on}
 use Rattle.resb_icu_print.specs.Printed.{are_words, is_bare, key_on}
+use Rattle.resb_icu_print.specs.Inner.Escapes.{is_escaped, has_escape}
 use Rattle.resb_icu_print.proofs.Places.{byte_near, same_place, solid_at, no_skip}
 use Rattle.resb_icu_print.proofs.Lists.{and_not_parts, false_from_not, unequal_to}
 
@@ -317,6 +318,14 @@ inside_append (b ∷ s) t rest = ap (escaped_on b) (inside_append s t rest)
 pub escaped_plain : (b : ℕ) (rest : List ℕ) → is_marked b ≡ false → is_control b ≡ false
     → escaped_on b rest ≡ b ∷ rest
 escaped_plain b rest m c = rw (m, c) refl
+
+-- a string in which nothing is escaped is written as it is
+pub plain_inside : (s rest : List ℕ) → has_escape s ≡ false → inside_on s rest ≡ s ++ rest
+plain_inside [] rest h = refl
+plain_inside (b ∷ s) rest h =
+    let p = or_parts (is_escaped b) (has_escape s) h in
+    let q = or_parts (is_marked b) (is_control b) p.0 in
+    escaped_plain b (inside_on s rest) q.0 q.1 ∙ ap (λ l. b ∷ l) (plain_inside s rest p.1)
 
 -- bytes that are no ASCII need no escape
 high_plain : (b : ℕ) (rest : List ℕ) → 128 ≤ b → escaped_on b rest ≡ b ∷ rest

@@ -6,3 +6,4 @@ pub mod CausePaths
 pub mod Sizes
 pub mod Laws
 pub mod Message
+pub mod Inner

@@ -4,6 +4,7 @@ ghost use Rattle.std.specs.Prelude.{◌≡◌, ◌++◌, ◌∷◌, [], OnOk, co
 ghost use Rattle.hex.specs.Hex.{encode_lower};
 ghost use Rattle.resb_print.specs.Inner.Appends.{Appends};
 ghost use Rattle.resb_icu_print.specs.Printed.{inside_on, piece_on, key_on};
+ghost use Rattle.resb_icu_print.specs.Inner.Escapes as escapes;
 
 use crate::keys::is_bare;
 use resb_print::push_quoted;
@@ -38,13 +39,42 @@ fn push_character(alloc: Global, out: &mut String, c: char) -> Result<(), AllocE
     Ok(())
 }
 
-/// Writes what stands between the quotes of a string.
-fn push_inside(alloc: Global, out: &mut String, text: &str) -> Result<(), AllocError>
+/// Whether a byte is escaped in a string.
+fn is_escaped(byte: u8) -> bool
+    ensures { result ≡ escapes.is_escaped byte }
+{
+    byte == b'"' || byte == b'\\' || byte < 32 || byte == 127
+}
+
+/// Whether a byte of a string is escaped.
+fn has_escape(text: &str) -> bool
+    ensures { result ≡ escapes.has_escape text.now }
+{
+    let mut is_found = false;
+    for byte in text.as_bytes() {
+        is_found = is_escaped(*byte) || is_found;
+    }
+    is_found
+}
+
+/// Writes the characters of a string one by one, with what is escaped among them.
+fn push_escaped(alloc: Global, out: &mut String, text: &str) -> Result<(), AllocError>
     ensures { OnOk result (Appends out.old out.new (inside_on text.now)) }
 {
     for c in text.chars() {
         push_character(alloc, out, c)?;
     }
+    Ok(())
+}
+
+/// Writes what stands between the quotes of a string: at once, where nothing is escaped in it.
+fn push_inside(alloc: Global, out: &mut String, text: &str) -> Result<(), AllocError>
+    ensures { OnOk result (Appends out.old out.new (inside_on text.now)) }
+{
+    if has_escape(text) {
+        return push_escaped(alloc, out, text);
+    }
+    out.push_str(text)?;
     Ok(())
 }
 

@@ -73,8 +73,8 @@ pub fn deeper(level: usize) -> usize
     if level < 32 { level + 1 } else { level }
 }
 
-/// Begins a line.
-pub fn push_line(out: &mut String, level: usize) -> Result<(), AllocError>
+/// Begins a line of a deep level.
+fn push_deep_line(out: &mut String, level: usize) -> Result<(), AllocError>
     ensures { OnOk result (Appends out.old out.new (line_on level)) }
 {
     out.push_str("\n")?;
@@ -82,6 +82,22 @@ pub fn push_line(out: &mut String, level: usize) -> Result<(), AllocError>
         out.push_str("    ")?;
     }
     Ok(())
+}
+
+/// Begins a line. The indentation of the first levels is written at once.
+pub fn push_line(out: &mut String, level: usize) -> Result<(), AllocError>
+    ensures { OnOk result (Appends out.old out.new (line_on level)) }
+{
+    match level {
+        0 => out.push_str("\n"),
+        1 => out.push_str("\n    "),
+        2 => out.push_str("\n        "),
+        3 => out.push_str("\n            "),
+        4 => out.push_str("\n                "),
+        5 => out.push_str("\n                    "),
+        6 => out.push_str("\n                        "),
+        _ => push_deep_line(out, level),
+    }
 }
 
 /// Writes what follows a resource.

@@ -92,20 +92,11 @@ pub turns_fall : (f : Spelling) (now new : String Global) (last left rest : List
 turns_fall f now new last left rest j e d =
     omega (arith, d.fewer, ap turns_of e, turns_behind left (j ∷ []))
 
--- a block grows by the line that was made
-pub block_grows : (f : Spelling) (empty line : String Global) (old now new : List ℕ)
-    (first last left rest : List Job) (j : Job)
-    → last ≡ left ++ j ∷ [] → string_bytes empty ≡ [] → new ≡ now ++ string_bytes line
-    → now ++ jobs_on f last [] ≡ old ++ jobs_on f first []
-    → DoesJob f empty line left rest j
-    → new ++ jobs_on f rest [] ≡ old ++ jobs_on f first []
-block_grows f empty line old now new first last left rest j e none n w d =
-    ap (λ l. l ++ jobs_on f rest []) n
-    ∙ append_assoc now (string_bytes line) (jobs_on f rest [])
-    ∙ ap (λ l. now ++ l) (d.text []
-    ∙ ap (λ l. l ++ job_on f j (jobs_on f left [])) none
-    ∙ sym (ap (λ js. jobs_on f js []) e ∙ jobs_behind f left (j ∷ []) []))
-    ∙ w
+-- a block ends with the lines that were made
+pub block_ends : (old new line rest all : List ℕ) → new ≡ old ++ line → line ++ rest ≡ all
+    → new ++ rest ≡ old ++ all
+block_ends old new line rest all n w =
+    ap (λ l. l ++ rest) n ∙ append_assoc old line rest ∙ ap (λ l. old ++ l) w
 
 -- where a text is made and nothing left out, what was made and what is left are the text
 pub text_grows : (f : Spelling) (now new : String Global) (first last left rest : List Job)

@@ -44,7 +44,7 @@ fn push_digits(alloc: Global, out: &mut String, bytes: &[u8]) -> Result<(), Allo
 pub(crate) struct LinesText<'s, F: Copy, S: Copy, M: Drop, E: Drop> {
     form: F,
     pending: Vec<Task<'s, S, M, E>>,
-    /// The line that is made.
+    /// The lines that are made, which go into a block at once.
     line: String,
     /// Room for the text of a string that stands nowhere as it is.
     room: String,
@@ -360,14 +360,15 @@ impl<'s, F: Form, S: Shown<'s>> Blocks for LinesText<'s, F, S, S::Members, S::En
     ghost left = { λ t. turns_of (jobs_in S.tree S.members S.entries t.pending.items) };
 
     fn push_block(&mut self, block: &mut Vec<u8>) -> Result<bool, AllocError> {
+        self.line.clear();
         while let Some(task) = self.pending.pop() {
-            self.line.clear();
             self.step(task)?;
-            block.extend_from_slice(self.line.as_bytes())?;
-            if block.len() >= BLOCK_LEN {
+            if self.line.len() >= BLOCK_LEN {
+                block.extend_from_slice(self.line.as_bytes())?;
                 return Ok(true);
             }
         }
+        block.extend_from_slice(self.line.as_bytes())?;
         Ok(false)
     }
 }

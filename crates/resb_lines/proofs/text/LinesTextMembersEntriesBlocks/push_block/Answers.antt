@@ -1,7 +1,8 @@
--- A task is taken and done: what is left, and what was written, are together the same as before.
-use Rattle.std.proofs.Common.{rules, ◌≡◌, ◌++◌, ◌∷◌, [], arith}
-use Rattle.resb_lines.specs.Inner.Jobs.{jobs_in, job_of}
-use Rattle.resb_lines.proofs.Jobs.{put_one, block_grows, turns_fall}
+-- A task is taken and done: what is left, and what was made, are together the same as before.
+use Rattle.std.proofs.Common.{rules, ◌≡◌, ◌++◌, ◌∷◌, [], arith, ap, ◌∙◌}
+use Rattle.std.specs.String.{string_bytes}
+use Rattle.resb_lines.specs.Inner.Jobs.{jobs_in, job_of, jobs_on}
+use Rattle.resb_lines.proofs.Jobs.{put_one, block_ends, text_grows, turns_fall}
 use Rattle.resb_lines.proofs.text.LinesTextMembersEntriesBlocks.push_block.Goals as goal
 
 pub returns-then-len-ge-BLOCK_LEN-clause-text : goal.returns-then-len-ge-BLOCK_LEN-clause-text
@@ -16,9 +17,13 @@ returns-then-len-ge-BLOCK_LEN-clause-text g c =
     let taken : last ≡ left ++ job ∷ [] =
     put_one s.tree s.members s.entries c.pop.new.self.items c.loop-task.self.pending.items
     c.in-Some.task c.in-Some.ensures.items in
-    block_grows f c.clear.new.self c.step.new.self.line c.args.block.now.items
-    c.loop-task.block.items c.extend_from_slice.new.self.items first last left rest job taken
-    c.clear.ensures.bytes (search rules) c.loop-task.invariant.text c.in_ok-step.ensures
+    let grown : c.extend_from_slice.new.self.items
+    ≡ c.loop-task.block.items ++ string_bytes c.step.new.self.line = search rules in
+    block_ends c.args.block.now.items c.extend_from_slice.new.self.items
+    (string_bytes c.step.new.self.line) (jobs_on f rest []) (jobs_on f first [])
+    (grown ∙ ap (λ l. l ++ string_bytes c.step.new.self.line) c.loop-task.invariant.block)
+    (text_grows f c.loop-task.self.line c.step.new.self.line first last left rest job taken
+    c.loop-task.invariant.text c.in_ok-step.ensures)
 
 pub returns-then-len-ge-BLOCK_LEN-clause-fewer : goal.returns-then-len-ge-BLOCK_LEN-clause-fewer
 returns-then-len-ge-BLOCK_LEN-clause-fewer g c =
@@ -35,7 +40,7 @@ returns-then-len-ge-BLOCK_LEN-clause-fewer g c =
     λ _. omega (
       arith,
       c.loop-task.invariant.fewer,
-      turns_fall f c.clear.new.self c.step.new.self.line last left rest job taken
+      turns_fall f c.loop-task.self.line c.step.new.self.line last left rest job taken
           c.in_ok-step.ensures,
     )
 
@@ -51,7 +56,7 @@ loop-task-smaller g c =
     let taken : last ≡ left ++ job ∷ [] =
     put_one s.tree s.members s.entries c.pop.new.self.items c.loop-task.self.pending.items
     c.in-Some.task c.in-Some.ensures.items in
-    turns_fall f c.clear.new.self c.step.new.self.line last left rest job taken
+    turns_fall f c.loop-task.self.line c.step.new.self.line last left rest job taken
     c.in_ok-step.ensures
 
 pub loop-task-preserved : goal.loop-task-preserved
@@ -68,13 +73,13 @@ loop-task-preserved g c =
     c.in-Some.task c.in-Some.ensures.items in
     record {
       text =
-          block_grows f c.clear.new.self c.step.new.self.line c.args.block.now.items
-          c.loop-task.block.items c.extend_from_slice.new.self.items first last left rest job taken
-          c.clear.ensures.bytes (search rules) c.loop-task.invariant.text c.in_ok-step.ensures;
+          text_grows f c.loop-task.self.line c.step.new.self.line first last left rest job taken
+          c.loop-task.invariant.text c.in_ok-step.ensures;
+      block = c.loop-task.invariant.block;
       fewer = omega (
         arith,
         c.loop-task.invariant.fewer,
-        turns_fall f c.clear.new.self c.step.new.self.line last left rest job taken
+        turns_fall f c.loop-task.self.line c.step.new.self.line last left rest job taken
             c.in_ok-step.ensures,
       );
     }

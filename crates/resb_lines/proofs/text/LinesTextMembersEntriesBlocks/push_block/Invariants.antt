@@ -1,5 +1,6 @@
--- What was written, and what is left, are what was there and what was left.
+-- What was made, and what is left, are what was left at the start.
 use Rattle.std.proofs.Common.{◌≡◌, ◌++◌, [], ◌≤◌}
+use Rattle.std.specs.String.{string_bytes}
 use Rattle.resb_lines.specs.Inner.Jobs.{jobs_in, jobs_on, turns_of}
 use Rattle.resb_lines.proofs.text.LinesTextMembersEntriesBlocks.push_block.Given as goal
 
@@ -10,7 +11,8 @@ invariant-loop-task g l =
     let now = jobs_in s.tree s.members s.entries l.self.pending.items in
     let first = jobs_in s.tree s.members s.entries l.fn.self.pending.items in
     record {
-      text : l.block.items ++ jobs_on f now [] ≡ l.fn.block.items ++ jobs_on f first [];
+      text : string_bytes l.self.line ++ jobs_on f now [] ≡ jobs_on f first [];
+      block : l.block.items ≡ l.fn.block.items;
       fewer : turns_of now ≤ turns_of first;
     }
 

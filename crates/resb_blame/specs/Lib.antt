@@ -3,4 +3,5 @@ pub mod Blamed
 pub mod Blames
 pub mod BlamedFields
 pub mod BlamedFiles
+pub mod Message
 pub mod Pointing

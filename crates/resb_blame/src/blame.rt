@@ -1,11 +1,9 @@
 //! A blame: the error, the path to the resource that was refused, and the field that it lacks.
-//! Which types say what of a place is in `blames`.
+//! Which types say what of a place is in `blames`, what a blame prints as in `message`.
 use resb_diff::PathStep;
 use resb_format::ReadingError;
 use resb_tree::NoMemory;
 use std::alloc::Global;
-use std::error::Error;
-use std::fmt;
 use std::marker::Model;
 
 /// What is to blame for a refusal.
@@ -13,10 +11,10 @@ use std::marker::Model;
 /// the name of the field, if one is missing; without a step as the error and the name alone.
 #[derive(Drop)]
 pub struct Blame<'de, 'm> {
-    error: ReadingError<'m>,
+    pub(crate) error: ReadingError<'m>,
     /// The steps from the innermost to the root's.
-    steps: Vec<PathStep<'de>>,
-    field: Option<&'de str>,
+    pub(crate) steps: Vec<PathStep<'de>>,
+    pub(crate) field: Option<&'de str>,
 }
 
 impl<'de, 'm> Model for Blame<'de, 'm> {
@@ -99,34 +97,3 @@ impl<'de, 'm> Blame<'de, 'm> {
         self.field
     }
 }
-
-impl fmt::Display for Blame<'_, '_> {
-    fn fmt<W: fmt::Write>(&self, f: &mut fmt::Formatter<W>) -> fmt::Result {
-        let mut divider = "";
-        for step in self.steps.iter().rev() {
-            match step {
-                PathStep::Key(key) => write!(f, "{divider}{key}")?,
-                PathStep::Number(number) => write!(f, "{divider}{number}")?,
-            }
-            divider = "/";
-        }
-        if !self.steps.is_empty() {
-            write!(f, ": ")?;
-        }
-        let error = self.error;
-        write!(f, "{error}")?;
-        if let Some(field) = self.field {
-            write!(f, ": {field}")?;
-        }
-        Ok(())
-    }
-}
-
-/// It prints as it is shown.
-impl fmt::Debug for Blame<'_, '_> {
-    fn fmt<W: fmt::Write>(&self, f: &mut fmt::Formatter<W>) -> fmt::Result {
-        fmt::Display::fmt(self, f)
-    }
-}
-
-impl Error for Blame<'_, '_> {}

@@ -8,6 +8,7 @@ mod fields;
 mod leaves;
 mod lists;
 mod maps;
+mod message;
 mod records;
 mod tuples;
 mod whole_files;

@@ -4,10 +4,12 @@
 
 mod chain;
 mod field;
+mod fields;
 mod record;
 mod tuples;
 
 pub use chain::Chain;
 pub use field::{Field, Maybe, OrDefault};
+pub use fields::Fields;
 pub use record::{Record, Table};
-pub use tuples::Fields;
+pub use tuples::Chained;

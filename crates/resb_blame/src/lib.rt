@@ -10,7 +10,6 @@ mod lists;
 mod maps;
 mod message;
 mod records;
-mod tuples;
 mod whole_files;
 
 pub use blame::Blame;

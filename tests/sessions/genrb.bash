@@ -96,7 +96,7 @@ told 0 '' '' genrb -q -s source -d built --filterDir rules sub/first.txt
 told 0 '{"n":3}' '' dump --json built/de_AT.res
 told 4 '' 'rules/root.txt: no such file' genrb -q -s source -d built --filterDir rules root.txt
 printf -- '-/a\nb\n' > rules/root.txt
-told 9 '' "rules/root.txt: line 2: no + or - at its start" \
+told 9 '' 'rules/root.txt: line 2: a rule begins with + or -' \
   genrb -q -s source -d built --filterDir rules root.txt
 # the words of ICU's derb
 mkdir -p printed

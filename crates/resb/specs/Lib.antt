@@ -17,6 +17,11 @@ pub use Rattle.resb_diff.specs.View as DiffView
 pub use Rattle.resb_diff.specs.Laws as DiffLaws
 pub use Rattle.resb_draft.specs.Drafts
 pub use Rattle.resb_draft.specs.Pieces as DraftPieces
+pub use Rattle.resb_filter.specs.Filtered
+pub use Rattle.resb_filter.specs.Lines as RuleLines
+pub use Rattle.resb_filter.specs.View as RuleView
+pub use Rattle.resb_filter.specs.Messages as RuleMessages
+pub use Rattle.resb_filter.specs.Laws as RuleLaws
 pub use Rattle.resb_grammar.specs.Ascii
 pub use Rattle.resb_grammar.specs.ByteRuns
 pub use Rattle.resb_grammar.specs.Lexical

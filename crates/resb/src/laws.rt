@@ -162,6 +162,8 @@ pub use resb_write::laws::one_file_with_pool;
 pub use resb_write::laws::written_with_pool_is_read;
 // A pool bundle that was made is read, and lends just the keys and strings that it is made of.
 pub use resb_pool_maker::laws::made_pool_is_read;
+// Without rules nothing is left out of a tree.
+pub use resb_filter::laws::no_rules_leave_all;
 
 // Codecs: what is written is read back, and what is read is written as it stood.
 

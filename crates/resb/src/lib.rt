@@ -8,6 +8,7 @@ pub mod blame;
 pub mod bundle;
 pub mod diff;
 pub mod fields;
+pub mod filter;
 pub mod headline;
 pub mod laws;
 pub mod opened;

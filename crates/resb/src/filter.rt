@@ -1,0 +1,4 @@
+//! The rules of ICU's data build by which entries of tables are left out of a bundle.
+//! They are applied to drafts, which the readers in `text` make and the writer in `binary` takes.
+
+pub use resb_filter::{RuleError, RuleFault, Rules};

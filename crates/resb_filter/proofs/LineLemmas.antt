@@ -1,7 +1,10 @@
 -- What lines say: by the character with which each begins.
-use Rattle.std.proofs.Common.{◌≡◌, ◌≢◌, ℕ, Bool, true, false, ◌||◌, List, [], ◌∷◌, Bor, refl, ap, sym}
-use Rattle.std.proofs.Common.{◌∙◌, ◌+◌, ◌<◌, ◌≤◌, ◌++◌, length, subst, arith, map, take, get_or, append-nil}
-use Rattle.std.specs.Prelude.{◌==◌, nat_eq, nat_lt, Ok, Err, Result, Option, None, Some, is_some, IsErrAnd, IfErr, if◌then◌else◌}
+use Rattle.std.proofs.Common.{◌≡◌, ◌≢◌, ℕ, Bool, true, false, ◌||◌, List, [], ◌∷◌, Bor, refl, ap}
+use Rattle.std.proofs.Common.{sym}
+use Rattle.std.proofs.Common.{◌∙◌, ◌+◌, ◌<◌, ◌≤◌, ◌++◌, length, subst, arith, map, take, get_or}
+use Rattle.std.proofs.Common.{append-nil}
+use Rattle.std.specs.Prelude.{◌==◌, nat_eq, nat_lt, Ok, Err, Result, Option, None, Some, is_some}
+use Rattle.std.specs.Prelude.{IsErrAnd, IfErr, if◌then◌else◌}
 use Rattle.std.specs.List.{list_any, slice_split, flat_map}
 use Rattle.std.proofs.lemmas.Bool.{false≢true, eqb-true, ltb-true, lt-ltb, and_from}
 use Rattle.std.proofs.lemmas.List.{map_push, take_more, take_all, length-map, take-map, get_or-map}

@@ -51,7 +51,8 @@ filter_piece-loop-entry-preserved t c =
       | filter_piece-in-Some-2+in_ok-push w ↦
           stays_more d c.loop-entry.draft c.filter_entry.new.draft (rules_left c.args.rules.now) es
           c.loop-entry.entry-index _ c.loop-entry.left.items c.match-branch-4.left.items
-          c.in_ok-value.field-0 w.in-Some-2.value c.loop-entry-test.true c.loop-entry.invariant are.whole
+          c.in_ok-value.field-0 w.in-Some-2.value c.loop-entry-test.true c.loop-entry.invariant
+          are.whole
           c.in_ok-value.ensures.keeps c.in_ok-value.ensures.stays w.in-Some-2.is
           (ap (λ v. v.items) w.left-is ∙ w.in_ok-push.ensures.items)
       | filter_piece-in_default-2 w ↦

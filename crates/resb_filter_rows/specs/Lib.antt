@@ -1,0 +1,1 @@
+-- No words of its own: only tests stand here.

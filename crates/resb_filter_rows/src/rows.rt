@@ -42,16 +42,18 @@ fn push_piece(said: &mut String, draft: &Draft<'_>, number: u32) -> Result<(), A
         Some(Piece::String(text)) => said.push_str(text),
         Some(Piece::Table(part, first)) => {
             said.push('{')?;
-            let mut between = "";
+            let mut is_first = true;
             for key in draft
                 .keys
                 .iter()
                 .skip(*first as usize)
                 .take(part.count as usize)
             {
-                said.push_str(between)?;
+                if !is_first {
+                    said.push(' ')?;
+                }
                 said.push_str(key)?;
-                between = " ";
+                is_first = false;
             }
             said.push('}')
         }

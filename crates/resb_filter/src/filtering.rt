@@ -19,6 +19,8 @@ use std::alloc::Global;
 
 impl<'r> Rules<'r> {
     /// The draft of what the rules leave of a draft's tree. Want of memory is the only refusal.
+    /// At each table on the path of a rule, each entry is compared with each rule that is about
+    /// the table.
     pub fn filtered<'a>(&self, alloc: Global, draft: Draft<'a>) -> Result<Draft<'a>, NoMemory>
         requires { is_ready draft ≡ true }
         ensures ready { IfOk result (λ d. is_ready d ≡ true) }

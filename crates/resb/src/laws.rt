@@ -164,6 +164,10 @@ pub use resb_write::laws::written_with_pool_is_read;
 pub use resb_pool_maker::laws::made_pool_is_read;
 // Without rules nothing is left out of a tree.
 pub use resb_filter::laws::no_rules_leave_all;
+// What rules leave they leave as it is.
+pub use resb_filter::laws::filtered_once;
+// What stands at a key afterwards is what the rules leave of what stood there.
+pub use resb_filter::laws::what_is_left_at_a_key;
 
 // Codecs: what is written is read back, and what is read is written as it stood.
 

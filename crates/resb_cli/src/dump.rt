@@ -171,7 +171,7 @@ impl Source<'_> {
                 showing.form = Form::Json;
                 let fits = showing.fits(rt.alloc(), self.wanted.limit);
                 let missing = self.missing(matches!(fits, Ok(true)));
-                say_cause(rt, self.name, bundle, missing, self.wanted.limit)?;
+                say_cause(rt, self.name, bundle, missing)?;
             }
             Err(_) => return Err(refuse_memory(rt, self.name)),
         }

@@ -61,15 +61,15 @@ pub(crate) fn filtered_draft<'t>(
 /// are no rules.
 fn filtered<'t>(
     rt: &HostRuntime,
-    text: &str,
+    text_name: &str,
     root: Draft<'t>,
     filters: Filters<'_>,
 ) -> Result<Draft<'t>, u8>
     requires { is_ready root ≡ true }
     ensures { IfOk result (λ d. is_ready d ≡ true) }
 {
-    let Ok(name) = rules_name(rt.alloc(), text, filters) else {
-        return Err(refuse_memory(rt, text));
+    let Ok(name) = rules_name(rt.alloc(), text_name, filters) else {
+        return Err(refuse_memory(rt, text_name));
     };
     let name = name.as_str();
     let bytes = bytes_of(rt, name, None)?;
@@ -82,7 +82,7 @@ fn filtered<'t>(
     };
     match rules.filtered(rt.alloc(), root) {
         Ok(root) => Ok(root),
-        Err(_) => Err(refuse_memory(rt, name)),
+        Err(_) => Err(refuse_memory(rt, text_name)),
     }
 }
 

@@ -44,7 +44,7 @@ fn main(rt: HostRuntime) -> ExitCode {
 }
 
 /// Does what the words ask: 0, 1 where a text or file is refused, 2 for other words and for files
-/// and streams that fail. The words of ICU's tools have their statuses.
+/// and streams that fail. For words that they don't take, ICU's tools have a status of their own.
 fn perform(rt: &HostRuntime) -> u8 {
     let Ok(words) = words::words_of(rt) else {
         return say::fail(rt, "resb", streams::NO_MEMORY);

@@ -91,14 +91,9 @@ pub(crate) fn say_no_text<R: Eprint + AllocGlobal, C: Display + Drop>(
     name: &str,
     missing: NoText,
     cause: C,
-    path: Result<Option<Vec<PathStep<'_>>>, AllocError>,
+    path: &[PathStep<'_>],
 ) -> Result<(), u8> {
-    let at = match path {
-        Ok(Some(path)) => path_text(rt.alloc(), path.as_slice()),
-        Ok(None) => Ok(String::new(rt.alloc())),
-        Err(e) => Err(e),
-    };
-    let Ok(at) = at else {
+    let Ok(at) = path_text(rt.alloc(), path) else {
         return Err(refuse_memory(rt, name));
     };
     let (name, what) = (Shown(name), missing.form.name());

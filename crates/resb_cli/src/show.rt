@@ -8,15 +8,12 @@ use crate::save::{Bytes, Content, cause_of_printing, print};
 use crate::say::{NoText, complain, fail, refuse_memory, say_no_text};
 use resb_icu_print::IcuPrintError;
 use resb_json::{json_length_within, write_json};
-use resb_lines::{
-    Icu, Plain, ShownBundle, cause_path, has_text, icu_cause_path, lines_length_within,
-    print_icu_text_within, print_text_within, write_lines,
-};
+use resb_lines::{Icu, Plain, ShownBundle, find_cause, has_text, lines_length_within, write_lines};
 use resb_opened::Opened;
 use resb_print::{Cause, PrintError};
 use resb_program::{open_file, open_file_within, read_bundle};
 use resb_shown::Shown;
-use resb_tree::{Resource, ResourceBundle};
+use resb_tree::ResourceBundle;
 use std::alloc::{AllocError, Global};
 use std::fmt;
 use std::io::{self, ErrorKind, Write};
@@ -227,44 +224,38 @@ pub(crate) fn settled(answer: Result<u8, u8>) -> u8 {
     }
 }
 
-/// Says why a bundle has no text of a form, and what is done in its place; or refuses it where the
-/// cause isn't found within the limit, if there is one.
+/// Says why a bundle has no text of a form, and what is done in its place; or the status, once it
+/// is said that memory was wanted.
 pub(crate) fn say_cause(
     rt: &HostRuntime,
     name: &str,
     bundle: &ResourceBundle<'_>,
     missing: NoText,
-    limit: Option<u64>,
 ) -> Result<(), u8> {
-    let (alloc, most) = (rt.alloc(), limit.unwrap_or(u64::MAX));
+    let (alloc, shown) = (rt.alloc(), ShownBundle::of(bundle));
     if let Form::IcuText = missing.form {
-        match print_icu_text_within(alloc, bundle, most) {
-            Err(IcuPrintError::OutOfMemory) => Err(refuse_memory(rt, name)),
-            Err(e) => say_no_text(rt, name, missing, e, icu_cause_path(alloc, bundle)),
-            Ok(_) => lines_of(bundle, missing.form).check(rt, name, limit),
+        match find_cause(alloc, Icu, shown) {
+            Ok(Some((path, cause))) => {
+                let cause = IcuPrintError::NotPrintable(cause);
+                say_no_text(rt, name, missing, cause, path.as_slice())
+            }
+            Ok(None) => Ok(()),
+            Err(_) => Err(refuse_memory(rt, name)),
         }
     } else {
-        match print_text_within(alloc, bundle, most) {
-            Err(PrintError::OutOfMemory) => Err(refuse_memory(rt, name)),
-            Err(PrintError::NotPrintable(Cause::Alias)) => {
+        match find_cause(alloc, Plain, shown) {
+            Ok(Some((path, Cause::Alias))) => {
                 let hint = ", which --icu prints";
                 let missing = NoText { hint, ..missing };
-                let path = cause_path(alloc, bundle);
-                say_no_text(rt, name, missing, "an alias stands", path)
+                say_no_text(rt, name, missing, "an alias stands", path.as_slice())
             }
-            Err(e) => say_no_text(rt, name, missing, e, cause_path(alloc, bundle)),
-            Ok(_) => lines_of(bundle, missing.form).check(rt, name, limit),
+            Ok(Some((path, cause))) => {
+                let cause = PrintError::NotPrintable(cause);
+                say_no_text(rt, name, missing, cause, path.as_slice())
+            }
+            Ok(None) => Ok(()),
+            Err(_) => Err(refuse_memory(rt, name)),
         }
-    }
-}
-
-/// The lines of a bundle in a form of text, whether they are a text or not.
-fn lines_of<'b, 'f>(bundle: &'b ResourceBundle<'f>, form: Form) -> Showing<'b, &'b Resource<'f>> {
-    Showing {
-        name: bundle.name(),
-        root: bundle.root(),
-        has_fallback: bundle.is_locale_fallback_enabled,
-        form,
     }
 }
 

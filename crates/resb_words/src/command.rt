@@ -93,7 +93,7 @@ const COMPILE: Described<'static> = Described {
         Argument {
             id: "POOL",
             option: Some("pool"),
-            help: "Leaves out of the files what this pool bundle, or the pool.res in this folder, has",
+            help: "Leaves out what this pool bundle, or the pool.res in this folder, has",
             against: Some("BYTES"),
             ..VALUE
         },
@@ -191,7 +191,7 @@ const GET: Described<'static> = Described {
         },
         Argument {
             id: "PATH",
-            help: "Keys and numbers from 0, such as zones/Pole/pairs/0; '~1' is a slash, '~0' a tilde",
+            help: "Keys and numbers from 0, as zones/Pole/pairs/0; '~1' is a slash, '~0' a tilde",
             ..WORDS
         },
         Argument {

@@ -31,7 +31,7 @@ pub struct GenrbWords<'w> {
 pub struct Filters<'w> {
     /// The folder of the rules, in a file for each text that has the text's name.
     pub folder: &'w str,
-    /// The folder of the texts, of which no name of a rule's file says anything.
+    /// The folder of the texts: as a text is named below it, its rules are named below `folder`.
     pub source: &'w str,
 }
 
@@ -102,8 +102,13 @@ fn genrb<'w>(alloc: Global, matches: &ArgMatches<'w>) -> Result<Request<'w>, Wor
 
 /// The rules for the texts of a folder, if the words name a folder of rules.
 fn rules_of<'w>(matches: &ArgMatches<'w>, source: &'w str) -> Option<Filters<'w>> {
-    let folder = matches.get_str("filterDir")?;
-    Some(Filters { folder, source })
+    match matches.get_str("filterDir")? {
+        "" => Some(Filters {
+            folder: ".",
+            source,
+        }),
+        folder => Some(Filters { folder, source }),
+    }
 }
 
 /// What is asked of files by the words of ICU's `derb`.

@@ -72,7 +72,7 @@ pub struct CheckWords<'w> {
 /// What is asked of files whose texts are printed, or written to a folder.
 #[derive(Drop)]
 pub struct DumpWords<'w> {
-    /// The names of the files, one alone where no folder is named; `-` is standard input.
+    /// The names of the files; `-` is standard input.
     pub files: Vec<&'w str>,
     /// The folder for the texts; standard output if there is none.
     pub folder: Option<&'w str>,
@@ -127,8 +127,8 @@ pub struct ExtractWords<'w> {
     pub output: Option<&'w str>,
 }
 
-/// What the words ask for, of which the first is the program's own name. Under the name of a tool of
-/// ICU's, `genrb` or `derb`, the others are that tool's.
+/// What the words ask for, of which the first is the program's own name. Under the name of a tool
+/// of ICU's, `genrb` or `derb`, the others are that tool's.
 pub fn request_of<'w>(alloc: Global, words: &'w [String]) -> Result<Request<'w>, WordsError> {
     if let Some(tool) = called_tool(words) {
         let matches = tool_itself(alloc, tool)?.try_get_matches_from(words)?;

@@ -13,6 +13,7 @@ What `genrb` makes of a text and its rules must be, in `derb`'s print, what it m
 that the model leaves. RESB is a command: `RESB genrb --filterDir DIR -d OUT FILE..` must make what
 `genrb` makes, in `derb`'s print.
 """
+import argparse
 import pathlib
 import random
 import subprocess
@@ -138,9 +139,13 @@ def batch(folder, cases, program):
 
 
 def main():
-    count = int(sys.argv[1]) if len(sys.argv) > 1 else 2000
-    seed = int(sys.argv[2]) if len(sys.argv) > 2 else 1
-    program = sys.argv[3] if len(sys.argv) > 3 else None
+    words = argparse.ArgumentParser(description=__doc__,
+                                    formatter_class=argparse.RawDescriptionHelpFormatter)
+    words.add_argument('count', nargs='?', type=int, default=2000)
+    words.add_argument('seed', nargs='?', type=int, default=1)
+    words.add_argument('program', nargs='?', metavar='RESB')
+    given = words.parse_args()
+    count, seed, program = given.count, given.seed, given.program
     rng = random.Random(seed)
     done = changed = partly = 0
     while done < count:

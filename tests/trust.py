@@ -7,6 +7,7 @@ cite, and those that these cite, in lines of definitions alone (no comments, imp
   trust.py --bare     the trusted definitions that have no comment line of their own
   trust.py --of NAME  the definitions below one claim, each with its file and its lines
 """
+import argparse
 import pathlib
 import re
 import sys
@@ -306,19 +307,29 @@ def table(specs):
 
 
 def main():
+    words = argparse.ArgumentParser(
+        description=__doc__, formatter_class=argparse.RawDescriptionHelpFormatter
+    )
+    asked = words.add_mutually_exclusive_group()
+    asked.add_argument("--bare", action="store_true")
+    asked.add_argument("--of", metavar="CLAIM")
+    asked.add_argument("--check", action="store_true")
+    given = words.parse_args()
     specs = Specs()
-    words = sys.argv[1:]
-    if words[:1] == ["--bare"]:
+    if given.bare:
         below = specs.closure(claim_roots(specs, CLAIMS[-1][1]))
         bare = [each for each in below if not each.commented]
         for each in bare:
             print(f"{each.path.relative_to(TOP)}:{each.line}: {each.name}")
         print(f"{len(bare)} of {len(below)} have no comment line of their own")
-    elif words[:1] == ["--of"]:
-        calls = [calls for name, calls in CLAIMS if name.startswith(words[1])][0]
+    elif given.of is not None:
+        found = [calls for name, calls in CLAIMS if name.startswith(given.of)]
+        if not found:
+            words.error(f"no claim begins with {given.of}")
+        calls = found[0]
         for each in specs.closure(claim_roots(specs, calls)):
             print(f"{each.path.relative_to(TOP)}:{each.line}: {each.name} ({each.size})")
-    elif words[:1] == ["--check"]:
+    elif given.check:
         if table(specs) not in PAGE.read_text(encoding="utf8"):
             print("docs/TRUST.md: the table isn't that of tests/trust.py", file=sys.stderr)
             return 1

@@ -24,6 +24,7 @@ fn all_calls(alloc: Global) -> Outcome {
         outcome_of(texts::compiles_icu(alloc)),
         outcome_of(texts::compiles_others(alloc)),
         outcome_of(texts::compiles_over_a_pool(alloc)),
+        outcome_of(texts::filters(alloc)),
         outcome_of(texts::refuses(alloc)),
         outcome_of(texts::plans(alloc)),
         outcome_of(texts::clones_keys(alloc)),

@@ -1,8 +1,9 @@
 //! What comes of a call: whether its answer is right, or memory was wanted.
 //! The calls themselves are in `texts` and `files`.
 
-use resb::binary::{BinarySerializerError, PlanError, ReadingError};
+use resb::binary::{BinarySerializerError, PlanError, PoolMakerError, ReadingError};
 use resb::bundle::NoMemory;
+use resb::filter::RuleError;
 use resb::text::{Expected, IcuExpected, IcuTextError, LimitError, TextParserError};
 use resb::{CompileError, IcuCompileError};
 use std::alloc::AllocError;
@@ -91,6 +92,22 @@ impl From<PlanError> for Refused {
     fn from(e: PlanError) -> Refused {
         Refused {
             is_memory: e == PlanError::OutOfMemory,
+        }
+    }
+}
+
+impl From<PoolMakerError> for Refused {
+    fn from(e: PoolMakerError) -> Refused {
+        Refused {
+            is_memory: matches!(e, PoolMakerError::OutOfMemory),
+        }
+    }
+}
+
+impl From<RuleError> for Refused {
+    fn from(e: RuleError) -> Refused {
+        Refused {
+            is_memory: matches!(e, RuleError::OutOfMemory),
         }
     }
 }

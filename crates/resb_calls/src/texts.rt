@@ -3,8 +3,9 @@
 
 use crate::example::{FILE, OTHERS, OVER_POOL, POOL, TEXT};
 use crate::outcome::{Outcome, Refused};
-use resb::binary::{PoolBundle, Serializer, pool, tree_from_bytes};
+use resb::binary::{PoolBundle, PoolMaker, Serializer, pool, tree_from_bytes};
 use resb::bundle::Key;
+use resb::filter::Rules;
 use resb::text::{Expected, IcuReader, Reader, Turns};
 use resb::{CompileError, compile, compile_icu, compile_icu_with_pool, compile_with_pool};
 use std::alloc::Global;
@@ -55,6 +56,20 @@ pub(crate) fn compiles_over_a_pool(alloc: Global) -> Result<bool, Refused> {
     let written = Serializer::to_bytes_with_pool(alloc, &bundle, keys.as_slice(), &pool)?;
     let over = OVER_POOL.as_slice();
     Ok(file.as_slice() == over && icu_file.as_slice() == over && written.as_slice() == over)
+}
+
+/// What rules leave of a text's draft has a pool bundle, and the file of the text that says it.
+pub(crate) fn filters(alloc: Global) -> Result<bool, Refused> {
+    let rules = Rules::read(alloc, "-/*\n+/a/x")?;
+    let text = "b{a{x{\"one two three\"}y{\"2\"}}c{\"3\"}}";
+    let (bundle, keys) = IcuReader::read_draft(alloc, text)?;
+    let root = rules.filtered(alloc, bundle.root)?;
+    let mut maker = PoolMaker::new(alloc);
+    maker.add_draft(alloc, &root, keys.as_slice())?;
+    let pool = maker.finish(alloc)?;
+    let file = Serializer::draft_to_bytes(alloc, root, true, keys.as_slice())?;
+    let left = compile_icu(alloc, "b{a{x{\"one two three\"}}}")?;
+    Ok(PoolBundle::read(&pool).is_ok() && file.as_slice() == left.as_slice())
 }
 
 /// Whether the text has a file that ends with this, and that is read back as the text's tree.

@@ -139,17 +139,7 @@ impl<A, B, C, D, E, F, G, H, I, J, K> Chained for (A, B, C, D, E, F, G, H, I, J,
 impl<A, B, C, D, E, F, G, H, I, J, K, L> Chained for (A, B, C, D, E, F, G, H, I, J, K, L) {
     type Chain = (A, B, C, (D, E, F, (G, H, I, (J, K, L, ()))));
 
-    ghost as_chain = { λ x. (
-      x.0,
-      x.1,
-      x.2,
-      (
-        x.3,
-        x.4,
-        x.5,
-        (x.6, x.7, x.8, (x.9, x.10, x.11, tt)),
-      ),
-    ) };
+    ghost as_chain = { λ x. (x.0, x.1, x.2, (x.3, x.4, x.5, (x.6, x.7, x.8, (x.9, x.10, x.11, tt)))) };
 
     fn of_chain(members: Self::Chain) -> Self {
         let (a, b, c, (d, e, f, (g, h, i, (j, k, l, ())))) = members;

@@ -1,13 +1,12 @@
 //! What is to blame where records, lists and maps are refused: the path from the root, the error,
 //! and the field that is missing.
 //! The records themselves are in `shapes`, the tests in `rows`.
-use crate::shapes::{Point, PointFields, Shape, ShapeFields, Weeks, WeeksFields, Year, YearFields};
-use resb::blame::{Blame, Blames, PathStep, from_bytes_blaming};
+use crate::shapes::{Point, PointFields, Shape, ShapeFields};
+use resb::blame::{Blame, Blames, from_bytes_blaming};
 use resb::compile;
 use resb::fields::Table;
 use std::alloc::Global;
 use std::collections::BTreeMap;
-use std::fmt::Write;
 use std::test::Fail;
 
 /// Texts, and what is to blame in their files where they are read as this.
@@ -31,26 +30,7 @@ shape of s{at{x:int{1}}pairs:intvector{}sizes{a:int{1}b{"x"}}}
   => sizes/b: Resource did not match expected data type: expected integer resource;
 shape of s{at{x:int{1}}pairs:intvector{}sizes:table{}more:array{:table{x:int{1}} :table{}}}
   => more/1: Unknown error: field missing: x;
-year of y{jan:int{31}feb:int{28}mar:int{31}apr:int{30}may:int{31}jun:int{30}
-  jul:int{31}aug:int{31}sep:int{30}oct:int{31}nov:int{30}dec:int{31}} => read;
-year of y{jan:int{31}feb:int{28}mar:int{31}apr:int{30}may:int{31}jun:int{30}
-  jul:int{31}aug:int{31}sep:int{30}oct:int{31}nov:int{30}}
-  => Unknown error: field missing: dec;
-year of y{jan:int{31}feb:int{28}mar:int{31}apr:int{30}may:int{31}jun:int{30}
-  jul:int{31}aug:int{31}sep:int{30}oct:int{31}nov:int{30}dec{"31"}}
-  => dec: Resource did not match expected data type: expected integer resource;
-weeks of w{1:int{1}2:int{2}3:int{3}4:int{4}5:int{5}6:int{6}7:int{7}8:int{8}9:int{9}
-  10:int{10}11:int{11}} => read;
-weeks of w{1:int{1}2:int{2}3:int{3}4:int{4}5:int{5}6:int{6}7:int{7}8:int{8}9:int{9}
-  11:int{11}} => Unknown error: field missing: 10;
-parts of p{a:array{:table{x:int{1}}}b:array{:table{x:int{1}} :table{y:int{4}}}}
-  => key b, number 1, lacks x;
-parts of p{a:int{1}} => key a, lacks nothing;
-parts of p{a:array{:int{1}}} => key a, number 0, lacks nothing;
 "#;
-
-/// Lists of points, by names.
-type Lists<'a> = BTreeMap<&'a str, Vec<Option<Table<Point, PointFields>>>>;
 
 /// The line of what a row asks for, of its text's file.
 pub(crate) fn line_of_blame(alloc: Global, input: &str) -> Result<String, Fail> {
@@ -59,10 +39,7 @@ pub(crate) fn line_of_blame(alloc: Global, input: &str) -> Result<String, Fail> 
     match asked {
         "point" => line::<Table<Point, PointFields>>(alloc, &file),
         "points" => line::<BTreeMap<&str, Table<Point, PointFields>>>(alloc, &file),
-        "lists" => line::<Lists<'_>>(alloc, &file),
-        "parts" => line_of_parts(alloc, &file),
-        "year" => line::<Table<Year, YearFields>>(alloc, &file),
-        "weeks" => line::<Table<Weeks, WeeksFields>>(alloc, &file),
+        "lists" => line::<BTreeMap<&str, Vec<Option<Table<Point, PointFields>>>>>(alloc, &file),
         _ => line::<Table<Shape<'_>, ShapeFields<'_>>>(alloc, &file),
     }
 }
@@ -82,22 +59,4 @@ fn said(alloc: Global, blame: &Blame<'_, 'static>) -> Result<String, Fail> {
         return Err(error)?;
     }
     Ok(format!(in alloc; "{blame}")?)
-}
-
-/// The steps to what is to blame in lists of points, and the name of the field that it lacks.
-fn line_of_parts(alloc: Global, file: &[u8]) -> Result<String, Fail> {
-    let blame = match from_bytes_blaming::<Lists<'_>>(alloc, file, None) {
-        Ok(_) => return Ok(String::from_str(alloc, "read")?),
-        Err(blame) => blame,
-    };
-    let mut line = String::new(alloc);
-    for step in &blame.path(alloc)? {
-        match step {
-            PathStep::Key(key) => write!(line, "key {key}, ")?,
-            PathStep::Number(number) => write!(line, "number {number}, ")?,
-        }
-    }
-    let lacked = blame.field().unwrap_or("nothing");
-    write!(line, "lacks {lacked}")?;
-    Ok(line)
 }

@@ -1,5 +1,5 @@
-//! Records: a point, one of whose numbers has a default; a shape, which has a point, parts that are
-//! borrowed from the file, and a list of points that may be left out; and two of many fields.
+//! Two records: a point, one of whose numbers has a default, and a shape, which has a point, parts
+//! that are borrowed from the file, and a list of points that may be left out.
 //! What is read of files as these is in `record_rows`.
 ghost use Rattle.std.specs.Prelude.{codes, ◌∷◌, []};
 
@@ -66,56 +66,5 @@ impl<'de> Record<'de, ShapeFields<'de>> for Shape<'de> {
             sizes,
             more,
         }
-    }
-}
-
-/// A year: how many days each month has.
-#[derive(Drop)]
-pub(crate) struct Year {
-    pub(crate) days: YearFields,
-}
-
-/// The types of its fields.
-pub(crate) type YearFields = (i32, i32, i32, i32, i32, i32, i32, i32, i32, i32, i32, i32);
-
-impl<'de> Record<'de, YearFields> for Year {
-    ghost names = { codes "jan" ∷ codes "feb" ∷ codes "mar" ∷ codes "apr" ∷ codes "may" ∷
-        codes "jun" ∷ codes "jul" ∷ codes "aug" ∷ codes "sep" ∷ codes "oct" ∷ codes "nov" ∷
-        codes "dec" ∷ [] };
-
-    ghost made = { λ f. record { days = f } };
-
-    fn names() -> &'de [&'de str] {
-        &[
-            "jan", "feb", "mar", "apr", "may", "jun", "jul", "aug", "sep", "oct", "nov", "dec",
-        ]
-    }
-
-    fn made(fields: YearFields) -> Year {
-        Year { days: fields }
-    }
-}
-
-/// Eleven weeks: a number of each.
-#[derive(Drop)]
-pub(crate) struct Weeks {
-    pub(crate) numbers: WeeksFields,
-}
-
-/// The types of its fields.
-pub(crate) type WeeksFields = (i32, i32, i32, i32, i32, i32, i32, i32, i32, i32, i32);
-
-impl<'de> Record<'de, WeeksFields> for Weeks {
-    ghost names = { codes "1" ∷ codes "2" ∷ codes "3" ∷ codes "4" ∷ codes "5" ∷ codes "6" ∷
-        codes "7" ∷ codes "8" ∷ codes "9" ∷ codes "10" ∷ codes "11" ∷ [] };
-
-    ghost made = { λ f. record { numbers = f } };
-
-    fn names() -> &'de [&'de str] {
-        &["1", "2", "3", "4", "5", "6", "7", "8", "9", "10", "11"]
-    }
-
-    fn made(fields: WeeksFields) -> Weeks {
-        Weeks { numbers: fields }
     }
 }

@@ -1,6 +1,7 @@
 -- What is to blame in a whole file, and where it leads.
-use Rattle.std.proofs.Common.{◌≡◌, ◌≤◌, ◌⊎◌, ℕ, inl, inr, ap, ◌∙◌}
-use Rattle.resb_format.specs.Error.{kind_of}
+use Rattle.std.proofs.Common.{◌≡◌, ◌≤◌, ◌⊎◌, ℕ, inl, inr, sym, ap, ◌∙◌}
+use Rattle.resb_format.specs.Error.{kind_of, IsWantOfMemory}
+use Rattle.resb_format.specs.declared.error.ErrorKind.TheVariants.{OutOfMemory}
 use Rattle.resb_format.specs.declared.error.ReadingError.{ReadingError}
 use Rattle.resb_read.specs.Places.{Place}
 use Rattle.resb_read.specs.Reading.{LacksOrMemory}

@@ -1,6 +1,6 @@
 -- What was gone through of members or entries, and one step more.
 use Rattle.std.proofs.Common.{ℕ, List, [], ◌∷◌, ◌++◌, ◌≡◌, ◌+◌, refl, sym, ◌∙◌, ap, subst, arith}
-use Rattle.std.proofs.Common.{Some, None, Ok, Err, append_assoc}
+use Rattle.std.proofs.Common.{Option, Some, None, Ok, Err, append_assoc, length}
 use Rattle.std.proofs.lemmas.List.{append-nil}
 use Rattle.resb_format.specs.declared.error.ReadingError.{ReadingError}
 use Rattle.resb_read.specs.Access.{AccessOver, StepsOver, StepsAfter, StepsBy, RefusesNone}

@@ -16,7 +16,7 @@ use Rattle.resb_read.specs.Tables.{is_text, has_name, key_of, last_from, last_na
 use Rattle.resb_read.specs.Tables.{HasEntry}
 use Rattle.resb_blame.specs.Blamed.{Blamed, IsUnder, IsHere, StepsToKey, StepsToMember, StepsInto}
 use Rattle.resb_blame.specs.Blamed.{Leads, Lacking, Points}
-use Rattle.resb_blame.specs.Blames.{Blaming, BlamesWhole, BlamesSeq, IsUnderKey}
+use Rattle.resb_blame.specs.Blames.{Blaming, BlamesWhole, BlamesOne, BlamesSeq, IsUnderKey}
 use Rattle.resb_blame.specs.Blames.{BlamesEntry, BlamesMap}
 use Rattle.resb_blame.specs.BlamedFields.{BlamingField, BlamingFields, BlamesRequired, BlamesFound}
 use Rattle.resb_blame.specs.BlamedFields.{BlamesAt, BlamesMissing, BlamesNone, BlamesNext}

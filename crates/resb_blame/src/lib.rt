@@ -10,6 +10,7 @@ mod lists;
 mod maps;
 mod message;
 mod records;
+mod tuples;
 mod whole_files;
 
 pub use blame::Blame;

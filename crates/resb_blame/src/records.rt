@@ -12,8 +12,7 @@ ghost use Rattle.resb_blame.specs.Pointing.{record_points};
 
 use crate::blame::Blame;
 use crate::blames::Blames;
-use crate::fields::BlamesChain;
-use resb_fields::{Chained, Fields, Record, Table};
+use resb_fields::{Fields, Record, Table};
 use resb_read::{Cursor, TableView, Walk};
 use std::alloc::Global;
 
@@ -40,25 +39,6 @@ pub trait BlamesFields<'de>: Fields<'de> {
     /// that the table there lacks.
     ghost points: { (p : Place) (es : List Entry) (names : List (List ℕ)) (left left' : ℕ)
         (b : Blamed) → entries_at p ≡ Some es → blames names es left left' b → Points p b };
-}
-
-/// A tuple of fields is to blame as the chain of its members.
-impl<'de, F: Chained + Drop> BlamesFields<'de> for F
-where
-    F::Chain: BlamesChain<'de>,
-{
-    ghost blames = { F.Chain.blames };
-
-    ghost points = { F.Chain.points };
-
-    fn blame_fields<'m>(
-        alloc: Global,
-        table: TableView<'de>,
-        names: &[&'de str],
-        walk: &mut Walk,
-    ) -> Result<(), Blame<'de, 'm>> {
-        F::Chain::blame_chain(alloc, table, names, walk)
-    }
 }
 
 impl<'de, F: BlamesFields<'de>, R: Record<'de, F>> Blames<'de> for Table<R, F> {

@@ -20,7 +20,7 @@ impl<A> Chained for (A,) {
 
     ghost as_chain = { λ x. (x.0, tt) };
 
-    fn of_chain(members: Self::Chain) -> Self {
+    fn of_chain(members: (A, ())) -> (A,) {
         let (a, ()) = members;
         (a,)
     }
@@ -31,7 +31,7 @@ impl<A, B> Chained for (A, B) {
 
     ghost as_chain = { λ x. (x.0, (x.1, tt)) };
 
-    fn of_chain(members: Self::Chain) -> Self {
+    fn of_chain(members: (A, (B, ()))) -> (A, B) {
         let (a, (b, ())) = members;
         (a, b)
     }
@@ -42,7 +42,7 @@ impl<A, B, C> Chained for (A, B, C) {
 
     ghost as_chain = { λ x. (x.0, x.1, x.2, tt) };
 
-    fn of_chain(members: Self::Chain) -> Self {
+    fn of_chain(members: (A, B, C, ())) -> (A, B, C) {
         let (a, b, c, ()) = members;
         (a, b, c)
     }
@@ -53,7 +53,7 @@ impl<A, B, C, D> Chained for (A, B, C, D) {
 
     ghost as_chain = { λ x. (x.0, x.1, x.2, (x.3, tt)) };
 
-    fn of_chain(members: Self::Chain) -> Self {
+    fn of_chain(members: (A, B, C, (D, ()))) -> (A, B, C, D) {
         let (a, b, c, (d, ())) = members;
         (a, b, c, d)
     }
@@ -64,7 +64,7 @@ impl<A, B, C, D, E> Chained for (A, B, C, D, E) {
 
     ghost as_chain = { λ x. (x.0, x.1, x.2, (x.3, (x.4, tt))) };
 
-    fn of_chain(members: Self::Chain) -> Self {
+    fn of_chain(members: (A, B, C, (D, (E, ())))) -> (A, B, C, D, E) {
         let (a, b, c, (d, (e, ()))) = members;
         (a, b, c, d, e)
     }
@@ -75,7 +75,7 @@ impl<A, B, C, D, E, F> Chained for (A, B, C, D, E, F) {
 
     ghost as_chain = { λ x. (x.0, x.1, x.2, (x.3, x.4, x.5, tt)) };
 
-    fn of_chain(members: Self::Chain) -> Self {
+    fn of_chain(members: (A, B, C, (D, E, F, ()))) -> (A, B, C, D, E, F) {
         let (a, b, c, (d, e, f, ())) = members;
         (a, b, c, d, e, f)
     }
@@ -86,7 +86,7 @@ impl<A, B, C, D, E, F, G> Chained for (A, B, C, D, E, F, G) {
 
     ghost as_chain = { λ x. (x.0, x.1, x.2, (x.3, x.4, x.5, (x.6, tt))) };
 
-    fn of_chain(members: Self::Chain) -> Self {
+    fn of_chain(members: (A, B, C, (D, E, F, (G, ())))) -> (A, B, C, D, E, F, G) {
         let (a, b, c, (d, e, f, (g, ()))) = members;
         (a, b, c, d, e, f, g)
     }
@@ -97,7 +97,7 @@ impl<A, B, C, D, E, F, G, H> Chained for (A, B, C, D, E, F, G, H) {
 
     ghost as_chain = { λ x. (x.0, x.1, x.2, (x.3, x.4, x.5, (x.6, (x.7, tt)))) };
 
-    fn of_chain(members: Self::Chain) -> Self {
+    fn of_chain(members: (A, B, C, (D, E, F, (G, (H, ()))))) -> (A, B, C, D, E, F, G, H) {
         let (a, b, c, (d, e, f, (g, (h, ())))) = members;
         (a, b, c, d, e, f, g, h)
     }
@@ -108,7 +108,7 @@ impl<A, B, C, D, E, F, G, H, I> Chained for (A, B, C, D, E, F, G, H, I) {
 
     ghost as_chain = { λ x. (x.0, x.1, x.2, (x.3, x.4, x.5, (x.6, x.7, x.8, tt))) };
 
-    fn of_chain(members: Self::Chain) -> Self {
+    fn of_chain(members: (A, B, C, (D, E, F, (G, H, I, ())))) -> (A, B, C, D, E, F, G, H, I) {
         let (a, b, c, (d, e, f, (g, h, i, ()))) = members;
         (a, b, c, d, e, f, g, h, i)
     }
@@ -119,7 +119,9 @@ impl<A, B, C, D, E, F, G, H, I, J> Chained for (A, B, C, D, E, F, G, H, I, J) {
 
     ghost as_chain = { λ x. (x.0, x.1, x.2, (x.3, x.4, x.5, (x.6, x.7, x.8, (x.9, tt)))) };
 
-    fn of_chain(members: Self::Chain) -> Self {
+    fn of_chain(
+        members: (A, B, C, (D, E, F, (G, H, I, (J, ())))),
+    ) -> (A, B, C, D, E, F, G, H, I, J) {
         let (a, b, c, (d, e, f, (g, h, i, (j, ())))) = members;
         (a, b, c, d, e, f, g, h, i, j)
     }
@@ -130,7 +132,9 @@ impl<A, B, C, D, E, F, G, H, I, J, K> Chained for (A, B, C, D, E, F, G, H, I, J,
 
     ghost as_chain = { λ x. (x.0, x.1, x.2, (x.3, x.4, x.5, (x.6, x.7, x.8, (x.9, (x.10, tt))))) };
 
-    fn of_chain(members: Self::Chain) -> Self {
+    fn of_chain(
+        members: (A, B, C, (D, E, F, (G, H, I, (J, (K, ()))))),
+    ) -> (A, B, C, D, E, F, G, H, I, J, K) {
         let (a, b, c, (d, e, f, (g, h, i, (j, (k, ()))))) = members;
         (a, b, c, d, e, f, g, h, i, j, k)
     }
@@ -141,7 +145,9 @@ impl<A, B, C, D, E, F, G, H, I, J, K, L> Chained for (A, B, C, D, E, F, G, H, I,
 
     ghost as_chain = { λ x. (x.0, x.1, x.2, (x.3, x.4, x.5, (x.6, x.7, x.8, (x.9, x.10, x.11, tt)))) };
 
-    fn of_chain(members: Self::Chain) -> Self {
+    fn of_chain(
+        members: (A, B, C, (D, E, F, (G, H, I, (J, K, L, ())))),
+    ) -> (A, B, C, D, E, F, G, H, I, J, K, L) {
         let (a, b, c, (d, e, f, (g, h, i, (j, k, l, ())))) = members;
         (a, b, c, d, e, f, g, h, i, j, k, l)
     }

@@ -4,12 +4,10 @@
 
 mod chain;
 mod field;
-mod fields;
 mod record;
 mod tuples;
 
 pub use chain::Chain;
 pub use field::{Field, Maybe, OrDefault};
-pub use fields::Fields;
 pub use record::{Record, Table};
-pub use tuples::Chained;
+pub use tuples::Fields;

@@ -4,7 +4,7 @@ ghost use Rattle.std.specs.Prelude.{◌≡◌, ◌+◌, ℕ, List, map, length};
 ghost use Rattle.resb_fields.specs.Fields.{ReadsRecord, CountsRecord, RefusesRecord};
 ghost use Rattle.resb_fields.specs.FieldLaws.{record_counted, record_one};
 
-use crate::fields::Fields;
+use crate::tuples::Fields;
 use resb_format::ReadingError;
 use resb_read::{Cursor, Deserialize, Walk};
 use std::alloc::Global;

@@ -1,154 +1,542 @@
-//! Tuples of fields, of 1 to 12, and the chain that each is, three by three as long as there are so
-//! many. How a chain is read is said in `chain`.
-ghost use Rattle.std.specs.Prelude.{◌≡◌};
+//! Tuples of fields, of 1 to 12. Each is read as the chain of its members.
+//! How a chain is read is said in `chain`.
+ghost use Rattle.std.specs.Prelude.{◌≡◌, ◌≤◌, ◌+◌, ℕ, List, map, length, IfOk, IfErr};
+ghost use Rattle.resb_format.specs.declared.error.ReadingError.{ReadingError};
+ghost use Rattle.resb_read.specs.Places.{Place};
+ghost use Rattle.resb_read.specs.Reading.{LacksOrMemory};
+ghost use Rattle.resb_read.specs.Tables.{view_entries};
+ghost use Rattle.resb_fields.specs.FieldLaws.{counted_next, counted_end, one_next, one_end};
 
-/// A tuple, which is the chain of its members in another form.
-pub trait Chained: Sized {
-    /// The chain of its members, in their order.
-    type Chain;
+use crate::chain::Chain;
+use crate::field::Field;
+use resb_format::ReadingError;
+use resb_read::{TableView, Walk};
+use std::alloc::Global;
 
-    /// The members of a tuple, as a chain.
-    ghost as_chain: { Self → Self.Chain };
+/// Fields that are read from a table's entries, by the names that are given.
+pub trait Fields<'de>: Sized + Drop {
+    /// How many fields there are.
+    ghost size: { ℕ };
 
-    /// The tuple of the members of a chain.
-    fn of_chain(members: Self::Chain) -> Self
-        ensures { as_chain result ≡ members };
+    /// The fields of these names are read from these entries, with this count.
+    ghost reads: { List (List ℕ) → List (Place × Place) → Self → ℕ → Type 0 };
+
+    /// Some fields are read from them, with this count.
+    ghost counts: { List (List ℕ) → List (Place × Place) → ℕ → Type 0 };
+
+    /// From them, with so much left, this error may be answered and so much left behind it.
+    ghost refuses: { List (List ℕ) → List (Place × Place) → ℕ → ℕ → ReadingError → Type 0 };
+
+    /// Reads the fields, and takes their count from what is left. Other entries are not looked at.
+    fn read_fields<'m>(
+        alloc: Global,
+        table: TableView<'de>,
+        names: &[&str],
+        walk: &mut Walk,
+    ) -> Result<Self, ReadingError<'m>>
+        requires { length names.now ≡ size }
+        ensures read { IfOk result (λ x. (n : ℕ)
+            × reads (map (λ s. s.now) names.now) (view_entries table.entry) x n
+            × (walk.new + n ≡ walk.old)) }
+        ensures refused { IfErr result (λ e. (walk.new ≤ walk.old)
+            × LacksOrMemory (counts (map (λ s. s.now) names.now) (view_entries table.entry))
+            walk.old e) }
+        ensures says { IfErr result
+            (refuses (map (λ s. s.now) names.now) (view_entries table.entry) walk.old walk.new) };
+
+    /// The count of every reading is a count.
+    ghost counted: { (names : List (List ℕ)) (es : List (Place × Place)) (x : Self) (n : ℕ)
+        → reads names es x n → counts names es n };
+
+    /// There is at most one count.
+    ghost one_count: { (names : List (List ℕ)) (es : List (Place × Place)) (m n : ℕ)
+        → counts names es m → counts names es n → m ≡ n };
 }
 
-impl<A> Chained for (A,) {
-    type Chain = (A, ());
+impl<'de, A: Field<'de>> Fields<'de> for (A,) {
+    ghost size = { 1 };
 
-    ghost as_chain = { λ x. (x.0, tt) };
+    ghost reads = { λ names es x n.
+        ⟦<(A, ()) as Chain<'de>>⟧.reads
+        names es (x.0, tt) n };
 
-    fn of_chain(members: (A, ())) -> (A,) {
-        let (a, ()) = members;
-        (a,)
+    ghost counts = { ⟦<(A, ()) as Chain<'de>>⟧.counts };
+
+    ghost refuses = { ⟦<(A, ()) as Chain<'de>>⟧.refuses };
+
+    ghost counted = { λ names es x. counted_next A.counted counted_end
+        names es (x.0, tt) };
+
+    ghost one_count = { one_next A.one_count one_end };
+
+    fn read_fields<'m>(
+        alloc: Global,
+        table: TableView<'de>,
+        names: &[&str],
+        walk: &mut Walk,
+    ) -> Result<(A,), ReadingError<'m>> {
+        let (a, ()) = <(A, ()) as Chain<'de>>::read_chain(alloc, table, names, walk)?;
+        Ok((a,))
     }
 }
 
-impl<A, B> Chained for (A, B) {
-    type Chain = (A, (B, ()));
+impl<'de, A: Field<'de>, B: Field<'de>> Fields<'de> for (A, B) {
+    ghost size = { 2 };
 
-    ghost as_chain = { λ x. (x.0, (x.1, tt)) };
+    ghost reads = { λ names es x n.
+        ⟦<(A, (B, ())) as Chain<'de>>⟧.reads
+        names es (x.0, (x.1, tt)) n };
 
-    fn of_chain(members: (A, (B, ()))) -> (A, B) {
-        let (a, (b, ())) = members;
-        (a, b)
+    ghost counts = { ⟦<(A, (B, ())) as Chain<'de>>⟧.counts };
+
+    ghost refuses = { ⟦<(A, (B, ())) as Chain<'de>>⟧.refuses };
+
+    ghost counted = { λ names es x. counted_next A.counted (counted_next B.counted counted_end)
+        names es (x.0, (x.1, tt)) };
+
+    ghost one_count = { one_next A.one_count (one_next B.one_count one_end) };
+
+    fn read_fields<'m>(
+        alloc: Global,
+        table: TableView<'de>,
+        names: &[&str],
+        walk: &mut Walk,
+    ) -> Result<(A, B), ReadingError<'m>> {
+        let (a, (b, ())) = <(A, (B, ())) as Chain<'de>>::read_chain(alloc, table, names, walk)?;
+        Ok((a, b))
     }
 }
 
-impl<A, B, C> Chained for (A, B, C) {
-    type Chain = (A, B, C, ());
+impl<'de, A: Field<'de>, B: Field<'de>, C: Field<'de>> Fields<'de> for (A, B, C) {
+    ghost size = { 3 };
 
-    ghost as_chain = { λ x. (x.0, x.1, x.2, tt) };
+    ghost reads = { λ names es x n.
+        ⟦<(A, (B, (C, ()))) as Chain<'de>>⟧.reads
+        names es (x.0, (x.1, (x.2, tt))) n };
 
-    fn of_chain(members: (A, B, C, ())) -> (A, B, C) {
-        let (a, b, c, ()) = members;
-        (a, b, c)
+    ghost counts = { ⟦<(A, (B, (C, ()))) as Chain<'de>>⟧.counts };
+
+    ghost refuses = { ⟦<(A, (B, (C, ()))) as Chain<'de>>⟧.refuses };
+
+    ghost counted = { λ names es x. counted_next A.counted (counted_next B.counted
+        (counted_next C.counted counted_end))
+        names es (x.0, (x.1, (x.2, tt))) };
+
+    ghost one_count = { one_next A.one_count (one_next B.one_count (one_next C.one_count
+        one_end)) };
+
+    fn read_fields<'m>(
+        alloc: Global,
+        table: TableView<'de>,
+        names: &[&str],
+        walk: &mut Walk,
+    ) -> Result<(A, B, C), ReadingError<'m>> {
+        let (a, (b, (c, ()))) = <(A, (B, (C, ()))) as Chain<'de>>::read_chain(
+            alloc, table, names, walk,
+        )?;
+        Ok((a, b, c))
     }
 }
 
-impl<A, B, C, D> Chained for (A, B, C, D) {
-    type Chain = (A, B, C, (D, ()));
+impl<'de, A: Field<'de>, B: Field<'de>, C: Field<'de>, D: Field<'de>> Fields<'de> for (A, B, C, D) {
+    ghost size = { 4 };
 
-    ghost as_chain = { λ x. (x.0, x.1, x.2, (x.3, tt)) };
+    ghost reads = { λ names es x n.
+        ⟦<(A, (B, (C, (D, ())))) as Chain<'de>>⟧.reads
+        names es (x.0, (x.1, (x.2, (x.3, tt)))) n };
 
-    fn of_chain(members: (A, B, C, (D, ()))) -> (A, B, C, D) {
-        let (a, b, c, (d, ())) = members;
-        (a, b, c, d)
+    ghost counts = { ⟦<(A, (B, (C, (D, ())))) as Chain<'de>>⟧.counts };
+
+    ghost refuses = { ⟦<(A, (B, (C, (D, ())))) as Chain<'de>>⟧.refuses };
+
+    ghost counted = { λ names es x. counted_next A.counted (counted_next B.counted
+        (counted_next C.counted (counted_next D.counted counted_end)))
+        names es (x.0, (x.1, (x.2, (x.3, tt)))) };
+
+    ghost one_count = { one_next A.one_count (one_next B.one_count (one_next C.one_count
+        (one_next D.one_count one_end))) };
+
+    fn read_fields<'m>(
+        alloc: Global,
+        table: TableView<'de>,
+        names: &[&str],
+        walk: &mut Walk,
+    ) -> Result<(A, B, C, D), ReadingError<'m>> {
+        let (a, (b, (c, (d, ())))) = <(A, (B, (C, (D, ())))) as Chain<'de>>::read_chain(
+            alloc, table, names, walk,
+        )?;
+        Ok((a, b, c, d))
     }
 }
 
-impl<A, B, C, D, E> Chained for (A, B, C, D, E) {
-    type Chain = (A, B, C, (D, (E, ())));
+impl<'de, A: Field<'de>, B: Field<'de>, C: Field<'de>, D: Field<'de>, E: Field<'de>> Fields<'de>
+    for (A, B, C, D, E) {
+    ghost size = { 5 };
 
-    ghost as_chain = { λ x. (x.0, x.1, x.2, (x.3, (x.4, tt))) };
+    ghost reads = { λ names es x n.
+        ⟦<(A, (B, (C, (D, (E, ()))))) as Chain<'de>>⟧.reads
+        names es (x.0, (x.1, (x.2, (x.3, (x.4, tt))))) n };
 
-    fn of_chain(members: (A, B, C, (D, (E, ())))) -> (A, B, C, D, E) {
-        let (a, b, c, (d, (e, ()))) = members;
-        (a, b, c, d, e)
+    ghost counts = { ⟦<(A, (B, (C, (D, (E, ()))))) as Chain<'de>>⟧.counts };
+
+    ghost refuses = { ⟦<(A, (B, (C, (D, (E, ()))))) as Chain<'de>>⟧.refuses };
+
+    ghost counted = { λ names es x. counted_next A.counted (counted_next B.counted
+        (counted_next C.counted (counted_next D.counted (counted_next E.counted counted_end))))
+        names es (x.0, (x.1, (x.2, (x.3, (x.4, tt))))) };
+
+    ghost one_count = { one_next A.one_count (one_next B.one_count (one_next C.one_count
+        (one_next D.one_count (one_next E.one_count one_end)))) };
+
+    fn read_fields<'m>(
+        alloc: Global,
+        table: TableView<'de>,
+        names: &[&str],
+        walk: &mut Walk,
+    ) -> Result<(A, B, C, D, E), ReadingError<'m>> {
+        let (a, (b, (c, (d, (e, ()))))) = <(A, (B, (C, (D, (E, ()))))) as Chain<'de>>::read_chain(
+            alloc, table, names, walk,
+        )?;
+        Ok((a, b, c, d, e))
     }
 }
 
-impl<A, B, C, D, E, F> Chained for (A, B, C, D, E, F) {
-    type Chain = (A, B, C, (D, E, F, ()));
+impl<
+    'de,
+    A: Field<'de>,
+    B: Field<'de>,
+    C: Field<'de>,
+    D: Field<'de>,
+    E: Field<'de>,
+    F: Field<'de>,
+> Fields<'de> for (A, B, C, D, E, F) {
+    ghost size = { 6 };
 
-    ghost as_chain = { λ x. (x.0, x.1, x.2, (x.3, x.4, x.5, tt)) };
+    ghost reads = { λ names es x n.
+        ⟦<(A, (B, (C, (D, (E, (F, ())))))) as Chain<'de>>⟧.reads
+        names es (x.0, (x.1, (x.2, (x.3, (x.4, (x.5, tt)))))) n };
 
-    fn of_chain(members: (A, B, C, (D, E, F, ()))) -> (A, B, C, D, E, F) {
-        let (a, b, c, (d, e, f, ())) = members;
-        (a, b, c, d, e, f)
+    ghost counts = { ⟦<(A, (B, (C, (D, (E, (F, ())))))) as Chain<'de>>⟧.counts };
+
+    ghost refuses = { ⟦<(A, (B, (C, (D, (E, (F, ())))))) as Chain<'de>>⟧.refuses };
+
+    ghost counted = { λ names es x. counted_next A.counted (counted_next B.counted
+        (counted_next C.counted (counted_next D.counted (counted_next E.counted (counted_next
+        F.counted counted_end)))))
+        names es (x.0, (x.1, (x.2, (x.3, (x.4, (x.5, tt)))))) };
+
+    ghost one_count = { one_next A.one_count (one_next B.one_count (one_next C.one_count
+        (one_next D.one_count (one_next E.one_count (one_next F.one_count one_end))))) };
+
+    fn read_fields<'m>(
+        alloc: Global,
+        table: TableView<'de>,
+        names: &[&str],
+        walk: &mut Walk,
+    ) -> Result<(A, B, C, D, E, F), ReadingError<'m>> {
+        let (a, (b, (c, (d, (e, (f, ())))))) = <(A, (B, (C, (D, (E, (F, ())))))) as Chain<
+            'de,
+        >>::read_chain(alloc, table, names, walk)?;
+        Ok((a, b, c, d, e, f))
     }
 }
 
-impl<A, B, C, D, E, F, G> Chained for (A, B, C, D, E, F, G) {
-    type Chain = (A, B, C, (D, E, F, (G, ())));
+impl<
+    'de,
+    A: Field<'de>,
+    B: Field<'de>,
+    C: Field<'de>,
+    D: Field<'de>,
+    E: Field<'de>,
+    F: Field<'de>,
+    G: Field<'de>,
+> Fields<'de> for (A, B, C, D, E, F, G) {
+    ghost size = { 7 };
 
-    ghost as_chain = { λ x. (x.0, x.1, x.2, (x.3, x.4, x.5, (x.6, tt))) };
+    ghost reads = { λ names es x n.
+        ⟦<(A, (B, (C, (D, (E, (F, (G, ()))))))) as Chain<'de>>⟧.reads
+        names es (x.0, (x.1, (x.2, (x.3, (x.4, (x.5, (x.6, tt))))))) n };
 
-    fn of_chain(members: (A, B, C, (D, E, F, (G, ())))) -> (A, B, C, D, E, F, G) {
-        let (a, b, c, (d, e, f, (g, ()))) = members;
-        (a, b, c, d, e, f, g)
+    ghost counts = { ⟦<(A, (B, (C, (D, (E, (F, (G, ()))))))) as Chain<'de>>⟧.counts };
+
+    ghost refuses = { ⟦<(A, (B, (C, (D, (E, (F, (G, ()))))))) as Chain<'de>>⟧.refuses };
+
+    ghost counted = { λ names es x. counted_next A.counted (counted_next B.counted
+        (counted_next C.counted (counted_next D.counted (counted_next E.counted (counted_next
+        F.counted (counted_next G.counted counted_end))))))
+        names es (x.0, (x.1, (x.2, (x.3, (x.4, (x.5, (x.6, tt))))))) };
+
+    ghost one_count = { one_next A.one_count (one_next B.one_count (one_next C.one_count
+        (one_next D.one_count (one_next E.one_count (one_next F.one_count (one_next G.one_count
+        one_end)))))) };
+
+    fn read_fields<'m>(
+        alloc: Global,
+        table: TableView<'de>,
+        names: &[&str],
+        walk: &mut Walk,
+    ) -> Result<(A, B, C, D, E, F, G), ReadingError<'m>> {
+        let (a, (b, (c, (d, (e, (f, (g, ()))))))) = <(A, (B, (C, (D, (E, (F, (G, ()))))))) as Chain<
+            'de,
+        >>::read_chain(alloc, table, names, walk)?;
+        Ok((a, b, c, d, e, f, g))
     }
 }
 
-impl<A, B, C, D, E, F, G, H> Chained for (A, B, C, D, E, F, G, H) {
-    type Chain = (A, B, C, (D, E, F, (G, (H, ()))));
+impl<
+    'de,
+    A: Field<'de>,
+    B: Field<'de>,
+    C: Field<'de>,
+    D: Field<'de>,
+    E: Field<'de>,
+    F: Field<'de>,
+    G: Field<'de>,
+    H: Field<'de>,
+> Fields<'de> for (A, B, C, D, E, F, G, H) {
+    ghost size = { 8 };
 
-    ghost as_chain = { λ x. (x.0, x.1, x.2, (x.3, x.4, x.5, (x.6, (x.7, tt)))) };
+    ghost reads = { λ names es x n.
+        ⟦<(A, (B, (C, (D, (E, (F, (G, (H, ())))))))) as Chain<'de>>⟧.reads
+        names es (x.0, (x.1, (x.2, (x.3, (x.4, (x.5, (x.6, (x.7, tt)))))))) n };
 
-    fn of_chain(members: (A, B, C, (D, E, F, (G, (H, ()))))) -> (A, B, C, D, E, F, G, H) {
-        let (a, b, c, (d, e, f, (g, (h, ())))) = members;
-        (a, b, c, d, e, f, g, h)
+    ghost counts = { ⟦<(A, (B, (C, (D, (E, (F, (G, (H, ())))))))) as Chain<'de>>⟧.counts };
+
+    ghost refuses = { ⟦<(A, (B, (C, (D, (E, (F, (G, (H, ())))))))) as Chain<'de>>⟧.refuses };
+
+    ghost counted = { λ names es x. counted_next A.counted (counted_next B.counted
+        (counted_next C.counted (counted_next D.counted (counted_next E.counted (counted_next
+        F.counted (counted_next G.counted (counted_next H.counted counted_end)))))))
+        names es (x.0, (x.1, (x.2, (x.3, (x.4, (x.5, (x.6, (x.7, tt)))))))) };
+
+    ghost one_count = { one_next A.one_count (one_next B.one_count (one_next C.one_count
+        (one_next D.one_count (one_next E.one_count (one_next F.one_count (one_next G.one_count
+        (one_next H.one_count one_end))))))) };
+
+    fn read_fields<'m>(
+        alloc: Global,
+        table: TableView<'de>,
+        names: &[&str],
+        walk: &mut Walk,
+    ) -> Result<(A, B, C, D, E, F, G, H), ReadingError<'m>> {
+        let (a, (b, (c, (d, (e, (f, (g, (h, ())))))))) = <(
+            A,
+            (B, (C, (D, (E, (F, (G, (H, ()))))))),
+        ) as Chain<'de>>::read_chain(alloc, table, names, walk)?;
+        Ok((a, b, c, d, e, f, g, h))
     }
 }
 
-impl<A, B, C, D, E, F, G, H, I> Chained for (A, B, C, D, E, F, G, H, I) {
-    type Chain = (A, B, C, (D, E, F, (G, H, I, ())));
+impl<
+    'de,
+    A: Field<'de>,
+    B: Field<'de>,
+    C: Field<'de>,
+    D: Field<'de>,
+    E: Field<'de>,
+    F: Field<'de>,
+    G: Field<'de>,
+    H: Field<'de>,
+    I: Field<'de>,
+> Fields<'de> for (A, B, C, D, E, F, G, H, I) {
+    ghost size = { 9 };
 
-    ghost as_chain = { λ x. (x.0, x.1, x.2, (x.3, x.4, x.5, (x.6, x.7, x.8, tt))) };
+    ghost reads = { λ names es x n.
+        ⟦<(A, (B, (C, (D, (E, (F, (G, (H, (I, ()))))))))) as Chain<'de>>⟧.reads
+        names es (x.0, (x.1, (x.2, (x.3, (x.4, (x.5, (x.6, (x.7, (x.8, tt))))))))) n };
 
-    fn of_chain(members: (A, B, C, (D, E, F, (G, H, I, ())))) -> (A, B, C, D, E, F, G, H, I) {
-        let (a, b, c, (d, e, f, (g, h, i, ()))) = members;
-        (a, b, c, d, e, f, g, h, i)
+    ghost counts = { ⟦<(A, (B, (C, (D, (E, (F, (G, (H, (I, ()))))))))) as Chain<'de>>⟧.counts };
+
+    ghost refuses = { ⟦<(A, (B, (C, (D, (E, (F, (G, (H, (I, ()))))))))) as Chain<'de>>⟧.refuses };
+
+    ghost counted = { λ names es x. counted_next A.counted (counted_next B.counted
+        (counted_next C.counted (counted_next D.counted (counted_next E.counted (counted_next
+        F.counted (counted_next G.counted (counted_next H.counted (counted_next I.counted
+        counted_end))))))))
+        names es (x.0, (x.1, (x.2, (x.3, (x.4, (x.5, (x.6, (x.7, (x.8, tt))))))))) };
+
+    ghost one_count = { one_next A.one_count (one_next B.one_count (one_next C.one_count
+        (one_next D.one_count (one_next E.one_count (one_next F.one_count (one_next G.one_count
+        (one_next H.one_count (one_next I.one_count one_end)))))))) };
+
+    fn read_fields<'m>(
+        alloc: Global,
+        table: TableView<'de>,
+        names: &[&str],
+        walk: &mut Walk,
+    ) -> Result<(A, B, C, D, E, F, G, H, I), ReadingError<'m>> {
+        let (a, (b, (c, (d, (e, (f, (g, (h, (i, ()))))))))) = <(
+            A,
+            (B, (C, (D, (E, (F, (G, (H, (I, ())))))))),
+        ) as Chain<'de>>::read_chain(alloc, table, names, walk)?;
+        Ok((a, b, c, d, e, f, g, h, i))
     }
 }
 
-impl<A, B, C, D, E, F, G, H, I, J> Chained for (A, B, C, D, E, F, G, H, I, J) {
-    type Chain = (A, B, C, (D, E, F, (G, H, I, (J, ()))));
+impl<
+    'de,
+    A: Field<'de>,
+    B: Field<'de>,
+    C: Field<'de>,
+    D: Field<'de>,
+    E: Field<'de>,
+    F: Field<'de>,
+    G: Field<'de>,
+    H: Field<'de>,
+    I: Field<'de>,
+    J: Field<'de>,
+> Fields<'de> for (A, B, C, D, E, F, G, H, I, J) {
+    ghost size = { 10 };
 
-    ghost as_chain = { λ x. (x.0, x.1, x.2, (x.3, x.4, x.5, (x.6, x.7, x.8, (x.9, tt)))) };
+    ghost reads = { λ names es x n.
+        ⟦<(A, (B, (C, (D, (E, (F, (G, (H, (I, (J, ())))))))))) as Chain<'de>>⟧.reads
+        names es
+        (x.0, (x.1, (x.2, (x.3, (x.4, (x.5, (x.6, (x.7, (x.8, (x.9, tt))))))))))
+        n };
 
-    fn of_chain(
-        members: (A, B, C, (D, E, F, (G, H, I, (J, ())))),
-    ) -> (A, B, C, D, E, F, G, H, I, J) {
-        let (a, b, c, (d, e, f, (g, h, i, (j, ())))) = members;
-        (a, b, c, d, e, f, g, h, i, j)
+    ghost counts = { λ names.
+        ⟦<(A, (B, (C, (D, (E, (F, (G, (H, (I, (J, ())))))))))) as Chain<'de>>⟧.counts
+        names };
+
+    ghost refuses = { λ names.
+        ⟦<(A, (B, (C, (D, (E, (F, (G, (H, (I, (J, ())))))))))) as Chain<'de>>⟧.refuses
+        names };
+
+    ghost counted = { λ names es x. counted_next A.counted (counted_next B.counted
+        (counted_next C.counted (counted_next D.counted (counted_next E.counted (counted_next
+        F.counted (counted_next G.counted (counted_next H.counted (counted_next I.counted
+        (counted_next J.counted counted_end)))))))))
+        names es
+        (x.0, (x.1, (x.2, (x.3, (x.4, (x.5, (x.6, (x.7, (x.8, (x.9, tt)))))))))) };
+
+    ghost one_count = { one_next A.one_count (one_next B.one_count (one_next C.one_count
+        (one_next D.one_count (one_next E.one_count (one_next F.one_count (one_next G.one_count
+        (one_next H.one_count (one_next I.one_count (one_next J.one_count one_end))))))))) };
+
+    fn read_fields<'m>(
+        alloc: Global,
+        table: TableView<'de>,
+        names: &[&str],
+        walk: &mut Walk,
+    ) -> Result<(A, B, C, D, E, F, G, H, I, J), ReadingError<'m>> {
+        let (a, (b, (c, (d, (e, (f, (g, (h, (i, (j, ())))))))))) = <(
+            A,
+            (B, (C, (D, (E, (F, (G, (H, (I, (J, ()))))))))),
+        ) as Chain<'de>>::read_chain(alloc, table, names, walk)?;
+        Ok((a, b, c, d, e, f, g, h, i, j))
     }
 }
 
-impl<A, B, C, D, E, F, G, H, I, J, K> Chained for (A, B, C, D, E, F, G, H, I, J, K) {
-    type Chain = (A, B, C, (D, E, F, (G, H, I, (J, (K, ())))));
+impl<
+    'de,
+    A: Field<'de>,
+    B: Field<'de>,
+    C: Field<'de>,
+    D: Field<'de>,
+    E: Field<'de>,
+    F: Field<'de>,
+    G: Field<'de>,
+    H: Field<'de>,
+    I: Field<'de>,
+    J: Field<'de>,
+    K: Field<'de>,
+> Fields<'de> for (A, B, C, D, E, F, G, H, I, J, K) {
+    ghost size = { 11 };
 
-    ghost as_chain = { λ x. (x.0, x.1, x.2, (x.3, x.4, x.5, (x.6, x.7, x.8, (x.9, (x.10, tt))))) };
+    ghost reads = { λ names es x n.
+        ⟦<(A, (B, (C, (D, (E, (F, (G, (H, (I, (J, (K, ()))))))))))) as Chain<'de>>⟧.reads
+        names es
+        (x.0, (x.1, (x.2, (x.3, (x.4, (x.5, (x.6, (x.7, (x.8, (x.9, (x.10, tt)))))))))))
+        n };
 
-    fn of_chain(
-        members: (A, B, C, (D, E, F, (G, H, I, (J, (K, ()))))),
-    ) -> (A, B, C, D, E, F, G, H, I, J, K) {
-        let (a, b, c, (d, e, f, (g, h, i, (j, (k, ()))))) = members;
-        (a, b, c, d, e, f, g, h, i, j, k)
+    ghost counts = { λ names.
+        ⟦<(A, (B, (C, (D, (E, (F, (G, (H, (I, (J, (K, ()))))))))))) as Chain<'de>>⟧.counts
+        names };
+
+    ghost refuses = { λ names.
+        ⟦<(A, (B, (C, (D, (E, (F, (G, (H, (I, (J, (K, ()))))))))))) as Chain<'de>>⟧.refuses
+        names };
+
+    ghost counted = { λ names es x. counted_next A.counted (counted_next B.counted
+        (counted_next C.counted (counted_next D.counted (counted_next E.counted (counted_next
+        F.counted (counted_next G.counted (counted_next H.counted (counted_next I.counted
+        (counted_next J.counted (counted_next K.counted counted_end))))))))))
+        names es
+        (x.0, (x.1, (x.2, (x.3, (x.4, (x.5, (x.6, (x.7, (x.8, (x.9, (x.10, tt))))))))))) };
+
+    ghost one_count = { one_next A.one_count (one_next B.one_count (one_next C.one_count
+        (one_next D.one_count (one_next E.one_count (one_next F.one_count (one_next G.one_count
+        (one_next H.one_count (one_next I.one_count (one_next J.one_count (one_next K.one_count
+        one_end)))))))))) };
+
+    fn read_fields<'m>(
+        alloc: Global,
+        table: TableView<'de>,
+        names: &[&str],
+        walk: &mut Walk,
+    ) -> Result<(A, B, C, D, E, F, G, H, I, J, K), ReadingError<'m>> {
+        let (a, (b, (c, (d, (e, (f, (g, (h, (i, (j, (k, ()))))))))))) = <(
+            A,
+            (B, (C, (D, (E, (F, (G, (H, (I, (J, (K, ())))))))))),
+        ) as Chain<'de>>::read_chain(alloc, table, names, walk)?;
+        Ok((a, b, c, d, e, f, g, h, i, j, k))
     }
 }
 
-impl<A, B, C, D, E, F, G, H, I, J, K, L> Chained for (A, B, C, D, E, F, G, H, I, J, K, L) {
-    type Chain = (A, B, C, (D, E, F, (G, H, I, (J, K, L, ()))));
+impl<
+    'de,
+    A: Field<'de>,
+    B: Field<'de>,
+    C: Field<'de>,
+    D: Field<'de>,
+    E: Field<'de>,
+    F: Field<'de>,
+    G: Field<'de>,
+    H: Field<'de>,
+    I: Field<'de>,
+    J: Field<'de>,
+    K: Field<'de>,
+    L: Field<'de>,
+> Fields<'de> for (A, B, C, D, E, F, G, H, I, J, K, L) {
+    ghost size = { 12 };
 
-    ghost as_chain = { λ x. (x.0, x.1, x.2, (x.3, x.4, x.5, (x.6, x.7, x.8, (x.9, x.10, x.11, tt)))) };
+    ghost reads = { λ names es x n.
+        ⟦<(A, (B, (C, (D, (E, (F, (G, (H, (I, (J, (K, (L, ())))))))))))) as Chain<'de>>⟧.reads
+        names es
+        (x.0, (x.1, (x.2, (x.3, (x.4, (x.5, (x.6, (x.7, (x.8, (x.9, (x.10, (x.11, tt))))))))))))
+        n };
 
-    fn of_chain(
-        members: (A, B, C, (D, E, F, (G, H, I, (J, K, L, ())))),
-    ) -> (A, B, C, D, E, F, G, H, I, J, K, L) {
-        let (a, b, c, (d, e, f, (g, h, i, (j, k, l, ())))) = members;
-        (a, b, c, d, e, f, g, h, i, j, k, l)
+    ghost counts = { λ names.
+        ⟦<(A, (B, (C, (D, (E, (F, (G, (H, (I, (J, (K, (L, ())))))))))))) as Chain<'de>>⟧.counts
+        names };
+
+    ghost refuses = { λ names.
+        ⟦<(A, (B, (C, (D, (E, (F, (G, (H, (I, (J, (K, (L, ())))))))))))) as Chain<'de>>⟧.refuses
+        names };
+
+    ghost counted = { λ names es x. counted_next A.counted (counted_next B.counted
+        (counted_next C.counted (counted_next D.counted (counted_next E.counted (counted_next
+        F.counted (counted_next G.counted (counted_next H.counted (counted_next I.counted
+        (counted_next J.counted (counted_next K.counted (counted_next L.counted
+        counted_end)))))))))))
+        names es
+        (x.0, (x.1, (x.2, (x.3, (x.4, (x.5, (x.6, (x.7, (x.8, (x.9, (x.10, (x.11, tt)))))))))))) };
+
+    ghost one_count = { one_next A.one_count (one_next B.one_count (one_next C.one_count
+        (one_next D.one_count (one_next E.one_count (one_next F.one_count (one_next G.one_count
+        (one_next H.one_count (one_next I.one_count (one_next J.one_count (one_next K.one_count
+        (one_next L.one_count one_end))))))))))) };
+
+    fn read_fields<'m>(
+        alloc: Global,
+        table: TableView<'de>,
+        names: &[&str],
+        walk: &mut Walk,
+    ) -> Result<(A, B, C, D, E, F, G, H, I, J, K, L), ReadingError<'m>> {
+        let (a, (b, (c, (d, (e, (f, (g, (h, (i, (j, (k, (l, ())))))))))))) = <(
+            A,
+            (B, (C, (D, (E, (F, (G, (H, (I, (J, (K, (L, ()))))))))))),
+        ) as Chain<'de>>::read_chain(alloc, table, names, walk)?;
+        Ok((a, b, c, d, e, f, g, h, i, j, k, l))
     }
 }

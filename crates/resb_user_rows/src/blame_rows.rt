@@ -2,11 +2,12 @@
 //! and the field that is missing.
 //! The records themselves are in `shapes`, the tests in `rows`.
 use crate::shapes::{Point, PointFields, Shape, ShapeFields};
-use resb::blame::{Blame, Blames, from_bytes_blaming};
+use resb::blame::{Blame, Blames, PathStep, from_bytes_blaming};
 use resb::compile;
 use resb::fields::Table;
 use std::alloc::Global;
 use std::collections::BTreeMap;
+use std::fmt::Write;
 use std::test::Fail;
 
 /// Texts, and what is to blame in their files where they are read as this.
@@ -30,7 +31,14 @@ shape of s{at{x:int{1}}pairs:intvector{}sizes{a:int{1}b{"x"}}}
   => sizes/b: Resource did not match expected data type: expected integer resource;
 shape of s{at{x:int{1}}pairs:intvector{}sizes:table{}more:array{:table{x:int{1}} :table{}}}
   => more/1: Unknown error: field missing: x;
+parts of p{a:array{:table{x:int{1}}}b:array{:table{x:int{1}} :table{y:int{4}}}}
+  => key b, number 1, lacks x;
+parts of p{a:int{1}} => key a, lacks nothing;
+parts of p{a:array{:int{1}}} => key a, number 0, lacks nothing;
 "#;
+
+/// Lists of points, by names.
+type Lists<'a> = BTreeMap<&'a str, Vec<Option<Table<Point, PointFields>>>>;
 
 /// The line of what a row asks for, of its text's file.
 pub(crate) fn line_of_blame(alloc: Global, input: &str) -> Result<String, Fail> {
@@ -39,7 +47,8 @@ pub(crate) fn line_of_blame(alloc: Global, input: &str) -> Result<String, Fail> 
     match asked {
         "point" => line::<Table<Point, PointFields>>(alloc, &file),
         "points" => line::<BTreeMap<&str, Table<Point, PointFields>>>(alloc, &file),
-        "lists" => line::<BTreeMap<&str, Vec<Option<Table<Point, PointFields>>>>>(alloc, &file),
+        "lists" => line::<Lists<'_>>(alloc, &file),
+        "parts" => line_of_parts(alloc, &file),
         _ => line::<Table<Shape<'_>, ShapeFields<'_>>>(alloc, &file),
     }
 }
@@ -59,4 +68,22 @@ fn said(alloc: Global, blame: &Blame<'_, 'static>) -> Result<String, Fail> {
         return Err(error)?;
     }
     Ok(format!(in alloc; "{blame}")?)
+}
+
+/// The steps to what is to blame in lists of points, and the name of the field that it lacks.
+fn line_of_parts(alloc: Global, file: &[u8]) -> Result<String, Fail> {
+    let blame = match from_bytes_blaming::<Lists<'_>>(alloc, file, None) {
+        Ok(_) => return Ok(String::from_str(alloc, "read")?),
+        Err(blame) => blame,
+    };
+    let mut line = String::new(alloc);
+    for step in &blame.path(alloc)? {
+        match step {
+            PathStep::Key(key) => write!(line, "key {key}, ")?,
+            PathStep::Number(number) => write!(line, "number {number}, ")?,
+        }
+    }
+    let lacked = blame.field().unwrap_or("nothing");
+    write!(line, "lacks {lacked}")?;
+    Ok(line)
 }

@@ -2,9 +2,8 @@
 //! What is made of a file is in `dump`, and which words are taken in `resb_words`.
 use crate::below::{as_names, below};
 use crate::dump::dump;
-use crate::say::or_fail;
-use crate::show::settled;
-use crate::streams::made;
+use crate::say::fail;
+use crate::streams::NO_MEMORY;
 use resb_words::{DerbWords, DumpWords};
 use std::alloc::{AllocError, Global};
 use std::path::{Path, PathBuf};
@@ -14,14 +13,18 @@ const NAME: &str = "derb";
 
 /// Writes the text of each file to the folder, or prints all.
 pub(crate) fn derb(rt: &HostRuntime, wanted: &DerbWords<'_>) -> u8 {
-    settled(dump_all(rt, wanted))
+    let Ok(files) = files_below(rt.alloc(), wanted) else {
+        return fail(rt, NAME, NO_MEMORY);
+    };
+    dump_files(rt, wanted, files.as_slice())
 }
 
-/// The same, or the status, once it is said that memory for the files' names was wanted.
-fn dump_all(rt: &HostRuntime, wanted: &DerbWords<'_>) -> Result<u8, u8> {
-    let files = or_fail(rt, NAME, made(files_below(rt.alloc(), wanted)))?;
-    let files = or_fail(rt, NAME, made(as_names(rt.alloc(), files.as_slice())))?;
-    Ok(dump(
+/// The same, where the files' names are known.
+fn dump_files(rt: &HostRuntime, wanted: &DerbWords<'_>, files: &[PathBuf]) -> u8 {
+    let Ok(files) = as_names(rt.alloc(), files) else {
+        return fail(rt, NAME, NO_MEMORY);
+    };
+    dump(
         rt,
         &DumpWords {
             files,
@@ -31,7 +34,7 @@ fn dump_all(rt: &HostRuntime, wanted: &DerbWords<'_>) -> Result<u8, u8> {
             limit: None,
             pool: None,
         },
-    ))
+    )
 }
 
 /// The names of the files, with the source folder's before each, and `.res` behind one that has no

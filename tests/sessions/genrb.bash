@@ -100,12 +100,13 @@ told 9 '' 'rules/root.txt: line 2: a rule begins with + or -' \
   genrb -q -s source -d built --filterDir rules root.txt
 # the words of ICU's derb
 mkdir -p printed
-told 0 '' '' derb -A -s over -d printed a
-told 0 "$(cat printed/a.txt)" '' dump --icu over/a.res
-told 0 "$(cat printed/a.txt)" '' derb -c -A -t -i elsewhere -e utf-8 -s over a.res
-(cd over && exec -a derb "$program" -d ../printed b.res c) && holds printed 'a.txt b.txt c.txt'
-told 2 '' 'over/nope.res: no such file' derb -s over nope
-told 1 '' 'resb: --encoding is UTF-8' derb -e latin1 -s over a
+told 0 '' '' derb -A -s built -d printed root
+told 0 "$(cat printed/root.txt)" '' dump --icu built/root.res
+told 0 "$(cat printed/root.txt)" '' derb -c -A -t -i elsewhere -e utf-8 -s built root.res
+(cd built && exec -a derb "$program" -d ../printed de_AT.res none)
+holds printed 'de_AT.txt none.txt root.txt'
+told 2 '' 'built/nope.res: no such file' derb -s built nope
+told 1 '' 'resb: --encoding is UTF-8' derb -e latin1 -s built root
 (exec -a derb "$program" '-?') > help.txt
 grep -q '^Usage: derb \[OPTIONS\] <FILE>...$' help.txt \
   && passed=$((passed + 1)) || { failed=$((failed + 1)); cat help.txt; }

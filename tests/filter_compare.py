@@ -119,7 +119,8 @@ def batch(folder, cases, program):
         file = name + '.txt'
         (folder / 'whole' / file).write_text('%s:table%s' % (name, text_of(root)[6:]))
         (folder / 'rules' / file).write_text(lines)
-        (folder / 'left' / file).write_text('%s:table%s' % (name, text_of(filtered(rules, root))[6:]))
+        left = text_of(filtered(rules, root))
+        (folder / 'left' / file).write_text('%s:table%s' % (name, left[6:]))
     files = [name + '.txt' for name in names]
     run(['genrb', '-q', '--filterDir', 'rules', '-s', 'whole', '-d', 'by_rules'] + files, folder)
     run(['genrb', '-q', '-s', 'left', '-d', 'by_model'] + files, folder)

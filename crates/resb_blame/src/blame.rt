@@ -8,7 +8,8 @@ use std::marker::Model;
 
 /// What is to blame for a refusal.
 /// It prints as the steps of the path with `/` between them, `: ` and the error, and then `: ` and
-/// the name of the field, if one is missing; without a step as the error and the name alone.
+/// the name of the field, if one is missing; without a step as the error and the name alone. In a
+/// key of the path, `~1` stands for a slash and `~0` for a tilde (RFC 6901).
 #[derive(Drop)]
 pub struct Blame<'de, 'm> {
     pub(crate) error: ReadingError<'m>,

@@ -179,3 +179,26 @@ impl<'de, A: BlamesField<'de>, B: BlamesChain<'de>> BlamesChain<'de> for (A, B) 
         B::blame_chain(alloc, table, later, walk)
     }
 }
+
+/// Three fields at once, and the chain of the others.
+impl<
+    'de,
+    A: BlamesField<'de>,
+    B: BlamesField<'de>,
+    C: BlamesField<'de>,
+    D: BlamesChain<'de>,
+> BlamesChain<'de> for (A, B, C, D) {
+    ghost blames = { ⟦<(A, (B, (C, D))) as BlamesChain<'de>>⟧.blames };
+
+    ghost points = { points_next A.counts A.points (points_next B.counts B.points
+        (points_next C.counts C.points D.points)) };
+
+    fn blame_chain<'m>(
+        alloc: Global,
+        table: TableView<'de>,
+        names: &[&'de str],
+        walk: &mut Walk,
+    ) -> Result<(), Blame<'de, 'm>> {
+        <(A, (B, (C, D))) as BlamesChain<'de>>::blame_chain(alloc, table, names, walk)
+    }
+}

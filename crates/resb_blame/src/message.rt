@@ -4,6 +4,7 @@ ghost use Rattle.std.specs.Prelude.{◌≡◌, ◌++◌, Some, map, reverse};
 ghost use Rattle.std.specs.Fmt.{WritesOnOk};
 ghost use Rattle.resb_diff.specs.Paths.{step_of};
 ghost use Rattle.resb_blame.specs.Message.{step_text, divider_text, path_text, blame_text};
+ghost use Rattle.resb_blame.specs.Message.{key_text, character_text};
 
 use crate::blame::Blame;
 use resb_diff::PathStep;
@@ -62,7 +63,29 @@ fn write_step<W: fmt::Write>(
         (step_text (step_of step.entry) ++ behind.entry.now) f.new }
 {
     match step {
-        PathStep::Key(key) => write!(f, "{key}{behind}"),
-        PathStep::Number(number) => write!(f, "{number}{behind}"),
+        PathStep::Key(key) => write_key(f, key)?,
+        PathStep::Number(number) => write!(f, "{number}")?,
+    }
+    f.write_str(behind)
+}
+
+/// Writes a key as a step of a path.
+fn write_key<W: fmt::Write>(f: &mut fmt::Formatter<W>, key: &str) -> fmt::Result
+    ensures { WritesOnOk W.write_str_gives f.old result (key_text key.entry.now) f.new }
+{
+    for c in key.chars() {
+        write_character(f, c)?;
+    }
+    Ok(())
+}
+
+/// Writes a character of a key.
+fn write_character<W: fmt::Write>(f: &mut fmt::Formatter<W>, c: char) -> fmt::Result
+    ensures { WritesOnOk W.write_str_gives f.old result (character_text c) f.new }
+{
+    match c {
+        '/' => f.write_str("~1"),
+        '~' => f.write_str("~0"),
+        _ => f.write_char(c),
     }
 }

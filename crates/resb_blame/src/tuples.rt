@@ -1,8 +1,5 @@
-//! Tuples of fields, of 1 to 10. Each is to blame as the chain of its members.
-//! What is to blame in a chain is said in `fields`. For 11 and 12 members the check of the proof
-//! comes to no end.
-ghost use Rattle.resb_blame.specs.Pointing.{points_next, points_none};
-
+//! Tuples of fields, of 1 to 12. Each is to blame as the chain of its members, three by three as
+//! long as there are so many. What is to blame in a chain is said in `fields`.
 use crate::blame::Blame;
 use crate::fields::{BlamesChain, BlamesField};
 use crate::records::BlamesFields;
@@ -12,7 +9,7 @@ use std::alloc::Global;
 impl<'de, A: BlamesField<'de>> BlamesFields<'de> for (A,) {
     ghost blames = { ⟦<(A, ()) as BlamesChain<'de>>⟧.blames };
 
-    ghost points = { points_next A.counts A.points points_none };
+    ghost points = { ⟦<(A, ()) as BlamesChain<'de>>⟧.points };
 
     fn blame_fields<'m>(
         alloc: Global,
@@ -27,7 +24,7 @@ impl<'de, A: BlamesField<'de>> BlamesFields<'de> for (A,) {
 impl<'de, A: BlamesField<'de>, B: BlamesField<'de>> BlamesFields<'de> for (A, B) {
     ghost blames = { ⟦<(A, (B, ())) as BlamesChain<'de>>⟧.blames };
 
-    ghost points = { points_next A.counts A.points (points_next B.counts B.points points_none) };
+    ghost points = { ⟦<(A, (B, ())) as BlamesChain<'de>>⟧.points };
 
     fn blame_fields<'m>(
         alloc: Global,
@@ -41,10 +38,9 @@ impl<'de, A: BlamesField<'de>, B: BlamesField<'de>> BlamesFields<'de> for (A, B)
 
 impl<'de, A: BlamesField<'de>, B: BlamesField<'de>, C: BlamesField<'de>> BlamesFields<'de>
     for (A, B, C) {
-    ghost blames = { ⟦<(A, (B, (C, ()))) as BlamesChain<'de>>⟧.blames };
+    ghost blames = { ⟦<(A, B, C, ()) as BlamesChain<'de>>⟧.blames };
 
-    ghost points = { points_next A.counts A.points (points_next B.counts B.points
-        (points_next C.counts C.points points_none)) };
+    ghost points = { ⟦<(A, B, C, ()) as BlamesChain<'de>>⟧.points };
 
     fn blame_fields<'m>(
         alloc: Global,
@@ -52,7 +48,7 @@ impl<'de, A: BlamesField<'de>, B: BlamesField<'de>, C: BlamesField<'de>> BlamesF
         names: &[&'de str],
         walk: &mut Walk,
     ) -> Result<(), Blame<'de, 'm>> {
-        <(A, (B, (C, ()))) as BlamesChain<'de>>::blame_chain(alloc, table, names, walk)
+        <(A, B, C, ()) as BlamesChain<'de>>::blame_chain(alloc, table, names, walk)
     }
 }
 
@@ -63,10 +59,9 @@ impl<
     C: BlamesField<'de>,
     D: BlamesField<'de>,
 > BlamesFields<'de> for (A, B, C, D) {
-    ghost blames = { ⟦<(A, (B, (C, (D, ())))) as BlamesChain<'de>>⟧.blames };
+    ghost blames = { ⟦<(A, B, C, (D, ())) as BlamesChain<'de>>⟧.blames };
 
-    ghost points = { points_next A.counts A.points (points_next B.counts B.points
-        (points_next C.counts C.points (points_next D.counts D.points points_none))) };
+    ghost points = { ⟦<(A, B, C, (D, ())) as BlamesChain<'de>>⟧.points };
 
     fn blame_fields<'m>(
         alloc: Global,
@@ -74,7 +69,7 @@ impl<
         names: &[&'de str],
         walk: &mut Walk,
     ) -> Result<(), Blame<'de, 'm>> {
-        <(A, (B, (C, (D, ())))) as BlamesChain<'de>>::blame_chain(alloc, table, names, walk)
+        <(A, B, C, (D, ())) as BlamesChain<'de>>::blame_chain(alloc, table, names, walk)
     }
 }
 
@@ -86,11 +81,9 @@ impl<
     D: BlamesField<'de>,
     E: BlamesField<'de>,
 > BlamesFields<'de> for (A, B, C, D, E) {
-    ghost blames = { ⟦<(A, (B, (C, (D, (E, ()))))) as BlamesChain<'de>>⟧.blames };
+    ghost blames = { ⟦<(A, B, C, (D, (E, ()))) as BlamesChain<'de>>⟧.blames };
 
-    ghost points = { points_next A.counts A.points (points_next B.counts B.points
-        (points_next C.counts C.points (points_next D.counts D.points (points_next E.counts E.points
-        points_none)))) };
+    ghost points = { ⟦<(A, B, C, (D, (E, ()))) as BlamesChain<'de>>⟧.points };
 
     fn blame_fields<'m>(
         alloc: Global,
@@ -98,7 +91,7 @@ impl<
         names: &[&'de str],
         walk: &mut Walk,
     ) -> Result<(), Blame<'de, 'm>> {
-        <(A, (B, (C, (D, (E, ()))))) as BlamesChain<'de>>::blame_chain(alloc, table, names, walk)
+        <(A, B, C, (D, (E, ()))) as BlamesChain<'de>>::blame_chain(alloc, table, names, walk)
     }
 }
 
@@ -111,11 +104,9 @@ impl<
     E: BlamesField<'de>,
     F: BlamesField<'de>,
 > BlamesFields<'de> for (A, B, C, D, E, F) {
-    ghost blames = { ⟦<(A, (B, (C, (D, (E, (F, ())))))) as BlamesChain<'de>>⟧.blames };
+    ghost blames = { ⟦<(A, B, C, (D, E, F, ())) as BlamesChain<'de>>⟧.blames };
 
-    ghost points = { points_next A.counts A.points (points_next B.counts B.points
-        (points_next C.counts C.points (points_next D.counts D.points (points_next E.counts E.points
-        (points_next F.counts F.points points_none))))) };
+    ghost points = { ⟦<(A, B, C, (D, E, F, ())) as BlamesChain<'de>>⟧.points };
 
     fn blame_fields<'m>(
         alloc: Global,
@@ -123,9 +114,7 @@ impl<
         names: &[&'de str],
         walk: &mut Walk,
     ) -> Result<(), Blame<'de, 'm>> {
-        <(A, (B, (C, (D, (E, (F, ())))))) as BlamesChain<'de>>::blame_chain(
-            alloc, table, names, walk,
-        )
+        <(A, B, C, (D, E, F, ())) as BlamesChain<'de>>::blame_chain(alloc, table, names, walk)
     }
 }
 
@@ -139,11 +128,9 @@ impl<
     F: BlamesField<'de>,
     G: BlamesField<'de>,
 > BlamesFields<'de> for (A, B, C, D, E, F, G) {
-    ghost blames = { ⟦<(A, (B, (C, (D, (E, (F, (G, ()))))))) as BlamesChain<'de>>⟧.blames };
+    ghost blames = { ⟦<(A, B, C, (D, E, F, (G, ()))) as BlamesChain<'de>>⟧.blames };
 
-    ghost points = { points_next A.counts A.points (points_next B.counts B.points
-        (points_next C.counts C.points (points_next D.counts D.points (points_next E.counts E.points
-        (points_next F.counts F.points (points_next G.counts G.points points_none)))))) };
+    ghost points = { ⟦<(A, B, C, (D, E, F, (G, ()))) as BlamesChain<'de>>⟧.points };
 
     fn blame_fields<'m>(
         alloc: Global,
@@ -151,9 +138,7 @@ impl<
         names: &[&'de str],
         walk: &mut Walk,
     ) -> Result<(), Blame<'de, 'm>> {
-        <(A, (B, (C, (D, (E, (F, (G, ()))))))) as BlamesChain<'de>>::blame_chain(
-            alloc, table, names, walk,
-        )
+        <(A, B, C, (D, E, F, (G, ()))) as BlamesChain<'de>>::blame_chain(alloc, table, names, walk)
     }
 }
 
@@ -168,12 +153,9 @@ impl<
     G: BlamesField<'de>,
     H: BlamesField<'de>,
 > BlamesFields<'de> for (A, B, C, D, E, F, G, H) {
-    ghost blames = { ⟦<(A, (B, (C, (D, (E, (F, (G, (H, ())))))))) as BlamesChain<'de>>⟧.blames };
+    ghost blames = { ⟦<(A, B, C, (D, E, F, (G, (H, ())))) as BlamesChain<'de>>⟧.blames };
 
-    ghost points = { points_next A.counts A.points (points_next B.counts B.points
-        (points_next C.counts C.points (points_next D.counts D.points (points_next E.counts E.points
-        (points_next F.counts F.points (points_next G.counts G.points (points_next H.counts H.points
-        points_none))))))) };
+    ghost points = { ⟦<(A, B, C, (D, E, F, (G, (H, ())))) as BlamesChain<'de>>⟧.points };
 
     fn blame_fields<'m>(
         alloc: Global,
@@ -181,7 +163,7 @@ impl<
         names: &[&'de str],
         walk: &mut Walk,
     ) -> Result<(), Blame<'de, 'm>> {
-        <(A, (B, (C, (D, (E, (F, (G, (H, ())))))))) as BlamesChain<'de>>::blame_chain(
+        <(A, B, C, (D, E, F, (G, (H, ())))) as BlamesChain<'de>>::blame_chain(
             alloc, table, names, walk,
         )
     }
@@ -199,14 +181,9 @@ impl<
     H: BlamesField<'de>,
     I: BlamesField<'de>,
 > BlamesFields<'de> for (A, B, C, D, E, F, G, H, I) {
-    ghost blames = { λ names.
-        ⟦<(A, (B, (C, (D, (E, (F, (G, (H, (I, ()))))))))) as BlamesChain<'de>>⟧.blames
-        names };
+    ghost blames = { ⟦<(A, B, C, (D, E, F, (G, H, I, ()))) as BlamesChain<'de>>⟧.blames };
 
-    ghost points = { points_next A.counts A.points (points_next B.counts B.points
-        (points_next C.counts C.points (points_next D.counts D.points (points_next E.counts E.points
-        (points_next F.counts F.points (points_next G.counts G.points (points_next H.counts H.points
-        (points_next I.counts I.points points_none)))))))) };
+    ghost points = { ⟦<(A, B, C, (D, E, F, (G, H, I, ()))) as BlamesChain<'de>>⟧.points };
 
     fn blame_fields<'m>(
         alloc: Global,
@@ -214,7 +191,7 @@ impl<
         names: &[&'de str],
         walk: &mut Walk,
     ) -> Result<(), Blame<'de, 'm>> {
-        <(A, (B, (C, (D, (E, (F, (G, (H, (I, ()))))))))) as BlamesChain<'de>>::blame_chain(
+        <(A, B, C, (D, E, F, (G, H, I, ()))) as BlamesChain<'de>>::blame_chain(
             alloc, table, names, walk,
         )
     }
@@ -233,14 +210,9 @@ impl<
     I: BlamesField<'de>,
     J: BlamesField<'de>,
 > BlamesFields<'de> for (A, B, C, D, E, F, G, H, I, J) {
-    ghost blames = { λ names.
-        ⟦<(A, (B, (C, (D, (E, (F, (G, (H, (I, (J, ())))))))))) as BlamesChain<'de>>⟧.blames
-        names };
+    ghost blames = { ⟦<(A, B, C, (D, E, F, (G, H, I, (J, ())))) as BlamesChain<'de>>⟧.blames };
 
-    ghost points = { points_next A.counts A.points (points_next B.counts B.points
-        (points_next C.counts C.points (points_next D.counts D.points (points_next E.counts E.points
-        (points_next F.counts F.points (points_next G.counts G.points (points_next H.counts H.points
-        (points_next I.counts I.points (points_next J.counts J.points points_none))))))))) };
+    ghost points = { ⟦<(A, B, C, (D, E, F, (G, H, I, (J, ())))) as BlamesChain<'de>>⟧.points };
 
     fn blame_fields<'m>(
         alloc: Global,
@@ -248,7 +220,68 @@ impl<
         names: &[&'de str],
         walk: &mut Walk,
     ) -> Result<(), Blame<'de, 'm>> {
-        <(A, (B, (C, (D, (E, (F, (G, (H, (I, (J, ())))))))))) as BlamesChain<'de>>::blame_chain(
+        <(A, B, C, (D, E, F, (G, H, I, (J, ())))) as BlamesChain<'de>>::blame_chain(
+            alloc, table, names, walk,
+        )
+    }
+}
+
+impl<
+    'de,
+    A: BlamesField<'de>,
+    B: BlamesField<'de>,
+    C: BlamesField<'de>,
+    D: BlamesField<'de>,
+    E: BlamesField<'de>,
+    F: BlamesField<'de>,
+    G: BlamesField<'de>,
+    H: BlamesField<'de>,
+    I: BlamesField<'de>,
+    J: BlamesField<'de>,
+    K: BlamesField<'de>,
+> BlamesFields<'de> for (A, B, C, D, E, F, G, H, I, J, K) {
+    ghost blames = { ⟦<(A, B, C, (D, E, F, (G, H, I, (J, (K, ()))))) as BlamesChain<'de>>⟧.blames };
+
+    ghost points = { ⟦<(A, B, C, (D, E, F, (G, H, I, (J, (K, ()))))) as BlamesChain<'de>>⟧.points };
+
+    fn blame_fields<'m>(
+        alloc: Global,
+        table: TableView<'de>,
+        names: &[&'de str],
+        walk: &mut Walk,
+    ) -> Result<(), Blame<'de, 'm>> {
+        <(A, B, C, (D, E, F, (G, H, I, (J, (K, ()))))) as BlamesChain<'de>>::blame_chain(
+            alloc, table, names, walk,
+        )
+    }
+}
+
+impl<
+    'de,
+    A: BlamesField<'de>,
+    B: BlamesField<'de>,
+    C: BlamesField<'de>,
+    D: BlamesField<'de>,
+    E: BlamesField<'de>,
+    F: BlamesField<'de>,
+    G: BlamesField<'de>,
+    H: BlamesField<'de>,
+    I: BlamesField<'de>,
+    J: BlamesField<'de>,
+    K: BlamesField<'de>,
+    L: BlamesField<'de>,
+> BlamesFields<'de> for (A, B, C, D, E, F, G, H, I, J, K, L) {
+    ghost blames = { ⟦<(A, B, C, (D, E, F, (G, H, I, (J, K, L, ())))) as BlamesChain<'de>>⟧.blames };
+
+    ghost points = { ⟦<(A, B, C, (D, E, F, (G, H, I, (J, K, L, ())))) as BlamesChain<'de>>⟧.points };
+
+    fn blame_fields<'m>(
+        alloc: Global,
+        table: TableView<'de>,
+        names: &[&'de str],
+        walk: &mut Walk,
+    ) -> Result<(), Blame<'de, 'm>> {
+        <(A, B, C, (D, E, F, (G, H, I, (J, K, L, ())))) as BlamesChain<'de>>::blame_chain(
             alloc, table, names, walk,
         )
     }

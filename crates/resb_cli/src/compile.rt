@@ -1,5 +1,6 @@
 //! The command `compile`: each text to a file of its own.
 //! What a text's file is, and why it has none, is in `resb_program`.
+use crate::collation::{RULES, check_collations};
 use crate::encoding::utf8_of;
 use crate::filter::filtered_file;
 use crate::folders::{Named, TEXTS, named_files};
@@ -7,13 +8,14 @@ use crate::input::lending_pool;
 use crate::place::{Place, place_of};
 use crate::progress::Progress;
 use crate::save::{Bytes, save, saved};
-use crate::say::{complain, fail, fail_input, or_fail, refuse};
+use crate::say::{complain, fail, fail_input, or_fail, refuse, refuse_memory};
 use crate::show::settled;
 use crate::streams::{made, read_input};
 use crate::taken::Taken;
 use crate::warn::warn;
 use crate::words::{NO_UTF8, is_marked};
 use resb_compile::{compile_icu_with_pool, compile_with_pool};
+use resb_icu_text::IcuReader;
 use resb_pool_bundle::PoolBundle;
 use resb_program::{
     SourceError, bundle_name, compile_icu_source, compile_icu_source_within, compile_source,
@@ -203,14 +205,33 @@ fn file_of(
     text: &str,
     work: Work<'_, '_, '_>,
 ) -> Result<(Vec<u8>, u8), u8> {
-    let file = match work.wanted.filters {
-        Some(filters) => filtered_file(rt, name, text, filters, work.pool.as_ref())?,
-        None => match compiled(rt.alloc(), text, work) {
-            Ok(file) => file,
+    let wanted = work.wanted;
+    let (file, status) = if wanted.filters.is_some() {
+        filtered_file(rt, name, text, wanted, work.pool.as_ref())?
+    } else {
+        match compiled(rt.alloc(), text, work) {
+            Ok(file) => (file, unbuilt_status(rt, name, text, wanted)?),
             Err(e) => return Err(refuse(rt, name, text.as_bytes(), &e)),
-        },
+        }
     };
-    Ok((file, warned(rt, name, text, work.wanted)))
+    Ok((file, status.max(warned(rt, name, text, wanted))))
+}
+
+/// The status of a text in ICU's form that is compiled, by the rules of collation in it. Few texts
+/// hold any: of others no draft is made again.
+fn unbuilt_status(
+    rt: &HostRuntime,
+    name: &str,
+    text: &str,
+    wanted: &CompileWords<'_>,
+) -> Result<u8, u8> {
+    if !wanted.is_icu || !text.contains(RULES) {
+        return Ok(0);
+    }
+    match IcuReader::read_draft(rt.alloc(), text) {
+        Ok((bundle, _)) => check_collations(rt, name, &bundle.root, wanted),
+        Err(_) => Err(refuse_memory(rt, name)),
+    }
 }
 
 /// The status of a text's warnings, once they are said.

@@ -3,38 +3,43 @@
 ghost use Rattle.std.specs.Prelude.{◌≡◌, true, IfOk};
 ghost use Rattle.resb_draft.specs.Drafts.{is_ready};
 
+use crate::collation::check_collations;
 use crate::genrb::PARSE_ERROR;
 use crate::input::bytes_of;
 use crate::say::{complain, fail, refuse, refuse_memory};
-use resb_compile::IcuCompileError;
-use resb_draft::{Draft, DraftBundle};
+use resb_compile::{IcuCompileError, read_icu_filtered};
+use resb_draft::DraftBundle;
 use resb_filter::{RuleError, Rules};
 use resb_icu_text::IcuReader;
 use resb_pool_bundle::PoolBundle;
 use resb_program::{SourceError, text_of};
 use resb_tree::Key;
-use resb_words::Filters;
+use resb_words::{CompileWords, Filters};
 use resb_write::Serializer;
 use std::alloc::{AllocError, Global};
 use std::path::Path;
 
 /// The file of a text in ICU's own form without what its rules leave out, over a pool bundle if
-/// there is one; or the status, once it is said why there is none.
+/// there is one, and the status of its warnings; or the status, once it is said why there is none.
 pub(crate) fn filtered_file(
     rt: &HostRuntime,
     name: &str,
     text: &str,
-    filters: Filters<'_>,
+    wanted: &CompileWords<'_>,
     pool: Option<&PoolBundle<'_>>,
-) -> Result<Vec<u8>, u8> {
-    let (bundle, keys) = filtered_draft(rt, name, text, Some(filters))?;
+) -> Result<(Vec<u8>, u8), u8> {
+    let (bundle, keys) = filtered_draft(rt, name, text, wanted.filters)?;
+    let status = check_collations(rt, name, &bundle.root, wanted)?;
     let has_fallback = bundle.is_locale_fallback_enabled;
     let (alloc, root, keys) = (rt.alloc(), bundle.root, keys.as_slice());
     let file = match pool {
         Some(pool) => Serializer::draft_to_bytes_with_pool(alloc, root, has_fallback, keys, pool),
         None => Serializer::draft_to_bytes(alloc, root, has_fallback, keys),
     };
-    file.map_err(|e| refuse_text(rt, name, text, IcuCompileError::Writing(e)))
+    match file {
+        Ok(file) => Ok((file, status)),
+        Err(e) => Err(refuse_text(rt, name, text, IcuCompileError::Writing(e))),
+    }
 }
 
 /// The bundle of a text in ICU's own form, without what its rules leave out if there are some, and
@@ -47,42 +52,39 @@ pub(crate) fn filtered_draft<'t>(
 ) -> Result<(DraftBundle<'t>, Vec<Key<'t>>), u8>
     ensures { IfOk result (λ r. is_ready r.0.root ≡ true) }
 {
-    let (mut bundle, keys) = match IcuReader::read_draft(rt.alloc(), text) {
-        Ok(read) => read,
-        Err(e) => return Err(refuse_text(rt, name, text, IcuCompileError::Reading(e))),
-    };
     if let Some(filters) = filters {
-        bundle.root = filtered(rt, name, bundle.root, filters)?;
+        return draft_by_rules(rt, name, text, filters);
     }
-    Ok((bundle, keys))
+    match IcuReader::read_draft(rt.alloc(), text) {
+        Ok(read) => Ok(read),
+        Err(e) => Err(refuse_text(rt, name, text, IcuCompileError::Reading(e))),
+    }
 }
 
-/// What the rules for the text of a name leave of a draft, or the status, once it is said why there
-/// are no rules.
-fn filtered<'t>(
+/// The same without what the rules for the text of a name leave out.
+fn draft_by_rules<'t>(
     rt: &HostRuntime,
     text_name: &str,
-    root: Draft<'t>,
+    text: &'t str,
     filters: Filters<'_>,
-) -> Result<Draft<'t>, u8>
-    requires { is_ready root ≡ true }
-    ensures { IfOk result (λ d. is_ready d ≡ true) }
+) -> Result<(DraftBundle<'t>, Vec<Key<'t>>), u8>
+    ensures { IfOk result (λ r. is_ready r.0.root ≡ true) }
 {
     let Ok(name) = rules_name(rt.alloc(), text_name, filters) else {
         return Err(refuse_memory(rt, text_name));
     };
     let name = name.as_str();
     let bytes = bytes_of(rt, name, None)?;
-    let Ok(text) = text_of(bytes.as_slice()) else {
+    let Ok(lines) = text_of(bytes.as_slice()) else {
         return Err(fail(rt, name, "this is no UTF-8"));
     };
-    let rules = match Rules::read(rt.alloc(), text) {
+    let rules = match Rules::read(rt.alloc(), lines) {
         Ok(rules) => rules,
         Err(e) => return Err(refuse_rules(rt, name, e)),
     };
-    match rules.filtered(rt.alloc(), root) {
-        Ok(root) => Ok(root),
-        Err(_) => Err(refuse_memory(rt, text_name)),
+    match read_icu_filtered(rt.alloc(), text, &rules) {
+        Ok(read) => Ok(read),
+        Err(e) => Err(refuse_text(rt, text_name, text, e)),
     }
 }
 

@@ -5,6 +5,7 @@
 
 mod below;
 mod check;
+mod collation;
 mod compile;
 mod derb;
 mod diff;

@@ -1,6 +1,7 @@
 -- The words of the contracts: compiled texts, and, from the crates below, what a text and a written
 -- file are, and why either is refused.
 pub use Rattle.resb_tree.specs.Tree
+pub use Rattle.resb_filter.specs.Filtered
 pub use Rattle.resb_grammar.specs.BundleText
 pub use Rattle.resb_grammar.specs.Limit
 pub use Rattle.resb_icu_grammar.specs.Bundle as IcuBundle
@@ -18,3 +19,4 @@ pub use Rattle.resb_pool_bundle.specs.Pool
 pub mod Compiling
 pub mod CompilingIcu
 pub mod CompilingWithPool
+pub mod CompilingFiltered

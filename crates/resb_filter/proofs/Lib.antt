@@ -4,3 +4,4 @@ mod RuleLemmas
 mod LeftLemmas
 mod TableLemmas
 mod LawLemmas
+pub mod KeyLemmas

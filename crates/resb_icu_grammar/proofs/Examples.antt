@@ -16,7 +16,7 @@ use Rattle.resb_icu_grammar.specs.Pieces.{one_more}
 use Rattle.resb_icu_grammar.specs.Faults.{NoEscapeAt, StringFault, this_piece, later_piece}
 use Rattle.resb_icu_grammar.specs.Faults as fault
 use Rattle.resb_icu_grammar.specs.Words as words
-use Rattle.resb_icu_grammar.specs.Words.{Word, Text, a_word, quoted, KeyText, Name, Number}
+use Rattle.resb_icu_grammar.specs.Words.{Word, a_word, quoted}
 use Rattle.resb_icu_grammar.specs.Words.{TypeName}
 use Rattle.resb_icu_grammar.specs.Groups.{Group, untyped, an_empty_array, one_string, no_entry}
 use Rattle.resb_icu_grammar.specs.Groups.{one_entry, Entries, typed, leaf, alias_content}
@@ -190,7 +190,7 @@ bundle_accepted = record {
       (untyped 3 4 5 _ [] refl (stays _ 4 refl (λ h. absurd (omega arith)))
       (one_string 4 5 5 (codes "x") (a_word (word_of_one _ 4 refl refl (lit≤ tt)))
       (stays _ 5 refl (λ h. absurd (omega arith)))) refl)
-      refl (stays _ 6 refl (λ h. absurd (omega arith))) (no_entry 6) refl;
+      (stays _ 6 refl (λ h. absurd (omega arith))) (no_entry 6) refl;
   closes = refl;
   after = stays _ 7 refl (λ h. absurd (omega arith));
   means = refl;
@@ -220,13 +220,13 @@ stuck_there =
       after = stays _ 2 refl (λ h. absurd (omega arith));
     })
     (record {
-      last = reading_at (in_table [] (codes "a") 3 ∷ []) (codes "a" ∷ []) before_group 3;
+      last = reading_at (in_table [] (codes "a") ∷ []) (codes "a" ∷ []) before_group 3;
       comes = one_move (codes "b{a}") [] [] (among_entries []) 2
-          (reading_at (in_table [] (codes "a") 3 ∷ []) (codes "a" ∷ []) before_group 3)
+          (reading_at (in_table [] (codes "a") ∷ []) (codes "a" ∷ []) before_group 3)
           (key_of_entry [] 2 3 3 (codes "a")
           (words.a_word (word_of_one _ 2 refl refl (lit≤ tt)) refl)
           (stays _ 3 refl (λ h. absurd (omega arith))));
-      there = inside (in_table [] (codes "a") 3 ∷ []) (codes "a" ∷ []) before_group 3 3 expect.Group
+      there = inside (in_table [] (codes "a") ∷ []) (codes "a" ∷ []) before_group 3 3 expect.Group
           (no_group 3 never);
     })
   where
@@ -262,7 +262,7 @@ alias_accepted =
     (stays _ 14 refl (λ h. absurd (omega arith))) (λ h. absurd (omega arith))))
     (stays _ 14 refl (λ h. absurd (omega arith)))))
     refl)
-    refl (stays _ 15 refl (λ h. absurd (omega arith))) (no_entry 15) refl
+    (stays _ 15 refl (λ h. absurd (omega arith))) (no_entry 15) refl
   where
     each : (k : ℕ) → 2 ≤ k → k < 7 → is_word (slice_index (codes "x:alias{\"/a/b\"}") k) ≡ true
     each zero low high = absurd (omega arith)
@@ -355,7 +355,7 @@ header_before_a = record {
 
 -- where its strings are read, the array is open that is the value of the entry `a`
 abbrev InValue : Standing → ℕ → Reading
-InValue s at = reading_at (in_table [] (codes "a") 3 ∷ []) (codes "a" ∷ []) s at
+InValue s at = reading_at (in_table [] (codes "a") ∷ []) (codes "a" ∷ []) s at
 
 -- before its second string 1438 bytes are made: 72 for the root, 1024 and 195 for the key, 72 for
 -- the group, 75 for the first string
@@ -381,7 +381,7 @@ before_y = record {
 }
 
 -- its second string is a member
-abbrev y_follows : Move (codes "b{a{x,y}}") (in_table [] (codes "a") 3 ∷ []) (codes "a" ∷ [])
+abbrev y_follows : Move (codes "b{a{x,y}}") (in_table [] (codes "a") ∷ []) (codes "a" ∷ [])
     (among_members a_comma (string (codes "x") ∷ [])) 6
     (InValue (among_members a_string (string (codes "x") ∷ string (codes "y") ∷ [])) 7)
 y_follows =
@@ -407,7 +407,7 @@ two_strings_within = record {
         (moves _ (InValue (behind_group in_array) 8) _ _ _ _
         (moves _ _ _ _ _ _ before_y.comes y_follows)
         (array_ends a_string _ 7 refl))
-        (was_value [] [] (codes "a") 3 8 refl (blanks_end 8 refl (λ h. absurd (omega arith)))))
+        (was_value [] [] (codes "a") 8 (blanks_end 8 refl (λ h. absurd (omega arith)))))
         (table_ends _ 8 refl (refl, tt));
     sum = refl;
   };

@@ -270,14 +270,14 @@ mutual
       (ks js : List (List ℕ)) → Entries text from a es ks → Entries text from b fs js
       → Closes text a → Closes text b → (a ≡ b) × (es ≡ fs) × (ks ≡ js)
   Entries-one text from a b es fs ks js (no_entry _) (no_entry _) c d = (refl, refl, refl)
-  Entries-one text from a b es fs ks js (no_entry _) (one_entry _ i j m n _ k t _ zs _ p l g h o r
+  Entries-one text from a b es fs ks js (no_entry _) (one_entry _ i j m n _ k t _ zs _ p l g o r
       w)
       c d = absurd (no_string text from i _ k (key_string text from i k p) c refl)
-  Entries-one text from a b es fs ks js (one_entry _ i j m n _ k t _ zs _ p l g h o r w) (no_entry
+  Entries-one text from a b es fs ks js (one_entry _ i j m n _ k t _ zs _ p l g o r w) (no_entry
       _)
       c d = absurd (no_string text from i _ k (key_string text from i k p) d refl)
-  Entries-one text from a b es fs ks js (one_entry _ i j m n _ k t es' zs ks' p l g h o r w)
-      (one_entry _ i' j' m' n' _ k' t' fs' ys js' p' l' g' h' o' r' w') c d =
+  Entries-one text from a b es fs ks js (one_entry _ i j m n _ k t es' zs ks' p l g o r w)
+      (one_entry _ i' j' m' n' _ k' t' fs' ys js' p' l' g' o' r' w') c d =
       let key = string_skipped text from i i' j j' k k' (key_string text from i k p) l
       (key_string text from i' k' p') l' in
       let value = Group-one text j m m' t t' zs ys g
@@ -296,7 +296,7 @@ mutual
   Untyped-one text from a b t u ks js (an_empty_array _) (an_array _ _ us _ h r) c d =
       absurd (no_array text from h c)
   Untyped-one text from a b t u ks js (an_empty_array _)
-      (a_table _ _ _ _ _ (one_entry _ i j m n _ k v _ zs _ p l g h o r w)) c d =
+      (a_table _ _ _ _ _ (one_entry _ i j m n _ k v _ zs _ p l g o r w)) c d =
       absurd (no_string text from i _ k (key_string text from i k p) c refl)
   Untyped-one text from a b t u ks js (one_string _ i _ s p k) (an_empty_array _) c d =
       absurd (no_string text from i _ s p d refl)
@@ -305,7 +305,7 @@ mutual
   Untyped-one text from a b t u ks js (one_string _ i _ s p k) (an_array _ _ us _ h r) c d =
       absurd (no_string_array text from i a s p k c h)
   Untyped-one text from a b t u ks js (one_string _ i _ s p k)
-      (a_table _ _ _ _ _ (one_entry _ i' j m n _ q v _ zs _ x l g h o r w)) c d =
+      (a_table _ _ _ _ _ (one_entry _ i' j m n _ q v _ zs _ x l g o r w)) c d =
       absurd (no_string_table text from i i' a j m s q v zs p k x l g c)
   Untyped-one text from a b t u ks js (an_array _ _ ts _ h r) (an_empty_array _) c d =
       absurd (no_array text from h d)
@@ -315,17 +315,17 @@ mutual
       let both = Members-one text nothing from a b ts us ks js r z c d in
       (both.0, ap (λ vs. array (trees_of vs)) both.1, both.2)
   Untyped-one text from a b t u ks js (an_array _ _ ts _ h r)
-      (a_table _ _ _ _ _ (one_entry _ i j m n _ q v _ zs _ x l g f o y w)) c d =
+      (a_table _ _ _ _ _ (one_entry _ i j m n _ q v _ zs _ x l g o y w)) c d =
       absurd (no_array_table text from i j m q v zs x l g h)
   Untyped-one text from a b t u ks js
-      (a_table _ _ _ _ _ (one_entry _ i j m n _ k v _ zs _ p l g h o r w)) (an_empty_array _) c d =
+      (a_table _ _ _ _ _ (one_entry _ i j m n _ k v _ zs _ p l g o r w)) (an_empty_array _) c d =
       absurd (no_string text from i _ k (key_string text from i k p) d refl)
   Untyped-one text from a b t u ks js
-      (a_table _ _ _ _ _ (one_entry _ i' j m n _ q v _ zs _ x l g h o r w))
+      (a_table _ _ _ _ _ (one_entry _ i' j m n _ q v _ zs _ x l g o r w))
       (one_string _ i _ s p k) c d =
       absurd (no_string_table text from i i' b j m s q v zs p k x l g d)
   Untyped-one text from a b t u ks js
-      (a_table _ _ _ _ _ (one_entry _ i j m n _ q v _ zs _ x l g f o y w))
+      (a_table _ _ _ _ _ (one_entry _ i j m n _ q v _ zs _ x l g o y w))
       (an_array _ _ us _ h r) c d = absurd (no_array_table text from i j m q v zs x l g h)
   Untyped-one text from a b t u ks js (a_table _ _ e es _ p) (a_table _ _ f fs _ q) c d =
       let both = Entries-one text from a b (e ∷ es) (f ∷ fs) ks js p q c d in

@@ -47,7 +47,7 @@ last_member at to (u ∷ v ∷ us) t = last_member at to (v ∷ us) t
 -- what a step makes is told by where it leads from and to, and by the end of the string there: by
 -- the key of the innermost table
 abbrev key_said : List (List ℕ × Tree) → List Waiting → ℕ
-key_said es (in_table before k begin ∷ ws) = next_key_bytes es k
+key_said es (in_table before k ∷ ws) = next_key_bytes es k
 key_said es _ = 0
 
 abbrev members_said : ℕ → ℕ → Standing → ℕ

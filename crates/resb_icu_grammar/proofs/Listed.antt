@@ -51,7 +51,7 @@ mutual
   entries_list : (text : List ℕ) (from to : ℕ) (es : List (List ℕ × Tree))
       (ks : List (List ℕ)) → Entries text from to es ks → (k : List ℕ) → KeyOf k es → In k ks
   entries_list text from to es ks (no_entry _) k e = absurd e
-  entries_list text from to es ks (one_entry _ i j m n _ l t fs js is x y g z s r w) k e =
+  entries_list text from to es ks (one_entry _ i j m n _ l t fs js is x y g s r w) k e =
       ⊎_elim (λ (h : (k ≡ l) ⊎ (is_key k t ≡ true)). ⊎_elim (λ (a : k ≡ l). inl a)
       (λ (a : is_key k t ≡ true). inr (in_left k js is (group_lists text j m t js g k a))) h)
       (λ (h : KeyOf k fs). inr (in_right k js is (entries_list text n to fs is r k h))) e

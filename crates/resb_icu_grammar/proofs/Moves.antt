@@ -1,10 +1,10 @@
 -- What a reading's steps keep: the meanings that the rest of the text has.
-use Rattle.std.proofs.Common.{◌≡◌, ℕ, ◌&&◌, false, List, [], ◌∷◌, ◌++◌, refl, subst}
+use Rattle.std.proofs.Common.{ℕ, List, [], ◌∷◌, ◌++◌, refl, subst}
 use Rattle.resb_tree.specs.Tree.{Tree}
 use Rattle.resb_icu_grammar.specs.Blanks.{Skip}
-use Rattle.resb_icu_grammar.specs.Groups.{nothing, a_group, is_collation, holds_entries}
+use Rattle.resb_icu_grammar.specs.Groups.{nothing, a_group}
 use Rattle.resb_icu_grammar.specs.Groups.{with_a_group, with_a_string}
-use Rattle.resb_icu_grammar.specs.Machine.{Waiting, in_array, in_table, Standing, among_members}
+use Rattle.resb_icu_grammar.specs.Machine.{Waiting, Standing, among_members}
 use Rattle.resb_icu_grammar.specs.Machine.{among_entries, before_group, in_untyped, in_typed}
 use Rattle.resb_icu_grammar.specs.Machine.{behind_group, Reading, reading_at, Move, StepOut, Comes}
 use Rattle.resb_icu_grammar.specs.Machine.{here, moves, leaves, was_member, was_value}
@@ -91,10 +91,10 @@ behind_member text ws ks t ts at next k m = (there, back)
 
 behind_value : (text : List ℕ) (ws : List Waiting) (ks : List (List ℕ)) (t : Tree)
     (es : List (List ℕ × Tree)) (key : List ℕ) (at next : ℕ)
-    → (is_collation key && holds_entries t) ≡ false → Skip text at next
+    → Skip text at next
     → Same (AfterValue text (After text ws) es key at t ks)
     (RestOfEntries text (After text ws) (es ++ (key, t) ∷ []) next ks)
-behind_value text ws ks t es key at next f k m = (there, back)
+behind_value text ws ks t es key at next k m = (there, back)
   where
     there : AfterValue text (After text ws) es key at t ks m
         → RestOfEntries text (After text ws) (es ++ (key, t) ∷ []) next ks m
@@ -104,14 +104,14 @@ behind_value text ws ks t es key at next f k m = (there, back)
 
     back : RestOfEntries text (After text ws) (es ++ (key, t) ∷ []) next ks m
         → AfterValue text (After text ws) es key at t ks m
-    back h = record { next = next; taken = f; after = k; rest = h }
+    back h = record { next = next; after = k; rest = h }
 
 -- so does a step out of a group
 pub step_out_same : (text : List ℕ) (ws : List Waiting) (ks : List (List ℕ)) (t : Tree) (at : ℕ)
     (r : Reading) → StepOut text ks t at ws r → Same (After text ws at t ks) (Rest text r)
 step_out_same text _ ks t at _ (was_member ws ts j k) = behind_member text ws ks t ts at j k
-step_out_same text _ ks t at _ (was_value ws es key _ j f k) =
-    behind_value text ws ks t es key at j f k
+step_out_same text _ ks t at _ (was_value ws es key j k) =
+    behind_value text ws ks t es key at j k
 
 -- and so do all steps from one place to another
 pub comes_same : (text : List ℕ) (from r : Reading) → Comes text from r

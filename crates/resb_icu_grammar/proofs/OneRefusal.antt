@@ -10,19 +10,19 @@ use Rattle.resb_tree.specs.Tree.{Tree}
 use Rattle.resb_icu_grammar.specs.Blanks.{Begins, Skip}
 use Rattle.resb_icu_grammar.specs.Words.{Text, Name, Number, RootType}
 use Rattle.resb_icu_grammar.specs.Laws.{IcuStuckInOneWay}
-use Rattle.resb_icu_grammar.specs.Machine.{Waiting, Standing, behind_group, Reading, reading_at}
-use Rattle.resb_icu_grammar.specs.Machine.{Move, BeginsGroup, StepOut, Comes, was_member, was_value}
+use Rattle.resb_icu_grammar.specs.Machine.{Waiting, Standing, Reading}
+use Rattle.resb_icu_grammar.specs.Machine.{Move, BeginsGroup, StepOut, Comes}
 use Rattle.resb_icu_grammar.specs.Machine.{at_root}
 use Rattle.resb_icu_grammar.specs.Machine as step
 use Rattle.resb_icu_grammar.specs.Faults.{Told}
 use Rattle.resb_icu_grammar.specs.Stuck.{NoNumberAt, NumbersSoFar, none_yet, one_number, LeafStuck}
 use Rattle.resb_icu_grammar.specs.Stuck.{member_behind}
 use Rattle.resb_icu_grammar.specs.Stuck.{StepStuck, EndStuck, HeaderStuck}
-use Rattle.resb_icu_grammar.specs.Stuck.{ReadStuck, StuckFrom, Stuck}
+use Rattle.resb_icu_grammar.specs.Stuck.{ReadStuck, StuckFrom}
 use Rattle.resb_icu_grammar.specs.Stuck.{no_string, open_string, no_path, open_alias, no_digits}
 use Rattle.resb_icu_grammar.specs.Stuck.{odd_digits, open_binary}
 use Rattle.resb_icu_grammar.specs.Stuck.{no_integer, open_integer, no_number, open_vector}
-use Rattle.resb_icu_grammar.specs.Stuck.{a_collation, more_text, no_name, no_root_type}
+use Rattle.resb_icu_grammar.specs.Stuck.{more_text, no_name, no_root_type}
 use Rattle.resb_icu_grammar.specs.Stuck.{no_root_brace, no_typed_brace, in_header, in_root}
 use Rattle.resb_icu_grammar.specs.Stuck as stuck
 use Rattle.resb_icu_grammar.specs.declared.expected.IcuExpected.{IcuExpected}
@@ -133,8 +133,6 @@ standing_stays text ws ks _ at to x _ (stuck.in_leaf kind _ _ _ h)
 -- nor where one is stuck behind a group
 end_stays : (text : List ℕ) (ws : List Waiting) (ks : List (List ℕ)) (t : Tree) (at to : ℕ)
     (x : IcuExpected) (r : Reading) → EndStuck text t at ws to x → StepOut text ks t at ws r → ⊥
-end_stays text _ ks t at _ _ r (a_collation ws es k _ e) (was_value _ _ _ _ j f l) =
-    false≢true (sym f ∙ e)
 end_stays text _ ks t at _ _ r (more_text end k w) l = elim l [ ]
 
 pub reading_stays : (text : List ℕ) (from r : Reading) (to : ℕ) (x : IcuExpected)
@@ -367,7 +365,6 @@ StepStuck-one text _ at to end x y (stuck.in_leaf kind _ _ _ h) (stuck.in_leaf _
 EndStuck-one : (text : List ℕ) (ws : List Waiting) (t : Tree) (at to end : ℕ)
     (x y : IcuExpected) → EndStuck text t at ws to x → EndStuck text t at ws end y
     → (to ≡ end) × (x ≡ y)
-EndStuck-one text _ t at _ _ _ _ (a_collation ws es k _ e) (a_collation _ _ _ _ f) = (refl, refl)
 EndStuck-one text _ t at to end _ _ (more_text _ k w) (more_text _ l v) =
     (Skip-one text at to end k l, refl)
 

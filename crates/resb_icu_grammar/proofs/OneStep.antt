@@ -76,7 +76,7 @@ Move-one text ws ks _ at _ _ (step.key_of_entry es _ i j k p l)
     (step.key_of_entry _ _ m n v q o) =
     let both = string_skipped text at i m j n k v (key_string text at i k p) l
     (key_string text at m v q) o in
-    (λ u. reading_at (in_table es (both.1 u) (both.0 u) ∷ ws) (ks ++ both.1 u ∷ []) before_group
+    (λ u. reading_at (in_table es (both.1 u) ∷ ws) (ks ++ both.1 u ∷ []) before_group
     (both.0 u))
 Move-one text ws ks _ at _ _ (step.group_opens _ i b k) (step.group_opens _ j c l) =
     ap (λ u. reading_at ws ks in_untyped u) (Skip-one text (at + 1) i j k l)
@@ -151,7 +151,7 @@ Move-one text ws ks _ at _ _ (step.begins_with_key _ i j s p k b)
     (step.begins_with_key _ m n v q l d) =
     let both = string_skipped text at i m j n s v (key_string text at i s p) k
     (key_string text at m v q) l in
-    (λ u. reading_at (in_table [] (both.1 u) (both.0 u) ∷ ws) (ks ++ both.1 u ∷ []) before_group
+    (λ u. reading_at (in_table [] (both.1 u) ∷ ws) (ks ++ both.1 u ∷ []) before_group
     (both.0 u))
 Move-one text ws ks _ at _ _ (step.members_follow _) (step.members_follow _) = refl
 Move-one text ws ks _ at _ _ (step.members_follow _) (step.leaf_follows _ _ to t p c) = elim p [ ]
@@ -169,7 +169,7 @@ pub StepOut-one : (text : List ℕ) (ws : List Waiting) (ks : List (List ℕ)) (
     (r q : Reading) → StepOut text ks t at ws r → StepOut text ks t at ws q → r ≡ q
 StepOut-one text _ ks t at _ _ (was_member ws ts j k) (was_member _ _ n l) =
     ap (λ u. reading_at ws ks (among_members a_group (ts ++ t ∷ [])) u) (Skip-one text at j n k l)
-StepOut-one text _ ks t at _ _ (was_value ws es key _ j f k) (was_value _ _ _ _ n g l) =
+StepOut-one text _ ks t at _ _ (was_value ws es key j k) (was_value _ _ _ n l) =
     ap (λ u. reading_at ws ks (among_entries (es ++ (key, t) ∷ [])) u) (Skip-one text at j n k l)
 
 -- one step of a reading, inside the groups that are open or out of one

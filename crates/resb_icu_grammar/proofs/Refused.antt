@@ -2,7 +2,6 @@
 use Rattle.std.proofs.Common.{◌≡◌, ◌≢◌, ℕ, Bool, List, [], sym, ◌∙◌, ap, subst, arith, length, inl}
 use Rattle.std.proofs.Common.{inr}
 use Rattle.std.specs.Prelude.{slice_index}
-use Rattle.std.proofs.lemmas.Bool.{false≢true}
 use Rattle.resb_grammar.specs.Ascii as ascii
 use Rattle.resb_icu_grammar.specs.Kinds.{Kind}
 use Rattle.resb_tree.specs.Tree.{Tree}
@@ -13,8 +12,8 @@ use Rattle.resb_icu_grammar.specs.Groups.{TypedOpening}
 use Rattle.resb_icu_grammar.specs.Laws.{IcuStuckIsNoText}
 use Rattle.resb_icu_grammar.specs.Machine.{Waiting, Standing, Reading, at_root}
 use Rattle.resb_icu_grammar.specs.Stuck.{StepStuck, EndStuck, HeaderStuck}
-use Rattle.resb_icu_grammar.specs.Stuck.{ReadStuck, StuckFrom, Stuck}
-use Rattle.resb_icu_grammar.specs.Stuck.{a_collation, more_text, no_name, no_root_type}
+use Rattle.resb_icu_grammar.specs.Stuck.{ReadStuck, StuckFrom}
+use Rattle.resb_icu_grammar.specs.Stuck.{more_text, no_name, no_root_type}
 use Rattle.resb_icu_grammar.specs.Stuck.{no_root_brace, no_typed_brace, in_header, in_root, inside}
 use Rattle.resb_icu_grammar.specs.Stuck.{behind}
 use Rattle.resb_icu_grammar.specs.Stuck as stuck
@@ -75,10 +74,9 @@ standing_never text ws ks _ at to x (stuck.in_leaf kind _ _ _ h) =
     groups.no_leaf text (After text ws) kind at ks apart.0 apart.1
     (no_leaf_there text at kind to x h)
 
--- so it is where more than blanks stands behind the root, or a table with rules of collation ends
+-- so it is where more than blanks stands behind the root
 end_never : (text : List ℕ) (ws : List Waiting) (ks : List (List ℕ)) (t : Tree) (at to : ℕ)
     (x : IcuExpected) → EndStuck text t at ws to x → Never (After text ws at t ks)
-end_never text _ ks t at _ _ (a_collation ws es k _ e) m p = false≢true (sym p.taken ∙ e)
 end_never text _ ks t at _ _ (more_text end k w) m h =
     let same : end ≡ length text = Skip-one text at end (length text) k h.after in
     absurd (omega (arith, w, same))

@@ -26,7 +26,7 @@ use Rattle.resb_icu_grammar.proofs.Groups.{group_first}
 pub entries_distinct : (text : List ℕ) (from to : ℕ) (es : List (List ℕ × Tree))
     (ks : List (List ℕ)) → Entries text from to es ks → AreDistinct es
 entries_distinct text from to es ks (no_entry _) = tt
-entries_distinct text from to es ks (one_entry _ i j m n _ k t es' zs ks' p s g h s' r w) =
+entries_distinct text from to es ks (one_entry _ i j m n _ k t es' zs ks' p s g s' r w) =
     (w, entries_distinct text n to es' ks' r)
 
 -- what is distinct stays so without those before
@@ -285,7 +285,7 @@ module _ (text : List ℕ) (goal : Goal) where
           of_entries to fs js (no_entry _) g =
               subst (λ l. goal (at + 1) (table (map_of es)) l m) (append-nil ks)
               (subst (λ l. goal (at + 1) (table (map_of l)) (ks ++ []) m) (append-nil es) g)
-          of_entries to fs js (one_entry _ i j n o _ k t _ zs _ p l x h' y r w) g =
+          of_entries to fs js (one_entry _ i j n o _ k t _ zs _ p l x y r w) g =
               absurd (no_string text at i _ k (key_string text at i k p) c refl)
 
       back : goal (at + 1) (table (map_of es)) ks m → RestOfEntries text goal es at ks m
@@ -308,7 +308,7 @@ module _ (text : List ℕ) (goal : Goal) where
       of_entries : (to : ℕ) (fs : List (List ℕ × Tree)) (js : List (List ℕ))
           → Entries text at to fs js → AreDistinct (es ++ fs) → ⊥
       of_entries to fs js (no_entry _) w = d (subst AreDistinct (append-nil es) w)
-      of_entries to fs js (one_entry _ i j n o _ k t _ zs _ p l x h' y r z) w =
+      of_entries to fs js (one_entry _ i j n o _ k t _ zs _ p l x y r z) w =
           no_string text at i _ k (key_string text at i k p) c refl
 
   -- a key and its value are one entry more
@@ -333,7 +333,7 @@ module _ (text : List ℕ) (goal : Goal) where
               → RestOfGroup text (AfterValue text goal es k) j (ks ++ k ∷ []) m
           of_entries to fs js (no_entry _) c w g =
               absurd (no_string text at i _ k (key_string text at i k p) c refl)
-          of_entries to fs js (one_entry _ i' j' n' o _ k' t fs' zs js' p' s' x h' y r z) c w g =
+          of_entries to fs js (one_entry _ i' j' n' o _ k' t fs' zs js' p' s' x y r z) c w g =
               let same = string_skipped text at i' i j' j k' k (key_string text at i' k' p') s'
               (key_string text at i k p) s in
               let built : RestOfGroup text (AfterValue text goal es k') j'
@@ -344,7 +344,6 @@ module _ (text : List ℕ) (goal : Goal) where
                 group = x;
                 then = record {
                   next = o;
-                  taken = h';
                   after = y;
                   rest = record {
                     to = to;
@@ -377,7 +376,7 @@ module _ (text : List ℕ) (goal : Goal) where
             more = (k, h.tree) ∷ r.more;
             keys = k ∷ h.keys ++ r.keys;
             entries = one_entry at i j h.to v.next r.to k h.tree r.more h.keys r.keys p s h.group
-                v.taken v.after r.entries
+                v.after r.entries
                 (behind_distinct es ((k, h.tree) ∷ r.more) distinct).0;
             closes = r.closes;
             distinct = distinct;
@@ -398,4 +397,4 @@ module _ (text : List ℕ) (goal : Goal) where
       of_entries : (to : ℕ) (fs : List (List ℕ × Tree)) (js : List (List ℕ))
           → Entries text at to fs js → Closes text to → ⊥
       of_entries to fs js (no_entry _) c = a c
-      of_entries to fs js (one_entry _ i j n o _ k t fs' zs js' p s x h' y r z) c = f i k p
+      of_entries to fs js (one_entry _ i j n o _ k t fs' zs js' p s x y r z) c = f i k p

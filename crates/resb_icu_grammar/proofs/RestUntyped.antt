@@ -39,7 +39,7 @@ module _ (text : List ℕ) (goal : Goal) where
           of_untyped to _ js (one_string _ j _ s p k) g = absurd (no_string text i j _ s p c refl)
           of_untyped to _ js (an_array _ _ us _ b r) g = absurd (no_array text i b c)
           of_untyped to _ js
-              (a_table _ _ _ _ _ (one_entry _ j n o q _ k v _ zs _ p l x h' y r w)) g =
+              (a_table _ _ _ _ _ (one_entry _ j n o q _ k v _ zs _ p l x y r w)) g =
               absurd (no_string text i j _ k (key_string text i j k p) c refl)
 
       back : goal (i + 1) (array (trees_of [])) ks m → RestOfUntyped text goal i ks m
@@ -75,7 +75,7 @@ module _ (text : List ℕ) (goal : Goal) where
             then = g;
           }
           of_untyped to _ js
-              (a_table _ _ _ _ _ (one_entry _ j n o q _ k v _ zs _ p l x h' y r w)) c g =
+              (a_table _ _ _ _ _ (one_entry _ j n o q _ k v _ zs _ p l x y r w)) c g =
               absurd (no_array_table text i j n o k v zs p l x b)
 
       back : RestOfMembers text goal nothing [] i ks m → RestOfUntyped text goal i ks m
@@ -108,7 +108,7 @@ module _ (text : List ℕ) (goal : Goal) where
           of_untyped to _ js (an_array _ _ us _ b r) d g =
               absurd (no_string_array text i j k s p l c b)
           of_untyped to _ js
-              (a_table _ _ _ _ _ (one_entry _ j' n o q _ y v _ zs _ x l' z h' u r w)) d g =
+              (a_table _ _ _ _ _ (one_entry _ j' n o q _ y v _ zs _ x l' z u r w)) d g =
               absurd (no_string_table text i j j' k n o s y v zs p l x l' z c)
 
       back : goal (k + 1) (string s) ks m → RestOfUntyped text goal i ks m
@@ -173,12 +173,12 @@ module _ (text : List ℕ) (goal : Goal) where
               → Entries text i to es js → Closes text to
               → goal (to + 1) (table (map_of es)) (ks ++ js) m → RestOfUntyped text goal i ks m
           of_entries to _ js (no_entry _) c g = absurd (no_string text i j _ s p' c refl)
-          of_entries to _ js (one_entry _ n o q r _ y v es zs js' x l' z h' u w a) c g = record {
+          of_entries to _ js (one_entry _ n o q r _ y v es zs js' x l' z u w a) c g = record {
             to = to;
             tree = table (map_of ((y, v) ∷ es));
             keys = js;
             content = a_table i to (y, v) es js
-                (one_entry i n o q r to y v es zs js' x l' z h' u w a);
+                (one_entry i n o q r to y v es zs js' x l' z u w a);
             closes = c;
             then = g;
           }
@@ -202,7 +202,7 @@ module _ (text : List ℕ) (goal : Goal) where
       of_untyped to _ js (an_array _ _ us _ (with_a_string n o q x y e) r) d =
           b (subst (λ w. slice_index text w ≡ ascii.comma)
           (string_skipped text i n j o k q s x y p l).0 e)
-      of_untyped to _ js (a_table _ _ _ _ _ (one_entry _ n o q r _ y v es zs js' x l' z h' u w c)) d
+      of_untyped to _ js (a_table _ _ _ _ _ (one_entry _ n o q r _ y v es zs js' x l' z u w c)) d
           =
           let x' : Text text i n y = key_string text i n y x in
           let both = String-one text i n j y s x' p in
@@ -223,6 +223,6 @@ module _ (text : List ℕ) (goal : Goal) where
       of_untyped to _ js (one_string _ n _ q x o) c = f n q x
       of_untyped to _ js (an_array _ _ us _ (with_a_group g) r) c = ⊎_elim b d g
       of_untyped to _ js (an_array _ _ us _ (with_a_string n o q x y e) r) c = f n q x
-      of_untyped to _ js (a_table _ _ _ _ _ (one_entry _ n o q r _ y v es zs js' x l' z h' u w e)) c
+      of_untyped to _ js (a_table _ _ _ _ _ (one_entry _ n o q r _ y v es zs js' x l' z u w e)) c
           =
           f n y (key_string text i n y x)

@@ -1,5 +1,5 @@
 -- The steps of a reading lead to the end of a text exactly where it is a bundle.
-use Rattle.std.proofs.Common.{◌≡◌, ℕ, ◌+◌, ◌&&◌, Bool, false, List, [], ◌∷◌, ◌++◌, refl, sym, ◌∙◌}
+use Rattle.std.proofs.Common.{◌≡◌, ℕ, ◌+◌, Bool, List, [], ◌∷◌, ◌++◌, refl, sym, ◌∙◌}
 use Rattle.std.proofs.Common.{subst, append_assoc, append-nil}
 use Rattle.std.specs.Prelude.{slice_index}
 use Rattle.resb_grammar.specs.Ascii as ascii
@@ -12,7 +12,6 @@ use Rattle.resb_icu_grammar.specs.Groups.{no_member, string_member, group_member
 use Rattle.resb_icu_grammar.specs.Groups.{Entries, no_entry, one_entry, Untyped, an_empty_array}
 use Rattle.resb_icu_grammar.specs.Groups.{one_string, an_array, a_table, Typed, members, entries}
 use Rattle.resb_icu_grammar.specs.Groups.{leaf, Group, untyped, typed, with_a_group, with_a_string}
-use Rattle.resb_icu_grammar.specs.Groups.{is_collation, holds_entries}
 use Rattle.resb_icu_grammar.specs.Bundle.{IcuText}
 use Rattle.resb_icu_grammar.specs.Laws.{IcuMachineReadsTheForm}
 use Rattle.resb_icu_grammar.specs.Machine.{Waiting, in_array, in_table, AreDistinct, Standing}
@@ -58,17 +57,17 @@ keys_in_order js k zs ks =
 -- steps through the group behind a key, out of it, and those behind that
 value_read : (text : List ℕ) (ws : List Waiting) (before : List (List ℕ × Tree))
     (js : List (List ℕ)) (from m n : ℕ) (k : List ℕ) (t : Tree) (zs : List (List ℕ)) (r : Reading)
-    → Comes text (reading_at (in_table before k from ∷ ws) js before_group from)
-    (reading_at (in_table before k from ∷ ws) (js ++ zs) (behind_group t) m)
-    → (is_collation k && holds_entries t) ≡ false → Skip text m n
+    → Comes text (reading_at (in_table before k ∷ ws) js before_group from)
+    (reading_at (in_table before k ∷ ws) (js ++ zs) (behind_group t) m)
+    → Skip text m n
     → Comes text (reading_at ws (js ++ zs) (among_entries (before ++ (k, t) ∷ [])) n) r
-    → Comes text (reading_at (in_table before k from ∷ ws) js before_group from) r
-value_read text ws before js from m n k t zs r g f o c =
-    comes_by text (reading_at (in_table before k from ∷ ws) js before_group from)
-    (reading_at (in_table before k from ∷ ws) (js ++ zs) (behind_group t) m) r g
-    (step_out_on text (in_table before k from ∷ ws) (js ++ zs) t m
+    → Comes text (reading_at (in_table before k ∷ ws) js before_group from) r
+value_read text ws before js from m n k t zs r g o c =
+    comes_by text (reading_at (in_table before k ∷ ws) js before_group from)
+    (reading_at (in_table before k ∷ ws) (js ++ zs) (behind_group t) m) r g
+    (step_out_on text (in_table before k ∷ ws) (js ++ zs) t m
     (reading_at ws (js ++ zs) (among_entries (before ++ (k, t) ∷ [])) n) r
-    (was_value ws before k from n f o) c)
+    (was_value ws before k n o) c)
 
 mutual
   -- steps lead through members and the `}` behind them
@@ -129,19 +128,19 @@ mutual
       (Table ws l before to)) (sym (append-nil js))
       (one_move text ws js (among_entries before) from (Table ws js before to)
       (step.table_ends before from c (subst AreDistinct (append-nil before) d))))
-  entries_read text ws before js from to _ _ (one_entry _ i j m n _ k t es zs ks p l g f o r w) d c
+  entries_read text ws before js from to _ _ (one_entry _ i j m n _ k t es zs ks p l g o r w) d c
       =
       subst (λ u. Comes text (reading_at ws js (among_entries before) from)
       (Table ws (js ++ (k ∷ zs ++ ks)) u to)) (append_assoc before ((k, t) ∷ []) es)
       (subst (λ u. Comes text (reading_at ws js (among_entries before) from)
       (Table ws u ((before ++ (k, t) ∷ []) ++ es) to)) (keys_in_order js k zs ks)
       (move_on text ws js (among_entries before) from
-      (reading_at (in_table before k j ∷ ws) (js ++ k ∷ []) before_group j)
+      (reading_at (in_table before k ∷ ws) (js ++ k ∷ []) before_group j)
       (Table ws (((js ++ k ∷ []) ++ zs) ++ ks) ((before ++ (k, t) ∷ []) ++ es) to)
       (step.key_of_entry before from i j k p l)
       (value_read text ws before (js ++ k ∷ []) j m n k t zs
       (Table ws (((js ++ k ∷ []) ++ zs) ++ ks) ((before ++ (k, t) ∷ []) ++ es) to)
-      (group_read text (in_table before k j ∷ ws) (js ++ k ∷ []) j m t zs g) f o
+      (group_read text (in_table before k ∷ ws) (js ++ k ∷ []) j m t zs g) o
       (entries_read text ws (before ++ (k, t) ∷ []) ((js ++ k ∷ []) ++ zs) n to es ks r
       (subst AreDistinct (sym (append_assoc before ((k, t) ∷ []) es)) d) c))))
 
@@ -166,16 +165,16 @@ mutual
   untyped_read text ws js from to _ ks (an_array _ _ ts _ (with_a_string i j s p k e) r) c =
       first_string_read text ws js from i j to s ts ks p k e r c
   untyped_read text ws js from to _ _
-      (a_table _ _ _ _ _ (one_entry _ i j m n _ k t es zs ks p l g f o r w)) c =
+      (a_table _ _ _ _ _ (one_entry _ i j m n _ k t es zs ks p l g o r w)) c =
       subst (λ u. Comes text (reading_at ws js in_untyped from) (Table ws u ((k, t) ∷ es) to))
       (keys_in_order js k zs ks)
       (move_on text ws js in_untyped from
-      (reading_at (in_table [] k j ∷ ws) (js ++ k ∷ []) before_group j)
+      (reading_at (in_table [] k ∷ ws) (js ++ k ∷ []) before_group j)
       (Table ws (((js ++ k ∷ []) ++ zs) ++ ks) ((k, t) ∷ es) to)
       (step.begins_with_key from i j k p l (group_first text j m t zs g))
       (value_read text ws [] (js ++ k ∷ []) j m n k t zs
       (Table ws (((js ++ k ∷ []) ++ zs) ++ ks) ((k, t) ∷ es) to)
-      (group_read text (in_table [] k j ∷ ws) (js ++ k ∷ []) j m t zs g) f o
+      (group_read text (in_table [] k ∷ ws) (js ++ k ∷ []) j m t zs g) o
       (entries_read text ws ((k, t) ∷ []) ((js ++ k ∷ []) ++ zs) n to es ks r
       (w, entries_distinct text n to es ks r) c)))
 

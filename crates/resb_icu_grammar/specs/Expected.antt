@@ -29,7 +29,6 @@ item_of expect.Entry = codes "a key or '}'"
 item_of expect.Comma = codes "a comma between two strings"
 item_of expect.AfterString = codes "'}', a comma, '{' or a type"
 item_of expect.KeysOnce = codes "each key once in the table that ends here"
-item_of expect.NoCollation = codes "no table with rules of collation"
 item_of expect.EndOfText = codes "the end of the text"
 item_of expect.Memory = codes "memory"
 

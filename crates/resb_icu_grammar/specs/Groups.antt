@@ -1,7 +1,7 @@
 -- Groups of ICU's text form: what a group without a type is, the members of arrays and the entries
 -- of tables, as least relations on a text and two places.
-use Rattle.std.specs.Prelude.{◌≡◌, ◌⊎◌, ◌+◌, ◌%◌, ◌^◌, ◌&&◌, ◌||◌, not, ℕ, Bool, true, false}
-use Rattle.std.specs.Prelude.{List, [], ◌∷◌, ◌++◌, Some, slice_index, codes, nat_eq}
+use Rattle.std.specs.Prelude.{◌≡◌, ◌⊎◌, ◌+◌, ◌%◌, ◌^◌, not, ℕ, Bool, true, false}
+use Rattle.std.specs.Prelude.{List, [], ◌∷◌, ◌++◌, Some, slice_index, nat_eq}
 use Rattle.std.specs.List.{list_any}
 use Rattle.std.specs.Cmp.Lexicographic.{pointwise}
 use Rattle.resb_grammar.specs.Ascii as ascii
@@ -76,16 +76,6 @@ pub data BeginsArray (text : List ℕ) (at : ℕ) : Type 0 where
 abbrev pub is_new : List ℕ → List (List ℕ × Tree) → Bool
 is_new key entries = not (list_any (λ e. pointwise nat_eq key e.0) entries)
 
--- keys whose tables hold rules of collation, which are no part of this form
-abbrev pub is_collation : List ℕ → Bool
-is_collation key =
-    pointwise nat_eq key (codes "collations") || pointwise nat_eq key (codes "CollationElements")
-
--- the tree is a table
-abbrev pub holds_entries : Tree → Bool
-holds_entries (table es) = true
-holds_entries _ = false
-
 mutual
   -- the members of an array behind what stands last, and the keys of their tables in order of
   -- place; no string stands right behind a string, and one comma may follow a member
@@ -101,13 +91,12 @@ mutual
         → is_member last ≡ true → slice_index text from ≡ ascii.comma → Skip text (from + 1) j
         → Members text a_comma j to ts ks → Members text last from to ts ks
 
-  -- the entries of a table in order of place, each key once, and the keys in order of place. Under
-  -- the keys of collations stands no table
+  -- the entries of a table in order of place, each key once, and the keys in order of place
   pub data Entries (text : List ℕ) : ℕ → ℕ → List (List ℕ × Tree) → List (List ℕ) → Type 0 where
     no_entry : (at : ℕ) → Entries text at at [] []
     one_entry : (from i j m n to : ℕ) (k : List ℕ) (t : Tree) (es : List (List ℕ × Tree))
         (js ks : List (List ℕ)) → KeyText text from i k → Skip text i j → Group text j m t js
-        → (is_collation k && holds_entries t) ≡ false → Skip text m n → Entries text n to es ks
+        → Skip text m n → Entries text n to es ks
         → is_new k es ≡ true → Entries text from to ((k, t) ∷ es) (k ∷ js ++ ks)
 
   -- what stands in a group without a type

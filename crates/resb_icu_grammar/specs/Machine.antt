@@ -1,6 +1,6 @@
 -- A reading of a text of ICU's form from the first entry of the root on: where it stands, with what
 -- it has read so far, each step that it may make, and what is read by steps to the end.
-use Rattle.std.specs.Prelude.{◌≡◌, ◌⊎◌, ◌+◌, ◌&&◌, ℕ, Bool, true, false, List, [], ◌∷◌, ◌++◌}
+use Rattle.std.specs.Prelude.{◌≡◌, ◌⊎◌, ◌+◌, ℕ, Bool, true, false, List, [], ◌∷◌, ◌++◌}
 use Rattle.std.specs.Prelude.{length, slice_index}
 use Rattle.resb_grammar.specs.Ascii as ascii
 use Rattle.resb_grammar.specs.BundleText.{first_places}
@@ -10,14 +10,13 @@ use Rattle.resb_icu_grammar.specs.Kinds.{Kind, array_kind, table_kind}
 use Rattle.resb_icu_grammar.specs.Words.{Text, KeyText}
 use Rattle.resb_icu_grammar.specs.Groups.{Last, nothing, a_string, a_group, a_comma, TypedOpening}
 use Rattle.resb_icu_grammar.specs.Groups.{LeafContent, is_member, ends_in_string, is_new}
-use Rattle.resb_icu_grammar.specs.Groups.{is_collation, holds_entries}
 use Rattle.resb_icu_grammar.specs.Bundle.{Header}
 
 -- what is open around a group: an array with the members before it, or a table with the entries
--- before it, its key, and the place where it begins
+-- before it and its key
 pub data Waiting : Type 0 where
   in_array : List Tree → Waiting
-  in_table : List (List ℕ × Tree) → List ℕ → ℕ → Waiting
+  in_table : List (List ℕ × Tree) → List ℕ → Waiting
 
 -- each key stands once among these entries
 abbrev pub AreDistinct : List (List ℕ × Tree) → Type 0
@@ -84,7 +83,7 @@ pub data Move (text : List ℕ) (ws : List Waiting) (ks : List (List ℕ))
   key_of_entry : (es : List (List ℕ × Tree)) (at i j : ℕ) (k : List ℕ) → KeyText text at i k
       → Skip text i j
       → Move text ws ks (among_entries es) at
-      (reading_at (in_table es k j ∷ ws) (ks ++ k ∷ []) before_group j)
+      (reading_at (in_table es k ∷ ws) (ks ++ k ∷ []) before_group j)
   -- a `{` begins a group without a type
   group_opens : (at i : ℕ) → slice_index text at ≡ ascii.left_brace → Skip text (at + 1) i
       → Move text ws ks before_group at (reading_at ws ks in_untyped i)
@@ -110,7 +109,7 @@ pub data Move (text : List ℕ) (ws : List Waiting) (ks : List (List ℕ))
   begins_with_key : (at i j : ℕ) (k : List ℕ) → KeyText text at i k → Skip text i j
       → BeginsGroup text j
       → Move text ws ks in_untyped at
-      (reading_at (in_table [] k j ∷ ws) (ks ++ k ∷ []) before_group j)
+      (reading_at (in_table [] k ∷ ws) (ks ++ k ∷ []) before_group j)
   -- in `:array{..}` stand members
   members_follow : (at : ℕ)
       → Move text ws ks (in_typed array_kind) at (reading_at ws ks (among_members nothing []) at)
@@ -129,10 +128,9 @@ pub data StepOut (text : List ℕ) (ks : List (List ℕ)) (t : Tree) (at : ℕ)
   was_member : (ws : List Waiting) (ts : List Tree) (j : ℕ) → Skip text at j
       → StepOut text ks t at (in_array ts ∷ ws)
       (reading_at ws ks (among_members a_group (ts ++ t ∷ [])) j)
-  -- it was the value of an entry, and holds no rules of collation
-  was_value : (ws : List Waiting) (es : List (List ℕ × Tree)) (k : List ℕ) (begin j : ℕ)
-      → (is_collation k && holds_entries t) ≡ false → Skip text at j
-      → StepOut text ks t at (in_table es k begin ∷ ws)
+  -- it was the value of an entry
+  was_value : (ws : List Waiting) (es : List (List ℕ × Tree)) (k : List ℕ) (j : ℕ) → Skip text at j
+      → StepOut text ks t at (in_table es k ∷ ws)
       (reading_at ws ks (among_entries (es ++ (k, t) ∷ [])) j)
 
 -- a reading comes from one place to another by such steps

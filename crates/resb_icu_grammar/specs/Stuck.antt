@@ -1,6 +1,6 @@
 -- Where a reading of a text in ICU's form cannot go on, and what was expected there.
-use Rattle.std.specs.Prelude.{◌≡◌, ◌≢◌, ◌+◌, ◌<◌, ◌&&◌, ℕ, Bool, true, false, None, List, []}
-use Rattle.std.specs.Prelude.{◌∷◌, length, slice_index, if◌then◌else◌}
+use Rattle.std.specs.Prelude.{◌≡◌, ◌≢◌, ◌+◌, ◌<◌, ℕ, Bool, true, false, None, List, []}
+use Rattle.std.specs.Prelude.{length, slice_index, if◌then◌else◌}
 use Rattle.resb_grammar.specs.Ascii as ascii
 use Rattle.resb_grammar.specs.Group.{hex_bytes}
 use Rattle.resb_tree.specs.Tree.{Tree}
@@ -11,9 +11,8 @@ use Rattle.resb_icu_grammar.specs.Words.{Text, KeyText, Name, Number, TypeName, 
 use Rattle.resb_icu_grammar.specs.Expected.{instead_of}
 use Rattle.resb_icu_grammar.specs.Faults.{Told}
 use Rattle.resb_icu_grammar.specs.Bundle.{Header}
-use Rattle.resb_icu_grammar.specs.Groups.{Last, is_member, ends_in_string, is_collation}
-use Rattle.resb_icu_grammar.specs.Groups.{holds_entries}
-use Rattle.resb_icu_grammar.specs.Machine.{Waiting, in_table, AreDistinct, Standing, among_members}
+use Rattle.resb_icu_grammar.specs.Groups.{Last, is_member, ends_in_string}
+use Rattle.resb_icu_grammar.specs.Machine.{Waiting, AreDistinct, Standing, among_members}
 use Rattle.resb_icu_grammar.specs.Machine.{among_entries, before_group, in_untyped, in_typed}
 use Rattle.resb_icu_grammar.specs.Machine.{behind_group, Reading, reading_at, at_root, BeginsGroup}
 use Rattle.resb_icu_grammar.specs.Machine.{Comes}
@@ -136,10 +135,6 @@ pub data StepStuck (text : List ℕ) : Standing → ℕ → ℕ → IcuExpected 
 -- a group has ended, and a reading cannot go on at a place, where this was expected
 pub data EndStuck (text : List ℕ) (t : Tree) (at : ℕ)
     : List Waiting → ℕ → IcuExpected → Type 0 where
-  -- a table with rules of collation, which is told where it begins
-  a_collation : (ws : List Waiting) (es : List (List ℕ × Tree)) (k : List ℕ) (begin : ℕ)
-      → (is_collation k && holds_entries t) ≡ true
-      → EndStuck text t at (in_table es k begin ∷ ws) begin expect.NoCollation
   -- more than blanks behind the root
   more_text : (end : ℕ) → Skip text at end → end < length text
       → EndStuck text t at [] end expect.EndOfText

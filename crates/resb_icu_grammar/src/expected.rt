@@ -54,8 +54,6 @@ pub enum IcuExpected {
     AfterString,
     /// A table that has each of its keys once, which the one that ends here hasn't.
     KeysOnce,
-    /// No table: rules of collation are no part of this form.
-    NoCollation,
     /// The end of the text.
     EndOfText,
     /// Memory. The text may be well formed.
@@ -90,7 +88,6 @@ impl fmt::Display for IcuExpected {
             IcuExpected::Comma => "a comma between two strings",
             IcuExpected::AfterString => "'}', a comma, '{' or a type",
             IcuExpected::KeysOnce => "each key once in the table that ends here",
-            IcuExpected::NoCollation => "no table with rules of collation",
             IcuExpected::EndOfText => "the end of the text",
             IcuExpected::Memory => "memory",
         };

@@ -1,11 +1,7 @@
-//! Which bytes may stand in a word and in a key, and which tables hold rules of collation.
+//! Which bytes may stand in a word and in a key.
 //! What a word and a key of a text are is said in `specs/Words`; no text is read here.
 ghost use Rattle.std.specs.Prelude.{◌≡◌};
-ghost use Rattle.resb_tree.specs.View.{tree_of};
 ghost use Rattle.resb_icu_grammar.specs.Bytes as bytes;
-ghost use Rattle.resb_icu_grammar.specs.Groups as groups;
-
-use resb_tree::Resource;
 
 /// Whether a byte may stand in a word.
 pub fn is_word(b: u8) -> bool
@@ -35,21 +31,4 @@ pub fn are_key_bytes(text: &[u8]) -> bool
         }
     }
     true
-}
-
-/// Whether a key's table holds rules of collation, which this form refuses.
-pub fn is_collation(key: &str) -> bool
-    ensures { result ≡ groups.is_collation key.now }
-{
-    key == "collations" || key == "CollationElements"
-}
-
-/// Whether a resource is a table.
-pub fn is_table(resource: &Resource<'_>) -> bool
-    ensures { result ≡ groups.holds_entries (tree_of resource.now) }
-{
-    match resource {
-        Resource::Table(_) => true,
-        _ => false,
-    }
 }

@@ -12,4 +12,4 @@ pub mod laws;
 
 pub use expected::{IcuExpected, instead_of};
 pub use group_kind::{IcuKind, icu_kind_named};
-pub use keys::{are_key_bytes, is_collation, is_table, is_word};
+pub use keys::{are_key_bytes, is_word};

@@ -1,51 +1,24 @@
 -- What is found first is the first cause, with a path to it.
 use Rattle.std.proofs.Common.{◌≡◌, ℕ, suc, Bool, true, false, not, List, [], ◌∷◌, ◌++◌, refl}
 use Rattle.std.proofs.Common.{ap, ◌∙◌, Option, Some, None}
-use Rattle.std.specs.Prelude.{◌&&◌, cond, is_some}
+use Rattle.std.specs.Prelude.{cond, is_some}
 use Rattle.resb_tree.specs.Tree.{Tree, string, alias, array, table, binary, integer, int_vector}
 use Rattle.resb_tree.specs.Tree.{Trees, no_trees, more_trees, Entries, no_entries, entry}
-use Rattle.resb_icu_grammar.specs.Groups.{is_collation, holds_entries}
-use Rattle.resb_print.specs.Paths.{Step, by_key, by_number, is_table, found_else, found_at}
+use Rattle.resb_print.specs.Paths.{Step, by_key, by_number, found_else, found_at}
 use Rattle.resb_print.specs.Paths.{found_among, found_in, first_found}
 use Rattle.resb_print.proofs.Tracing.{cause_in, path_with_cause}
 use Rattle.resb_icu_print.specs.declared.cause.IcuCause.{IcuCause}
-use Rattle.resb_icu_print.specs.declared.cause.IcuCause.TheVariants.{KeyHasOtherBytes}
-use Rattle.resb_icu_print.specs.declared.cause.IcuCause.TheVariants.{TableOfCollations}
-use Rattle.resb_icu_print.specs.Causes.{is_icu_key, cause_if, key_cause_else}
+use Rattle.resb_icu_print.specs.Causes.{is_icu_key, cause_if}
 use Rattle.resb_icu_print.specs.Causes.{cause_else, causes_else, causes_in_else, first_cause}
-use Rattle.resb_icu_print.specs.CausePaths.{key_cause, icu_tests}
+use Rattle.resb_icu_print.specs.CausePaths.{icu_tests}
 use Rattle.resb_icu_print.specs.Laws.{IcuCausesHavePaths}
 use Rattle.resb_icu_print.specs.Printed.{is_bare}
-
-same_table : (t : Tree) → is_table t ≡ holds_entries t
-same_table (string s) = refl
-same_table (alias s) = refl
-same_table (array ts) = refl
-same_table (table es) = refl
-same_table (binary bs) = refl
-same_table (integer n) = refl
-same_table (int_vector ns) = refl
 
 one_test : (b : Bool) (path : List Step) (x : IcuCause) (later : Option (List Step × IcuCause))
     (cause : Option IcuCause) → cause_in later ≡ cause
     → cause_in (found_else (cond b (Some x) None) path later) ≡ cause_if b x cause
 one_test true path x later cause h = refl
 one_test false path x later cause h = h
-
-two_tests : (a b : Bool) (path : List Step) (x y : IcuCause)
-    (later : Option (List Step × IcuCause)) (cause : Option IcuCause) → cause_in later ≡ cause
-    → cause_in (found_else (cond a (Some x) (cond b (Some y) None)) path later)
-    ≡ cause_if a x (cause_if b y cause)
-two_tests true b path x y later cause h = refl
-two_tests false b path x y later cause h = one_test b path y later cause h
-
-same_here : (path : List Step) (k : List ℕ) (t : Tree) (later : Option (List Step × IcuCause))
-    (cause : Option IcuCause) → cause_in later ≡ cause
-    → cause_in (found_else (key_cause k (is_table t)) path later) ≡ key_cause_else k t cause
-same_here path k t later cause h =
-    ap (λ b. cause_in (found_else (key_cause k b) path later)) (same_table t)
-    ∙ two_tests (not (is_icu_key k)) (is_collation k && holds_entries t) path
-    KeyHasOtherBytes TableOfCollations later cause h
 
 mutual
   same_at : (path : List Step) (t : Tree) (later : Option (List Step × IcuCause))
@@ -72,7 +45,7 @@ mutual
       → cause_in (found_in icu_tests path es later) ≡ causes_in_else es cause
   same_in path no_entries later cause h = h
   same_in path (entry k t es) later cause h =
-      same_here (path ++ by_key k ∷ []) k t _ _
+      one_test (not (is_icu_key k)) (path ++ by_key k ∷ []) _ _ _
       (same_at (path ++ by_key k ∷ []) t (found_in icu_tests path es later)
       (causes_in_else es cause) (same_in path es later cause h))
 

@@ -55,12 +55,3 @@ key_refused : (first_cause (codes "b") (table (entry (codes "a\"") (string []) n
     × (first_cause (codes "b") (table (entry [] (string []) no_entries)) ≡ None)
     × (first_cause (codes "b") (table (entry (codes "a b") (string []) no_entries)) ≡ None)
 key_refused = (refl, refl, refl, refl)
-
--- no table stands under `collations`; a string may, and so may a table under another key
-collation_refused :
-    (first_cause (codes "b") (table (entry (codes "collations") (table no_entries) no_entries))
-    ≡ Some cause.TableOfCollations)
-    × (first_cause (codes "b") (table (entry (codes "collations") (string []) no_entries)) ≡ None)
-    × (first_cause (codes "b") (table (entry (codes "collation") (table no_entries) no_entries))
-    ≡ None)
-collation_refused = (refl, refl, refl)

@@ -36,7 +36,7 @@ use Rattle.resb_tree.proofs.MapsLemmas.{map_of-keyed_trees}
 use Rattle.resb_tree.proofs.LayingOrderLemmas.{trees_of-array_members}
 use Rattle.resb_tree.proofs.Numbers.{low_bits_kept}
 use Rattle.resb_icu_print.specs.Printed.{piece_on, key_on, tree_on, trees_on, entries_on}
-use Rattle.resb_icu_print.specs.Causes.{IsTaken, AreTaken, TakenIn, has_collation, is_icu_key}
+use Rattle.resb_icu_print.specs.Causes.{IsTaken, AreTaken, TakenIn, is_icu_key}
 use Rattle.resb_icu_grammar.specs.Bytes.{are_key_bytes}
 use Rattle.resb_print.specs.Quotes.{has_quote}
 use Rattle.resb_icu_print.proofs.Places.{solid_at, no_skip, line_blanks}
@@ -207,13 +207,12 @@ module _ (text : List ℕ) where
     pub after : From text (to + 1) rest
 
   entry_more : (n : ℕ) (k : List ℕ) (t : Tree) (es : Entries) (tail : List ℕ) {at : ℕ}
-      {rest : List ℕ} → is_icu_key k ≡ true → has_collation k t ≡ false
-      → is_new k (keyed_trees es) ≡ true
+      {rest : List ℕ} → is_icu_key k ≡ true → is_new k (keyed_trees es) ≡ true
       → ((p : ℕ) → From text p (tree_on InTable n t tail) → GroupAt p t tail)
       → ((p : ℕ) → From text p tail → EntriesAt p es rest)
       → From text at (line_on n (key_on k (tree_on InTable n t tail)))
       → EntriesAt at (entry k t es) rest
-  entry_more n k t es tail {at} {rest} key free new group more h =
+  entry_more n k t es tail {at} {rest} key new group more h =
       let (p, blanks, f) = line_blanks text n h in
       let s = starts n t tail in
       let f2 : From text p (key_on k (s.b ∷ s.more)) =
@@ -230,7 +229,7 @@ module _ (text : List ℕ) where
         keys = _;
         skip = record { blanks = blanks; solid = solid };
         entries = one_entry p q q own.to others.first others.to k t (keyed_trees es) own.keys
-            others.keys named (no_skip text there) own.group free others.skip others.entries new;
+            others.keys named (no_skip text there) own.group others.skip others.entries new;
         brace = others.brace;
         after = others.after;
       }
@@ -446,6 +445,6 @@ module _ (text : List ℕ) where
           after = c.after;
         }
     entries_at n (entry k t es) end at rest ascend held taken close h =
-        entry_more n k t es (entries_on n es end) taken.0 taken.1 (sorted_new k t es ascend)
-        (λ p f. group_at n t p _ held.0 taken.2 f)
-        (λ p f. entries_at n es end p rest (sorted_rest k t es ascend) held.1 taken.3 close f) h
+        entry_more n k t es (entries_on n es end) taken.0 (sorted_new k t es ascend)
+        (λ p f. group_at n t p _ held.0 taken.1 f)
+        (λ p f. entries_at n es end p rest (sorted_rest k t es ascend) held.1 taken.2 close f) h

@@ -1,11 +1,9 @@
--- What a text of ICU's form gives as keys may be keys, and no table stands under one of
--- collations.
+-- What a text of ICU's form gives as keys may be keys.
 use Rattle.std.proofs.Common.{◌≡◌, ◌≢◌, ℕ, ◌+◌, ◌-◌, ◌≤◌, ◌<◌, Bool, true, false, List, [], ◌∷◌}
-use Rattle.std.proofs.Common.{refl, sym, ◌∙◌, ap, length, arith, suc, subst}
+use Rattle.std.proofs.Common.{refl, sym, ◌∙◌, ap, length, arith, suc}
 use Rattle.std.proofs.Common.{Ordering, Less, Equal, Greater, Option, None, drop}
 use Rattle.std.specs.Prelude.{slice_index, slice_range, not, ◌==◌}
-use Rattle.std.specs.Cmp.Lexicographic.{same_text, texts_ties}
-use Rattle.std.specs.Ordering.{match_ordering, is_eq}
+use Rattle.std.specs.Ordering.{match_ordering}
 use Rattle.std.proofs.lemmas.Bool.{false≢true, and_from, or_from}
 use Rattle.std.proofs.lemmas.Bool.Decides.{nat_tests}
 use Rattle.std.proofs.lemmas.List.{length-take, get_or-take, get_or-drop}
@@ -28,15 +26,14 @@ use Rattle.resb_icu_grammar.specs.Groups.{integer_content, no_numbers, numbers, 
 use Rattle.resb_icu_grammar.specs.Groups.{no_member, string_member, group_member, comma_behind}
 use Rattle.resb_icu_grammar.specs.Groups.{no_entry, one_entry, Untyped, an_empty_array, one_string}
 use Rattle.resb_icu_grammar.specs.Groups.{an_array, a_table, Typed, members, entries, leaf, Group}
-use Rattle.resb_icu_grammar.specs.Groups.{untyped, typed, is_collation, holds_entries}
+use Rattle.resb_icu_grammar.specs.Groups.{untyped, typed}
 use Rattle.resb_icu_grammar.specs.Bundle.{IcuText}
 use Rattle.resb_print.specs.Quotes.{has_quote, NoQuote}
 use Rattle.resb_icu_print.specs.declared.cause.IcuCause.{IcuCause}
 use Rattle.resb_icu_print.specs.declared.cause.IcuCause.TheVariants.{NameIsNoWord}
 use Rattle.resb_icu_print.specs.declared.cause.IcuCause.TheVariants.{KeyHasOtherBytes}
-use Rattle.resb_icu_print.specs.declared.cause.IcuCause.TheVariants.{TableOfCollations}
 use Rattle.resb_icu_print.specs.Printed.{are_words, is_bare}
-use Rattle.resb_icu_print.specs.Causes.{is_icu_key, has_collation, IsTaken, AreTaken, TakenIn}
+use Rattle.resb_icu_print.specs.Causes.{is_icu_key, IsTaken, AreTaken, TakenIn}
 use Rattle.resb_icu_print.specs.Causes.{cause_if, key_cause_else, cause_else, causes_else}
 use Rattle.resb_icu_print.specs.Causes.{causes_in_else, first_cause}
 use Rattle.resb_icu_print.proofs.Lists.{true_from_not}
@@ -47,12 +44,9 @@ missed_if : (b : Bool) (x : IcuCause) (later : Option IcuCause) → b ≡ false
 missed_if b x later h = rw h refl
 
 -- a key that is no cause
-key_passed : (k : List ℕ) (t : Tree) (later : Option IcuCause) → is_icu_key k ≡ true
-    → has_collation k t ≡ false → key_cause_else k t later ≡ later
-key_passed k t later q c =
-    missed_if (not (is_icu_key k)) KeyHasOtherBytes
-    (cause_if (has_collation k t) TableOfCollations later) (ap not q)
-    ∙ missed_if (has_collation k t) TableOfCollations later c
+key_passed : (k : List ℕ) (later : Option IcuCause) → is_icu_key k ≡ true
+    → key_cause_else k later ≡ later
+key_passed k later q = missed_if (not (is_icu_key k)) KeyHasOtherBytes later (ap not q)
 
 -- a byte that is no quote, before others
 free_more : (b : ℕ) (s : List ℕ) → b ≢ ascii.quote → NoQuote s → NoQuote (b ∷ s)
@@ -121,7 +115,6 @@ key_taken text from to k (quoted j p n e) =
 -- what may stand under a key
 record IsTakenPair (k : List ℕ) (t : Tree) : Type 0 where
   key : is_icu_key k ≡ true
-  no_collation : has_collation k t ≡ false
   tree : IsTaken t
 
 abbrev TakenPairs : List (List ℕ × Tree) → Type 0
@@ -136,18 +129,11 @@ ordering_taken Greater a b c h k l = l refl
 
 put_taken : (k : List ℕ) (t : Tree) (es : Entries) → IsTakenPair k t → TakenIn es
     → TakenIn (put k t es)
-put_taken k t no_entries h taken = (h.key, h.no_collation, h.tree, tt)
+put_taken k t no_entries h taken = (h.key, h.tree, tt)
 put_taken k t (entry l u es) h taken =
     ordering_taken (text_cmp k l) (entry k t (entry l u es)) (entry l t es) (entry l u (put k t es))
-    (λ e. (h.key, h.no_collation, h.tree, taken))
-    (λ e. (
-      taken.0,
-      subst (λ q. has_collation q t ≡ false)
-          (same_text k l (sym (texts_ties k l ∙ ap is_eq e))) h.no_collation,
-      h.tree,
-      taken.3,
-    ))
-    (λ e. (taken.0, taken.1, taken.2, put_taken k t es h taken.3))
+    (λ e. (h.key, h.tree, taken)) (λ e. (taken.0, h.tree, taken.2))
+    (λ e. (taken.0, taken.1, put_taken k t es h taken.2))
 
 put_all_taken : (es : Entries) (ps : List (List ℕ × Tree)) → TakenIn es → TakenPairs ps
     → TakenIn (put_all es ps)
@@ -181,12 +167,8 @@ mutual
   entries_taken : (text : List ℕ) (from to : ℕ) (es : List (List ℕ × Tree)) (ks : List (List ℕ))
       → groups.Entries text from to es ks → TakenPairs es
   entries_taken text from to es ks (no_entry _) = tt
-  entries_taken text from to es ks (one_entry _ i j m n _ k t fs js ls key x g free y more new) = (
-    record {
-      key = key_taken text from i k key;
-      no_collation = free;
-      tree = group_taken text j m t js g;
-    },
+  entries_taken text from to es ks (one_entry _ i j m n _ k t fs js ls key x g y more new) = (
+    record { key = key_taken text from i k key; tree = group_taken text j m t js g },
     entries_taken text n to fs ls more,
   )
 
@@ -232,8 +214,8 @@ mutual
       → causes_in_else es later ≡ later
   taken_none_in no_entries later h = refl
   taken_none_in (entry k t es) later h =
-      key_passed k t (cause_else t (causes_in_else es later)) h.0 h.1
-      ∙ taken_no_cause t (causes_in_else es later) h.2 ∙ taken_none_in es later h.3
+      key_passed k (cause_else t (causes_in_else es later)) h.0
+      ∙ taken_no_cause t (causes_in_else es later) h.1 ∙ taken_none_in es later h.2
 
 -- and where there is none, everything is
 none_if : (b : Bool) (x : IcuCause) (later : Option IcuCause) → cause_if b x later ≡ None
@@ -265,12 +247,10 @@ mutual
   none_in_taken no_entries later h = (tt, h)
   none_in_taken (entry k t es) later h =
       let rest = cause_else t (causes_in_else es later) in
-      let a = none_if (not (is_icu_key k)) KeyHasOtherBytes
-      (cause_if (has_collation k t) TableOfCollations rest) h in
-      let b = none_if (has_collation k t) TableOfCollations rest a.1 in
-      let c = no_cause_taken t (causes_in_else es later) b.1 in
-      let d = none_in_taken es later c.1 in
-      ((true_from_not (is_icu_key k) a.0, b.0, c.0, d.0), d.1)
+      let a = none_if (not (is_icu_key k)) KeyHasOtherBytes rest h in
+      let b = no_cause_taken t (causes_in_else es later) a.1 in
+      let c = none_in_taken es later b.1 in
+      ((true_from_not (is_icu_key k) a.0, b.0, c.0), c.1)
 
 pub none_named : (name : List ℕ) (later : Option IcuCause)
     → cause_if (not (is_bare name)) NameIsNoWord later ≡ None

@@ -1,11 +1,10 @@
--- What keeps a bundle from having a text of ICU's form: its root, its name, a key, or a table under
--- a key of collations. No string does, and no alias.
-use Rattle.std.specs.Prelude.{◌≡◌, ◌⊎◌, ◌&&◌, not, ℕ, Bool, true, false, List, Option, Some}
+-- What keeps a bundle from having a text of ICU's form: its root, its name, or a key. No string
+-- does, and no alias.
+use Rattle.std.specs.Prelude.{◌≡◌, ◌⊎◌, ◌&&◌, not, ℕ, Bool, true, List, Option, Some}
 use Rattle.std.specs.Prelude.{None, if◌then◌else◌}
 use Rattle.resb_tree.specs.Tree.{Tree, string, alias, array, table, binary, integer, int_vector}
 use Rattle.resb_tree.specs.Tree.{Trees, no_trees, more_trees, Entries, no_entries, entry}
 use Rattle.resb_icu_grammar.specs.Bytes.{are_key_bytes}
-use Rattle.resb_icu_grammar.specs.Groups.{is_collation, holds_entries}
 use Rattle.resb_print.specs.Quotes.{has_quote}
 use Rattle.resb_icu_print.specs.Printed.{is_bare}
 use Rattle.resb_icu_print.specs.declared.cause.IcuCause.{IcuCause}
@@ -18,11 +17,7 @@ use Rattle.resb_icu_print.specs.declared.cause.IcuCause.TheVariants as cause
 abbrev pub is_icu_key : List ℕ → Bool
 is_icu_key k = are_key_bytes k && not (has_quote k)
 
--- a table stands under a key whose tables hold rules of collation
-abbrev pub has_collation : List ℕ → Tree → Bool
-has_collation k t = is_collation k && holds_entries t
-
--- each key may be one, and no table stands under a key of collations
+-- each key may be one
 abbrev mutual
   -- so in a tree
   pub IsTaken : Tree → Type 0
@@ -42,18 +37,15 @@ abbrev mutual
   -- so for the keys and the trees of entries
   pub TakenIn : Entries → Type 0
   TakenIn no_entries = Unit {0}
-  TakenIn (entry k t es) =
-      (is_icu_key k ≡ true) × (has_collation k t ≡ false) × IsTaken t × TakenIn es
+  TakenIn (entry k t es) = (is_icu_key k ≡ true) × IsTaken t × TakenIn es
 
 -- this cause where the test says so, and else what comes later
 abbrev pub cause_if : Bool → IcuCause → Option IcuCause → Option IcuCause
 cause_if b x later = if b then Some x else later
 
--- what a key and what stands under it are the cause of, and else what comes later
-abbrev pub key_cause_else : List ℕ → Tree → Option IcuCause → Option IcuCause
-key_cause_else k t later =
-    cause_if (not (is_icu_key k)) cause.KeyHasOtherBytes
-    (cause_if (has_collation k t) cause.TableOfCollations later)
+-- what a key is the cause of, and else what comes later
+abbrev pub key_cause_else : List ℕ → Option IcuCause → Option IcuCause
+key_cause_else k later = cause_if (not (is_icu_key k)) cause.KeyHasOtherBytes later
 
 -- the first cause in the order of the text, and else what comes later
 abbrev mutual
@@ -76,7 +68,7 @@ abbrev mutual
   pub causes_in_else : Entries → Option IcuCause → Option IcuCause
   causes_in_else no_entries later = later
   causes_in_else (entry k t es) later =
-      key_cause_else k t (cause_else t (causes_in_else es later))
+      key_cause_else k (cause_else t (causes_in_else es later))
 
 -- why a bundle of this name and root has no text of ICU's form
 abbrev pub first_cause : List ℕ → Tree → Option IcuCause

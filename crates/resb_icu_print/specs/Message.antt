@@ -3,7 +3,6 @@ use Rattle.std.specs.Prelude.{ℕ, List, codes}
 use Rattle.resb_icu_print.specs.declared.cause.IcuCause.{IcuCause}
 use Rattle.resb_icu_print.specs.declared.cause.IcuCause.TheVariants.{RootIsNoTable, NameIsNoWord}
 use Rattle.resb_icu_print.specs.declared.cause.IcuCause.TheVariants.{KeyHasOtherBytes}
-use Rattle.resb_icu_print.specs.declared.cause.IcuCause.TheVariants.{TableOfCollations}
 use Rattle.resb_icu_print.specs.declared.error.IcuPrintError.{IcuPrintError}
 use Rattle.resb_icu_print.specs.declared.error.IcuPrintError.TheVariants.{NotPrintable}
 use Rattle.resb_icu_print.specs.declared.error.IcuPrintError.TheVariants.{OutOfMemory}
@@ -13,8 +12,6 @@ abbrev pub cause_message : IcuCause → List ℕ
 cause_message RootIsNoTable = codes "the root is no table"
 cause_message NameIsNoWord = codes "the name is no word"
 cause_message KeyHasOtherBytes = codes "a key has a character that may not stand in one"
-cause_message TableOfCollations =
-    codes "a table stands under 'collations' or 'CollationElements'"
 
 -- what the error prints as
 abbrev pub message_of : IcuPrintError → List ℕ

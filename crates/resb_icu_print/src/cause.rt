@@ -11,6 +11,4 @@ pub enum IcuCause {
     /// A key has a byte that may not stand in one: it isn't of the printable characters of ASCII,
     /// or is one of ``! " # $ @ [ \ ] ^ ` { | } ~``.
     KeyHasOtherBytes,
-    /// A table stands under the key `collations` or `CollationElements`.
-    TableOfCollations,
 }

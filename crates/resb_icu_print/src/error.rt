@@ -28,9 +28,6 @@ impl fmt::Display for IcuPrintError {
             IcuPrintError::NotPrintable(IcuCause::KeyHasOtherBytes) => {
                 "a key has a character that may not stand in one"
             }
-            IcuPrintError::NotPrintable(IcuCause::TableOfCollations) => {
-                "a table stands under 'collations' or 'CollationElements'"
-            }
             IcuPrintError::OutOfMemory => "out of memory",
         };
         write!(f, "{message}")

@@ -1,19 +1,15 @@
 -- Pieces of a draft that is read into: which of them are tables, and what is put behind them.
-use Rattle.std.proofs.Common.{◌≡◌, ℕ, Bool, true, false, List, [], Bor, length, sym, ◌∙◌, ap}
-use Rattle.std.proofs.Common.{get_or, refl, ◌++◌, map}
+use Rattle.std.proofs.Common.{◌≡◌, ℕ, Bool, List, [], Bor, length, sym, ◌∙◌, ap}
+use Rattle.std.proofs.Common.{◌++◌, map}
 use Rattle.std.proofs.lemmas.List.{length-map}
 use Rattle.resb_tree.specs.LayingOrder.{own_keys}
-use Rattle.resb_tree.specs.Tree.{Tree, string, alias, array, table, binary, integer, int_vector}
+use Rattle.resb_tree.specs.Tree.{table}
 use Rattle.resb_tree.specs.Tree.{map_of}
 use Rattle.resb_tree.proofs.AtOnce.{inserted}
-use Rattle.resb_tree.specs.View.{tree_of}
-use Rattle.resb_draft.specs.Drafts.{is_leaf, tree_at, is_whole, Keeps, IsMade, texts, EndsInEntries}
+use Rattle.resb_draft.specs.Drafts.{tree_at, is_whole, Keeps, IsMade, texts, EndsInEntries}
 use Rattle.resb_draft.specs.declared.draft.Draft.{Draft}
-use Rattle.resb_draft.specs.declared.draft.Piece.{Piece}
 use Rattle.resb_draft.specs.declared.draft.Piece.TheVariants as piece
-use Rattle.resb_draft.proofs.Whole.{whole_is}
-use Rattle.resb_icu_grammar.specs.Groups.{holds_entries}
-use Rattle.resb_icu_text.specs.Inner.Build.{Grows, PutsBehind, pairs_by, says_table}
+use Rattle.resb_icu_text.specs.Inner.Build.{Grows, PutsBehind, pairs_by}
 use Rattle.resb_icu_text.specs.Inner.Kept.{Test}
 use Rattle.resb_icu_text.proofs.DistinctLemmas.{keyed, keys_count}
 
@@ -24,31 +20,6 @@ whole_in d n t = is_whole d n
 -- what a draft keeps stays while it grows
 pub keeps_grow : (old new : Draft) → Keeps old new → Grows tree_at whole_in old new
 keeps_grow old new k n t h = k n h
-
-leaf_no_table : (t : Tree) → is_leaf t ≡ true → false ≡ holds_entries t
-leaf_no_table (string s) h = refl
-leaf_no_table (alias s) h = refl
-leaf_no_table (array ts) h = refl
-leaf_no_table (table es) h = h
-leaf_no_table (binary s) h = refl
-leaf_no_table (integer n) h = refl
-leaf_no_table (int_vector s) h = refl
-
--- a piece that is whole is a table where it says so
-pub table_shown : (d : Draft) (n : ℕ) (p : Piece) → p ≡ get_or d.pieces.items n p
-    → is_whole d n ≡ true → says_table p ≡ holds_entries (tree_at d n)
-table_shown d n (piece.String s) is h =
-    sym (ap (λ (x : Tree × Bool). holds_entries x.0) (whole_is d n (piece.String s) is h))
-table_shown d n (piece.Integer i) is h =
-    sym (ap (λ (x : Tree × Bool). holds_entries x.0) (whole_is d n (piece.Integer i) is h))
-table_shown d n (piece.Leaf r) is h =
-    let e = whole_is d n (piece.Leaf r) is h in
-    leaf_no_table (tree_of r.value) (ap (λ (x : Tree × Bool). x.1) (sym e) ∙ h)
-    ∙ sym (ap (λ (x : Tree × Bool). holds_entries x.0) e)
-table_shown d n (piece.Array m) is h =
-    sym (ap (λ (x : Tree × Bool). holds_entries x.0) (whole_is d n (piece.Array m) is h))
-table_shown d n (piece.Table m k) is h =
-    sym (ap (λ (x : Tree × Bool). holds_entries x.0) (whole_is d n (piece.Table m k) is h))
 
 -- how many keys a table has that was made of entries
 pub keys_made : (d new : Draft) (n : ℕ) (es : List (Bor (List ℕ) × ℕ)) (ks : List (Bor (List ℕ)))

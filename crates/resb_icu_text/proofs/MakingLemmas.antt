@@ -67,9 +67,9 @@ module _ {B X : Type 0} (tree : B → X → Tree) (held : B → X → Test → B
       → (shown (tree d) o ≡ shown (tree b) o) × (open_passes o (held d) t ≡ true)
   open_grows (waiting.Array members) h =
       let all = members_grow members.items h in (ap in_array all.0, all.1)
-  open_grows (waiting.Table entries key at) h =
+  open_grows (waiting.Table entries key) h =
       let all = entries_grow entries.items h in
-      (ap (λ ps. in_table ps key.now at) all.0, all.1)
+      (ap (λ ps. in_table ps key.now) all.0, all.1)
 
   -- and all that is open
   pub around_grows : (ws : List Waiting) (os : List (Open X))

@@ -37,12 +37,11 @@ use Rattle.resb_icu_text.specs.Answer.{IcuFails, IsNoIcuText, IcuNeverMore}
 use Rattle.resb_icu_text.specs.Refusal.{want_of_memory}
 use Rattle.resb_icu_text.specs.declared.error.IcuTextError.{IcuTextError}
 use Rattle.resb_icu_text.specs.Inner.Ahead.{KeyFails}
-use Rattle.resb_icu_text.specs.Inner.Steps.{shown, with_key, now, IsTaken, Resumes, Place, StepsTo}
+use Rattle.resb_icu_text.specs.Inner.Steps.{shown, with_key, now, Resumes, Place, StepsTo}
 use Rattle.resb_icu_text.specs.Inner.Steps.{group_place, read_now}
 use Rattle.resb_icu_text.specs.declared.steps.Waiting.{Waiting as Open}
 use Rattle.resb_icu_text.specs.declared.steps.Waiting.TheVariants as waiting
-use Rattle.resb_icu_text.specs.Inner.Build.{pairs_by}
-use Rattle.resb_icu_text.specs.Inner.Reading.{HoldsRules, IsWhole, groups, keys, stands, IsRead}
+use Rattle.resb_icu_text.specs.Inner.Reading.{IsWhole, groups, keys, stands, IsRead}
 use Rattle.resb_icu_text.specs.Inner.Reading.{around, NameFails, TypingThere, no_colon, a_type}
 use Rattle.resb_icu_text.specs.Inner.Reading.{OpeningFails, no_type, no_brace, HeaderFails}
 use Rattle.resb_icu_text.specs.Inner.Reading.{RootThere}
@@ -157,7 +156,7 @@ no_header_opening text a start end at name e b k n l (no_brace brace f t d h) =
 pub with_key_length : {X : Type 0} (ks : List (List ℕ)) (o : Open X)
     → length (with_key ks o) ≤ length ks + 1
 with_key_length ks (waiting.Array members) = omega arith
-with_key_length ks (waiting.Table entries key at) =
+with_key_length ks (waiting.Table entries key) =
     omega (arith, length-append ks (key.now ∷ []))
 
 -- what is open after a push
@@ -240,33 +239,11 @@ nothing_open tree (o ∷ os) e = absurd (omega arith)
 -- a step behind a group, inside what was open around it
 pub behind_ended : {X : Type 0} (text : List ℕ) (q : Quota) (tree : X → Tree) (w : Open X) (x : X)
     (at : ℕ) (s : Step X) (os ws : List Waiting) (ks : List (List ℕ)) → os ≡ shown tree w ∷ ws
-    → IsTaken w (tree x) → Resumes text w x at s
+    → Resumes text w x at s
     → GoesOn text q q (now tree os ks (step.Ended x at)) (now tree ws ks s)
-behind_ended text q tree w x at s os ws ks e taken h =
+behind_ended text q tree w x at s os ws ks e h =
     subst (λ vs. GoesOn text q q (reading_at vs ks (behind_group (tree x)) at) (now tree ws ks s))
-    (sym e) (h.comes tree ws ks q taken)
-
-rules_stuck : {X : Type 0} (text : List ℕ) (tree : X → Tree) (w : Open X) (t : Tree) (at : ℕ)
-    (e : IcuTextError) (ws : List Waiting) (ks : List (List ℕ)) → HoldsRules w t e
-    → ReadStuck text (reading_at (shown tree w ∷ ws) ks (behind_group t) at) e.position e.expected
-rules_stuck text tree (waiting.Array members) t at e ws ks h = absurd h
-rules_stuck text tree (waiting.Table entries key begin) t at e ws ks h =
-    let around = move.in_table (pairs_by tree entries.items) key.now begin ∷ ws in
-    subst (λ (g : IcuTextError).
-    ReadStuck text (reading_at around ks (behind_group t) at) g.position g.expected)
-    (sym h.1) (behind _ ks t at begin expect.NoCollation
-    (stuck.a_collation ws (pairs_by tree entries.items) key.now begin h.0))
-
--- a refusal there
-pub stops_ended : {X : Type 0} (text : List ℕ) (q : Quota) (tree : X → Tree) (w : Open X) (x : X)
-    (at : ℕ) (e : IcuTextError) (os ws : List Waiting) (ks : List (List ℕ))
-    → os ≡ shown tree w ∷ ws
-    → HoldsRules w (tree x) e → StopsAt text q q (now tree os ks (step.Ended x at)) e
-stops_ended text q tree w x at e os ws ks f h =
-    subst (λ vs. StopsAt text q q (reading_at vs ks (behind_group (tree x)) at) e)
-    (sym f) (stuck_stops (reading_at (shown tree w ∷ ws) ks (behind_group (tree x)) at) e
-    (none_taken q) (rules_stuck text tree w (tree x) at e ws ks h)
-    (λ is. absurd (false≢true is)))
+    (sym e) (h.comes tree ws ks q)
 
 -- where nothing is open, the root has ended
 pub root_ended : {X : Type 0} (text : List ℕ) (q : Quota) (tree : X → Tree) (x : X) (at : ℕ)

@@ -22,11 +22,11 @@ use Rattle.resb_icu_grammar.specs.Words.{KeyText, GroupType}
 use Rattle.resb_icu_grammar.specs.Groups.{nothing, a_string, a_group, is_member, ends_in_string}
 use Rattle.resb_icu_grammar.specs.Groups.{TypedOpening, LeafContent, string_content, alias_content}
 use Rattle.resb_icu_grammar.specs.Groups.{binary_content, integer_content, no_numbers, numbers}
-use Rattle.resb_icu_grammar.specs.Machine.{Waiting, Standing, Reading, reading_at, BeginsGroup}
-use Rattle.resb_icu_grammar.specs.Machine.{Move, StepOut, among_members, among_entries}
+use Rattle.resb_icu_grammar.specs.Machine.{Waiting, Standing, reading_at, BeginsGroup}
+use Rattle.resb_icu_grammar.specs.Machine.{among_members, among_entries}
 use Rattle.resb_icu_grammar.specs.Machine.{behind_group, in_untyped, in_typed, before_group}
 use Rattle.resb_icu_grammar.specs.Machine as move
-use Rattle.resb_icu_grammar.specs.Stuck.{StepStuck, inside, NoStringAt, NoKeyAt, member_behind}
+use Rattle.resb_icu_grammar.specs.Stuck.{StepStuck, inside, NoStringAt, member_behind}
 use Rattle.resb_icu_grammar.specs.Stuck.{TypeStuck}
 use Rattle.resb_icu_grammar.specs.Faults.{Told}
 use Rattle.resb_icu_grammar.specs.Stuck as stuck
@@ -276,7 +276,7 @@ module _ {X : Type 0} {text : List ℕ} {p q : Quota} where
       → ((tree : X → Tree) → b ≡ next_key_bytes (pairs_by tree v.items) k.now)
       → KeyAhead text at j k.now
       → StepsTo text (entries_place v.items at) p q
-      (read.Step (step.Group (waiting.Table v k j) j))
+      (read.Step (step.Group (waiting.Table v k) j))
   entry_key v k at j t sum s = record {
     leaf = refl;
     ends = tt;
@@ -418,13 +418,13 @@ module _ {X : Type 0} {text : List ℕ} {p q : Quota} where
       → KeyAhead text at j k.now
       → (slice_index text j ≡ ascii.left_brace) ⊎ (slice_index text j ≡ ascii.colon)
       → v.items ≡ []
-      → StepsTo text (untyped_place X at) p q (read.Step (step.Group (waiting.Table v k j) j))
+      → StepsTo text (untyped_place X at) p q (read.Step (step.Group (waiting.Table v k) j))
   untyped_key v k at j t sum s f e = record {
     leaf = refl;
     ends = tt;
     comes = λ tree ws ks. subst (λ es. GoesOn text p q
         (reading_at ws ks in_untyped at)
-        (reading_at (move.in_table es k.now j ∷ ws) (ks ++ k.now ∷ []) before_group j))
+        (reading_at (move.in_table es k.now ∷ ws) (ks ++ k.now ∷ []) before_group j))
         (sym (ap (pairs_by tree) e))
         (by_move ws ks _ at _ (move.begins_with_key at s.to j k.now s.stands s.after f) sum t);
     keeps = λ pass test p h. ap (λ l. entries_pass l pass test) e;
@@ -503,7 +503,7 @@ pub behind_member : {X : Type 0} (text : List ℕ) (old v : Vec X Global) (x : X
     → Skip text at next → at ≤ next → next ≤ length text → v.items ≡ old.items ++ x ∷ []
     → Resumes text (waiting.Array old) x at (step.Members v last.Group next)
 behind_member text old v x at next k order fits e = record {
-  comes = λ tree ws ks q taken. subst (λ ts. GoesOn text q q
+  comes = λ tree ws ks q. subst (λ ts. GoesOn text q q
       (reading_at (move.in_array (map tree old.items) ∷ ws) ks (behind_group (tree x)) at)
       (reading_at ws ks (among_members a_group ts) next))
       (sym (trees_with tree v.items old.items x e))
@@ -516,17 +516,17 @@ behind_member text old v x at next k order fits e = record {
 
 -- behind a group that is the value of an entry
 pub behind_value : {X : Type 0} (text : List ℕ) (old v : Vec (Bor (List ℕ) × X) Global)
-    (key : Bor (List ℕ)) (x : X) (begin at next : ℕ)
+    (key : Bor (List ℕ)) (x : X) (at next : ℕ)
     → Skip text at next → at ≤ next → next ≤ length text → v.items ≡ old.items ++ (key, x) ∷ []
-    → Resumes text (waiting.Table old key begin) x at (step.Entries v next)
-behind_value text old v key x begin at next k order fits e = record {
-  comes = λ tree ws ks q taken. subst (λ es. GoesOn text q q
-      (reading_at (move.in_table (pairs_by tree old.items) key.now begin ∷ ws) ks
+    → Resumes text (waiting.Table old key) x at (step.Entries v next)
+behind_value text old v key x at next k order fits e = record {
+  comes = λ tree ws ks q. subst (λ es. GoesOn text q q
+      (reading_at (move.in_table (pairs_by tree old.items) key.now ∷ ws) ks
       (behind_group (tree x)) at)
       (reading_at ws ks (among_entries es) next))
       (sym (pairs_with tree v.items old.items key x e))
       (by_step_out text q _ ks (tree x) at _
-      (move.was_value ws (pairs_by tree old.items) key.now begin next taken k));
+      (move.was_value ws (pairs_by tree old.items) key.now next k));
   keeps = λ pass test h j. entries_with pass test v.items old.items key x e h j;
   within = fits;
   goes = omega (arith, order);

@@ -4,7 +4,6 @@ ghost use Rattle.std.specs.Prelude.{◌≡◌, Bool, true, IfOk, IfSome, IfNone,
 ghost use Rattle.resb_tree.specs.Tree.{Tree, array, table, trees_of, map_of};
 ghost use Rattle.resb_tree.specs.View.{tree_of};
 ghost use Rattle.resb_draft.specs.Drafts.{is_leaf};
-ghost use Rattle.resb_icu_grammar.specs.Groups.{holds_entries};
 ghost use Rattle.resb_icu_grammar.specs.Machine.{AreDistinct};
 ghost use Rattle.resb_icu_text.specs.Borrowed.{passes};
 ghost use Rattle.resb_icu_text.specs.Inner.Build.{Adds, pairs_by};
@@ -56,9 +55,4 @@ pub(crate) trait Build<'a>: Sized + Drop {
             (entries_pass entries.old.items (held self.old)))) }
         ensures none { IfOk result (λ o. IfNone o
             (AreDistinct (pairs_by (tree self.old) entries.old.items) → ⊥)) };
-
-    /// Whether it is a table.
-    fn is_table(&self, made: &Self::Made) -> bool
-        requires held { held self.now made.now anything ≡ true }
-        ensures { result ≡ holds_entries (tree self.now made.now) };
 }

@@ -2,7 +2,7 @@
 //! What a draft stands for is said in `resb_draft`, which makes it; trees are made in `trees`.
 ghost use Rattle.std.specs.Prelude.{◌≡◌, ◌++◌, OnOk};
 ghost use Rattle.resb_draft.specs.Drafts.{Keeps};
-ghost use Rattle.resb_icu_text.specs.Inner.Build.{PutsBehind, says_table};
+ghost use Rattle.resb_icu_text.specs.Inner.Build.{PutsBehind};
 
 use crate::build::Build;
 use crate::steps::Entry;
@@ -47,23 +47,6 @@ impl<'a> Build<'a> for Draft<'a> {
         } else {
             Ok(None)
         }
-    }
-
-    fn is_table(&self, made: &u32) -> bool {
-        says_table(&self.pieces[*made as usize])
-    }
-}
-
-/// Whether a piece says that it is a table.
-fn says_table(piece: &Piece<'_>) -> bool
-    ensures { result ≡ says_table piece.now }
-{
-    match piece {
-        Piece::Table(_, _) => true,
-        Piece::String(_) => false,
-        Piece::Integer(_) => false,
-        Piece::Leaf(_) => false,
-        Piece::Array(_) => false,
     }
 }
 

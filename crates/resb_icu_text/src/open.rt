@@ -5,10 +5,10 @@ ghost use Rattle.std.specs.Prelude.{length, map, OnOk, MatchResult};
 ghost use Rattle.resb_tree.specs.Tree.{Tree};
 ghost use Rattle.resb_icu_text.specs.Refusal.{want_of_memory};
 ghost use Rattle.resb_icu_text.specs.Inner.Steps.{shown, with_key, stands_at, progress, spent};
-ghost use Rattle.resb_icu_text.specs.Inner.Steps.{spent_reading, IsTaken, has_leaf};
+ghost use Rattle.resb_icu_text.specs.Inner.Steps.{spent_reading, has_leaf};
 ghost use Rattle.resb_icu_text.specs.Inner.Reading.{groups, keys, stands, spent_before};
 ghost use Rattle.resb_icu_text.specs.Inner.Reading.{IsRead, IsAdvanced, IsMade};
-ghost use Rattle.resb_icu_text.specs.Inner.Reading.{HoldsRules, IsDouble};
+ghost use Rattle.resb_icu_text.specs.Inner.Reading.{IsDouble};
 ghost use Rattle.resb_icu_text.specs.Inner.Kept.{Test, anything, IsKept, groups_pass, open_passes};
 ghost use Rattle.resb_icu_text.specs.Inner.Kept.{step_passes, read_passes};
 ghost use Rattle.resb_icu_text.specs.Inner.Quota.{StopsAt};
@@ -17,7 +17,7 @@ use crate::build::Build;
 use crate::error::IcuTextError;
 use crate::quota::Meter;
 use crate::steps::{Last, Read, Step, Waiting, entry, group, member, resume};
-use resb_icu_grammar::{IcuExpected, is_collation};
+use resb_icu_grammar::IcuExpected;
 use resb_tree::NoMemory;
 use std::alloc::Global;
 
@@ -42,7 +42,7 @@ fn list_key<'a, X: Drop>(keys: &mut Vec<&'a str>, waiting: &Waiting<'a, X>) -> R
     ensures { OnOk result (map (λ k. k.now) keys.new.items
         ≡ with_key (map (λ k. k.now) keys.old.items) waiting.now) }
 {
-    if let Waiting::Table(_, key, _) = waiting {
+    if let Waiting::Table(_, key) = waiting {
         keys.push(*key)?;
     }
     Ok(())
@@ -75,20 +75,6 @@ impl<'a, X: Drop, B: Build<'a, Made = X>> OpenGroups<'a, B, X> {
     {
         list_key(&mut self.keys, &waiting)?;
         self.waiting.push(waiting)?;
-        Ok(())
-    }
-
-    /// Refuses rules of collation: a table under a key that is for these alone.
-    fn check_key(&self, waiting: &Waiting<'a, X>, made: &X) -> Result<(), IcuTextError>
-        requires held { B.held self.now.build made.now anything ≡ true }
-        ensures { let tree = B.tree self.now.build made.now in MatchResult result
-            (λ _. IsTaken waiting.now tree) (HoldsRules waiting.now tree) }
-    {
-        if let Waiting::Table(_, key, begin) = waiting {
-            if is_collation(*key) && self.build.is_table(made) {
-                return Err(IcuTextError::new(*begin, IcuExpected::NoCollation));
-            }
-        }
         Ok(())
     }
 
@@ -127,7 +113,6 @@ impl<'a, X: Drop, B: Build<'a, Made = X>> OpenGroups<'a, B, X> {
             }
             Step::Ended(made, at) => match self.waiting.pop() {
                 Some(waiting) => {
-                    self.check_key(&waiting, &made)?;
                     let step = resume(text, waiting, made, at, &mut meter.turns)?;
                     Ok(Read::Step(step))
                 }

@@ -76,11 +76,11 @@ impl Last {
 pub(crate) type Entry<'a, X> = (&'a str, X);
 
 /// What is open around a group: an array with the members before it, or a table with the entries
-/// before it, its key, and the place where it begins.
+/// before it and its key.
 #[derive(Drop)]
 pub(crate) enum Waiting<'a, X> {
     Array(Vec<X>),
-    Table(Vec<Entry<'a, X>>, &'a str, usize),
+    Table(Vec<Entry<'a, X>>, &'a str),
 }
 
 /// Where a reading stands: among members, among entries, before a group, or behind one.
@@ -261,7 +261,7 @@ pub(crate) fn entry<'a, X: Drop>(
     }
     let (next, key) = key_at(text, at, IcuExpected::Entry, &mut meter.turns)?;
     meter.quota.take(next_key_bytes(&entries, key))?;
-    let waiting = Waiting::Table(entries, key, next);
+    let waiting = Waiting::Table(entries, key);
     Ok(Read::Step(Step::Group(waiting, next)))
 }
 
@@ -421,7 +421,7 @@ fn untyped_string<'a, X: Drop>(
         return Err(IcuTextError::new(at, IcuExpected::Key));
     };
     meter.quota.take(weights::TABLE + key_bytes(key))?;
-    let waiting = Waiting::Table(Vec::new(alloc), key, next);
+    let waiting = Waiting::Table(Vec::new(alloc), key);
     Ok(Read::Step(Step::Group(waiting, next)))
 }
 
@@ -446,7 +446,7 @@ pub(crate) fn resume<'a, X: Drop>(
             members.push(made)?;
             Ok(Step::Members(members, Last::Group, skip(text, at, turns)))
         }
-        Waiting::Table(entries, key, _) => {
+        Waiting::Table(entries, key) => {
             let mut entries = entries;
             entries.push((key, made))?;
             Ok(Step::Entries(entries, skip(text, at, turns)))

@@ -4,7 +4,6 @@ ghost use Rattle.std.specs.Prelude.{◌≡◌, map, IfOk};
 
 use crate::build::Build;
 use crate::steps::Entry;
-use resb_icu_grammar::is_table;
 use resb_tree::{Key, NoMemory, Resource, table_at_once};
 use std::alloc::Global;
 use std::mem;
@@ -48,10 +47,6 @@ impl<'a> Build<'a> for Trees {
         } else {
             Ok(None)
         }
-    }
-
-    fn is_table(&self, made: &Resource<'a>) -> bool {
-        is_table(made)
     }
 }
 

@@ -5,7 +5,7 @@ use Rattle.std.proofs.Common.{refl, sym, ap, subst, ◌∙◌, arith}
 use Rattle.std.proofs.lemmas.List.{map_push}
 use Rattle.resb_tree.specs.Tree.{Tree, Trees, more_trees, Entries, entry, tree_count}
 use Rattle.resb_print.specs.Held.{IsHeld}
-use Rattle.resb_print.specs.Paths.{Step, Tests, by_key, by_number, steps_in, step_of, is_table}
+use Rattle.resb_print.specs.Paths.{Step, Tests, by_key, by_number, steps_in, step_of}
 use Rattle.resb_print.specs.Paths.{found_else, found_at, found_among, found_in}
 use Rattle.resb_print.specs.declared.path.PathStep.{PathStep}
 use Rattle.resb_lines.specs.declared.inside.Inside.{Inside}
@@ -112,7 +112,7 @@ module _ {C : Type 0} (c : Tests C) (before after : List Look) (path next : List
 
   -- the next key is a cause
   pub key_met : (all left : Entries) (k : List ℕ) (t : Tree) (x : C) → all ≡ entry k t left
-      → Some x ≡ c.of_entry k (is_table t) → next ≡ path ++ by_key k ∷ [] → after ≡ before
+      → Some x ≡ c.of_key k → next ≡ path ++ by_key k ∷ [] → after ≡ before
       → LooksOnce c before after path next (entries_look all) (Some x)
   key_met all left k t x e h p a =
       subst (λ es. LooksOnce c before after path next (entries_look es) (Some x)) (sym e) (record {
@@ -159,7 +159,7 @@ module _ {C : Type 0} (c : Tests C) (before now after : List Look) (path here ne
 
     -- the next entry is looked at, whose key is no cause
     pub looked_entry : (all left : Entries) (k : List ℕ) (t : Tree) (found : Option C)
-        → all ≡ entry k t left → None ≡ c.of_entry k (is_table t) → here ≡ path ++ by_key k ∷ []
+        → all ≡ entry k t left → None ≡ c.of_key k → here ≡ path ++ by_key k ∷ []
         → now ≡ before ++ entries_look left ∷ [] → Enters c now after here next t found
         → LooksOnce c before after path next (entries_look all) found
     looked_entry all left k t found e h p a d =

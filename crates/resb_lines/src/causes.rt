@@ -5,7 +5,6 @@ ghost use Rattle.std.specs.Prelude.{◌≡◌, ◌<◌, ◌^◌, ◌++◌, ◌�
 ghost use Rattle.std.specs.Prelude.{OnOk, MatchOption};
 ghost use Rattle.resb_shown.specs.Shown.{text_in};
 ghost use Rattle.resb_print.specs.Held.{IsHeld, HeldIn, AreBelow};
-ghost use Rattle.resb_print.specs.Paths as paths;
 ghost use Rattle.resb_print.specs.Paths.{first_found, found_in, steps_in};
 ghost use Rattle.resb_lines.specs.Causes.{found_as};
 ghost use Rattle.resb_lines.specs.Inner.Looks.{looks_in, look_of, without_last, Enters, LooksOnce};
@@ -107,7 +106,7 @@ fn look_once<'s, F: Form, S: Shown<'s>>(
             };
             let (key, value) = next;
             path.push(PathStep::Key(key))?;
-            if let Some(cause) = form.entry_cause(key, is_table(value)) {
+            if let Some(cause) = form.key_cause(key) {
                 return Ok(Some(cause));
             }
             put::<S>(pending, Inside::Entries(ahead))?;
@@ -125,13 +124,6 @@ fn put<'s, S: Shown<'s>>(
 {
     pending.push(inside)?;
     Ok(())
-}
-
-/// Whether a resource is a table.
-fn is_table<'s, S: Shown<'s>>(shown: S) -> bool
-    ensures { result ≡ paths.is_table (S.tree shown) }
-{
-    matches!(shown.node(), Node::Table(_))
 }
 
 /// Which cause a string is, if it is one. No text of it is made.

@@ -7,7 +7,6 @@ ghost use Rattle.resb_print.specs.Paths.{Tests};
 ghost use Rattle.resb_lines.specs.Spelling.{Spelling, Grows};
 ghost use Rattle.resb_lines.specs.Causes.{IsCauseByItself};
 
-use resb_icu_grammar::is_collation;
 use resb_icu_print::{IcuCause, is_bare, is_key};
 use resb_print::{Cause, has_quote};
 use std::alloc::{AllocError, Global};
@@ -43,9 +42,9 @@ pub trait Form: Copy {
     fn name_cause(self, name: &str) -> Option<Self::Cause>
         ensures { result ≡ tests.of_name name.now };
 
-    /// Which cause a key is, by itself or where a table stands under it, if it is one.
-    fn entry_cause(self, key: &str, is_table: bool) -> Option<Self::Cause>
-        ensures { result ≡ tests.of_entry key.now is_table };
+    /// Which cause a key is, if it is one.
+    fn key_cause(self, key: &str) -> Option<Self::Cause>
+        ensures { result ≡ tests.of_key key.now };
 
     /// The character of ASCII by which a string is a cause, and which one, if strings are any.
     fn string_cause(self) -> Option<(u8, Self::Cause)>
@@ -102,7 +101,7 @@ impl Form for Plain {
         quote_cause(name, Cause::QuoteInName)
     }
 
-    fn entry_cause(self, key: &str, _is_table: bool) -> Option<Cause> {
+    fn key_cause(self, key: &str) -> Option<Cause> {
         quote_cause(key, Cause::QuoteInKey)
     }
 
@@ -157,13 +156,11 @@ impl Form for Icu {
         }
     }
 
-    fn entry_cause(self, key: &str, is_table: bool) -> Option<IcuCause> {
-        if !is_key(key) {
-            Some(IcuCause::KeyHasOtherBytes)
-        } else if is_collation(key) && is_table {
-            Some(IcuCause::TableOfCollations)
-        } else {
+    fn key_cause(self, key: &str) -> Option<IcuCause> {
+        if is_key(key) {
             None
+        } else {
+            Some(IcuCause::KeyHasOtherBytes)
         }
     }
 

@@ -24,9 +24,9 @@ use std::alloc::{AllocError, Global};
 /// by four blanks a level up to 32 levels. Keys stand without quotes where they may, strings and
 /// the paths of aliases always in quotes, `"` and `\` in them behind a backslash, and control
 /// characters as `\u00` and two hex digits. No text is given where none of this form has the name,
-/// flag and tree: where the root is no table, the name is no word, a key has a character that may
-/// not stand in one, or a table stands under `collations` or `CollationElements`; the first of
-/// these in the order of the text is answered. Want of memory may come before any of them.
+/// flag and tree: where the root is no table, the name is no word, or a key has a character that
+/// may not stand in one; the first of these in the order of the text is answered. Want of memory
+/// may come before any of them.
 /// The text has at most 270 bytes for each resource, the bytes of the name and keys, six for each
 /// byte of a string or path, two for each byte of a binary, and eleven for each number of a vector.
 pub fn print_icu_text(alloc: Global, bundle: &ResourceBundle<'_>) -> Result<String, IcuPrintError>
@@ -87,9 +87,8 @@ pub fn print_icu_text_within(
 }
 
 /// The path to the first cause that keeps a bundle from having a text of ICU's form, in the order
-/// of the text, if there is one: a key that may not be one, or a key of collations with a table
-/// under it. Where the root is no table or the name is the cause, it has no steps. `print_icu_text`
-/// answers which cause it is.
+/// of the text, if there is one: a key that may not be one. Where the root is no table or the name
+/// is the cause, it has no steps. `print_icu_text` answers which cause it is.
 pub fn icu_cause_path<'t>(
     alloc: Global,
     bundle: &'t ResourceBundle<'_>,

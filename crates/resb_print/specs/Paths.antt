@@ -1,6 +1,6 @@
 -- Where the first cause stands that keeps a bundle from having a text: the keys and numbers that
 -- lead there from the root. What is a cause, and which, differs by the form of the text.
-use Rattle.std.specs.Prelude.{ℕ, suc, Bool, true, false, List, [], ◌∷◌, ◌++◌, Option, Some, None}
+use Rattle.std.specs.Prelude.{ℕ, suc, List, [], ◌∷◌, ◌++◌, Option, Some, None}
 use Rattle.std.specs.Prelude.{if◌then◌else◌, map, option_map}
 use Rattle.std.specs.declared.alloc.Global.{Global}
 use Rattle.std.specs.declared.vec.Vec.{Vec}
@@ -31,12 +31,11 @@ abbrev pub path_found : Option (Vec PathStep Global) → Option (List Step)
 path_found found = option_map (λ v. steps_in v.items) found
 
 -- what keeps a bundle from having a text of a form, with causes C: which cause a root is that is no
--- table, and which, if any, a name, a key by itself or where a table stands under it, a string,
--- and each alias
+-- table, and which, if any, a name, a key, a string, and each alias
 pub record Tests (C : Type 0) : Type 0 where
   pub of_root : C
   pub of_name : List ℕ → Option C
-  pub of_entry : List ℕ → Bool → Option C
+  pub of_key : List ℕ → Option C
   pub of_string : List ℕ → Option C
   pub of_alias : Option C
 
@@ -49,20 +48,10 @@ abbrev pub plain_tests : Tests Cause
 plain_tests = record {
   of_root = cause.RootIsNoTable;
   of_name = quote_cause cause.QuoteInName;
-  of_entry = λ k is_table. quote_cause cause.QuoteInKey k;
+  of_key = quote_cause cause.QuoteInKey;
   of_string = quote_cause cause.QuoteInString;
   of_alias = Some cause.Alias;
 }
-
--- whether the tree is a table
-abbrev pub is_table : Tree → Bool
-is_table (string s) = false
-is_table (alias s) = false
-is_table (array ts) = false
-is_table (table es) = true
-is_table (binary bs) = false
-is_table (integer n) = false
-is_table (int_vector ns) = false
 
 -- a cause at this path where there is one, and else what comes later
 abbrev pub found_else : {C : Type 0} → Option C → List Step → Option (List Step × C)
@@ -96,7 +85,7 @@ abbrev mutual
       → Option (List Step × C)
   found_in c path no_entries later = later
   found_in c path (entry k t es) later =
-      found_else (c.of_entry k (is_table t)) (path ++ by_key k ∷ [])
+      found_else (c.of_key k) (path ++ by_key k ∷ [])
       (found_at c (path ++ by_key k ∷ []) t (found_in c path es later))
 
 -- the first cause of a bundle of this name and root, if it has one, with the path to it: no step

@@ -98,6 +98,12 @@ const COMPILE: Described<'static> = Described {
             ..VALUE
         },
         Argument {
+            id: "noBinaryCollation",
+            option: Some("no-binary-collation"),
+            help: "Compiles rules of collation without the binary form that ICU needs of them",
+            ..FLAG
+        },
+        Argument {
             id: "check",
             option: Some("check"),
             help: "Does all of it, but writes no file",

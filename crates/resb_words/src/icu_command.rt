@@ -173,7 +173,7 @@ pub(crate) const GENRB: Described<'static> = Described {
             id: "noBinaryCollation",
             letter: Some('C'),
             option: Some("noBinaryCollation"),
-            help: NOT_LOOKED_AT,
+            help: "Compiles rules of collation without their binary form, which this doesn't make",
             ..FLAG
         },
         Argument {

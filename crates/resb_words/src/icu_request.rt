@@ -22,6 +22,8 @@ pub struct GenrbWords<'w> {
     pub written_pool: Option<&'w str>,
     /// The rules by which parts are left out of the files, if there are some.
     pub filters: Option<Filters<'w>>,
+    /// Whether rules of collation are compiled without their binary form, and not refused.
+    pub allows_unbuilt: bool,
     /// Whether warnings are left unsaid.
     pub is_quiet: bool,
 }
@@ -96,6 +98,7 @@ fn genrb<'w>(alloc: Global, matches: &ArgMatches<'w>) -> Result<Request<'w>, Wor
         used_pool: pool(matches, "usePoolBundle", source),
         written_pool: pool(matches, "writePoolBundle", destination),
         filters: rules_of(matches, source),
+        allows_unbuilt: matches.get_flag("noBinaryCollation"),
         is_quiet: matches.get_flag("quiet"),
     }))
 }

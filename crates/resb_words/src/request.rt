@@ -50,6 +50,8 @@ pub struct CompileWords<'w> {
     pub pool: Option<&'w str>,
     /// The rules by which parts are left out of the files, if there are some.
     pub filters: Option<Filters<'w>>,
+    /// Whether rules of collation are compiled without their binary form, and not refused.
+    pub allows_unbuilt: bool,
     /// Whether no file is written.
     pub is_check: bool,
     /// Whether warnings and progress are left unsaid.
@@ -174,6 +176,7 @@ fn compile<'w>(alloc: Global, matches: &ArgMatches<'w>) -> Result<Request<'w>, W
         limit,
         pool: matches.get_str("POOL"),
         filters: None,
+        allows_unbuilt: matches.get_flag("noBinaryCollation"),
         is_check: matches.get_flag("check"),
         is_quiet: matches.get_flag("quiet"),
         is_strict: matches.get_flag("strict"),

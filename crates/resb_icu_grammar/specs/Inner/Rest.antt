@@ -4,7 +4,7 @@
 --     After text ws   where a group has ended, inside these groups
 --     RestOfMembers, RestOfEntries, RestOfGroup, RestOfUntyped, RestOfTyped
 --                     where members, entries, a group or what stands inside one follow
-use Rattle.std.specs.Prelude.{◌≡◌, ◌+◌, ◌&&◌, ℕ, false, List, [], ◌∷◌, ◌++◌, length}
+use Rattle.std.specs.Prelude.{◌≡◌, ◌+◌, ℕ, List, [], ◌∷◌, ◌++◌, length}
 use Rattle.std.specs.Prelude.{slice_index}
 use Rattle.resb_grammar.specs.Ascii as ascii
 use Rattle.resb_tree.specs.Tree.{Tree, array, table, trees_of, map_of}
@@ -12,7 +12,6 @@ use Rattle.resb_icu_grammar.specs.Blanks.{Skip}
 use Rattle.resb_icu_grammar.specs.Kinds.{Kind}
 use Rattle.resb_icu_grammar.specs.Machine.{Waiting, in_array, in_table, AreDistinct}
 use Rattle.resb_icu_grammar.specs.Groups.{Last, a_group, Members, Entries, Untyped, Typed, Group}
-use Rattle.resb_icu_grammar.specs.Groups.{is_collation, holds_entries}
 
 -- the tree of the root, and the keys in order of place, with repetitions
 abbrev pub Meaning : Type 0
@@ -89,7 +88,6 @@ pub record AfterMember (text : List ℕ) (goal : Goal) (ts : List Tree) (at : �
 pub record AfterValue (text : List ℕ) (goal : Goal) (es : List (List ℕ × Tree)) (key : List ℕ)
     (at : ℕ) (t : Tree) (ks : List (List ℕ)) (m : Meaning) : Type 0 where
   pub next : ℕ
-  pub taken : (is_collation key && holds_entries t) ≡ false
   pub after : Skip text at next
   pub rest : RestOfEntries text goal (es ++ (key, t) ∷ []) next ks m
 
@@ -97,7 +95,7 @@ pub record AfterValue (text : List ℕ) (goal : Goal) (es : List (List ℕ × Tr
 abbrev pub After : List ℕ → List Waiting → Goal
 After text [] = AtEnd text
 After text (in_array ts ∷ ws) = AfterMember text (After text ws) ts
-After text (in_table es key begin ∷ ws) = AfterValue text (After text ws) es key
+After text (in_table es key ∷ ws) = AfterValue text (After text ws) es key
 
 -- two words about the rest say the same
 abbrev pub Same : (Meaning → Type 0) → (Meaning → Type 0) → Type 0

@@ -4,10 +4,9 @@ use Rattle.std.specs.Borrow.{Bor}
 use Rattle.resb_tree.specs.Tree.{Tree}
 use Rattle.resb_draft.specs.Drafts.{EndsInEntries}
 use Rattle.resb_draft.specs.declared.draft.Draft.{Draft}
-use Rattle.resb_draft.specs.declared.draft.Piece.{Piece}
 use Rattle.resb_draft.specs.declared.draft.Piece.TheVariants as piece
 use Rattle.resb_icu_text.specs.Inner.Kept.{Test}
-use Rattle.std.specs.Prelude.{Bool, false, length}
+use Rattle.std.specs.Prelude.{Bool, length}
 
 -- entries by the texts of their keys, with the trees of their values
 abbrev pub pairs_by : {X : Type 0} → (X → Tree) → List (Bor (List ℕ) × X) → List (List ℕ × Tree)
@@ -24,11 +23,6 @@ module _ {B X : Type 0} (tree : B → X → Tree) (held : B → X → Test → B
   abbrev pub Adds : B → B → X → Tree → (Test → Bool) → Type 0
   Adds b d x u passing =
       (tree d x ≡ u) × ((t : Test) → passing t ≡ true → held d x t ≡ true) × Grows b d
-
--- whether a piece says that it is a table
-abbrev pub says_table : Piece → Bool
-says_table (piece.Table m k) = true
-says_table _ = false
 
 -- a draft is another one with the keys of these entries and the numbers of their values put behind
 abbrev pub PutsBehind : Draft → List (Bor (List ℕ) × ℕ) → Draft → Type 0

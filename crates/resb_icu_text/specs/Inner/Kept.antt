@@ -38,7 +38,7 @@ entries_pass entries pass test = all_true (map (λ e. pass e.1 test) entries)
 -- what is open around a group passes
 abbrev pub open_passes : {X : Type 0} → Open X → Passing X → Test → Bool
 open_passes (waiting.Array members) pass test = members_pass members.items pass test
-open_passes (waiting.Table entries key at) pass test = entries_pass entries.items pass test
+open_passes (waiting.Table entries key) pass test = entries_pass entries.items pass test
 
 -- what a reading holds where it stands passes
 abbrev pub step_passes : {X : Type 0} → Step X → Passing X → Test → Bool

@@ -7,7 +7,6 @@ use Rattle.resb_tree.specs.Tree.{Tree}
 use Rattle.resb_icu_grammar.specs.Blanks.{Skip}
 use Rattle.resb_icu_grammar.specs.Machine.{Reading, reading_at, at_root, behind_group}
 use Rattle.resb_icu_grammar.specs.Faults.{Told}
-use Rattle.resb_icu_grammar.specs.Groups.{is_collation, holds_entries}
 use Rattle.resb_icu_grammar.specs.Stuck.{HeaderStuck}
 use Rattle.resb_icu_grammar.specs.declared.expected.IcuExpected.TheVariants as expect
 use Rattle.resb_icu_grammar.specs.Words.{Name, RootType}
@@ -60,13 +59,6 @@ abbrev pub Makes : {X : Type 0} → (X → Tree) → (X → Tree) → Read X →
 Makes before after r n =
     (text : List ℕ) (ws : List Waiting) (ks : List (List ℕ)) (q : Quota) → Ends text r
     → GoesOn text q q (read_now before ws ks r) (coming_to after ws ks n)
-
--- under the key of an entry stand rules of collation, and the error says where
-abbrev pub HoldsRules : {X : Type 0} → Open X → Tree → IcuTextError → Type 0
-HoldsRules (waiting.Array members) t e = ⊥
-HoldsRules (waiting.Table entries key begin) t e =
-    ((is_collation key.now && holds_entries t) ≡ true)
-    × (e ≡ record { position = begin; expected = expect.NoCollation })
 
 -- a table was read in which a key stands twice, and the error says so at its `}`
 abbrev pub IsDouble : {X : Type 0} → (X → Tree) → Read X → IcuTextError → Type 0

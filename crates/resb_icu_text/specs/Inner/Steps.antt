@@ -1,6 +1,6 @@
 -- Where a reading of a text stands, and how it goes on from there.
 use Rattle.std.specs.Prelude.{◌≡◌, ◌≤◌, ◌<◌, ◌+◌, ◌*◌, ℕ, List, [], ◌∷◌, ◌++◌, length, map}
-use Rattle.std.specs.Prelude.{Bool, true, false, ◌&&◌, slice_index}
+use Rattle.std.specs.Prelude.{Bool, true, slice_index}
 use Rattle.std.specs.Borrow.{Bor}
 use Rattle.resb_grammar.specs.Ascii as ascii
 use Rattle.resb_icu_grammar.specs.Kinds.{Kind}
@@ -40,12 +40,12 @@ last_of last.Comma = spec.a_comma
 -- what is open around a group, as the form says it
 abbrev pub shown : {X : Type 0} → (X → Tree) → Open X → Waiting
 shown tree (waiting.Array members) = in_array (map tree members.items)
-shown tree (waiting.Table entries key at) = in_table (pairs_by tree entries.items) key.now at
+shown tree (waiting.Table entries key) = in_table (pairs_by tree entries.items) key.now
 
 -- the keys with the one that a group stands under
 abbrev pub with_key : {X : Type 0} → List (List ℕ) → Open X → List (List ℕ)
 with_key ks (waiting.Array members) = ks
-with_key ks (waiting.Table entries key at) = ks ++ key.now ∷ []
+with_key ks (waiting.Table entries key) = ks ++ key.now ∷ []
 
 -- where a reading stands, inside these groups and with these keys before it
 abbrev pub now : {X : Type 0} → (X → Tree) → List Waiting → List (List ℕ) → Step X → Reading
@@ -197,18 +197,10 @@ StepFails {X} text place p q e =
     (tree : X → Tree) (ws : List Waiting) (ks : List (List ℕ))
     → StopsAt text p q (place.there tree ws ks) e
 
--- a group that is this tree may stand in what is open: it holds no rules of collation
-abbrev pub IsTaken : {X : Type 0} → Open X → Tree → Type 0
-IsTaken (waiting.Array members) t = Unit {0}
-IsTaken (waiting.Table entries key at) t =
-    (spec.is_collation key.now && spec.holds_entries t) ≡ false
-
--- a reading comes from behind a group that may stand there to among what was open around it, and
--- makes nothing; that passes what was open and the group, and stands further on in the text
+-- a reading comes from behind a group to among what was open around it, and makes nothing; that passes what was open and the group, and stands further on in the text
 pub record Resumes {X : Type 0} (text : List ℕ) (w : Open X) (x : X) (at : ℕ) (s : Step X)
     : Type 0 where
   pub comes : (tree : X → Tree) (ws : List Waiting) (ks : List (List ℕ)) (q : Quota)
-      → IsTaken w (tree x)
       → GoesOn text q q (reading_at (shown tree w ∷ ws) ks (behind_group (tree x)) at)
       (now tree ws ks s)
   pub keeps : (pass : Passing X) (test : Test) → open_passes w pass test ≡ true

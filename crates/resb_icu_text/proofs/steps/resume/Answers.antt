@@ -10,5 +10,5 @@ returns-in_ok-push-in-Array-clause-reads g c =
 pub returns-in_ok-push-in-Table-clause-reads : goal.returns-in_ok-push-in-Table-clause-reads
 returns-in_ok-push-in-Table-clause-reads g c =
     rw c.in-Table.is (behind_value _ c.in-Table.entries c.push-in-Table.new.self c.in-Table.key
-    c.args.made _ _ _ c.skip-in-Table.ensures.skip c.skip-in-Table.ensures.order
+    c.args.made _ _ c.skip-in-Table.ensures.skip c.skip-in-Table.ensures.order
     c.skip-in-Table.ensures.fits c.in_ok-push-in-Table.ensures.items)

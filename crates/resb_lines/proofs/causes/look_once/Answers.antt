@@ -3,7 +3,7 @@ use Rattle.std.proofs.lemmas.List.{map_push}
 use Rattle.std.proofs.lemmas.Result.{IfOk-weaker}
 use Rattle.std.specs.Vec.{vec_len}
 use Rattle.resb_print.specs.Held.{AreHeld, HeldIn}
-use Rattle.resb_print.specs.Paths.{steps_in, step_of, is_table, found_among, found_in}
+use Rattle.resb_print.specs.Paths.{steps_in, step_of, found_among, found_in}
 use Rattle.resb_print.specs.declared.path.PathStep.TheVariants.{Key, Member}
 use Rattle.resb_lines.specs.declared.inside.Inside.TheVariants.{Members, Entries}
 use Rattle.resb_lines.specs.Inner.Looks.{looks_in, members_look, entries_look, without_last}
@@ -73,8 +73,7 @@ returns-in_ok-put-in-Entries g c =
     let ps = c.args.path.now.items in
     let key = c.in-Some-next_entry.next.0 in
     let value = s.tree c.in-Some-next_entry.next.1 in
-    let free : None ≡ tests.of_entry key.now (is_table value) =
-    c.in_default-entry_cause.ensures ∙ ap (tests.of_entry key.now) c.is_table.ensures in
+    let free : None ≡ tests.of_key key.now = c.in_default-key_cause.ensures in
     rw c.in-Entries.is (IfOk-weaker c.enter-in-Entries.result _ _ (λ found d.
     looked_entry tests (looks_in s.members s.entries first) (looks_in s.members s.entries put)
     (looks_in s.members s.entries new) (steps_in ps) (steps_in c.push-in-Entries.new.self.items)

@@ -1,25 +1,14 @@
-use Rattle.std.proofs.Common.{arith, sym, ◌∙◌, refl, ◌≡◌, true, rules}
+use Rattle.std.proofs.Common.{arith, sym, ◌∙◌, refl, rules}
 use Rattle.std.proofs.lemmas.Bool.{and_from, and_parts}
-use Rattle.std.proofs.lemmas.Result.{err_from_is_err_and}
-use Rattle.resb_icu_text.proofs.MakingLemmas.{anything_said}
 use Rattle.resb_icu_text.proofs.QuotaLemmas.{none_taken, memory_stops, match_by, match_fails}
 use Rattle.resb_icu_text.proofs.ReadingLemmas.{pushed, nothing_open, behind_ended, is_read}
-use Rattle.resb_icu_text.proofs.ReadingLemmas.{stops_ended, root_ended, in_opened, opened_read}
+use Rattle.resb_icu_text.proofs.ReadingLemmas.{root_ended, in_opened, opened_read}
 use Rattle.resb_icu_text.proofs.ReadingLemmas.{waiting_parts}
-use Rattle.resb_icu_text.specs.Inner.Kept.{anything, groups_pass, step_passes}
 use Rattle.resb_icu_text.specs.Inner.Quota.{StopsAt}
 use Rattle.resb_icu_text.specs.Inner.Steps.{StepsTo, StepFails, members_place, entries_place}
 use Rattle.resb_icu_text.specs.Inner.Steps.{group_place}
 use Rattle.resb_icu_text.specs.Inner.Reading.{groups, keys, stands, IsRead}
 use Rattle.resb_icu_text.proofs.open.OpenGroups.read.Goals as goal
-
-pub check_key-requires : goal.check_key-requires
-check_key-requires g c =
-    let held = g.B.Build.held c.args.self.now.build in
-    let kept = c.requires.kept anything (anything_said c.args.text.now) in
-    let inner : step_passes c.args.step held anything ≡ true =
-    (and_parts (groups_pass c.args.self.now held anything) _ kept).1 in
-    λ k. ((refl, tt), rw c.in-Ended.is at inner)
 
 pub returns-in-Members-clause-reads : goal.returns-in-Members-clause-reads
 returns-in-Members-clause-reads g c =
@@ -66,15 +55,6 @@ returns-in_ok-open-in-Group-clause-reads g c =
     (λ e s. rw c.in-Group.is (in_opened (λ u. StopsAt text was then u e) at tree w os ws js ks
     (opened.groups tree) opened.keys (s tree os js))) c.group.ensures.reads
 
-pub returns-in_err-check_key-in-Some-clause-reads
-    : goal.returns-in_err-check_key-in-Some-clause-reads
-returns-in_err-check_key-in-Some-clause-reads g c =
-    let p = err_from_is_err_and c.from_residual-in_err-check_key-in-Some.result
-    c.from_residual-in_err-check_key-in-Some.ensures.1 in
-    rw (p.1, p.2, c.in-Ended.is) (stops_ended _ _ (g.B.Build.tree c.args.self.now.build)
-    c.in-Some.waiting c.in-Ended.made _ _ _ _ _
-    (pushed _ _ _ _ c.in-Some.ensures.items) c.in_err-check_key-in-Some.ensures)
-
 pub returns-in_err-step-in-Some-clause-reads : goal.returns-in_err-step-in-Some-clause-reads
 returns-in_err-step-in-Some-clause-reads g c =
     match_fails _ _ _ c.from_residual-in_err-step-in-Some.ensures.1
@@ -87,8 +67,7 @@ returns-in_ok-step-in-Some-clause-reads g c =
       leaf = refl;
       ends = tt;
       comes = behind_ended _ _ (g.B.Build.tree c.args.self.now.build) c.in-Some.waiting
-          c.in-Ended.made _ _ _ _ _ (pushed _ _ _ _ c.in-Some.ensures.items)
-          c.in_ok-check_key-in-Some.ensures resumes;
+          c.in-Ended.made _ _ _ _ _ (pushed _ _ _ _ c.in-Some.ensures.items) resumes;
       kept = λ t h. let both = and_parts _ _ (rw c.in-Ended.is at (c.requires.kept t h)) in
           let parts = waiting_parts _ t _ _ _ c.in-Some.ensures.items both.0 in
           and_from _ _ parts.0 (resumes.keeps _ t parts.1 both.1);

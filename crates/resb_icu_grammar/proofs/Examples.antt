@@ -4,7 +4,7 @@ use Rattle.std.proofs.Common.{◌∷◌, length, refl, sym, ap, arith, lit≤, s
 use Rattle.std.specs.Prelude.{slice_index, slice_range, codes}
 use Rattle.std.proofs.lemmas.Bool.{false≢true}
 use Rattle.resb_tree.specs.Tree.{Tree, string, alias, array, table, trees_of, map_of}
-use Rattle.resb_grammar.specs.ByteRuns.{is_white}
+use Rattle.resb_grammar.specs.ByteRuns.{is_white, Run}
 use Rattle.resb_icu_grammar.specs.Kinds.{Kind, Names, string_kind, alias_kind, array_kind}
 use Rattle.resb_icu_grammar.specs.Kinds.{table_kind, binary_kind, integer_kind, vector_kind}
 use Rattle.resb_icu_grammar.specs.Bytes.{is_word, is_key_byte}
@@ -16,7 +16,7 @@ use Rattle.resb_icu_grammar.specs.Pieces.{one_more}
 use Rattle.resb_icu_grammar.specs.Faults.{NoEscapeAt, StringFault, this_piece, later_piece}
 use Rattle.resb_icu_grammar.specs.Faults as fault
 use Rattle.resb_icu_grammar.specs.Words as words
-use Rattle.resb_icu_grammar.specs.Words.{Word, a_word, quoted}
+use Rattle.resb_icu_grammar.specs.Words.{Unquoted, a_word, quoted, goes_on, may_begin}
 use Rattle.resb_icu_grammar.specs.Words.{TypeName}
 use Rattle.resb_icu_grammar.specs.Groups.{Group, untyped, an_empty_array, one_string, no_entry}
 use Rattle.resb_icu_grammar.specs.Groups.{one_entry, Entries, typed, leaf, alias_content}
@@ -140,23 +140,42 @@ empty_group : Group (codes "{}") 0 2 (array (trees_of [])) []
 empty_group =
     untyped 0 1 1 _ [] refl (stays _ 1 refl (λ h. absurd (omega arith))) (an_empty_array 1) refl
 
--- a word of one byte
-word_of_one : (text : List ℕ) (from : ℕ) → is_word (slice_index text from) ≡ true
-    → is_word (slice_index text (from + 1)) ≡ false → from + 1 ≤ length text
-    → Word text from (from + 1) (slice_range text from (from + 1))
-word_of_one text from h stop fits =
+-- an unquoted string of one byte
+word_of_one : (text : List ℕ) (from : ℕ) → may_begin (slice_index text from) ≡ true
+    → goes_on text from ≡ true
+    → goes_on text (from + 1) ≡ false → from + 1 ≤ length text
+    → Unquoted text from (from + 1) (slice_range text from (from + 1))
+word_of_one text from first h stop fits =
     record {
-      run = record {
-        order = omega arith;
-        fits = fits;
-        each = λ k low high.
-            (let e : from ≡ k = omega arith in subst (λ i. is_word (slice_index text i)
-            ≡ true) e h);
-        longest = stop;
-      };
+      begins = first;
       some = omega arith;
+      fits = fits;
+      each = λ k low high.
+          (let e : from ≡ k = omega arith in subst (λ i. goes_on text i ≡ true) e h);
+      longest = stop;
       means = refl;
     }
+
+-- the name `b` is a word
+b_is_word : Run is_word (codes "b") 0 1
+b_is_word = record { order = lit≤ tt; fits = lit≤ tt; each = each; longest = refl }
+  where
+    each : (k : ℕ) → 0 ≤ k → k < 1 → is_word (slice_index (codes "b") k) ≡ true
+    each zero low high = refl
+    each (suc n) low high = absurd (omega arith)
+
+-- a slash is of an unquoted string, but at its start and where it begins a comment
+slash_accepted : (goes_on (codes "a/b") 1 ≡ true) × (goes_on (codes "a//b") 1 ≡ false)
+    × (goes_on (codes "a/*b") 1 ≡ false) × (goes_on (codes "a/") 1 ≡ true)
+    × (may_begin 47 ≡ false)
+slash_accepted = (refl, refl, refl, refl, refl)
+
+-- é is of one, U+2029 and U+FEFF are not, and none begins inside é
+beyond_accepted : (goes_on (0xc3 ∷ 0xa9 ∷ []) 0 ≡ true) × (goes_on (0xc3 ∷ 0xa9 ∷ []) 1 ≡ true)
+    × (goes_on (0xe2 ∷ 0x80 ∷ 0xa9 ∷ []) 0 ≡ false)
+    × (goes_on (0xe2 ∷ 0x80 ∷ 0xa8 ∷ []) 0 ≡ true)
+    × (goes_on (0xef ∷ 0xbb ∷ 0xbf ∷ []) 0 ≡ false) × (may_begin 0xa9 ≡ false)
+beyond_accepted = (refl, refl, refl, refl, refl, refl)
 
 -- a bundle named b with the string x at the key k
 bundle_accepted : IcuText (codes "b{k{x}}") (codes "b") true
@@ -175,9 +194,9 @@ bundle_accepted = record {
     begins = without_a_mark (λ m. let h = m.first in absurd (omega arith)) refl;
     before = stays _ 0 refl (λ h. absurd (omega arith));
     named = record {
-      key = words.a_word (word_of_one _ 0 refl refl (lit≤ tt)) refl;
+      key = words.a_word (word_of_one _ 0 refl refl refl (lit≤ tt)) refl;
       some = lit≤ tt;
-      word = (word_of_one (codes "b") 0 refl refl (lit≤ tt)).run;
+      word = b_is_word;
     };
     between = stays _ 1 refl (λ h. absurd (omega arith));
     typed = without refl;
@@ -185,10 +204,10 @@ bundle_accepted = record {
     after = stays _ 2 refl (λ h. absurd (omega arith));
   };
   body = one_entry 2 3 3 6 6 6 (codes "k") (string (codes "x")) [] [] []
-      (words.a_word (word_of_one _ 2 refl refl (lit≤ tt)) refl)
+      (words.a_word (word_of_one _ 2 refl refl refl (lit≤ tt)) refl)
       (stays _ 3 refl (λ h. absurd (omega arith)))
       (untyped 3 4 5 _ [] refl (stays _ 4 refl (λ h. absurd (omega arith)))
-      (one_string 4 5 5 (codes "x") (a_word (word_of_one _ 4 refl refl (lit≤ tt)))
+      (one_string 4 5 5 (codes "x") (a_word (word_of_one _ 4 refl refl refl (lit≤ tt)))
       (stays _ 5 refl (λ h. absurd (omega arith)))) refl)
       (stays _ 6 refl (λ h. absurd (omega arith))) (no_entry 6) refl;
   closes = refl;
@@ -210,9 +229,9 @@ stuck_there =
       begins = without_a_mark (λ m. let h = m.first in absurd (omega arith)) refl;
       before = stays _ 0 refl (λ h. absurd (omega arith));
       named = record {
-        key = words.a_word (word_of_one _ 0 refl refl (lit≤ tt)) refl;
+        key = words.a_word (word_of_one _ 0 refl refl refl (lit≤ tt)) refl;
         some = lit≤ tt;
-        word = (word_of_one (codes "b") 0 refl refl (lit≤ tt)).run;
+        word = b_is_word;
       };
       between = stays _ 1 refl (λ h. absurd (omega arith));
       typed = without refl;
@@ -224,7 +243,7 @@ stuck_there =
       comes = one_move (codes "b{a}") [] [] (among_entries []) 2
           (reading_at (in_table [] (codes "a") ∷ []) (codes "a" ∷ []) before_group 3)
           (key_of_entry [] 2 3 3 (codes "a")
-          (words.a_word (word_of_one _ 2 refl refl (lit≤ tt)) refl)
+          (words.a_word (word_of_one _ 2 refl refl refl (lit≤ tt)) refl)
           (stays _ 3 refl (λ h. absurd (omega arith))));
       there = inside (in_table [] (codes "a") ∷ []) (codes "a" ∷ []) before_group 3 3 expect.Group
           (no_group 3 never);
@@ -244,7 +263,7 @@ alias_accepted : Entries (codes "x:alias{\"/a/b\"}") 0 15
     ((codes "x", alias (codes "/a/b")) ∷ []) (codes "x" ∷ [])
 alias_accepted =
     one_entry 0 1 1 15 15 15 (codes "x") (alias (codes "/a/b")) [] [] []
-    (words.a_word (word_of_one _ 0 refl refl (lit≤ tt)) refl)
+    (words.a_word (word_of_one _ 0 refl refl refl (lit≤ tt)) refl)
     (stays _ 1 refl (λ h. absurd (omega arith)))
     (typed 1 8 14 alias_kind (alias (codes "/a/b")) []
     (record {
@@ -343,9 +362,9 @@ header_before_a = record {
   begins = without_a_mark (λ m. let h = m.first in absurd (omega arith)) refl;
   before = blanks_end 0 refl (λ h. absurd (omega arith));
   named = record {
-    key = words.a_word (word_of_one _ 0 refl refl (lit≤ tt)) refl;
+    key = words.a_word (word_of_one _ 0 refl refl refl (lit≤ tt)) refl;
     some = lit≤ tt;
-    word = (word_of_one (codes "b") 0 refl refl (lit≤ tt)).run;
+    word = b_is_word;
   };
   between = blanks_end 1 refl (λ h. absurd (omega arith));
   typed = without refl;
@@ -371,10 +390,10 @@ before_y = record {
       (moves _ (InValue (among_members a_string (string (codes "x") ∷ [])) 5) _ _ _ _
       (moves _ (InValue in_untyped 4) _ _ _ _
       (moves _ (InValue before_group 3) [] [] (among_entries []) 2 (here _)
-      (key_of_entry [] 2 3 3 (codes "a") (words.a_word (word_of_one _ 2 refl refl (lit≤ tt)) refl)
+      (key_of_entry [] 2 3 3 (codes "a") (words.a_word (word_of_one _ 2 refl refl refl (lit≤ tt)) refl)
       (blanks_end 3 refl (λ h. absurd (omega arith)))))
       (group_opens 3 4 refl (blanks_end 4 refl (λ h. absurd (omega arith)))))
-      (begins_with_string 4 5 5 (codes "x") (a_word (word_of_one _ 4 refl refl (lit≤ tt)))
+      (begins_with_string 4 5 5 (codes "x") (a_word (word_of_one _ 4 refl refl refl (lit≤ tt)))
       (blanks_end 5 refl (λ h. absurd (omega arith))) refl))
       (comma_behind a_string _ 5 6 refl refl (blanks_end 6 refl (λ h. absurd (omega arith))));
   sum = refl;
@@ -385,7 +404,7 @@ abbrev y_follows : Move (codes "b{a{x,y}}") (in_table [] (codes "a") ∷ []) (co
     (among_members a_comma (string (codes "x") ∷ [])) 6
     (InValue (among_members a_string (string (codes "x") ∷ string (codes "y") ∷ [])) 7)
 y_follows =
-    string_member a_comma _ 6 7 7 (codes "y") refl (a_word (word_of_one _ 6 refl refl (lit≤ tt)))
+    string_member a_comma _ 6 7 7 (codes "y") refl (a_word (word_of_one _ 6 refl refl refl (lit≤ tt)))
     (blanks_end 7 refl (λ h. absurd (omega arith)))
 
 -- the text is read within 1513 bytes, of which 75 are its second string's

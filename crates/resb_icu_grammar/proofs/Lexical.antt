@@ -3,7 +3,7 @@ use Rattle.std.proofs.Common.{◌≡◌, ◌≢◌, ℕ, ◌+◌, ◌<◌, ◌�
 use Rattle.std.proofs.Common.{length, arith, subst, sym, refl, ◌∙◌, ap, ⊎_elim, encode_utf8}
 use Rattle.std.specs.Prelude.{◌==◌, ◌||◌, slice_index, slice_range}
 use Rattle.std.specs.Char.{is_ascii_alphanumeric}
-use Rattle.std.proofs.lemmas.Bool.{false≢true}
+use Rattle.std.proofs.lemmas.Bool.{false≢true, and_parts}
 use Rattle.std.proofs.lemmas.Bool.Decides.{nat_tests}
 use Rattle.resb_grammar.specs.Ascii as ascii
 use Rattle.resb_grammar.specs.ByteRuns.{is_white, is_digit}
@@ -13,7 +13,7 @@ use Rattle.resb_icu_grammar.specs.Kinds.{Kind, Names}
 use Rattle.resb_grammar.proofs.ByteRunsLemmas.{Run-one}
 use Rattle.resb_grammar.proofs.Unique.{FirstCloser-one, Digits-one}
 use Rattle.resb_grammar.proofs.Numbers.{places_meet}
-use Rattle.resb_icu_grammar.specs.Bytes.{is_word}
+use Rattle.resb_icu_grammar.specs.Bytes.{is_word, is_unquoted}
 use Rattle.resb_icu_grammar.proofs.KindNames.{Names-one}
 use Rattle.resb_icu_grammar.specs.Blanks.{Begins, behind_the_mark, without_a_mark}
 use Rattle.resb_icu_grammar.specs.Blanks.{LineRest, Comment, line, block, Blanks, none}
@@ -25,8 +25,8 @@ use Rattle.resb_icu_grammar.specs.Pieces.{QuotedBytes, ends, byte, escape, Quote
 use Rattle.resb_icu_grammar.specs.Pieces.{last_piece}
 use Rattle.resb_icu_grammar.specs.Pieces.{one_more}
 use Rattle.resb_icu_grammar.specs.Words as words
-use Rattle.resb_icu_grammar.specs.Words.{Word, Text, a_word, quoted, KeyText, Name, Digits}
-use Rattle.resb_icu_grammar.specs.Words.{Number}
+use Rattle.resb_icu_grammar.specs.Words.{Word, Unquoted, Text, a_word, quoted, KeyText, Name}
+use Rattle.resb_icu_grammar.specs.Words.{Digits, Number}
 use Rattle.resb_icu_grammar.specs.Words.{unsigned, plus, minus, TypeName, GroupType, RootType}
 use Rattle.resb_icu_grammar.specs.Words.{table_type, no_fallback_type}
 
@@ -190,30 +190,44 @@ Word-one text from a b s t p q =
     let k : a ≡ b = Run-one is_word text from a b p.run q.run in
     (k, p.means ∙ ap (λ n. slice_range text from n) k ∙ sym q.means)
 
--- a word begins with a character of words
-pub word_first : (text : List ℕ) (from to : ℕ) (s : List ℕ) → Word text from to s
-    → is_word (slice_index text from) ≡ true
-word_first text from to s w = w.run.each from (omega arith) w.some
+unquoted_stops : (text : List ℕ) (from a b : ℕ) (s t : List ℕ) → Unquoted text from a s
+    → Unquoted text from b t → a < b → ⊥
+unquoted_stops text from a b s t p q l =
+    false≢true (sym p.longest ∙ q.each a (omega (arith, p.some)) l)
 
--- where a quote stands, no word does
+-- an unquoted string has one end and says one thing
+pub Unquoted-one : (text : List ℕ) (from a b : ℕ) (s t : List ℕ) → Unquoted text from a s
+    → Unquoted text from b t
+    → (a ≡ b) × (s ≡ t)
+Unquoted-one text from a b s t p q =
+    let k : a ≡ b = places_meet a b (unquoted_stops text from a b s t p q)
+    (unquoted_stops text from b a t s q p) in
+    (k, p.means ∙ ap (λ n. slice_range text from n) k ∙ sym q.means)
+
+-- it begins with a byte that may stand in one
+pub word_first : (text : List ℕ) (from to : ℕ) (s : List ℕ) → Unquoted text from to s
+    → is_unquoted (slice_index text from) ≡ true
+word_first text from to s w = (and_parts _ _ (w.each from (omega arith) w.some)).0
+
+-- where a quote stands, none does
 pub no_quote_word : (text : List ℕ) (from to : ℕ) (s : List ℕ) → slice_index text from ≡ ascii.quote
-    → Word text from to s → ⊥
+    → Unquoted text from to s → ⊥
 no_quote_word text from to s h w =
-    false≢true (ap is_word (sym h) ∙ word_first text from to s w)
+    false≢true (ap is_unquoted (sym h) ∙ word_first text from to s w)
 
 -- a string has one end and says one thing
 pub String-one : (text : List ℕ) (from a b : ℕ) (s t : List ℕ) → Text text from a s
     → Text text from b t → (a ≡ b) × (s ≡ t)
-String-one text from a b s t (a_word p) (a_word q) = Word-one text from a b s t p q
+String-one text from a b s t (a_word p) (a_word q) = Unquoted-one text from a b s t p q
 String-one text from a b s t (a_word p) (quoted q) =
     absurd (no_quote_word text from a s (joined_first text from b t q) p)
 String-one text from a b s t (quoted p) (a_word q) =
     absurd (no_quote_word text from b t (joined_first text from a s p) q)
 String-one text from a b s t (quoted p) (quoted q) = Joined-one text from a b s t p q
 
--- a string begins with a quote or a word character
+-- a string begins with a quote or a byte that may stand in an unquoted one
 abbrev pub starts_string : ℕ → Bool
-starts_string b = b == ascii.quote || is_word b
+starts_string b = b == ascii.quote || is_unquoted b
 
 pub string_first : (text : List ℕ) (from to : ℕ) (s : List ℕ) → Text text from to s
     → starts_string (slice_index text from) ≡ true

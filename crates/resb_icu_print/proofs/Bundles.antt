@@ -29,7 +29,7 @@ use Rattle.resb_icu_print.specs.declared.error.IcuPrintError.{IcuPrintError}
 use Rattle.resb_icu_print.specs.declared.error.IcuPrintError.TheVariants.{OutOfMemory}
 use Rattle.resb_icu_print.proofs.Taken.{none_named, none_in_taken, no_cause}
 use Rattle.resb_icu_print.proofs.Places.{solid_byte, solid_at, no_skip, white_on}
-use Rattle.resb_icu_print.proofs.Strings.{word_read, word_each, bare_words, bare_some, words_key}
+use Rattle.resb_icu_print.proofs.Strings.{word_read, bare_read, word_each, bare_words, bare_some, words_key}
 use Rattle.resb_icu_print.proofs.Groups.{root_starts, entries_at, close_line}
 
 no_mark : (b : ℕ) → is_word b ≡ true → b ≡ 0xef → ⊥
@@ -101,7 +101,7 @@ module _ (text : List ℕ) where
       let s = root_starts fallback (entries_on 1 es last) in
       let f : From text 0 (name ++ s.b ∷ s.more) =
       subst (λ l. From text 0 (name ++ l)) s.is h in
-      let (solid, word, g) = word_read text name s.b s.more bare s.stop.no_word f in
+      let (solid, word, g) = bare_read text name s.b s.more bare s.stop f in
       let first : slice_index text 0 ≡ slice_index name 0 =
       name_first name (s.b ∷ s.more) f (bare_some name bare)
       in

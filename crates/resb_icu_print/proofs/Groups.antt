@@ -76,6 +76,7 @@ opens_stop b h = ⊎_elim (λ e. subst IsStop (sym e) brace) (λ e. subst IsStop
     brace : IsStop ascii.left_brace
     brace = record {
       no_word = refl;
+      no_string = refl;
       no_white = refl;
       no_slash = refl;
       no_quote = λ e. absurd (omega (arith, e));
@@ -84,6 +85,7 @@ opens_stop b h = ⊎_elim (λ e. subst IsStop (sym e) brace) (λ e. subst IsStop
     colon : IsStop ascii.colon
     colon = record {
       no_word = refl;
+      no_string = refl;
       no_white = refl;
       no_slash = refl;
       no_quote = λ e. absurd (omega (arith, e));
@@ -129,6 +131,7 @@ root_starts false rest = starts_with _ _ refl
 brace_stop : IsStop ascii.right_brace
 brace_stop = record {
   no_word = refl;
+  no_string = refl;
   no_white = refl;
   no_slash = refl;
   no_quote = λ e. absurd (omega (arith, e));
@@ -137,6 +140,7 @@ brace_stop = record {
 comma_stop : IsStop ascii.comma
 comma_stop = record {
   no_word = refl;
+  no_string = refl;
   no_white = refl;
   no_slash = refl;
   no_quote = λ e. absurd (omega (arith, e));

@@ -12,12 +12,14 @@ use Rattle.hex.specs.Hex.{encode_lower, encode_with}
 use Rattle.resb_grammar.specs.Ascii as ascii
 use Rattle.resb_grammar.specs.ByteRuns.{is_white}
 use Rattle.resb_grammar.specs.Group.{is_hex, hex_value}
-use Rattle.resb_icu_grammar.specs.Bytes.{backslash, is_word, is_key_byte, are_key_bytes}
+use Rattle.resb_icu_grammar.specs.Bytes.{backslash, is_word, is_unquoted, is_key_byte}
+use Rattle.resb_icu_grammar.specs.Bytes.{are_key_bytes}
 use Rattle.resb_icu_grammar.specs.Blanks.{IsSolid}
 use Rattle.resb_icu_grammar.specs.Escapes.{Escape, itself, four_digits, are_hex, hex_number}
 use Rattle.resb_icu_grammar.specs.Pieces.{QuotedBytes, ends, byte, escape, QuotedPiece, Joined}
 use Rattle.resb_icu_grammar.specs.Pieces.{last_piece}
-use Rattle.resb_icu_grammar.specs.Words.{Word, HasNoEscape, KeyText, a_word, quoted}
+use Rattle.resb_icu_grammar.specs.Words.{Word, Unquoted, HasNoEscape, KeyText, a_word, quoted}
+use Rattle.resb_icu_grammar.specs.Words.{goes_on, may_begin}
 use Rattle.resb_print.specs.Printed.{quoted_on}
 use Rattle.resb_print.specs.Held.{AreBelow}
 use Rattle.resb_print.specs.Quotes.{has_quote, NoQuote}
@@ -33,6 +35,7 @@ use Rattle.resb_icu_print.proofs.Lists.{and_not_parts, false_from_not, unequal_t
 -- a byte behind which a string or key ends
 pub record IsStop (b : ℕ) : Type 0 where
   pub no_word : is_word b ≡ false
+  pub no_string : is_unquoted b ≡ false
   pub no_white : is_white b ≡ false
   pub no_slash : (b == ascii.slash) ≡ false
   pub no_quote : b ≢ ascii.quote
@@ -52,6 +55,37 @@ word_key b h =
     let e = below_passes word_is_key 128 b words_are_keys l in
     sym (ap (λ t. not t || is_key_byte b) h) ∙ e
 
+-- and in unquoted strings
+word_is_unquoted : ℕ → Bool
+word_is_unquoted b = not (is_word b) || is_unquoted b
+
+words_are_unquoted : all_below word_is_unquoted 128 ≡ true
+unfolding all_below word_is_unquoted
+words_are_unquoted = refl
+
+word_unquoted : (b : ℕ) → is_word b ≡ true → is_unquoted b ≡ true
+unfolding word_is_unquoted
+word_unquoted b h =
+    let l : b < 128 = grind (arith, nat_tests) in
+    let e = below_passes word_is_unquoted 128 b words_are_unquoted l in
+    sym (ap (λ t. not t || is_unquoted b) h) ∙ e
+
+-- at a word character one goes on, and may begin
+word_goes_on : (text : List ℕ) (at : ℕ) → is_word (slice_index text at) ≡ true
+    → goes_on text at ≡ true
+word_goes_on text at h =
+    let b = slice_index text at in
+    let slash : (b == ascii.slash) ≡ false = grind (arith, nat_tests, h) in
+    let first : (b == 0xe2) ≡ false = grind (arith, nat_tests, h) in
+    let second : (b == 0xef) ≡ false = grind (arith, nat_tests, h) in
+    rw (word_unquoted b h, slash, first, second) refl
+
+word_begins : (b : ℕ) → is_word b ≡ true → may_begin b ≡ true
+word_begins b h =
+    let slash : (b == ascii.slash) ≡ false = grind (arith, nat_tests, h) in
+    let low : nat_lt b 128 ≡ true = grind (arith, nat_tests, h) in
+    rw (slash, low) refl
+
 pub key_bytes_more : (b : ℕ) (k : List ℕ) → is_key_byte b ≡ true → are_key_bytes k ≡ true
     → are_key_bytes (b ∷ k) ≡ true
 key_bytes_more b k h t = ap (λ a. not (not a || list_any (λ b. not (is_key_byte b)) k)) h ∙ t
@@ -68,6 +102,9 @@ word_each [] h k l = absurd (omega arith)
 word_each (b ∷ s) h zero l = (and_parts (is_word b) (are_words s) h).0
 word_each (b ∷ s) h (suc k) l =
     word_each s (and_parts (is_word b) (are_words s) h).1 k (omega arith)
+
+and_false : (a b : Bool) → a ≡ false → (a && b) ≡ false
+and_false a b h = ap (λ t. t && b) h
 
 word_solid : (b : ℕ) → is_word b ≡ true → (is_white b ≡ false) × ((b == ascii.slash) ≡ false)
 word_solid b h = (grind (arith, nat_tests), grind (arith, nat_tests))
@@ -293,6 +330,25 @@ module _ (text : List ℕ) where
     from_behind text w (b ∷ rest) f,
   )
 
+  -- an unquoted string of word characters
+  pub bare_read : (w : List ℕ) {at : ℕ} (b : ℕ) (rest : List ℕ) → is_bare w ≡ true
+      → IsStop b → From text at (w ++ b ∷ rest)
+      → IsSolid text at × Unquoted text at (at + length w) w
+      × From text (at + length w) (b ∷ rest)
+  bare_read w {at} b rest e stop f =
+      let (solid, word, g) = word_read w b rest e stop.no_word f in (
+        solid,
+        record {
+          begins = word_begins (slice_index text at) (word.run.each at (omega arith) word.some);
+          some = word.some;
+          fits = word.run.fits;
+          each = λ k low high. word_goes_on text k (word.run.each k low high);
+          longest = and_false _ _ (ap is_unquoted (byte_at text g) ∙ stop.no_string);
+          means = word.means;
+        },
+        g,
+      )
+
   -- a key
   pub key_read : (k : List ℕ) {at : ℕ} (b : ℕ) (rest : List ℕ) → IsStop b
       → are_key_bytes k ≡ true → NoQuote k → From text at (key_on k (b ∷ rest))
@@ -303,7 +359,7 @@ module _ (text : List ℕ) where
           → From text at (cond t (k ++ b ∷ rest) (quoted_on k (b ∷ rest)))
           → IsSolid text at × ((to : ℕ) × KeyText text at to k × From text to (b ∷ rest))
       go true e f =
-          let (solid, word, g) = word_read k b rest e stop.no_word f in
+          let (solid, word, g) = bare_read k b rest e stop f in
           (solid, (at + length k, a_word word key, g))
       go false e f =
           let (to, joined, piece, no_escape, g) = quoted_read k b rest stop key free f in

@@ -4,7 +4,7 @@ use Rattle.std.proofs.Common.{refl, sym, ◌∙◌, ap, length, arith, suc}
 use Rattle.std.proofs.Common.{Ordering, Less, Equal, Greater, Option, None, drop}
 use Rattle.std.specs.Prelude.{slice_index, slice_range, not, ◌==◌}
 use Rattle.std.specs.Ordering.{match_ordering}
-use Rattle.std.proofs.lemmas.Bool.{false≢true, and_from, or_from}
+use Rattle.std.proofs.lemmas.Bool.{false≢true, and_from, and_parts, or_from}
 use Rattle.std.proofs.lemmas.Bool.Decides.{nat_tests}
 use Rattle.std.proofs.lemmas.List.{length-take, get_or-take, get_or-drop}
 use Rattle.resb_tree.specs.Tree.{Tree, string, alias, array, table, binary, integer, int_vector}
@@ -14,11 +14,11 @@ use Rattle.resb_tree.specs.Tree.{put_all, map_of}
 use Rattle.resb_tree.specs.Maps.{text_cmp}
 use Rattle.resb_grammar.specs.Ascii as ascii
 use Rattle.resb_icu_grammar.specs.Kinds.{Kind}
-use Rattle.resb_icu_grammar.specs.Bytes.{is_word, are_key_bytes, backslash}
+use Rattle.resb_icu_grammar.specs.Bytes.{is_word, is_unquoted, are_key_bytes, backslash}
 use Rattle.resb_icu_grammar.specs.Escapes.{Escape, itself, line_feed, carriage_return, tab}
 use Rattle.resb_icu_grammar.specs.Escapes.{four_digits, eight_digits}
 use Rattle.resb_icu_grammar.specs.Pieces.{QuotedBytes, ends, byte, escape}
-use Rattle.resb_icu_grammar.specs.Words.{Word, KeyText, a_word, quoted}
+use Rattle.resb_icu_grammar.specs.Words.{Unquoted, KeyText, a_word, quoted}
 use Rattle.resb_icu_grammar.specs.Groups as groups
 use Rattle.resb_icu_grammar.specs.Groups.{LeafContent, string_content, alias_content}
 use Rattle.resb_icu_grammar.specs.Groups.{binary_content}
@@ -61,17 +61,18 @@ free_by_each [] h = refl
 free_by_each (b ∷ s) h =
     free_more b s (h 0 (omega arith)) (free_by_each s (λ k l. h (suc k) (omega arith)))
 
-word_no_quote : (b : ℕ) → is_word b ≡ true → b ≢ ascii.quote
-word_no_quote b h e = false≢true (sym (ap is_word e) ∙ h)
+word_no_quote : (b : ℕ) → is_unquoted b ≡ true → b ≢ ascii.quote
+word_no_quote b h e = false≢true (sym (ap is_unquoted e) ∙ h)
 
-word_free : (text : List ℕ) (from to : ℕ) (k : List ℕ) → Word text from to k → NoQuote k
+word_free : (text : List ℕ) (from to : ℕ) (k : List ℕ) → Unquoted text from to k → NoQuote k
 word_free text from to k w = free_by_each k (λ i l e.
     let long : length (slice_range text from to) ≤ to - from =
     omega (arith, length-take (to - from) (drop from text)) in
     let m : i < to - from = omega (arith, ap length w.means, long) in
     let part : slice_index (slice_range text from to) i ≡ slice_index text (from + i) =
     get_or-take (to - from) (drop from text) i 0 m ∙ get_or-drop from text i 0 in
-    word_no_quote (slice_index text (from + i)) (w.run.each (from + i) (omega arith) (omega arith))
+    word_no_quote (slice_index text (from + i))
+    (and_parts _ _ (w.each (from + i) (omega arith) (omega arith))).0
     (sym part ∙ ap (λ l. slice_index l i) (sym w.means) ∙ e))
 
 escape_order : (text : List ℕ) (at to : ℕ) (s : List ℕ) → Escape text at to s → at ≤ to

@@ -8,7 +8,7 @@ use Rattle.resb_icu_grammar.specs.Escapes.{four_digits, eight_digits}
 use Rattle.resb_icu_grammar.specs.Pieces.{QuotedBytes, ends, byte, escape, Joined, last_piece}
 use Rattle.resb_icu_grammar.specs.Pieces.{one_more}
 use Rattle.resb_icu_grammar.specs.Blanks.{Comment, line, block, Blanks, none, white, comment}
-use Rattle.resb_icu_grammar.specs.Words.{Word, Text, a_word, quoted}
+use Rattle.resb_icu_grammar.specs.Words.{Unquoted, Text, a_word, quoted}
 
 comment_order : (text : List ℕ) (from to : ℕ) → Comment text from to → from ≤ to
 comment_order text from to (line h k r) = omega (arith, r.order)
@@ -60,13 +60,13 @@ joined_short text from to s (one_more _ m n _ us vs p t j) =
       length-append us vs,
     )
 
-word_short : (text : List ℕ) (from to : ℕ) (s : List ℕ) → Word text from to s
+word_short : (text : List ℕ) (from to : ℕ) (s : List ℕ) → Unquoted text from to s
     → length s + from ≤ to
 word_short text from to s w =
     omega (
       arith,
       ap length w.means ∙ length-take-le (to - from) _
-          (omega (arith, length-drop from text, w.run.fits)),
+          (omega (arith, length-drop from text, w.fits)),
     )
 
 -- what a string stands for has at most as many bytes as its text

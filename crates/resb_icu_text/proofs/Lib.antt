@@ -3,6 +3,7 @@ mod Lists
 mod ReachLemmas
 mod BlanksLemmas
 mod WordsLemmas
+mod UnquotedLemmas
 mod EscapesLemmas
 mod StopsLemmas
 mod PiecesLemmas

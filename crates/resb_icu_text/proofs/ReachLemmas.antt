@@ -6,8 +6,9 @@ use Rattle.std.proofs.lemmas.Bool.Decides.{nat_tests}
 use Rattle.resb_grammar.specs.Ascii as ascii
 use Rattle.resb_grammar.specs.ByteRuns.{Run}
 use Rattle.resb_icu_grammar.specs.Bytes.{is_word}
-use Rattle.resb_icu_grammar.specs.Words.{Word, Text, a_word, quoted, Number, unsigned, plus, minus}
-use Rattle.resb_icu_grammar.proofs.Lexical.{word_first, joined_first}
+use Rattle.resb_icu_grammar.specs.Words.{Unquoted, Text, a_word, quoted, Number}
+use Rattle.resb_icu_grammar.specs.Words.{unsigned, plus, minus, may_begin}
+use Rattle.resb_icu_grammar.proofs.Lexical.{joined_first}
 use Rattle.resb_icu_text.specs.declared.steps.Step.{Step}
 use Rattle.resb_icu_text.specs.declared.steps.Step.TheVariants as step
 use Rattle.resb_grammar.specs.Inner.Reach.{reach}
@@ -47,10 +48,13 @@ reach_word text from to run = pick (is_slash (slice_index text from)) (from == t
         let other : from ≢ to = grind (arith, nat_tests, e) in
         absurd (slash_no_word _ s (run.each from (omega arith) (omega (arith, other, run.order))))
 
--- no word begins at a slash
-pub word_no_slash : (text : List ℕ) (from to : ℕ) (s : List ℕ) → Word text from to s
+slash_begins_none : (b : ℕ) → b ≡ ascii.slash → may_begin b ≡ true → ⊥
+slash_begins_none b e h = grind (arith, nat_tests, e, h)
+
+-- no unquoted string begins with a slash
+pub word_no_slash : (text : List ℕ) (from to : ℕ) (s : List ℕ) → Unquoted text from to s
     → slice_index text from ≢ ascii.slash
-word_no_slash text from to s w e = slash_no_word _ e (word_first text from to s w)
+word_no_slash text from to s w e = slash_begins_none _ e w.begins
 
 -- where a string begins, a reading has looked up to its place
 pub reach_string : (text : List ℕ) (from to : ℕ) (s : List ℕ) → Text text from to s

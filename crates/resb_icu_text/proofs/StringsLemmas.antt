@@ -7,7 +7,7 @@ use Rattle.std.specs.Borrow.{Bor}
 use Rattle.std.proofs.lemmas.Bool.{false≢true}
 use Rattle.std.proofs.lemmas.Bool.Decides.{nat_tests}
 use Rattle.resb_grammar.specs.Ascii as ascii
-use Rattle.resb_icu_grammar.specs.Bytes.{backslash, is_word, are_key_bytes}
+use Rattle.resb_icu_grammar.specs.Bytes.{backslash, are_key_bytes}
 use Rattle.resb_icu_grammar.specs.Blanks.{Skip}
 use Rattle.resb_icu_grammar.specs.Pieces.{QuotedBytes, ends, byte, escape, QuotedPiece, Joined}
 use Rattle.resb_icu_grammar.specs.Pieces.{last_piece, one_more}
@@ -15,9 +15,9 @@ use Rattle.resb_icu_grammar.specs.Faults.{PieceFault, StringFault, this_piece, l
 use Rattle.resb_icu_grammar.specs.Faults.{a_fault}
 use Rattle.resb_icu_grammar.specs.declared.expected.IcuExpected.{IcuExpected}
 use Rattle.resb_icu_grammar.proofs.Faults.{fault_no_string, unquoted_told}
-use Rattle.resb_icu_grammar.specs.Words.{Word, Text, KeyText, HasNoEscape}
+use Rattle.resb_icu_grammar.specs.Words.{Unquoted, Text, KeyText, HasNoEscape}
 use Rattle.resb_icu_grammar.specs.Words as words
-use Rattle.resb_icu_grammar.proofs.Lexical.{Piece-one, word_first, joined_first, Inside-one}
+use Rattle.resb_icu_grammar.proofs.Lexical.{Piece-one, no_quote_word, joined_first, Inside-one}
 use Rattle.resb_icu_grammar.proofs.Lexical.{Skip-one}
 use Rattle.std.proofs.lemmas.List.{length-append}
 use Rattle.resb_icu_text.proofs.LengthLemmas.{blanks_order, string_short}
@@ -36,13 +36,10 @@ use Rattle.resb_icu_text.specs.declared.error.IcuTextError.{IcuTextError}
 use Rattle.resb_icu_text.proofs.PiecesLemmas.{inside_order, inside_closes, escape_order}
 use Rattle.resb_icu_text.proofs.Lists.{slice_none}
 
-quote_no_word : (b : ℕ) → b ≡ ascii.quote → is_word b ≡ true → ⊥
-quote_no_word b e h = grind (arith, nat_tests, e, h)
-
--- where a quote stands, no word does
+-- where a quote stands, no unquoted string does
 pub no_word : (text : List ℕ) (from to : ℕ) (s : List ℕ) → slice_index text from ≡ ascii.quote
-    → Word text from to s → ⊥
-no_word text from to s q w = quote_no_word _ q (word_first text from to s w)
+    → Unquoted text from to s → ⊥
+no_word text from to s q w = no_quote_word text from to s q w
 
 -- a quoted piece by its inside
 pub piece_of : (text : List ℕ) (from last : ℕ) (bytes : List ℕ)
@@ -113,9 +110,9 @@ added_all text first all h order moved seen a = record {
   seen = seen;
 }
 
--- where neither a quote nor a word stands, no string does
+-- where neither a quote nor an unquoted string stands, no string does
 pub no_lexeme : (text : List ℕ) (from : ℕ) → slice_index text from ≢ ascii.quote
-    → ((to : ℕ) (s : List ℕ) → Word text from to s → ⊥) → NoStringAt text from
+    → ((to : ℕ) (s : List ℕ) → Unquoted text from to s → ⊥) → NoStringAt text from
 no_lexeme text from n never to s (words.a_word w) = never to s w
 no_lexeme text from n never to s (words.quoted j) = n (joined_first text from to s j)
 
@@ -140,10 +137,10 @@ pub fault_fails : (text : List ℕ) (from : ℕ) (x : IcuExpected) (e : IcuTextE
 fault_fails text from x e f =
     (fault_no_string text from e.position e.expected f, a_fault e.position e.expected f)
 
--- where neither a quote nor a word stands, what was expected is told
+-- where neither a quote nor an unquoted string stands, what was expected is told
 pub unquoted_fails : (text : List ℕ) (from : ℕ) (x : IcuExpected) (e : IcuTextError)
     → e ≡ record { position = from; expected = x } → slice_index text from ≢ ascii.quote
-    → ((to : ℕ) (s : List ℕ) → Word text from to s → ⊥) → StringFails text from x e
+    → ((to : ℕ) (s : List ℕ) → Unquoted text from to s → ⊥) → StringFails text from x e
 unquoted_fails text from x e h n w = (
   no_lexeme text from n w,
   subst (λ (f : IcuTextError). Told text from x f.position f.expected) (sym h)
@@ -255,9 +252,9 @@ plain_found text from end next slice p s low order fits = record {
   high = reach_high text next fits;
 }
 
--- a word
+-- an unquoted string
 pub word_found : (text : List ℕ) (from end next : ℕ) (slice : Bor (List ℕ))
-    → Word text from end slice.now → Skip text end next → end ≤ next → next ≤ length text
+    → Unquoted text from end slice.now → Skip text end next → end ≤ next → next ≤ length text
     → IsFound text from (record { end = end; next = next; stands = found.Whole slice })
 word_found text from end next slice w s order fits =
     plain_found text from end next slice (a_word w) s w.some order fits

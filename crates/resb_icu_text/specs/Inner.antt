@@ -12,3 +12,4 @@ pub mod Reading
 pub mod Steps
 pub mod Stops
 pub mod Turns
+pub mod Unquoted

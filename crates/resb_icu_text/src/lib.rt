@@ -19,6 +19,7 @@ mod strings;
 mod trees;
 mod turns;
 mod types;
+mod unquoted;
 mod words;
 
 pub use blanks::skip;

@@ -1,4 +1,4 @@
-//! Strings: a word, or all quoted pieces in a row.
+//! Strings: an unquoted one, or all quoted pieces in a row.
 //! What stands in a piece is said in `pieces`.
 ghost use Rattle.std.specs.Prelude.{◌≡◌, ◌+◌, ◌-◌, ◌*◌, ◌<◌, ◌≤◌, ◌++◌, ℕ, true, false, List};
 ghost use Rattle.std.specs.Prelude.{length, slice_index, IfSome, IfNone, IfOk, OnOk};
@@ -23,7 +23,7 @@ use crate::error::IcuTextError;
 use crate::pieces::{piece_end, push_piece};
 use crate::quota::{REQUEST, text_bytes};
 use crate::turns::IcuTurns;
-use crate::words::word;
+use crate::unquoted::unquoted;
 use resb_icu_grammar::{IcuExpected, are_key_bytes};
 use resb_tree::NoMemory;
 use std::alloc::Global;
@@ -186,9 +186,9 @@ fn put_together(
     }
 }
 
-/// The string that begins at a place of a text: a word, or all quoted pieces that stand in a row
+/// The string that begins at a place of a text: an unquoted one, or all quoted pieces that stand in a row
 /// with nothing but blanks between them. `None` where none does; refused is want of memory alone.
-/// A word and one piece without escapes are slices of the text; others are built.
+/// An unquoted string and one piece without escapes are slices of the text; others are built.
 pub fn string<'a>(
     alloc: Global,
     text: &'a str,
@@ -239,7 +239,7 @@ pub(crate) fn found_or<'a>(
     if byte(text, from) == b'"' {
         return quoted(text, from, turns);
     }
-    let Some((end, word)) = word(text, from, turns) else {
+    let Some((end, word)) = unquoted(text, from, turns) else {
         return Err(IcuTextError::new(from, expected));
     };
     Ok(Found {

@@ -148,5 +148,6 @@ pub use Rattle.resb_pool_maker.specs.PoolFault
 pub use Rattle.resb_pool_maker.specs.Laws as PoolMakerLaws
 pub use Rattle.resb_compile.specs.Compiling
 pub use Rattle.resb_compile.specs.CompilingIcu
+pub use Rattle.resb_compile.specs.CompilingFiltered
 pub mod Headline
 pub mod Laws

@@ -1,6 +1,10 @@
-//! Bundles that are written over a pool bundle, and their files, as the format's rules ask for
-//! them. Each row is an input and its answer, up to a `;`: a row more costs no proof.
-use resb_compile::{compile_icu_with_pool, compile_with_pool};
+//! Bundles that are written over a pool bundle, or without what rules leave out, and their files, as
+//! the format's rules ask for them. Each row is an input and its answer, up to a `;`: a row more
+//! costs no proof.
+use resb_compile::{
+    compile_icu_filtered, compile_icu_filtered_with_pool, compile_icu_with_pool, compile_with_pool,
+};
+use resb_filter::Rules;
 use resb_pool_bundle::PoolBundle;
 use resb_text::Reader;
 use resb_tree::Key;
@@ -52,7 +56,8 @@ pub(crate) const OVER_POOLS: &str = r#"3 a{alpha{"one two three"}beta{"x"}} | al
 "#;
 
 /// A form, the version of a pool and a text of that form, whose keys stand as they come first; then
-/// its file.
+/// its file. `filtered` is ICU's form with rules before the text, and with pool 0 without one: the
+/// files are those of ICU's compiler.
 pub(crate) const COMPILED: &str = r#"plain 3 c{alpha{"two three"}delta{"x","","three"}} =>
     3:2000000f,a08,b,13,13,2,a0004,f,e31610fa,746c6564,aaaa0061,780000,30000,b,aaaa0009,
     2c0002,aaaa0024,60000005,90000003,;
@@ -62,6 +67,11 @@ icu 3 c{alpha{"two three"}delta:array{"x","","three"}} =>
 icu 3 d{alpha:alias{"/LOCALE/beta"}beta:int{5}} =>
     2:20000012,8,9,16,16,2,4,a,e31610fa,aaaa0000,c,4c002f,43004f,4c0041,2f0045,650062,610074,
     aaaa0000,2,aaaa0006,3000000a,70000005,;
+filtered 0 -/ab|-/cd/gh r{ab{"one"}cd{ef{"two"}gh{"three"}}} =>
+    2:2000000e,7,a,10,10,1,0,e,65006463,aaaa0066,740000,6f0077,10000,10023,200001,50000005,;
+filtered 3 -/zzz c{alpha{"two three"}zzz{"y"}delta:array{"x","","three"}} =>
+    3:2000000f,a08,b,13,13,2,a0004,f,e31610fa,746c6564,aaaa0061,780000,30000,b,aaaa0009,
+    2c0002,aaaa0024,60000005,90000003,;
 "#;
 
 /// Words as bytes.
@@ -133,6 +143,26 @@ fn line_compiled_icu(alloc: Global, pool: &PoolBundle<'_>, text: &str) -> Result
     }
 }
 
+/// The line of the file of rules and a text of ICU's form, over a pool but for version 0.
+fn line_filtered(
+    alloc: Global,
+    pool: &PoolBundle<'_>,
+    version: &str,
+    input: &str,
+) -> Result<String, Fail> {
+    let (rules, text) = input.split_once(' ').ok_or("a row without rules")?;
+    let lines = rules.replace(alloc, "|", "\n")?;
+    let rules = Rules::read(alloc, lines.as_str())?;
+    let written = match version {
+        "0" => compile_icu_filtered(alloc, text, &rules),
+        _ => compile_icu_filtered_with_pool(alloc, text, &rules, pool),
+    };
+    match written {
+        Ok(file) => words_of(alloc, &file),
+        Err(error) => Ok(format!(in alloc; "refused: {error}")?),
+    }
+}
+
 /// The line of a form, a pool and a text.
 pub(crate) fn line_of_compiled(alloc: Global, input: &str) -> Result<String, Fail> {
     let (form, input) = input.split_once(' ').ok_or("a row without a form")?;
@@ -141,6 +171,7 @@ pub(crate) fn line_of_compiled(alloc: Global, input: &str) -> Result<String, Fai
     let pool = PoolBundle::read(&file)?;
     match form {
         "icu" => line_compiled_icu(alloc, &pool, text),
+        "filtered" => line_filtered(alloc, &pool, version, text),
         _ => line_compiled(alloc, &pool, text),
     }
 }

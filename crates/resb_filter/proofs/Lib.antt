@@ -4,4 +4,5 @@ mod RuleLemmas
 mod LeftLemmas
 mod TableLemmas
 mod LawLemmas
+mod CollationLemmas
 pub mod KeyLemmas

@@ -1,5 +1,5 @@
 -- Tables of drafts: their entries, what is left of them so far, and what is made of that.
-use Rattle.std.proofs.Common.{◌≡◌, ℕ, ◌+◌, ◌<◌, Bool, true, List, [], ◌∷◌, ◌++◌, Bor, map}
+use Rattle.std.proofs.Common.{◌≡◌, ℕ, ◌+◌, ◌<◌, Bool, true, false, List, [], ◌∷◌, ◌++◌, Bor, map}
 use Rattle.std.proofs.Common.{refl, sym, ap, ◌∙◌, subst, arith, length, get_or, zero, suc, take}
 use Rattle.std.proofs.Common.{append-nil}
 use Rattle.std.specs.Prelude.{Option, Some, None, Result, Ok, Err, OnOk, slice_range}
@@ -21,8 +21,10 @@ use Rattle.resb_draft.proofs.Lists.{texts-part, all_append}
 use Rattle.resb_draft.proofs.Standing.{keeps_on}
 use Rattle.resb_draft.proofs.Whole.{WholeTable, part_length}
 use Rattle.resb_filter.specs.Filtered.{Rule, filtered, entry_left}
-use Rattle.resb_filter.specs.Inner.Entries.{seen, AreEntries, IsNoTable, StaysAs}
-use Rattle.resb_filter.proofs.LeftLemmas.{one_left, all_left, all_left-push, entries_are_left}
+use Rattle.resb_filter.specs.Collated.{each_inside}
+use Rattle.resb_filter.specs.Inner.Entries.{seen, AreEntries, IsNoTable, StaysAs, is_table}
+use Rattle.resb_filter.proofs.LeftLemmas.{Leaving, one_left, all_left, all_left-push}
+use Rattle.resb_filter.proofs.LeftLemmas.{entries_are_left, entries_are_changed}
 use Rattle.resb_filter.proofs.LeftLemmas.{left_sorted}
 
 -- what holds anyway holds where a call gave a value
@@ -71,23 +73,44 @@ table_entries d n m k w ks ns keys values =
           ∙ w.whole;
     }
 
--- a leaf stays
-pub leaf_stays : (t : Tree) → is_leaf t ≡ true → (rs : List Rule) → filtered rs t ≡ t
-leaf_stays (table es) h rs = absurd (false≢true h)
-leaf_stays (array ts) h rs = refl
-leaf_stays (string s) h rs = refl
-leaf_stays (alias s) h rs = refl
-leaf_stays (binary s) h rs = refl
-leaf_stays (integer n) h rs = refl
-leaf_stays (int_vector s) h rs = refl
+-- a leaf is no table
+pub leaf_no_table : (t : Tree) → is_leaf t ≡ true → is_table t ≡ false
+leaf_no_table (table es) h = absurd (false≢true h)
+leaf_no_table (array ts) h = refl
+leaf_no_table (string s) h = refl
+leaf_no_table (alias s) h = refl
+leaf_no_table (binary s) h = refl
+leaf_no_table (integer n) h = refl
+leaf_no_table (int_vector s) h = refl
 
--- a piece stands for a tree that stays
-pub no_table : (d : Draft) (n : ℕ) (t : Tree) → tree_at d n ≡ t
-    → ((rs : List Rule) → filtered rs t ≡ t) → IsNoTable d n
-no_table d n t is stays rs = ap (filtered rs) is ∙ stays rs ∙ sym is
+-- rules leave all of a tree that is no table
+pub none_filtered : (rs : List Rule) (t : Tree) → is_table t ≡ false → filtered rs t ≡ t
+none_filtered rs (table es) h = absurd (false≢true (sym h))
+none_filtered rs (array ts) h = refl
+none_filtered rs (string s) h = refl
+none_filtered rs (alias s) h = refl
+none_filtered rs (binary s) h = refl
+none_filtered rs (integer n) h = refl
+none_filtered rs (int_vector s) h = refl
+
+-- nothing is changed inside one
+pub none_changed : (f : List ℕ → Tree → Tree) (t : Tree) → is_table t ≡ false
+    → each_inside f t ≡ t
+none_changed f (table es) h = absurd (false≢true (sym h))
+none_changed f (array ts) h = refl
+none_changed f (string s) h = refl
+none_changed f (alias s) h = refl
+none_changed f (binary s) h = refl
+none_changed f (integer n) h = refl
+none_changed f (int_vector s) h = refl
+
+-- a piece stands for a tree that is no table
+pub no_table : (d : Draft) (n : ℕ) (t : Tree) → tree_at d n ≡ t → is_table t ≡ false
+    → IsNoTable d n
+no_table d n t is h = ap is_table is ∙ h
 
 -- entries whose values are whole show the same while a draft grows
-entries_on : (old new : Draft) → Keeps old new → (ps : List (Bor (List ℕ) × ℕ))
+pub entries_on : (old new : Draft) → Keeps old new → (ps : List (Bor (List ℕ) × ℕ))
     → all_true (map (λ (p : Bor (List ℕ) × ℕ). is_whole old p.1) ps) ≡ true
     → (seen (tree_at new) ps ≡ seen (tree_at old) ps)
     × (all_true (map (λ (p : Bor (List ℕ) × ℕ). is_whole new p.1) ps) ≡ true)
@@ -104,15 +127,15 @@ pushed k None = []
 pushed k (Some n) = (k, n) ∷ []
 
 -- what is left of the first entries of a table stands in the draft that has grown
-pub record LeftSoFar (start d : Draft) (rs : List Rule) (ps left : List (Bor (List ℕ) × ℕ))
+pub record LeftSoFar (start d : Draft) (f : Leaving) (ps left : List (Bor (List ℕ) × ℕ))
     : Type 0 where
   pub keeps : Keeps start d
-  pub trees : seen (tree_at d) left ≡ all_left rs (seen (tree_at start) ps)
+  pub trees : seen (tree_at d) left ≡ all_left f (seen (tree_at start) ps)
   pub whole : all_true (map (λ (p : Bor (List ℕ) × ℕ). is_whole d p.1) left) ≡ true
 
 -- at the start nothing is left of no entries
-pub left_start : (d : Draft) (rs : List Rule) → LeftSoFar d d rs [] []
-left_start d rs = record { keeps = λ n h. (refl, h); trees = refl; whole = refl }
+pub left_start : (d : Draft) (f : Leaving) → LeftSoFar d d f [] []
+left_start d f = record { keeps = λ n h. (refl, h); trees = refl; whole = refl }
 
 pushed_seen : (d : Draft) (k : Bor (List ℕ)) (t : Option Tree) (o : Option ℕ) → StaysAs d t o
     → (seen (tree_at d) (pushed k o) ≡ one_left k.now t)
@@ -123,46 +146,65 @@ pushed_seen d k (Some t) None h = absurd h
 pushed_seen d k (Some t) (Some n) h = (ap (λ u. (k.now, u) ∷ []) h.0, and_from _ _ h.1 refl)
 
 -- an entry more
-pub left_step : (start d e : Draft) (rs : List Rule) (ps left : List (Bor (List ℕ) × ℕ))
-    (p : Bor (List ℕ) × ℕ) (o : Option ℕ) → LeftSoFar start d rs ps left
+pub left_step : (start d e : Draft) (f : Leaving) (ps left : List (Bor (List ℕ) × ℕ))
+    (p : Bor (List ℕ) × ℕ) (o : Option ℕ) → LeftSoFar start d f ps left
     → is_whole start p.1 ≡ true → Keeps d e
-    → StaysAs e (entry_left rs p.0.now (tree_at d p.1)) o
-    → LeftSoFar start e rs (ps ++ p ∷ []) (left ++ pushed p.0 o)
-left_step start d e rs ps left p o so w k s =
-    let f : Bor (List ℕ) × ℕ → List ℕ × Tree = λ q. (q.0.now, tree_at e q.1) in
-    let g : Bor (List ℕ) × ℕ → List ℕ × Tree = λ q. (q.0.now, tree_at start q.1) in
+    → StaysAs e (f p.0.now (tree_at d p.1)) o
+    → LeftSoFar start e f (ps ++ p ∷ []) (left ++ pushed p.0 o)
+left_step start d e f ps left p o so w k s =
+    let now : Bor (List ℕ) × ℕ → List ℕ × Tree = λ q. (q.0.now, tree_at e q.1) in
+    let was : Bor (List ℕ) × ℕ → List ℕ × Tree = λ q. (q.0.now, tree_at start q.1) in
     let test : Bor (List ℕ) × ℕ → Bool = λ q. is_whole e q.1 in
     let on = entries_on d e k left so.whole in
-    let one = pushed_seen e p.0 (entry_left rs p.0.now (tree_at d p.1)) o s in
+    let one = pushed_seen e p.0 (f p.0.now (tree_at d p.1)) o s in
     let same : tree_at d p.1 ≡ tree_at start p.1 = (so.keeps p.1 w).0 in
-    let last = one_left p.0.now (entry_left rs p.0.now (tree_at start p.1)) in
+    let last = one_left p.0.now (f p.0.now (tree_at start p.1)) in
     record {
       keeps = keeps_on start d e so.keeps k;
-      trees = map-append f left (pushed p.0 o)
+      trees = map-append now left (pushed p.0 o)
           ∙ (λ i. (on.0 ∙ so.trees) i
-          ++ (one.0 ∙ ap (λ t. one_left p.0.now (entry_left rs p.0.now t)) same) i)
-          ∙ sym (all_left-push rs (seen (tree_at start) ps) (p.0.now, tree_at start p.1))
-          ∙ ap (all_left rs) (sym (map-append g ps (p ∷ [])));
+          ++ (one.0 ∙ ap (λ t. one_left p.0.now (f p.0.now t)) same) i)
+          ∙ sym (all_left-push f (seen (tree_at start) ps) (p.0.now, tree_at start p.1))
+          ∙ ap (all_left f) (sym (map-append was ps (p ∷ [])));
       whole = ap all_true (map-append test left (pushed p.0 o))
           ∙ all_append (map test left) (map test (pushed p.0 o)) on.1 one.1;
     }
 
-seen_keys : (tree : ℕ → Tree) (ps : List (Bor (List ℕ) × ℕ))
+pub seen_keys : (tree : ℕ → Tree) (ps : List (Bor (List ℕ) × ℕ))
     → keys_of (seen tree ps) ≡ map (λ (p : Bor (List ℕ) × ℕ). p.0.now) ps
 seen_keys tree [] = refl
 seen_keys tree (p ∷ ps) = ap (λ l. p.0.now ∷ l) (seen_keys tree ps)
 
--- the table of what is left of all entries is what the rules leave of the table
+-- the table of what is left of all entries
+left_table : (start d : Draft) (n : ℕ) (f : Leaving) (ps left : List (Bor (List ℕ) × ℕ))
+    → AreEntries start n ps → LeftSoFar start d f ps left
+    → table (map_of (seen (tree_at d) left))
+    ≡ table (entries_of (all_left f (seen (tree_at start) ps)))
+left_table start d n f ps left a so =
+    let es = seen (tree_at start) ps in
+    let sorted = left_sorted f es (subst (IsStrictlySortedBy text_cmp)
+    (sym (seen_keys (tree_at start) ps))
+    (texts_sorted (map (λ (p : Bor (List ℕ) × ℕ). p.0.now) ps) a.ascend)) in
+    ap (λ l. table (map_of l)) so.trees ∙ ap table (map_of-sorted (all_left f es) sorted)
+
+-- it is what the rules leave of the table
 pub left_made : (start d : Draft) (n : ℕ) (rs : List Rule) (ps left : List (Bor (List ℕ) × ℕ))
-    → AreEntries start n ps → LeftSoFar start d rs ps left
+    → AreEntries start n ps → LeftSoFar start d (entry_left rs) ps left
     → table (map_of (seen (tree_at d) left)) ≡ filtered rs (tree_at start n)
 left_made start d n rs ps left a so =
     let es = seen (tree_at start) ps in
-    let sorted = left_sorted rs es (subst (IsStrictlySortedBy text_cmp)
-    (sym (seen_keys (tree_at start) ps))
-    (texts_sorted (map (λ (p : Bor (List ℕ) × ℕ). p.0.now) ps) a.ascend)) in
-    ap (λ l. table (map_of l)) so.trees ∙ ap table (map_of-sorted (all_left rs es) sorted)
+    left_table start d n (entry_left rs) ps left a so
     ∙ ap table (sym (entries_are_left rs es)) ∙ ap (filtered rs) (sym a.tree)
+
+-- the table of all entries, each of which was changed
+pub changed_made : (start d : Draft) (n : ℕ) (f : List ℕ → Tree → Tree)
+    (ps changed : List (Bor (List ℕ) × ℕ)) → AreEntries start n ps
+    → LeftSoFar start d (λ k t. Some (f k t)) ps changed
+    → table (map_of (seen (tree_at d) changed)) ≡ each_inside f (tree_at start n)
+changed_made start d n f ps changed a so =
+    let es = seen (tree_at start) ps in
+    left_table start d n (λ k t. Some (f k t)) ps changed a so
+    ∙ ap table (sym (entries_are_changed f es)) ∙ ap (each_inside f) (sym a.tree)
 
 -- each value of a table that is whole is whole
 pub entry_whole : (d : Draft) (ps : List (Bor (List ℕ) × ℕ)) (i : ℕ) (p : Bor (List ℕ) × ℕ)
@@ -174,37 +216,37 @@ entry_whole d (q ∷ ps) (suc i) p h lt =
     entry_whole d ps i p (and_parts (is_whole d q.1) _ h).1 (omega (arith, lt))
 
 -- an entry of a table more
-left_more : (start d e : Draft) (rs : List Rule) (es : List (Bor (List ℕ) × ℕ)) (i : ℕ)
+left_more : (start d e : Draft) (f : Leaving) (es : List (Bor (List ℕ) × ℕ)) (i : ℕ)
     (p : Bor (List ℕ) × ℕ) (left new : List (Bor (List ℕ) × ℕ)) (o : Option ℕ) → i < length es
-    → LeftSoFar start d rs (take i es) left
+    → LeftSoFar start d f (take i es) left
     → all_true (map (λ (q : Bor (List ℕ) × ℕ). is_whole start q.1) es) ≡ true → Keeps d e
-    → StaysAs e (entry_left rs (get_or es i p).0.now (tree_at d (get_or es i p).1)) o
-    → new ≡ left ++ pushed (get_or es i p).0 o → LeftSoFar start e rs (take (i + 1) es) new
-left_more start d e rs es i p left new o lt so whole k s all =
-    subst (λ qs. LeftSoFar start e rs qs new) (sym (take_more es i p lt))
-    (subst (LeftSoFar start e rs (take i es ++ get_or es i p ∷ [])) (sym all)
-    (left_step start d e rs (take i es) left (get_or es i p) o so
+    → StaysAs e (f (get_or es i p).0.now (tree_at d (get_or es i p).1)) o
+    → new ≡ left ++ pushed (get_or es i p).0 o → LeftSoFar start e f (take (i + 1) es) new
+left_more start d e f es i p left new o lt so whole k s all =
+    subst (λ qs. LeftSoFar start e f qs new) (sym (take_more es i p lt))
+    (subst (LeftSoFar start e f (take i es ++ get_or es i p ∷ [])) (sym all)
+    (left_step start d e f (take i es) left (get_or es i p) o so
     (entry_whole start es i p whole lt) k s))
 
 -- one that stays
-pub stays_more : (start d e : Draft) (rs : List Rule) (es : List (Bor (List ℕ) × ℕ)) (i : ℕ)
+pub stays_more : (start d e : Draft) (f : Leaving) (es : List (Bor (List ℕ) × ℕ)) (i : ℕ)
     (p : Bor (List ℕ) × ℕ) (left new : List (Bor (List ℕ) × ℕ)) (o : Option ℕ) (n : ℕ)
-    → i < length es → LeftSoFar start d rs (take i es) left
+    → i < length es → LeftSoFar start d f (take i es) left
     → all_true (map (λ (q : Bor (List ℕ) × ℕ). is_whole start q.1) es) ≡ true → Keeps d e
-    → StaysAs e (entry_left rs (get_or es i p).0.now (tree_at d (get_or es i p).1)) o
+    → StaysAs e (f (get_or es i p).0.now (tree_at d (get_or es i p).1)) o
     → o ≡ Some n → new ≡ left ++ ((get_or es i p).0, n) ∷ []
-    → LeftSoFar start e rs (take (i + 1) es) new
-stays_more start d e rs es i p left new o n lt so whole k s is all =
-    left_more start d e rs es i p left new o lt so whole k s
+    → LeftSoFar start e f (take (i + 1) es) new
+stays_more start d e f es i p left new o n lt so whole k s is all =
+    left_more start d e f es i p left new o lt so whole k s
     (all ∙ ap (λ q. left ++ pushed (get_or es i p).0 q) (sym is))
 
 -- one that goes
-pub goes_more : (start d e : Draft) (rs : List Rule) (es : List (Bor (List ℕ) × ℕ)) (i : ℕ)
+pub goes_more : (start d e : Draft) (f : Leaving) (es : List (Bor (List ℕ) × ℕ)) (i : ℕ)
     (p : Bor (List ℕ) × ℕ) (left new : List (Bor (List ℕ) × ℕ)) (o : Option ℕ)
-    → i < length es → LeftSoFar start d rs (take i es) left
+    → i < length es → LeftSoFar start d f (take i es) left
     → all_true (map (λ (q : Bor (List ℕ) × ℕ). is_whole start q.1) es) ≡ true → Keeps d e
-    → StaysAs e (entry_left rs (get_or es i p).0.now (tree_at d (get_or es i p).1)) o
-    → o ≡ None → new ≡ left → LeftSoFar start e rs (take (i + 1) es) new
-goes_more start d e rs es i p left new o lt so whole k s is all =
-    left_more start d e rs es i p left new o lt so whole k s
+    → StaysAs e (f (get_or es i p).0.now (tree_at d (get_or es i p).1)) o
+    → o ≡ None → new ≡ left → LeftSoFar start e f (take (i + 1) es) new
+goes_more start d e f es i p left new o lt so whole k s is all =
+    left_more start d e f es i p left new o lt so whole k s
     (all ∙ sym (append-nil left) ∙ ap (λ q. left ++ pushed (get_or es i p).0 q) (sym is))

@@ -2,6 +2,7 @@
 -- printed of an error, and laws. `Inner` has words of private functions.
 pub mod Lines
 pub mod Filtered
+pub mod Collated
 pub mod View
 pub mod Messages
 pub mod Laws

@@ -85,7 +85,7 @@ fn filter_entry<'a>(
 
 /// The entries of the table that a piece stands for: keys, and the numbers of their values. None
 /// for any other piece.
-fn entries_of<'a>(
+pub(crate) fn entries_of<'a>(
     alloc: Global,
     draft: &Draft<'a>,
     number: u32,
@@ -129,7 +129,7 @@ fn part_of<X>(list: &[X], from: u32, count: u32) -> &[X]
 }
 
 /// Puts a table of these entries into a draft.
-fn push_table<'a>(
+pub(crate) fn push_table<'a>(
     alloc: Global,
     draft: &mut Draft<'a>,
     entries: &[(&'a str, u32)],

@@ -1,7 +1,9 @@
-//! The rule files of ICU's data build, `genrb --filterDir`: which entries of a bundle's tables
-//! stay. No file is opened here; a text of rules is read, and a draft is filtered.
+//! What becomes of a draft between the reader and the writer: the rule files of ICU's data build,
+//! `genrb --filterDir`, say which entries of a bundle's tables stay; and rules of collation get the
+//! binary forms that another tool made. No file is opened here.
 #![tactic(auto)]
 
+mod collation;
 mod error;
 mod filtering;
 pub mod laws;
@@ -9,5 +11,6 @@ mod lines;
 mod remaining;
 mod rules;
 
+pub use collation::{CollationForm, with_collation_forms};
 pub use error::{RuleError, RuleFault};
 pub use rules::Rules;

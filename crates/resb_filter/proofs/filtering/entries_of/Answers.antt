@@ -5,7 +5,7 @@ use Rattle.resb_tree.specs.Tree.{Tree, string, integer}
 use Rattle.resb_tree.specs.View.{tree_of}
 use Rattle.resb_draft.specs.declared.draft.Piece.TheVariants as piece
 use Rattle.resb_draft.proofs.Whole.{whole_inside, whole_is, whole_table, whole_array, found_as}
-use Rattle.resb_filter.proofs.TableLemmas.{table_entries, leaf_stays, no_table}
+use Rattle.resb_filter.proofs.TableLemmas.{table_entries, leaf_no_table, no_table}
 use Rattle.resb_filter.proofs.filtering.entries_of.Goals as goal
 
 pub index-requires : goal.index-requires
@@ -47,7 +47,7 @@ returns-in-String c =
     let is = found_as d.pieces.items n c.index.result.now (piece.String s) c.index.ensures
     c.in-String.is in
     no_table d n (string s.now)
-    (ap (λ (x : Tree × Bool). x.0) (whole_is d n (piece.String s) is c.requires)) (λ rs. refl)
+    (ap (λ (x : Tree × Bool). x.0) (whole_is d n (piece.String s) is c.requires)) refl
 
 pub returns-in-Integer : goal.returns-in-Integer
 returns-in-Integer c =
@@ -57,7 +57,7 @@ returns-in-Integer c =
     let is = found_as d.pieces.items n c.index.result.now (piece.Integer i) c.index.ensures
     c.in-Integer.is in
     no_table d n (integer i)
-    (ap (λ (x : Tree × Bool). x.0) (whole_is d n (piece.Integer i) is c.requires)) (λ rs. refl)
+    (ap (λ (x : Tree × Bool). x.0) (whole_is d n (piece.Integer i) is c.requires)) refl
 
 pub returns-in-Leaf : goal.returns-in-Leaf
 returns-in-Leaf c =
@@ -68,7 +68,7 @@ returns-in-Leaf c =
     c.in-Leaf.is in
     let e = whole_is d n (piece.Leaf r) is c.requires in
     no_table d n (tree_of r.value) (ap (λ (x : Tree × Bool). x.0) e)
-    (leaf_stays (tree_of r.value) (ap (λ (x : Tree × Bool). x.1) (sym e) ∙ c.requires))
+    (leaf_no_table (tree_of r.value) (ap (λ (x : Tree × Bool). x.1) (sym e) ∙ c.requires))
 
 pub returns-in-Array : goal.returns-in-Array
 returns-in-Array c =
@@ -77,7 +77,7 @@ returns-in-Array c =
     let m = c.in-Array.field-0 in
     let is = found_as d.pieces.items n c.index.result.now (piece.Array m) c.index.ensures
     c.in-Array.is in
-    no_table d n _ (whole_array d n m is c.requires).tree (λ rs. refl)
+    no_table d n _ (whole_array d n m is c.requires).tree refl
 
 pub returns-in_ok-pairs_of-in-Table : goal.returns-in_ok-pairs_of-in-Table
 returns-in_ok-pairs_of-in-Table c =

@@ -1,13 +1,13 @@
 -- Accepted and refused texts of ICU's form, by the definitions alone; and one that gets stuck.
 use Rattle.std.proofs.Common.{◌≡◌, ◌≢◌, ℕ, zero, suc, ◌+◌, ◌≤◌, true, false, List, [], inl, inr}
 use Rattle.std.proofs.Common.{◌∷◌, length, refl, sym, ap, arith, lit≤, subst, encode_utf8, ◌<◌}
-use Rattle.std.specs.Prelude.{slice_index, slice_range, codes}
+use Rattle.std.specs.Prelude.{slice_index, slice_range, codes, ◌&&◌}
 use Rattle.std.proofs.lemmas.Bool.{false≢true}
 use Rattle.resb_tree.specs.Tree.{Tree, string, alias, array, table, trees_of, map_of}
 use Rattle.resb_grammar.specs.ByteRuns.{is_white, Run}
 use Rattle.resb_icu_grammar.specs.Kinds.{Kind, Names, string_kind, alias_kind, array_kind}
 use Rattle.resb_icu_grammar.specs.Kinds.{table_kind, binary_kind, integer_kind, vector_kind}
-use Rattle.resb_icu_grammar.specs.Bytes.{is_word, is_key_byte}
+use Rattle.resb_icu_grammar.specs.Bytes.{is_word, is_key_byte, are_key_bytes}
 use Rattle.resb_icu_grammar.specs.Blanks.{Comment, line, block, none, white, Skip, without_a_mark}
 use Rattle.resb_icu_grammar.specs.Escapes.{Escape, itself, line_feed, carriage_return, tab}
 use Rattle.resb_icu_grammar.specs.Escapes.{four_digits, eight_digits}
@@ -16,7 +16,9 @@ use Rattle.resb_icu_grammar.specs.Pieces.{one_more}
 use Rattle.resb_icu_grammar.specs.Faults.{NoEscapeAt, StringFault, this_piece, later_piece}
 use Rattle.resb_icu_grammar.specs.Faults as fault
 use Rattle.resb_icu_grammar.specs.Words as words
-use Rattle.resb_icu_grammar.specs.Words.{Unquoted, a_word, quoted, goes_on, may_begin}
+use Rattle.resb_icu_grammar.specs.Unquoted.{Unquoted, UnquotedRow, last_one, goes_on, may_begin}
+use Rattle.resb_icu_grammar.specs.Unquoted as rows
+use Rattle.resb_icu_grammar.specs.Words.{a_row, quoted}
 use Rattle.resb_icu_grammar.specs.Words.{TypeName}
 use Rattle.resb_icu_grammar.specs.Groups.{Group, untyped, an_empty_array, one_string, no_entry}
 use Rattle.resb_icu_grammar.specs.Groups.{one_entry, Entries, typed, leaf, alias_content}
@@ -156,6 +158,38 @@ word_of_one text from first h stop fits =
       means = refl;
     }
 
+-- it is a row of one where no white character stands behind it
+row_of_one : (text : List ℕ) (from : ℕ) → may_begin (slice_index text from) ≡ true
+    → goes_on text from ≡ true
+    → goes_on text (from + 1) ≡ false → from + 1 ≤ length text
+    → is_white (slice_index text (from + 1)) ≡ false → slice_index text (from + 1) ≢ 47
+    → UnquotedRow text from (from + 1) (slice_range text from (from + 1))
+row_of_one text from first h stop fits no_white other =
+    last_one from (from + 1) (from + 1) _ (word_of_one text from first h stop fits)
+    (stays text (from + 1) no_white other) (ap (λ b. b && rows.begins_unquoted text (from + 1)) no_white)
+
+-- two unquoted strings are joined by a blank
+row_of_two : UnquotedRow (codes "a\t\nb}") 0 4 (codes "a b")
+row_of_two =
+    rows.one_more 0 1 3 4 (codes "a") (codes "b")
+    (word_of_one (codes "a\t\nb}") 0 refl refl refl (lit≤ tt)) refl
+    (record {
+      blanks = white 1 3 refl (white 2 3 refl (none 3));
+      solid = (stays (codes "a\t\nb}") 3 refl (λ h. absurd (omega arith))).solid;
+    })
+    (row_of_one (codes "a\t\nb}") 3 refl refl refl (lit≤ tt) refl (λ h. absurd (omega arith)))
+
+-- and then may be a key
+a_key : (text : List ℕ) (from : ℕ) → may_begin (slice_index text from) ≡ true
+    → goes_on text from ≡ true
+    → goes_on text (from + 1) ≡ false → from + 1 ≤ length text
+    → is_white (slice_index text (from + 1)) ≡ false → slice_index text (from + 1) ≢ 47
+    → are_key_bytes (slice_range text from (from + 1)) ≡ true
+    → words.KeyText text from (from + 1) (slice_range text from (from + 1))
+a_key text from first h stop fits no_white other is =
+    words.a_word (row_of_one text from first h stop fits no_white other)
+    (word_of_one text from first h stop fits) is
+
 -- the name `b` is a word
 b_is_word : Run is_word (codes "b") 0 1
 b_is_word = record { order = lit≤ tt; fits = lit≤ tt; each = each; longest = refl }
@@ -194,7 +228,7 @@ bundle_accepted = record {
     begins = without_a_mark (λ m. let h = m.first in absurd (omega arith)) refl;
     before = stays _ 0 refl (λ h. absurd (omega arith));
     named = record {
-      key = words.a_word (word_of_one _ 0 refl refl refl (lit≤ tt)) refl;
+      key = a_key _ 0 refl refl refl (lit≤ tt) refl (λ h. absurd (omega arith)) refl;
       some = lit≤ tt;
       word = b_is_word;
     };
@@ -204,10 +238,10 @@ bundle_accepted = record {
     after = stays _ 2 refl (λ h. absurd (omega arith));
   };
   body = one_entry 2 3 3 6 6 6 (codes "k") (string (codes "x")) [] [] []
-      (words.a_word (word_of_one _ 2 refl refl refl (lit≤ tt)) refl)
+      (a_key _ 2 refl refl refl (lit≤ tt) refl (λ h. absurd (omega arith)) refl)
       (stays _ 3 refl (λ h. absurd (omega arith)))
       (untyped 3 4 5 _ [] refl (stays _ 4 refl (λ h. absurd (omega arith)))
-      (one_string 4 5 5 (codes "x") (a_word (word_of_one _ 4 refl refl refl (lit≤ tt)))
+      (one_string 4 5 5 (codes "x") (a_row (row_of_one _ 4 refl refl refl (lit≤ tt) refl (λ h. absurd (omega arith))))
       (stays _ 5 refl (λ h. absurd (omega arith)))) refl)
       (stays _ 6 refl (λ h. absurd (omega arith))) (no_entry 6) refl;
   closes = refl;
@@ -229,7 +263,7 @@ stuck_there =
       begins = without_a_mark (λ m. let h = m.first in absurd (omega arith)) refl;
       before = stays _ 0 refl (λ h. absurd (omega arith));
       named = record {
-        key = words.a_word (word_of_one _ 0 refl refl refl (lit≤ tt)) refl;
+        key = a_key _ 0 refl refl refl (lit≤ tt) refl (λ h. absurd (omega arith)) refl;
         some = lit≤ tt;
         word = b_is_word;
       };
@@ -243,7 +277,7 @@ stuck_there =
       comes = one_move (codes "b{a}") [] [] (among_entries []) 2
           (reading_at (in_table [] (codes "a") ∷ []) (codes "a" ∷ []) before_group 3)
           (key_of_entry [] 2 3 3 (codes "a")
-          (words.a_word (word_of_one _ 2 refl refl refl (lit≤ tt)) refl)
+          (a_key _ 2 refl refl refl (lit≤ tt) refl (λ h. absurd (omega arith)) refl)
           (stays _ 3 refl (λ h. absurd (omega arith))));
       there = inside (in_table [] (codes "a") ∷ []) (codes "a" ∷ []) before_group 3 3 expect.Group
           (no_group 3 never);
@@ -263,7 +297,7 @@ alias_accepted : Entries (codes "x:alias{\"/a/b\"}") 0 15
     ((codes "x", alias (codes "/a/b")) ∷ []) (codes "x" ∷ [])
 alias_accepted =
     one_entry 0 1 1 15 15 15 (codes "x") (alias (codes "/a/b")) [] [] []
-    (words.a_word (word_of_one _ 0 refl refl refl (lit≤ tt)) refl)
+    (a_key _ 0 refl refl refl (lit≤ tt) refl (λ h. absurd (omega arith)) refl)
     (stays _ 1 refl (λ h. absurd (omega arith)))
     (typed 1 8 14 alias_kind (alias (codes "/a/b")) []
     (record {
@@ -362,7 +396,7 @@ header_before_a = record {
   begins = without_a_mark (λ m. let h = m.first in absurd (omega arith)) refl;
   before = blanks_end 0 refl (λ h. absurd (omega arith));
   named = record {
-    key = words.a_word (word_of_one _ 0 refl refl refl (lit≤ tt)) refl;
+    key = a_key _ 0 refl refl refl (lit≤ tt) refl (λ h. absurd (omega arith)) refl;
     some = lit≤ tt;
     word = b_is_word;
   };
@@ -390,10 +424,10 @@ before_y = record {
       (moves _ (InValue (among_members a_string (string (codes "x") ∷ [])) 5) _ _ _ _
       (moves _ (InValue in_untyped 4) _ _ _ _
       (moves _ (InValue before_group 3) [] [] (among_entries []) 2 (here _)
-      (key_of_entry [] 2 3 3 (codes "a") (words.a_word (word_of_one _ 2 refl refl refl (lit≤ tt)) refl)
+      (key_of_entry [] 2 3 3 (codes "a") (a_key _ 2 refl refl refl (lit≤ tt) refl (λ h. absurd (omega arith)) refl)
       (blanks_end 3 refl (λ h. absurd (omega arith)))))
       (group_opens 3 4 refl (blanks_end 4 refl (λ h. absurd (omega arith)))))
-      (begins_with_string 4 5 5 (codes "x") (a_word (word_of_one _ 4 refl refl refl (lit≤ tt)))
+      (begins_with_string 4 5 5 (codes "x") (a_row (row_of_one _ 4 refl refl refl (lit≤ tt) refl (λ h. absurd (omega arith))))
       (blanks_end 5 refl (λ h. absurd (omega arith))) refl))
       (comma_behind a_string _ 5 6 refl refl (blanks_end 6 refl (λ h. absurd (omega arith))));
   sum = refl;
@@ -404,7 +438,7 @@ abbrev y_follows : Move (codes "b{a{x,y}}") (in_table [] (codes "a") ∷ []) (co
     (among_members a_comma (string (codes "x") ∷ [])) 6
     (InValue (among_members a_string (string (codes "x") ∷ string (codes "y") ∷ [])) 7)
 y_follows =
-    string_member a_comma _ 6 7 7 (codes "y") refl (a_word (word_of_one _ 6 refl refl refl (lit≤ tt)))
+    string_member a_comma _ 6 7 7 (codes "y") refl (a_row (row_of_one _ 6 refl refl refl (lit≤ tt) refl (λ h. absurd (omega arith))))
     (blanks_end 7 refl (λ h. absurd (omega arith)))
 
 -- the text is read within 1513 bytes, of which 75 are its second string's

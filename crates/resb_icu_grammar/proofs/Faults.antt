@@ -6,13 +6,13 @@ use Rattle.resb_grammar.specs.Ascii as ascii
 use Rattle.resb_icu_grammar.specs.Blanks.{Skip}
 use Rattle.resb_icu_grammar.specs.Pieces.{QuotedBytes, ends, byte, escape, QuotedPiece, Joined}
 use Rattle.resb_icu_grammar.specs.Pieces.{last_piece, one_more}
-use Rattle.resb_icu_grammar.specs.Words.{Text, a_word, quoted}
+use Rattle.resb_icu_grammar.specs.Words.{Text, a_row, quoted}
 use Rattle.resb_icu_grammar.specs.Faults as fault
 use Rattle.resb_icu_grammar.specs.Faults.{PieceFault, StringFault, this_piece, later_piece, Told}
 use Rattle.resb_icu_grammar.specs.Faults.{a_fault, no_fault}
 use Rattle.resb_icu_grammar.specs.declared.expected.IcuExpected.{IcuExpected}
 use Rattle.resb_icu_grammar.proofs.Lexical.{Escape-one, Piece-one, Skip-one}
-use Rattle.resb_icu_grammar.proofs.Lexical.{no_quote_word}
+use Rattle.resb_icu_grammar.proofs.Lexical.{no_quote_row}
 
 past : (text : List ℕ) (at : ℕ) → length text ≤ at → slice_index text at ≡ 0
 past text at l = get_or_past text at 0 l
@@ -103,8 +103,8 @@ fault_no_row text from to x (later_piece _ m n _ s _ p k h) end _ (one_more _ j 
 -- where a quoted string has a fault no string stands
 pub fault_no_string : (text : List ℕ) (from to : ℕ) (x : IcuExpected) → StringFault text from to x
     → (end : ℕ) (s : List ℕ) → Text text from end s → ⊥
-fault_no_string text from to x h end s (a_word w) =
-    no_quote_word text from end s (fault_first text from to x h) w
+fault_no_string text from to x h end s (a_row r) =
+    no_quote_row text from end s (fault_first text from to x h) r
 fault_no_string text from to x h end s (quoted j) = fault_no_row text from to x h end s j
 
 -- a string has one fault

@@ -1,9 +1,9 @@
 -- Blanks, escapes, strings, numbers and types each have one end and one meaning.
 use Rattle.std.proofs.Common.{◌≡◌, ◌≢◌, ℕ, ◌+◌, ◌<◌, ◌≤◌, Bool, true, false, List, ◌∷◌, ◌++◌}
 use Rattle.std.proofs.Common.{length, arith, subst, sym, refl, ◌∙◌, ap, ⊎_elim, encode_utf8}
-use Rattle.std.specs.Prelude.{◌==◌, ◌||◌, slice_index, slice_range}
+use Rattle.std.specs.Prelude.{◌==◌, ◌||◌, ◌&&◌, slice_index, slice_range}
 use Rattle.std.specs.Char.{is_ascii_alphanumeric}
-use Rattle.std.proofs.lemmas.Bool.{false≢true, and_parts}
+use Rattle.std.proofs.lemmas.Bool.{false≢true, and_parts, and_from}
 use Rattle.std.proofs.lemmas.Bool.Decides.{nat_tests}
 use Rattle.resb_grammar.specs.Ascii as ascii
 use Rattle.resb_grammar.specs.ByteRuns.{is_white, is_digit}
@@ -24,8 +24,10 @@ use Rattle.resb_icu_grammar.specs.Escapes.{four_digits, eight_digits}
 use Rattle.resb_icu_grammar.specs.Pieces.{QuotedBytes, ends, byte, escape, QuotedPiece, Joined}
 use Rattle.resb_icu_grammar.specs.Pieces.{last_piece}
 use Rattle.resb_icu_grammar.specs.Pieces.{one_more}
+use Rattle.resb_icu_grammar.specs.Unquoted.{Unquoted, UnquotedRow, last_one, begins_unquoted}
+use Rattle.resb_icu_grammar.specs.Unquoted as rows
 use Rattle.resb_icu_grammar.specs.Words as words
-use Rattle.resb_icu_grammar.specs.Words.{Word, Unquoted, Text, a_word, quoted, KeyText, Name}
+use Rattle.resb_icu_grammar.specs.Words.{Word, Text, a_row, quoted, KeyText, Name}
 use Rattle.resb_icu_grammar.specs.Words.{Digits, Number}
 use Rattle.resb_icu_grammar.specs.Words.{unsigned, plus, minus, TypeName, GroupType, RootType}
 use Rattle.resb_icu_grammar.specs.Words.{table_type, no_fallback_type}
@@ -215,14 +217,63 @@ pub no_quote_word : (text : List ℕ) (from to : ℕ) (s : List ℕ) → slice_i
 no_quote_word text from to s h w =
     false≢true (ap is_unquoted (sym h) ∙ word_first text from to s w)
 
+-- where a row of them begins one does, which may begin there
+pub row_first : (text : List ℕ) (from to : ℕ) (s : List ℕ) → UnquotedRow text from to s
+    → begins_unquoted text from ≡ true
+row_first text from to s (last_one _ _ n _ p k h) =
+    and_from _ _ p.begins (p.each from (omega arith) p.some)
+row_first text from to s (rows.one_more _ m n _ us vs p w k r) =
+    and_from _ _ p.begins (p.each from (omega arith) p.some)
+
+row_goes_on : (text : List ℕ) (from end to at : ℕ) (s : List ℕ)
+    → (is_white (slice_index text from) && begins_unquoted text end) ≡ false
+    → is_white (slice_index text from) ≡ true → end ≡ at → UnquotedRow text at to s → ⊥
+row_goes_on text from end to at s h w e r =
+    false≢true (sym h ∙ and_from _ _ w
+    (subst (λ i. begins_unquoted text i ≡ true) (sym e) (row_first text at to s r)))
+
+-- a row has one end and says one thing
+pub UnquotedRow-one : (text : List ℕ) (from a b : ℕ) (s t : List ℕ) → UnquotedRow text from a s
+    → UnquotedRow text from b t → (a ≡ b) × (s ≡ t)
+UnquotedRow-one text from a b s t (last_one _ _ n _ p k h) (last_one _ _ m _ q l g) =
+    Unquoted-one text from a b s t p q
+UnquotedRow-one text from a b s t (last_one _ _ n _ p k h) (rows.one_more _ m i _ us vs q w l r) =
+    let both = Unquoted-one text from a m s us p q in
+    let e : n ≡ i = Skip-one text a n i k (subst (λ j. Skip text j i) (sym both.0) l) in
+    absurd (row_goes_on text a n b i vs h
+    (subst (λ j. is_white (slice_index text j) ≡ true) (sym both.0) w) e r)
+UnquotedRow-one text from a b s t (rows.one_more _ m i _ us vs q w l r) (last_one _ _ n _ p k h) =
+    let both = Unquoted-one text from b m t us p q in
+    let e : n ≡ i = Skip-one text b n i k (subst (λ j. Skip text j i) (sym both.0) l) in
+    absurd (row_goes_on text b n a i vs h
+    (subst (λ j. is_white (slice_index text j) ≡ true) (sym both.0) w) e r)
+UnquotedRow-one text from a b s t (rows.one_more _ m i _ us vs p w k r)
+    (rows.one_more _ n j _ ws xs q x l z) =
+    let first = Unquoted-one text from m n us ws p q in
+    let e : i ≡ j = Skip-one text m i j k (subst (λ x. Skip text x j) (sym first.0) l) in
+    let both = UnquotedRow-one text i a b vs xs r (subst (λ x. UnquotedRow text x b xs) (sym e) z) in
+    (both.0, (λ x. first.1 x ++ ascii.space ∷ both.1 x))
+
+-- it begins with a byte that may stand in one
+row_byte : (text : List ℕ) (from to : ℕ) (s : List ℕ) → UnquotedRow text from to s
+    → is_unquoted (slice_index text from) ≡ true
+row_byte text from to s (last_one _ _ n _ p k h) = word_first text from to s p
+row_byte text from to s (rows.one_more _ m n _ us vs p w k r) = word_first text from m us p
+
+-- where a quote stands, no row does
+pub no_quote_row : (text : List ℕ) (from to : ℕ) (s : List ℕ) → slice_index text from ≡ ascii.quote
+    → UnquotedRow text from to s → ⊥
+no_quote_row text from to s h r =
+    false≢true (ap is_unquoted (sym h) ∙ row_byte text from to s r)
+
 -- a string has one end and says one thing
 pub String-one : (text : List ℕ) (from a b : ℕ) (s t : List ℕ) → Text text from a s
     → Text text from b t → (a ≡ b) × (s ≡ t)
-String-one text from a b s t (a_word p) (a_word q) = Unquoted-one text from a b s t p q
-String-one text from a b s t (a_word p) (quoted q) =
-    absurd (no_quote_word text from a s (joined_first text from b t q) p)
-String-one text from a b s t (quoted p) (a_word q) =
-    absurd (no_quote_word text from b t (joined_first text from a s p) q)
+String-one text from a b s t (a_row p) (a_row q) = UnquotedRow-one text from a b s t p q
+String-one text from a b s t (a_row p) (quoted q) =
+    absurd (no_quote_row text from a s (joined_first text from b t q) p)
+String-one text from a b s t (quoted p) (a_row q) =
+    absurd (no_quote_row text from b t (joined_first text from a s p) q)
 String-one text from a b s t (quoted p) (quoted q) = Joined-one text from a b s t p q
 
 -- a string begins with a quote or a byte that may stand in an unquoted one
@@ -231,8 +282,8 @@ starts_string b = b == ascii.quote || is_unquoted b
 
 pub string_first : (text : List ℕ) (from to : ℕ) (s : List ℕ) → Text text from to s
     → starts_string (slice_index text from) ≡ true
-string_first text from to s (a_word w) =
-    ap (λ c. (slice_index text from == ascii.quote) || c) (word_first text from to s w) ∙ either _
+string_first text from to s (a_row r) =
+    ap (λ c. (slice_index text from == ascii.quote) || c) (row_byte text from to s r) ∙ either _
   where
     either : (c : Bool) → (c || true) ≡ true
     either true = refl
@@ -242,7 +293,7 @@ string_first text from to s (quoted j) = ap starts_string (joined_first text fro
 -- a key is a string
 pub key_string : (text : List ℕ) (from to : ℕ) (s : List ℕ) → KeyText text from to s
     → Text text from to s
-key_string text from to s (words.a_word w k) = a_word w
+key_string text from to s (words.a_word r w k) = a_row r
 key_string text from to s (words.quoted j p n k) = quoted j
 
 digits_one : (text : List ℕ) (from a b v w : ℕ) → Digits text from a v → Digits text from b w

@@ -28,21 +28,21 @@ use Rattle.resb_icu_grammar.proofs.Leaves.{counted_begin}
 use Rattle.resb_icu_grammar.proofs.OneStep.{Next, inside, outside, Next-one}
 
 -- what a string that ends there makes among members
-abbrev member_said : ℕ → ℕ → Tree → ℕ
-member_said at to (string s) = string_bytes s + joining_bytes at to s
-member_said at to _ = 0
+abbrev member_said : List ℕ → ℕ → ℕ → Tree → ℕ
+member_said text at to (string s) = string_bytes s + joining_bytes text at to s
+member_said text at to _ = 0
 
 -- what the last of these members makes, if it is a string
-abbrev last_bytes : ℕ → ℕ → List Tree → ℕ
-last_bytes at to [] = 0
-last_bytes at to (t ∷ []) = member_said at to t
-last_bytes at to (t ∷ u ∷ us) = last_bytes at to (u ∷ us)
+abbrev last_bytes : List ℕ → ℕ → ℕ → List Tree → ℕ
+last_bytes text at to [] = 0
+last_bytes text at to (t ∷ []) = member_said text at to t
+last_bytes text at to (t ∷ u ∷ us) = last_bytes text at to (u ∷ us)
 
-last_member : (at to : ℕ) (ts : List Tree) (t : Tree)
-    → last_bytes at to (ts ++ t ∷ []) ≡ member_said at to t
-last_member at to [] t = refl
-last_member at to (u ∷ []) t = refl
-last_member at to (u ∷ v ∷ us) t = last_member at to (v ∷ us) t
+last_member : (text : List ℕ) (at to : ℕ) (ts : List Tree) (t : Tree)
+    → last_bytes text at to (ts ++ t ∷ []) ≡ member_said text at to t
+last_member text at to [] t = refl
+last_member text at to (u ∷ []) t = refl
+last_member text at to (u ∷ v ∷ us) t = last_member text at to (v ∷ us) t
 
 -- what a step makes is told by where it leads from and to, and by the end of the string there: by
 -- the key of the innermost table
@@ -50,9 +50,9 @@ abbrev key_said : List (List ℕ × Tree) → List Waiting → ℕ
 key_said es (in_table before k ∷ ws) = next_key_bytes es k
 key_said es _ = 0
 
-abbrev members_said : ℕ → ℕ → Standing → ℕ
-members_said at to (among_members a_string ts) = last_bytes at to ts
-members_said at to _ = 0
+abbrev members_said : List ℕ → ℕ → ℕ → Standing → ℕ
+members_said text at to (among_members a_string ts) = last_bytes text at to ts
+members_said text at to _ = 0
 
 abbrev entries_said : List (List ℕ × Tree) → List Waiting → Standing → ℕ
 entries_said es ws before_group = key_said es ws
@@ -63,40 +63,40 @@ opened_said in_untyped = resource_weight
 opened_said (in_typed kind) = opening_bytes kind
 opened_said _ = 0
 
-abbrev untyped_said : ℕ → ℕ → List Waiting → Standing → ℕ
-untyped_said at to ws (behind_group (string s)) =
-    text_byte_weight * length s + joining_bytes at to s
-untyped_said at to ws (among_members a_string ts) = last_bytes at to ts
-untyped_said at to ws before_group = key_said [] ws
-untyped_said at to ws _ = 0
+abbrev untyped_said : List ℕ → ℕ → ℕ → List Waiting → Standing → ℕ
+untyped_said text at to ws (behind_group (string s)) =
+    text_byte_weight * length s + joining_bytes text at to s
+untyped_said text at to ws (among_members a_string ts) = last_bytes text at to ts
+untyped_said text at to ws before_group = key_said [] ws
+untyped_said text at to ws _ = 0
 
 abbrev typed_said : Standing → ℕ
 typed_said (behind_group t) = leaf_bytes t
 typed_said _ = 0
 
 -- by where a reading stood, and what it has come to
-abbrev said : ℕ → ℕ → Standing → Reading → ℕ
-said at to (among_members last ts) r = members_said at to r.stands
-said at to (among_entries es) r = entries_said es r.around r.stands
-said at to before_group r = opened_said r.stands
-said at to in_untyped r = untyped_said at to r.around r.stands
-said at to (in_typed kind) r = typed_said r.stands
-said at to (behind_group t) r = 0
+abbrev said : List ℕ → ℕ → ℕ → Standing → Reading → ℕ
+said text at to (among_members last ts) r = members_said text at to r.stands
+said text at to (among_entries es) r = entries_said es r.around r.stands
+said text at to before_group r = opened_said r.stands
+said text at to in_untyped r = untyped_said text at to r.around r.stands
+said text at to (in_typed kind) r = typed_said r.stands
+said text at to (behind_group t) r = 0
 
 -- a step makes so many bytes: those that are told by the end of any string that stands there; and
 -- one does, or they are told by any end
 record Told (text : List ℕ) (at n : ℕ) (s : Standing) (r : Reading) : Type 0 where
-  by_string : (to : ℕ) (v : List ℕ) → Text text at to v → n ≡ said at to s r
-  or_always : ((to : ℕ) × (v : List ℕ) × Text text at to v) ⊎ ((to : ℕ) → n ≡ said at to s r)
+  by_string : (to : ℕ) (v : List ℕ) → Text text at to v → n ≡ said text at to s r
+  or_always : ((to : ℕ) × (v : List ℕ) × Text text at to v) ⊎ ((to : ℕ) → n ≡ said text at to s r)
 
 always : (text : List ℕ) (at n : ℕ) (s : Standing) (r : Reading)
-    → ((to : ℕ) → n ≡ said at to s r) → Told text at n s r
+    → ((to : ℕ) → n ≡ said text at to s r) → Told text at n s r
 always text at n s r f = record { by_string = λ to v p. f to; or_always = inr f }
 
 with_string : (text : List ℕ) (at i n : ℕ) (v : List ℕ) (s : Standing) (r : Reading)
-    → Text text at i v → n ≡ said at i s r → Told text at n s r
+    → Text text at i v → n ≡ said text at i s r → Told text at n s r
 with_string text at i n v s r p e = record {
-  by_string = λ to w q. subst (λ u. n ≡ said at u s r) (String-one text at i to v w p q).0 e;
+  by_string = λ to w q. subst (λ u. n ≡ said text at u s r) (String-one text at i to v w p q).0 e;
   or_always = inl (i, v, p);
 }
 
@@ -104,8 +104,8 @@ told_once : (text : List ℕ) (at n m : ℕ) (s : Standing) (r : Reading)
     → Told text at n s r → Told text at m s r → n ≡ m
 told_once text at n m s r a b = by a.or_always b.or_always
   where
-    by : ((to : ℕ) × (v : List ℕ) × Text text at to v) ⊎ ((to : ℕ) → n ≡ said at to s r)
-        → ((to : ℕ) × (v : List ℕ) × Text text at to v) ⊎ ((to : ℕ) → m ≡ said at to s r)
+    by : ((to : ℕ) × (v : List ℕ) × Text text at to v) ⊎ ((to : ℕ) → n ≡ said text at to s r)
+        → ((to : ℕ) × (v : List ℕ) × Text text at to v) ⊎ ((to : ℕ) → m ≡ said text at to s r)
         → n ≡ m
     by (inl p) y = a.by_string p.0 p.1 p.2 ∙ sym (b.by_string p.0 p.1 p.2)
     by (inr f) (inl p) = a.by_string p.0 p.1 p.2 ∙ sym (b.by_string p.0 p.1 p.2)
@@ -114,7 +114,7 @@ told_once text at n m s r a b = by a.or_always b.or_always
 made_told : (text : List ℕ) (ws : List Waiting) (ks : List (List ℕ)) (s : Standing) (at : ℕ)
     (r : Reading) → (m : Move text ws ks s at r) → Told text at (made_by m) s r
 made_told text ws ks s at r (step.string_member last ts _ i j v e p k) =
-    with_string text at i _ v s r p (sym (last_member at i ts (string v)))
+    with_string text at i _ v s r p (sym (last_member text at i ts (string v)))
 made_told text ws ks s at r (step.untyped_string _ i j v p k c) =
     with_string text at i _ v s r p refl
 made_told text ws ks s at r (step.begins_with_string _ i j v p k c) =

@@ -4,6 +4,7 @@ pub mod Blanks
 pub mod Escapes
 pub mod Pieces
 pub mod Kinds
+pub mod Unquoted
 pub mod Words
 pub mod Groups
 pub mod Bundle

@@ -6,7 +6,9 @@
 --     IcuMadeWithin text limit   the text is read to its end, and no more than the limit is made
 --     IcuMakesMore text limit    a reading comes to a token by which more than the limit is made
 use Rattle.std.specs.Prelude.{◌≡◌, ℕ, suc, ◌+◌, ◌*◌, ◌<◌, ◌≤◌, Bool, List, [], ◌∷◌, length}
-use Rattle.std.specs.Prelude.{nat_lt, if◌then◌else◌}
+use Rattle.std.specs.Prelude.{nat_lt, if◌then◌else◌, ◌==◌, slice_index}
+use Rattle.std.specs.List.{list_any}
+use Rattle.resb_grammar.specs.Ascii as ascii
 use Rattle.resb_tree.specs.Tree.{Tree, string, alias, binary, int_vector}
 use Rattle.resb_tree.specs.Weights.{resource_weight, table_weight, entry_weight, text_byte_weight}
 use Rattle.resb_grammar.specs.Limit.{number_bytes, request_bytes}
@@ -25,12 +27,18 @@ use Rattle.resb_icu_grammar.specs.Machine.{leaves}
 abbrev pub string_bytes : List ℕ → ℕ
 string_bytes s = resource_weight + text_byte_weight * length s
 
+-- a string that stands between these places is put together: a quoted one where it takes more of
+-- the text than what it says and two quotes, unquoted ones where they say a blank
+abbrev pub is_put_together : List ℕ → ℕ → ℕ → List ℕ → Bool
+is_put_together text from to s =
+    if slice_index text from == ascii.quote then nat_lt (from + length s + 2) to
+    else list_any (λ b. b == ascii.space) s
+
 -- the memory that is asked for a string which stands between these places: 32, and 1 for each byte,
--- where it takes more of the text than what it says and two quotes, since then it is put together;
--- else none
-abbrev pub joining_bytes : ℕ → ℕ → List ℕ → ℕ
-joining_bytes from to s =
-    if nat_lt (from + length s + 2) to then request_bytes + length s else 0
+-- where it is put together; else none
+abbrev pub joining_bytes : List ℕ → ℕ → ℕ → List ℕ → ℕ
+joining_bytes text from to s =
+    if is_put_together text from to s then request_bytes + length s else 0
 
 -- the key of an entry: the entry, and 3 for each byte
 abbrev pub key_bytes : List ℕ → ℕ
@@ -68,15 +76,15 @@ opening_bytes _ = 0
 -- table; and for a group of another type, up to its `}`, what it holds
 abbrev pub made_by : {text : List ℕ} {ws : List Waiting} {ks : List (List ℕ)} {s : Standing}
     {at : ℕ} {r : Reading} → Move text ws ks s at r → ℕ
-made_by (string_member last ts at i j s alone stands after) =
-    string_bytes s + joining_bytes at i s
+made_by {text} (string_member last ts at i j s alone stands after) =
+    string_bytes s + joining_bytes text at i s
 made_by (key_of_entry es at i j k stands after) = next_key_bytes es k
 made_by (group_opens at i opens after) = resource_weight
 made_by (type_opens at i kind opens) = opening_bytes kind
-made_by (untyped_string at i j s stands after closes) =
-    text_byte_weight * length s + joining_bytes at i s
-made_by (begins_with_string at i j s stands after comma) =
-    string_bytes s + joining_bytes at i s
+made_by {text} (untyped_string at i j s stands after closes) =
+    text_byte_weight * length s + joining_bytes text at i s
+made_by {text} (begins_with_string at i j s stands after comma) =
+    string_bytes s + joining_bytes text at i s
 made_by (begins_with_key at i j k stands after begins) = next_key_bytes [] k
 made_by (leaf_follows kind at to t content closes) = leaf_bytes t
 made_by _ = 0

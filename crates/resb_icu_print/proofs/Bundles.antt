@@ -101,7 +101,7 @@ module _ (text : List ℕ) where
       let s = root_starts fallback (entries_on 1 es last) in
       let f : From text 0 (name ++ s.b ∷ s.more) =
       subst (λ l. From text 0 (name ++ l)) s.is h in
-      let (solid, word, g) = bare_read text name s.b s.more bare s.stop f in
+      let (solid, row, word, g) = bare_read text name s.b s.more bare s.stop f in
       let first : slice_index text 0 ≡ slice_index name 0 =
       name_first name (s.b ∷ s.more) f (bare_some name bare)
       in
@@ -125,7 +125,7 @@ module _ (text : List ℕ) where
                 refl;
             before = no_skip text solid;
             named = record {
-              key = a_word word (words_key name (bare_words name bare));
+              key = a_word row word (words_key name (bare_words name bare));
               some = bare_some name bare;
               word = name_run name bare;
             };

@@ -18,8 +18,9 @@ use Rattle.resb_icu_grammar.specs.Blanks.{IsSolid}
 use Rattle.resb_icu_grammar.specs.Escapes.{Escape, itself, four_digits, are_hex, hex_number}
 use Rattle.resb_icu_grammar.specs.Pieces.{QuotedBytes, ends, byte, escape, QuotedPiece, Joined}
 use Rattle.resb_icu_grammar.specs.Pieces.{last_piece}
-use Rattle.resb_icu_grammar.specs.Words.{Word, Unquoted, HasNoEscape, KeyText, a_word, quoted}
-use Rattle.resb_icu_grammar.specs.Words.{goes_on, may_begin}
+use Rattle.resb_icu_grammar.specs.Unquoted.{Unquoted, UnquotedRow, last_one, goes_on, may_begin}
+use Rattle.resb_icu_grammar.specs.Unquoted.{begins_unquoted}
+use Rattle.resb_icu_grammar.specs.Words.{Word, HasNoEscape, KeyText, a_word, quoted}
 use Rattle.resb_print.specs.Printed.{quoted_on}
 use Rattle.resb_print.specs.Held.{AreBelow}
 use Rattle.resb_print.specs.Quotes.{has_quote, NoQuote}
@@ -333,19 +334,24 @@ module _ (text : List ℕ) where
   -- an unquoted string of word characters
   pub bare_read : (w : List ℕ) {at : ℕ} (b : ℕ) (rest : List ℕ) → is_bare w ≡ true
       → IsStop b → From text at (w ++ b ∷ rest)
-      → IsSolid text at × Unquoted text at (at + length w) w
-      × From text (at + length w) (b ∷ rest)
+      → IsSolid text at × UnquotedRow text at (at + length w) w
+      × Unquoted text at (at + length w) w × From text (at + length w) (b ∷ rest)
   bare_read w {at} b rest e stop f =
-      let (solid, word, g) = word_read w b rest e stop.no_word f in (
-        solid,
-        record {
+      let (solid, word, g) = word_read w b rest e stop.no_word f in
+      let to = at + length w in
+      let one : Unquoted text at to w = record {
           begins = word_begins (slice_index text at) (word.run.each at (omega arith) word.some);
           some = word.some;
           fits = word.run.fits;
           each = λ k low high. word_goes_on text k (word.run.each k low high);
           longest = and_false _ _ (ap is_unquoted (byte_at text g) ∙ stop.no_string);
           means = word.means;
-        },
+      } in (
+        solid,
+        last_one at to to w one (no_skip text (solid_at text g stop.no_white stop.no_slash))
+            (and_false _ (begins_unquoted text to)
+            (ap is_white (byte_at text g) ∙ stop.no_white)),
+        one,
         g,
       )
 
@@ -359,8 +365,8 @@ module _ (text : List ℕ) where
           → From text at (cond t (k ++ b ∷ rest) (quoted_on k (b ∷ rest)))
           → IsSolid text at × ((to : ℕ) × KeyText text at to k × From text to (b ∷ rest))
       go true e f =
-          let (solid, word, g) = bare_read k b rest e stop f in
-          (solid, (at + length k, a_word word key, g))
+          let (solid, row, word, g) = bare_read k b rest e stop f in
+          (solid, (at + length k, a_word row word key, g))
       go false e f =
           let (to, joined, piece, no_escape, g) = quoted_read k b rest stop key free f in
           (solid_at text f refl refl, (to, quoted joined piece no_escape key, g))

@@ -18,7 +18,8 @@ use Rattle.resb_icu_grammar.specs.Bytes.{is_word, is_unquoted, are_key_bytes, ba
 use Rattle.resb_icu_grammar.specs.Escapes.{Escape, itself, line_feed, carriage_return, tab}
 use Rattle.resb_icu_grammar.specs.Escapes.{four_digits, eight_digits}
 use Rattle.resb_icu_grammar.specs.Pieces.{QuotedBytes, ends, byte, escape}
-use Rattle.resb_icu_grammar.specs.Words.{Unquoted, KeyText, a_word, quoted}
+use Rattle.resb_icu_grammar.specs.Unquoted.{Unquoted}
+use Rattle.resb_icu_grammar.specs.Words.{KeyText, a_word, quoted}
 use Rattle.resb_icu_grammar.specs.Groups as groups
 use Rattle.resb_icu_grammar.specs.Groups.{LeafContent, string_content, alias_content}
 use Rattle.resb_icu_grammar.specs.Groups.{binary_content}
@@ -106,7 +107,7 @@ inside_free text at to s (escape _ next _ first bytes e x r) none =
 
 key_taken : (text : List ℕ) (from to : ℕ) (k : List ℕ) → KeyText text from to k
     → is_icu_key k ≡ true
-key_taken text from to k (a_word w e) =
+key_taken text from to k (a_word r w e) =
     and_from (are_key_bytes k) (not (has_quote k)) e (ap not (word_free text from to k w))
 key_taken text from to k (quoted j p n e) =
     and_from (are_key_bytes k) (not (has_quote k)) e

@@ -1,5 +1,9 @@
 -- What a string stands for isn't longer than its text.
-use Rattle.std.proofs.Common.{ℕ, ◌+◌, ◌-◌, ◌≤◌, List, length, arith, ap, ◌∙◌, encode_utf8}
+use Rattle.std.proofs.Common.{◌≡◌, ℕ, ◌+◌, ◌-◌, ◌<◌, ◌≤◌, true, List, ◌∷◌, length, arith, ap, sym}
+use Rattle.std.proofs.Common.{◌∙◌, encode_utf8}
+use Rattle.std.specs.Prelude.{slice_index}
+use Rattle.std.proofs.lemmas.Bool.{false≢true}
+use Rattle.resb_grammar.specs.ByteRuns.{is_white}
 use Rattle.std.proofs.Common.{length-drop}
 use Rattle.std.proofs.lemmas.List.{length-append, length-take-le}
 use Rattle.std.proofs.lemmas.Str.{length-encode, len_utf8_bounds}
@@ -8,11 +12,19 @@ use Rattle.resb_icu_grammar.specs.Escapes.{four_digits, eight_digits}
 use Rattle.resb_icu_grammar.specs.Pieces.{QuotedBytes, ends, byte, escape, Joined, last_piece}
 use Rattle.resb_icu_grammar.specs.Pieces.{one_more}
 use Rattle.resb_icu_grammar.specs.Blanks.{Comment, line, block, Blanks, none, white, comment}
-use Rattle.resb_icu_grammar.specs.Words.{Unquoted, Text, a_word, quoted}
+use Rattle.resb_icu_grammar.specs.Blanks.{IsSolid}
+use Rattle.resb_icu_grammar.specs.Blanks.{Skip}
+use Rattle.resb_icu_grammar.specs.Unquoted.{Unquoted, UnquotedRow, last_one}
+use Rattle.resb_icu_grammar.specs.Unquoted as rows
+use Rattle.resb_icu_grammar.specs.Words.{Text, a_row, quoted}
 
 comment_order : (text : List ℕ) (from to : ℕ) → Comment text from to → from ≤ to
 comment_order text from to (line h k r) = omega (arith, r.order)
 comment_order text from to (block at h k f e) = omega (arith, f.order, e)
+
+comment_moves : (text : List ℕ) (from to : ℕ) → Comment text from to → from < to
+comment_moves text from to (line h k r) = omega (arith, r.order)
+comment_moves text from to (block at h k f e) = omega (arith, f.order, e)
 
 -- blanks end no earlier than they begin
 pub blanks_order : (text : List ℕ) (from to : ℕ) → Blanks text from to → from ≤ to
@@ -60,7 +72,7 @@ joined_short text from to s (one_more _ m n _ us vs p t j) =
       length-append us vs,
     )
 
-word_short : (text : List ℕ) (from to : ℕ) (s : List ℕ) → Unquoted text from to s
+pub word_short : (text : List ℕ) (from to : ℕ) (s : List ℕ) → Unquoted text from to s
     → length s + from ≤ to
 word_short text from to s w =
     omega (
@@ -69,8 +81,32 @@ word_short text from to s w =
           (omega (arith, length-drop from text, w.fits)),
     )
 
+blanks_move : (text : List ℕ) (from to : ℕ) → Blanks text from to → IsSolid text to
+    → is_white (slice_index text from) ≡ true → from < to
+blanks_move text from to (none _) s w = absurd (false≢true (sym s.no_white ∙ w))
+blanks_move text from to (white _ _ _ r) s w = omega (arith, blanks_order text (from + 1) to r)
+blanks_move text from to (comment _ k _ c r) s w =
+    omega (arith, comment_moves text from k c, blanks_order text k to r)
+
+-- behind a white character blanks go on
+pub white_moves : (text : List ℕ) (from to : ℕ) → is_white (slice_index text from) ≡ true
+    → Skip text from to → from < to
+white_moves text from to w k = blanks_move text from to k.blanks k.solid w
+
+pub row_short : (text : List ℕ) (from to : ℕ) (s : List ℕ) → UnquotedRow text from to s
+    → length s + from ≤ to
+row_short text from to s (last_one _ _ n _ p k h) = word_short text from to s p
+row_short text from to s (rows.one_more _ m n _ us vs p w k r) =
+    omega (
+      arith,
+      word_short text from m us p,
+      white_moves text m n w k,
+      row_short text n to vs r,
+      length-append us (32 ∷ vs),
+    )
+
 -- what a string stands for has at most as many bytes as its text
 pub string_short : (text : List ℕ) (from to : ℕ) (s : List ℕ) → Text text from to s
     → length s + from ≤ to
-string_short text from to s (a_word w) = word_short text from to s w
+string_short text from to s (a_row r) = row_short text from to s r
 string_short text from to s (quoted j) = joined_short text from to s j

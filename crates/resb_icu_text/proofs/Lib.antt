@@ -9,6 +9,7 @@ mod StopsLemmas
 mod PiecesLemmas
 mod StringsLemmas
 mod LengthLemmas
+mod RowLemmas
 mod TypesLemmas
 mod DistinctLemmas
 mod KeptLemmas

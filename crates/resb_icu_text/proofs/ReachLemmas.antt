@@ -6,8 +6,8 @@ use Rattle.std.proofs.lemmas.Bool.Decides.{nat_tests}
 use Rattle.resb_grammar.specs.Ascii as ascii
 use Rattle.resb_grammar.specs.ByteRuns.{Run}
 use Rattle.resb_icu_grammar.specs.Bytes.{is_word}
-use Rattle.resb_icu_grammar.specs.Words.{Unquoted, Text, a_word, quoted, Number}
-use Rattle.resb_icu_grammar.specs.Words.{unsigned, plus, minus, may_begin}
+use Rattle.resb_icu_grammar.specs.Unquoted.{Unquoted, UnquotedRow, last_one, one_more, may_begin}
+use Rattle.resb_icu_grammar.specs.Words.{Text, a_row, quoted, Number, unsigned, plus, minus}
 use Rattle.resb_icu_grammar.proofs.Lexical.{joined_first}
 use Rattle.resb_icu_text.specs.declared.steps.Step.{Step}
 use Rattle.resb_icu_text.specs.declared.steps.Step.TheVariants as step
@@ -56,11 +56,18 @@ pub word_no_slash : (text : List ℕ) (from to : ℕ) (s : List ℕ) → Unquote
     → slice_index text from ≢ ascii.slash
 word_no_slash text from to s w e = slash_begins_none _ e w.begins
 
+-- where a row of unquoted strings begins, a reading has looked up to its place
+pub reach_row : (text : List ℕ) (from to : ℕ) (s : List ℕ) → UnquotedRow text from to s
+    → reach text from ≡ from
+reach_row text from to s (last_one _ _ n _ p k h) =
+    reach_here text from (word_no_slash text from to s p)
+reach_row text from to s (one_more _ m n _ us vs p w k r) =
+    reach_here text from (word_no_slash text from m us p)
+
 -- where a string begins, a reading has looked up to its place
 pub reach_string : (text : List ℕ) (from to : ℕ) (s : List ℕ) → Text text from to s
     → reach text from ≡ from
-reach_string text from to s (a_word w) =
-    reach_here text from (word_no_slash text from to s w)
+reach_string text from to s (a_row r) = reach_row text from to s r
 reach_string text from to s (quoted j) = reach_quote text from (joined_first text from to s j)
 
 -- and where a number begins

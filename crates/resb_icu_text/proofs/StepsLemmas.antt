@@ -18,7 +18,7 @@ use Rattle.resb_tree.proofs.ViewLemmas.{tree_of_string}
 use Rattle.resb_draft.specs.Drafts.{is_leaf}
 use Rattle.resb_icu_grammar.specs.Blanks.{Skip}
 use Rattle.resb_icu_grammar.specs.Limit.{next_key_bytes, opening_bytes, joining_bytes}
-use Rattle.resb_icu_grammar.specs.Words.{KeyText, GroupType}
+use Rattle.resb_icu_grammar.specs.Words.{Text, KeyText, GroupType}
 use Rattle.resb_icu_grammar.specs.Groups.{nothing, a_string, a_group, is_member, ends_in_string}
 use Rattle.resb_icu_grammar.specs.Groups.{TypedOpening, LeafContent, string_content, alias_content}
 use Rattle.resb_icu_grammar.specs.Groups.{binary_content, integer_content, no_numbers, numbers}
@@ -47,7 +47,7 @@ use Rattle.resb_icu_text.specs.declared.steps.Step.TheVariants as step
 use Rattle.resb_icu_text.specs.declared.steps.Read.{Read}
 use Rattle.resb_icu_text.specs.declared.steps.Read.TheVariants as read
 use Rattle.resb_icu_text.specs.Inner.Ahead.{StringFails, KeyFails}
-use Rattle.resb_icu_text.specs.Inner.Found.{IsFound, Shows, fits_key, is_whole, length_of}
+use Rattle.resb_icu_text.specs.Inner.Found.{IsFound, Shows, fits_key, is_whole}
 use Rattle.resb_icu_text.specs.Inner.Leaf.{IsReadLeaf}
 use Rattle.resb_icu_text.specs.Inner.Build.{pairs_by}
 use Rattle.resb_icu_text.specs.Inner.Kept.{members_pass, entries_pass}
@@ -225,8 +225,8 @@ module _ {X : Type 0} {text : List ℕ} {p q : Quota} where
 
   -- a string that is a member
   pub member_string : {k : ℕ} (v : Vec X Global) (l : Last) (at : ℕ) (f : Found) (x : CowStr Global)
-      → TakesBytes p q k → ((s : List ℕ) → length s ≡ length_of f.stands
-      → k ≡ resource_weight + (text_byte_weight * length s + joining_bytes at f.end s))
+      → TakesBytes p q k → ((s : List ℕ) → Text text at f.end s
+      → k ≡ resource_weight + (text_byte_weight * length s + joining_bytes text at f.end s))
       → ends_in_string (last_of l) ≡ false → IsText text at f x
       → StepsTo text (members_place v.items l at) p q (read.Member v (String x) f.next)
   member_string v l at f x t sum e h = record {
@@ -238,7 +238,7 @@ module _ {X : Type 0} {text : List ℕ} {p q : Quota} where
         (tree_made h)
         (by_move ws ks _ at _
         (move.string_member (last_of l) (map tree v.items) at f.end f.next h.found.said e
-        h.found.string h.found.blanks) (omega (arith, sum h.found.said h.found.counted)) t);
+        h.found.string h.found.blanks) (omega (arith, sum h.found.said h.found.string)) t);
     keeps = λ pass test p k. and_from _ _ k
         (said_kept text at f x h.found h.bytes h.slice test p);
     goes = (h.found.fits, omega (arith, h.found.after, h.found.order));
@@ -372,8 +372,8 @@ module _ {X : Type 0} {text : List ℕ} {p q : Quota} where
 
   -- one string in a group without a type
   pub untyped_one : {k : ℕ} (at : ℕ) (f : Found) (x : CowStr Global)
-      → TakesBytes p q k → ((s : List ℕ) → length s ≡ length_of f.stands
-      → k ≡ text_byte_weight * length s + joining_bytes at f.end s)
+      → TakesBytes p q k → ((s : List ℕ) → Text text at f.end s
+      → k ≡ text_byte_weight * length s + joining_bytes text at f.end s)
       → f.next < length text → Closes text f.next → IsText text at f x
       → StepsTo text (untyped_place X at) p q (read.Leaf (String x) (f.next + 1))
   untyped_one at f x t sum low c h = record {
@@ -384,15 +384,15 @@ module _ {X : Type 0} {text : List ℕ} {p q : Quota} where
         (reading_at ws ks (behind_group t) (f.next + 1))) (tree_made h)
         (by_move ws ks _ at _
         (move.untyped_string at f.end f.next h.found.said h.found.string h.found.blanks c)
-        (omega (arith, sum h.found.said h.found.counted)) t);
+        (omega (arith, sum h.found.said h.found.string)) t);
     keeps = λ pass test p k. said_kept text at f x h.found h.bytes h.slice test p;
     goes = (omega (arith, low), omega (arith, h.found.after, h.found.order));
   }
 
   -- a string and a comma in a group without a type
   pub untyped_comma : {k : ℕ} (v : Vec X Global) (at : ℕ) (f : Found) (x : CowStr Global)
-      → TakesBytes p q k → ((s : List ℕ) → length s ≡ length_of f.stands
-      → k ≡ resource_weight + (text_byte_weight * length s + joining_bytes at f.end s))
+      → TakesBytes p q k → ((s : List ℕ) → Text text at f.end s
+      → k ≡ resource_weight + (text_byte_weight * length s + joining_bytes text at f.end s))
       → slice_index text f.next ≡ ascii.comma → IsText text at f x → v.items ≡ []
       → StepsTo text (untyped_place X at) p q (read.Member v (String x) f.next)
   untyped_comma v at f x t sum c h e = record {
@@ -405,7 +405,7 @@ module _ {X : Type 0} {text : List ℕ} {p q : Quota} where
         ∙ ap (λ t. t ∷ []) (sym (tree_made h))))
         (by_move ws ks _ at _
         (move.begins_with_string at f.end f.next h.found.said h.found.string h.found.blanks c)
-        (omega (arith, sum h.found.said h.found.counted)) t);
+        (omega (arith, sum h.found.said h.found.string)) t);
     keeps = λ pass test p k. and_from _ _ (ap (λ l. members_pass l pass test) e)
         (said_kept text at f x h.found h.bytes h.slice test p);
     goes = (h.found.fits, omega (arith, h.found.after, h.found.order));

@@ -1,5 +1,6 @@
 -- Laws of strings and keys, as the reader's functions use them.
-use Rattle.std.proofs.Common.{◌≡◌, ◌≢◌, ℕ, suc, ◌+◌, ◌-◌, ◌<◌, ◌≤◌, true, List, [], ◌∷◌}
+use Rattle.std.proofs.Common.{◌≡◌, ◌≢◌, ℕ, suc, ◌+◌, ◌-◌, ◌<◌, ◌≤◌, true, false, List, []}
+use Rattle.std.proofs.Common.{◌∷◌}
 use Rattle.std.proofs.Common.{◌++◌, length, arith, subst, sym, refl, ap, ◌∙◌, take, drop}
 use Rattle.std.proofs.Common.{append_assoc, append-nil, drop-cons, ◌⊎◌, ⊎_elim, inl, inr}
 use Rattle.std.specs.Prelude.{slice_index, slice_range}
@@ -15,7 +16,10 @@ use Rattle.resb_icu_grammar.specs.Faults.{PieceFault, StringFault, this_piece, l
 use Rattle.resb_icu_grammar.specs.Faults.{a_fault}
 use Rattle.resb_icu_grammar.specs.declared.expected.IcuExpected.{IcuExpected}
 use Rattle.resb_icu_grammar.proofs.Faults.{fault_no_string, unquoted_told}
-use Rattle.resb_icu_grammar.specs.Words.{Unquoted, Text, KeyText, HasNoEscape}
+use Rattle.resb_icu_grammar.specs.Unquoted.{Unquoted}
+use Rattle.resb_icu_grammar.specs.Words.{Text, KeyText, HasNoEscape}
+use Rattle.resb_icu_grammar.specs.Unquoted.{last_one}
+use Rattle.resb_icu_grammar.specs.Unquoted as rows
 use Rattle.resb_icu_grammar.specs.Words as words
 use Rattle.resb_icu_grammar.proofs.Lexical.{Piece-one, no_quote_word, joined_first, Inside-one}
 use Rattle.resb_icu_grammar.proofs.Lexical.{Skip-one}
@@ -28,6 +32,7 @@ use Rattle.resb_icu_grammar.specs.Stuck.{NoStringAt}
 use Rattle.resb_icu_text.specs.Lexemes.{IsLexeme, Verbatim, a_word, a_piece}
 use Rattle.resb_icu_text.specs.Inner.Ahead.{Ahead, no_more, more, StringFails, AreSeen, GoesToEnd}
 use Rattle.resb_icu_text.specs.Inner.Found.{IsFound, IsSaid, Shows, length_of}
+use Rattle.resb_icu_text.specs.Inner.Unquoted.{row_goes_on}
 use Rattle.resb_icu_text.specs.declared.strings.Found.{Found}
 use Rattle.resb_icu_text.specs.declared.strings.Stands.{Stands}
 use Rattle.resb_icu_text.specs.declared.strings.Stands.TheVariants as found
@@ -113,7 +118,9 @@ added_all text first all h order moved seen a = record {
 -- where neither a quote nor an unquoted string stands, no string does
 pub no_lexeme : (text : List ℕ) (from : ℕ) → slice_index text from ≢ ascii.quote
     → ((to : ℕ) (s : List ℕ) → Unquoted text from to s → ⊥) → NoStringAt text from
-no_lexeme text from n never to s (words.a_word w) = never to s w
+no_lexeme text from n never to s (words.a_row (last_one _ _ m _ w k h)) = never to s w
+no_lexeme text from n never to s (words.a_row (rows.one_more _ m i _ us vs w h k r)) =
+    never m us w
 no_lexeme text from n never to s (words.quoted j) = n (joined_first text from to s j)
 
 -- the fault of the piece that begins here
@@ -151,14 +158,15 @@ unquoted_fails text from x e h n w = (
 pub not_plain : (text : List ℕ) (from last to : ℕ) (first s : List ℕ)
     → slice_index text from ≡ ascii.quote → QuotedBytes text (from + 1) last first
     → (HasNoEscape text (from + 1) last → last + 1 ≢ to) → Verbatim text from to s → ⊥
-not_plain text from last to first s q h f (a_word w) = no_word text from to s q w
+not_plain text from last to first s q h f (a_word r w) = no_word text from to s q w
 not_plain text from last to first s q h f (a_piece j p n) =
     let p' = piece_of text from last first q h in
     f (λ i low high. n i (omega arith)
     (omega (arith, high, (Piece-one text from to (last + 1) s first p p').0)))
     (sym (Piece-one text from to (last + 1) s first p p').0)
 
-slice_cons : (text : List ℕ) (at to : ℕ) → at < to → at < length text
+-- what stands between two places is its first byte and the others
+pub slice_cons : (text : List ℕ) (at to : ℕ) → at < to → at < length text
     → slice_range text at to ≡ slice_index text at ∷ slice_range text (at + 1) to
 slice_cons text at to low fits =
     let n : to - at ≡ suc (to - (at + 1)) = omega arith in
@@ -214,17 +222,17 @@ module _ (text : List ℕ) (from last next : ℕ) (bytes : List ℕ) where
 -- what may be a key is what stands in the text as it is, with bytes that a key may have
 pub key_plain : (text : List ℕ) (from to : ℕ) (s : List ℕ) → KeyText text from to s
     → Verbatim text from to s × (are_key_bytes s ≡ true)
-key_plain text from to s (words.a_word w k) = (a_word w, k)
+key_plain text from to s (words.a_word r w k) = (a_word r w, k)
 key_plain text from to s (words.quoted j p n k) = (a_piece j p n, k)
 
 plain_key : (text : List ℕ) (from to : ℕ) (s : List ℕ) → Verbatim text from to s
     → are_key_bytes s ≡ true → KeyText text from to s
-plain_key text from to s (a_word w) k = words.a_word w k
+plain_key text from to s (a_word r w) k = words.a_word r w k
 plain_key text from to s (a_piece j p n) k = words.quoted j p n k
 
 plain_is_string : (text : List ℕ) (from to : ℕ) (s : List ℕ) → Verbatim text from to s
     → Text text from to s
-plain_is_string text from to s (a_word w) = words.a_word w
+plain_is_string text from to s (a_word r w) = words.a_row r
 plain_is_string text from to s (a_piece j p n) = words.quoted j
 
 -- a string that stands in the text as it is
@@ -252,12 +260,14 @@ plain_found text from end next slice p s low order fits = record {
   high = reach_high text next fits;
 }
 
--- an unquoted string
+-- an unquoted string with no other behind it
 pub word_found : (text : List ℕ) (from end next : ℕ) (slice : Bor (List ℕ))
-    → Unquoted text from end slice.now → Skip text end next → end ≤ next → next ≤ length text
+    → Unquoted text from end slice.now → Skip text end next
+    → row_goes_on text end next ≡ false → end ≤ next → next ≤ length text
     → IsFound text from (record { end = end; next = next; stands = found.Whole slice })
-word_found text from end next slice w s order fits =
-    plain_found text from end next slice (a_word w) s w.some order fits
+word_found text from end next slice w s h order fits =
+    plain_found text from end next slice (a_word (last_one from end next slice.now w s h) w) s
+    w.some order fits
 
 module _ (text : List ℕ) (from last next : ℕ) (first : List ℕ) where
   -- one piece without escapes and with no other behind it
@@ -324,6 +334,7 @@ pub length_shown : (text : List ℕ) (from end : ℕ) (said : List ℕ) (s : Sta
     → Shows text from end said s → length said ≡ length_of s
 length_shown text from end said (found.Whole slice) h = ap length (sym h)
 length_shown text from end said (found.InPieces n) h = sym h.0
+length_shown text from end said (found.InRow n) h = sym h.0
 
 -- what was found and is made
 pub made_lexeme : (text : List ℕ) (from : ℕ) (f : Found) (s : Said) → IsFound text from f

@@ -1,11 +1,11 @@
 -- Laws of unquoted strings, as the reader's functions use them.
 use Rattle.std.proofs.Common.{◌≡◌, ◌≢◌, ℕ, ◌+◌, ◌-◌, ◌<◌, ◌≤◌, true, false, Bool, List, length}
-use Rattle.std.proofs.Common.{arith, subst, sym, refl, ◌∙◌}
-use Rattle.std.specs.Prelude.{slice_index, slice_range, nat_le, nat_lt, ◌||◌}
-use Rattle.std.proofs.lemmas.Bool.{false≢true, and_parts}
+use Rattle.std.proofs.Common.{arith, subst, sym, refl, ap, ◌∙◌}
+use Rattle.std.specs.Prelude.{slice_index, slice_range, nat_lt, ◌&&◌}
+use Rattle.std.proofs.lemmas.Bool.{false≢true}
 use Rattle.std.proofs.lemmas.Bool.Decides.{nat_tests}
 use Rattle.std.specs.Str.{IsUtf8, IsCharBoundary}
-use Rattle.resb_icu_grammar.specs.Words.{Unquoted, goes_on, may_begin}
+use Rattle.resb_icu_grammar.specs.Unquoted.{Unquoted, goes_on, may_begin, begins_unquoted}
 use Rattle.resb_icu_text.specs.Inner.Unquoted.{GoesOnTo}
 
 -- where a byte may begin a string, a character begins
@@ -54,4 +54,26 @@ goes_further text from at each h k low high = pick (nat_lt k at) refl
         let l : at ≤ k = grind (arith, nat_tests, e) in
         subst (λ i. goes_on text i ≡ true) (omega (arith, l, high)) h
 
-pub ruleset unquoted_strings = (begin_boundary, is_unquoted_string, no_beginning, no_going_on)
+-- where none may begin, or it doesn't go on, none begins
+pub begins_none : (text : List ℕ) (at : ℕ) → may_begin (slice_index text at) ≡ false
+    → begins_unquoted text at ≡ false
+begins_none text at h = ap (λ b. b && goes_on text at) h
+
+pub begins_no_more : (text : List ℕ) (at stop : ℕ) → GoesOnTo text at stop → stop ≤ at
+    → begins_unquoted text at ≡ false
+begins_no_more text at stop g l =
+    let same : stop ≡ at = omega (arith, l, g.order) in
+    by (may_begin (slice_index text at)) (subst (λ i. goes_on text i ≡ false) same g.longest)
+  where
+    by : (b : Bool) → goes_on text at ≡ false → (b && goes_on text at) ≡ false
+    by true h = h
+    by false h = refl
+
+pub ruleset unquoted_strings = (
+  begin_boundary,
+  is_unquoted_string,
+  no_beginning,
+  no_going_on,
+  begins_none,
+  begins_no_more,
+)

@@ -88,6 +88,7 @@ fn says_digits(found: Found<'_>, text: &str, from: usize) -> bool
     match found.stands {
         Stands::Whole(slice) => are_hex(slice.as_bytes()),
         Stands::InPieces(_) => say_digits(text, from, found.end),
+        Stands::InRow(_) => false,
     }
 }
 

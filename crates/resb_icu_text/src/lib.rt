@@ -14,6 +14,7 @@ mod open;
 mod pieces;
 mod quota;
 mod reader;
+mod rows;
 mod steps;
 mod strings;
 mod trees;

@@ -198,7 +198,9 @@ fn string_member<'a, X: Drop>(
     if last.is_string() {
         return Err(IcuTextError::new(at, IcuExpected::Comma));
     }
-    meter.quota.take(weights::RESOURCE + found.bytes_made(at))?;
+    meter
+        .quota
+        .take(weights::RESOURCE + found.bytes_made(text, at))?;
     let said = found.text(alloc, text, at, &mut meter.turns)?;
     Ok(Read::Member(members, Resource::String(said), found.next))
 }
@@ -405,12 +407,14 @@ fn untyped_string<'a, X: Drop>(
     let next = found.next;
     let b = byte(text, next);
     if b == b'}' {
-        meter.quota.take(found.bytes_made(at))?;
+        meter.quota.take(found.bytes_made(text, at))?;
         let said = found.text(alloc, text, at, &mut meter.turns)?;
         return Ok(Read::Leaf(Resource::String(said), next + 1));
     }
     if b == b',' {
-        meter.quota.take(weights::RESOURCE + found.bytes_made(at))?;
+        meter
+            .quota
+            .take(weights::RESOURCE + found.bytes_made(text, at))?;
         let said = found.text(alloc, text, at, &mut meter.turns)?;
         return Ok(Read::Member(Vec::new(alloc), Resource::String(said), next));
     }

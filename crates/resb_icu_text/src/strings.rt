@@ -1,4 +1,4 @@
-//! Strings: an unquoted one, or all quoted pieces in a row.
+//! Strings: unquoted ones in a row, or all quoted pieces in a row.
 //! What stands in a piece is said in `pieces`.
 ghost use Rattle.std.specs.Prelude.{◌≡◌, ◌+◌, ◌-◌, ◌*◌, ◌<◌, ◌≤◌, ◌++◌, ℕ, true, false, List};
 ghost use Rattle.std.specs.Prelude.{length, slice_index, IfSome, IfNone, IfOk, OnOk};
@@ -8,9 +8,11 @@ ghost use Rattle.std.specs.String.{string_bytes};
 ghost use Rattle.resb_grammar.specs.Ascii as ascii;
 ghost use Rattle.resb_grammar.specs.Inner.Reach.{reach};
 ghost use Rattle.resb_icu_grammar.specs.Faults.{StringFault};
-ghost use Rattle.resb_icu_grammar.specs.Limit.{joining_bytes};
+ghost use Rattle.resb_icu_grammar.specs.Limit.{joining_bytes, is_put_together};
 ghost use Rattle.resb_icu_grammar.specs.Pieces.{Joined};
 ghost use Rattle.resb_icu_grammar.specs.Stuck.{NoStringAt};
+ghost use Rattle.resb_icu_grammar.specs.Unquoted.{Unquoted};
+ghost use Rattle.resb_icu_grammar.specs.Words.{Text};
 ghost use Rattle.resb_tree.specs.Borrowing.{is_slice};
 ghost use Rattle.resb_tree.specs.Weights.{text_byte_weight};
 ghost use Rattle.resb_icu_text.specs.Lexemes.{IsLexeme};
@@ -22,6 +24,7 @@ use crate::blanks::{byte, skip};
 use crate::error::IcuTextError;
 use crate::pieces::{piece_end, push_piece};
 use crate::quota::{REQUEST, text_bytes};
+use crate::rows::{Strings, put_row, row_end, row_goes_on};
 use crate::turns::IcuTurns;
 use crate::unquoted::unquoted;
 use resb_icu_grammar::{IcuExpected, are_key_bytes};
@@ -56,6 +59,8 @@ pub(crate) enum Stands<'a> {
     Whole(&'a str),
     /// Pieces and escapes that say so many bytes, which have to be put together.
     InPieces(usize),
+    /// Unquoted strings in a row, which have to be put together too.
+    InRow(usize),
 }
 
 /// A string that was found in a text, of which nothing is made yet, and the places behind it.
@@ -73,19 +78,36 @@ impl<'a> Found<'a> {
     {
         match &self.stands {
             Stands::Whole(slice) => slice.len(),
-            Stands::InPieces(length) => *length,
+            Stands::InPieces(length) | Stands::InRow(length) => *length,
         }
     }
 
-    /// What its bytes make, where it was found from this place on: 3 for each; 32 more, and 1 for
-    /// each, where it takes more of the text than these and two quotes.
-    pub(crate) fn bytes_made(&self, from: usize) -> u128
-        requires short { length_of self.now.stands + from ≤ self.now.end }
-        ensures { (s : List ℕ) → length s ≡ length_of self.now.stands
-            → result ≡ text_byte_weight * length s + joining_bytes from self.now.end s }
+    /// Whether it has to be put together, where it was found at a place of a text: a quoted one
+    /// that takes more of the text than what it says and two quotes, and unquoted ones in a row.
+    fn is_put_together(&self, text: &str, from: usize) -> bool
+        requires found { IsFound text.now from self.now }
+        ensures { (is : IsFound text.now from self.now)
+            → result ≡ is_put_together text.now from self.now.end is.said }
+    {
+        if byte(text, from) == b'"' {
+            return self.end - from - self.length() > 2;
+        }
+        match self.stands {
+            Stands::InRow(_) => true,
+            Stands::Whole(_) => false,
+            Stands::InPieces(_) => false,
+        }
+    }
+
+    /// What its bytes make, where it was found at a place of a text: 3 for each; 32 more, and 1 for
+    /// each, where it has to be put together.
+    pub(crate) fn bytes_made(&self, text: &str, from: usize) -> u128
+        requires found { IsFound text.now from self.now }
+        ensures { (s : List ℕ) → Text text.now from self.now.end s
+            → result ≡ text_byte_weight * length s + joining_bytes text.now from self.now.end s }
     {
         let bytes = text_bytes(self.length());
-        if self.end - from - self.length() > 2 {
+        if self.is_put_together(text, from) {
             bytes + REQUEST + self.length() as u128
         } else {
             bytes
@@ -109,12 +131,12 @@ impl<'a> Found<'a> {
                     None
                 }
             }
-            Stands::InPieces(_) => None,
+            Stands::InPieces(_) | Stands::InRow(_) => None,
         }
     }
 
     /// What it says, where it was found at a place of a text. Counts two turns for each byte of
-    /// quoted pieces that have to be put together, and takes memory for just what they say.
+    /// pieces or strings that have to be put together, and takes memory for just what they say.
     fn said(
         self,
         alloc: Global,
@@ -132,6 +154,11 @@ impl<'a> Found<'a> {
             Stands::InPieces(length) => {
                 let mut value = String::with_capacity(alloc, length)?;
                 put_together(&mut value, text, from, self.end, turns)?;
+                Ok(Said::Built(value))
+            }
+            Stands::InRow(length) => {
+                let mut value = String::with_capacity(alloc, length)?;
+                put_row(&mut value, text, from, self.end, turns)?;
                 Ok(Said::Built(value))
             }
         }
@@ -186,9 +213,9 @@ fn put_together(
     }
 }
 
-/// The string that begins at a place of a text: an unquoted one, or all quoted pieces that stand in a row
+/// The string that begins at a place of a text: unquoted ones in a row, or all quoted pieces that stand in a row
 /// with nothing but blanks between them. `None` where none does; refused is want of memory alone.
-/// An unquoted string and one piece without escapes are slices of the text; others are built.
+/// One unquoted string and one piece without escapes are slices of the text; others are built.
 pub fn string<'a>(
     alloc: Global,
     text: &'a str,
@@ -239,14 +266,47 @@ pub(crate) fn found_or<'a>(
     if byte(text, from) == b'"' {
         return quoted(text, from, turns);
     }
-    let Some((end, word)) = unquoted(text, from, turns) else {
-        return Err(IcuTextError::new(from, expected));
-    };
-    Ok(Found {
-        end,
-        next: skip(text, end, turns),
-        stands: Stands::Whole(word),
-    })
+    match unquoted(text, from) {
+        Some((end, string)) => Ok(row(text, from, end, string, turns)),
+        None => {
+            turns.add(1);
+            Err(IcuTextError::new(from, expected))
+        }
+    }
+}
+
+/// The unquoted string between these places, which is this one, with those that follow in its row.
+#[tactic(auto, using(crate::proofs::ReachLemmas::reached))]
+fn row<'a>(
+    text: &'a str,
+    from: usize,
+    end: usize,
+    string: &'a str,
+    turns: &mut IcuTurns,
+) -> Found<'a>
+    requires stands { Unquoted text.now from end string.now }
+    ensures reads { IsFound text.now from result }
+    ensures cost { let bytes = result.end - from in
+        turns.new.count + 6 * reach text.now from + 3 + turns_to_make bytes result.stands
+        ≤ turns.old.count + 6 * reach text.now result.next }
+{
+    turns.add(end - from);
+    turns.add(1);
+    let next = skip(text, end, turns);
+    if !row_goes_on(text, end, next) {
+        return Found {
+            end,
+            next,
+            stands: Stands::Whole(string),
+        };
+    }
+    let length = string.len();
+    let all = row_end(text, Strings { end, next, length }, turns);
+    Found {
+        end: all.end,
+        next: all.next,
+        stands: Stands::InRow(all.length),
+    }
 }
 
 /// The quoted pieces that begin here, or the fault of one.

@@ -1,14 +1,13 @@
-//! Unquoted strings: where one goes on, and where it ends.
+//! Unquoted strings: where one goes on, and where it ends. Those in a row are read in `rows`.
 //! Words of types and numbers, which have fewer characters, are read in `words`.
-ghost use Rattle.std.specs.Prelude.{◌≡◌, ◌+◌, ◌<◌, ◌≤◌, ℕ, List, length, true};
-ghost use Rattle.std.specs.Prelude.{slice_index, IfSome, IfNone};
+ghost use Rattle.std.specs.Prelude.{◌≡◌, ◌≤◌, ◌<◌, ℕ, List, length, false};
+ghost use Rattle.std.specs.Prelude.{IfSome, IfNone};
 ghost use Rattle.resb_icu_grammar.specs.Bytes as bytes;
-ghost use Rattle.resb_icu_grammar.specs.Words as spec;
-ghost use Rattle.resb_icu_grammar.specs.Words.{Unquoted};
+ghost use Rattle.resb_icu_grammar.specs.Unquoted as spec;
+ghost use Rattle.resb_icu_grammar.specs.Unquoted.{Unquoted};
 ghost use Rattle.resb_icu_text.specs.Inner.Unquoted.{GoesOnTo};
 
 use crate::blanks::byte;
-use crate::turns::IcuTurns;
 
 /// Whether a byte may stand in an unquoted string.
 fn is_unquoted(b: u8) -> bool
@@ -74,28 +73,26 @@ fn unquoted_end(text: &str, from: usize) -> usize
     end
 }
 
-/// The unquoted string that begins here, and where it ends. Counts a turn for each of its bytes and
-/// one for the byte behind it.
+/// Whether an unquoted string begins at a place.
+pub(crate) fn begins_unquoted(text: &str, at: usize) -> bool
+    requires within { at ≤ length text.now }
+    ensures { result ≡ spec.begins_unquoted text.now at }
+{
+    at < text.len() && (may_begin(byte(text, at)) && goes_on(text, at))
+}
+
+/// The unquoted string that begins here, and where it ends.
 #[tactic(auto, using(crate::proofs::UnquotedLemmas::unquoted_strings))]
-pub(crate) fn unquoted<'a>(
-    text: &'a str,
-    from: usize,
-    turns: &mut IcuTurns,
-) -> Option<(usize, &'a str)>
+pub(crate) fn unquoted(text: &str, from: usize) -> Option<(usize, &str)>
     requires within { from ≤ length text.now }
     ensures found { IfSome result (λ r. Unquoted text.now from r.0 r.1.now) }
     ensures none { IfNone result ((to : ℕ) (s : List ℕ) → Unquoted text.now from to s → ⊥) }
-    ensures cost { IfSome result
-        (λ r. turns.new.count + from ≤ turns.old.count + r.0 + 1) }
-    ensures one { IfNone result (turns.new.count ≤ turns.old.count + 1) }
+    ensures stops { IfNone result (spec.begins_unquoted text.now from ≡ false) }
 {
     if !may_begin(byte(text, from)) {
-        turns.add(1);
         return None;
     }
     let to = unquoted_end(text, from);
-    turns.add(to - from);
-    turns.add(1);
     if from < to {
         Some((to, &text[from..to]))
     } else {

@@ -5,6 +5,7 @@ use Rattle.resb_grammar.specs.Inner.Reach.{reach}
 use Rattle.resb_icu_grammar.specs.Bytes.{are_key_bytes}
 use Rattle.resb_icu_grammar.specs.Blanks.{Skip}
 use Rattle.resb_icu_grammar.specs.Pieces.{Joined}
+use Rattle.resb_icu_grammar.specs.Unquoted.{UnquotedRow}
 use Rattle.resb_icu_grammar.specs.Words.{Text, KeyText}
 use Rattle.resb_icu_text.specs.Lexemes.{Verbatim, bytes_said, may_be_key, stands_whole}
 use Rattle.resb_icu_text.specs.declared.strings.Said.{Said}
@@ -16,21 +17,25 @@ use Rattle.resb_icu_text.specs.declared.strings.Stands.TheVariants as the
 abbrev pub length_of : Stands → ℕ
 length_of (the.Whole s) = length s.now
 length_of (the.InPieces n) = n
+length_of (the.InRow n) = n
 
 -- it may be a key
 abbrev pub fits_key : Stands → Bool
 fits_key (the.Whole s) = are_key_bytes s.now
 fits_key (the.InPieces n) = false
+fits_key (the.InRow n) = false
 
 -- it is a slice of the text
 abbrev pub is_whole : Stands → Bool
 is_whole (the.Whole s) = true
 is_whole (the.InPieces n) = false
+is_whole (the.InRow n) = false
 
--- what it says: the slice, or what the quoted pieces between these places say
+-- what it says: the slice, or what the quoted pieces or unquoted strings between these places say
 abbrev pub Shows : List ℕ → ℕ → ℕ → List ℕ → Stands → Type 0
 Shows text from end said (the.Whole s) = s.now ≡ said
 Shows text from end said (the.InPieces n) = (n ≡ length said) × Joined text from end said
+Shows text from end said (the.InRow n) = (n ≡ length said) × UnquotedRow text from end said
 
 -- a string stands there, whether it may be a key, and blanks behind it; it says no more bytes than
 -- it has, and a reading that looked at it has looked up to its place, and then behind the blanks
@@ -56,7 +61,8 @@ pub record IsSaid (text : List ℕ) (from : ℕ) (f : Found) (s : Said) : Type 0
   pub key : may_be_key s ≡ fits_key f.stands
   pub whole : stands_whole s ≡ is_whole f.stands
 
--- how many turns it takes to make it, of so many bytes: two for each of quoted pieces
+-- how many turns it takes to make it, of so many bytes: two for each of what is put together
 abbrev pub turns_to_make : ℕ → Stands → ℕ
 turns_to_make bytes (the.Whole s) = 0
 turns_to_make bytes (the.InPieces n) = 2 * bytes
+turns_to_make bytes (the.InRow n) = 2 * bytes

@@ -26,7 +26,7 @@ returns-in_err-take-clause-reads g c =
     match_fails _ _ _ c.from_residual-in_err-take.ensures.1
     (λ tree ws ks. let is = c.in_ok-found.ensures.reads in over_stops _ _ _ _ _ _
     (move.string_member _ _ _ _ _ _ (sym c.is_string.ensures ∙ c.if-is_string.false) is.string
-    is.blanks) (omega (arith, c.bytes_made.ensures is.said is.counted))
+    is.blanks) (omega (arith, c.bytes_made.ensures is.said is.string))
     c.in_err-take.ensures refl)
 
 pub returns-in_err-said-clause-reads : goal.returns-in_err-said-clause-reads

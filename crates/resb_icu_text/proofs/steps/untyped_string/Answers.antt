@@ -22,7 +22,7 @@ returns-in_err-take-clause-reads g c =
     (λ tree ws ks. let is = c.in_ok-found.ensures.reads in over_stops _ _ _ _ _ _
     (move.untyped_string _ _ _ _ is.string is.blanks
     (sym c.byte-b.ensures.byte ∙ c.if-b-eq125.true))
-    (omega (arith, c.bytes_made.ensures is.said is.counted)) c.in_err-take.ensures refl)
+    (omega (arith, c.bytes_made.ensures is.said is.string)) c.in_err-take.ensures refl)
 
 pub returns-in_err-said-clause-reads : goal.returns-in_err-said-clause-reads
 returns-in_err-said-clause-reads g c =
@@ -43,7 +43,7 @@ returns-in_err-take-2-clause-reads g c =
     (λ tree ws ks. let is = c.in_ok-found.ensures.reads in over_stops _ _ _ _ _ _
     (begins_with_string _ _ _ _ is.string is.blanks
     (sym c.byte-b.ensures.byte ∙ c.if-b-eq44.true))
-    (omega (arith, c.bytes_made-then-b-eq44.ensures is.said is.counted))
+    (omega (arith, c.bytes_made-then-b-eq44.ensures is.said is.string))
     c.in_err-take-2.ensures refl)
 
 pub returns-in_err-said-2-clause-reads : goal.returns-in_err-said-2-clause-reads

@@ -1,5 +1,5 @@
 use Rattle.std.specs.Prelude.{◌≡◌, ◌≤◌, ◌<◌, ℕ, true}
-use Rattle.resb_icu_grammar.specs.Words.{goes_on}
+use Rattle.resb_icu_grammar.specs.Unquoted.{goes_on}
 use Rattle.resb_icu_text.proofs.unquoted.unquoted_end.Given as goal
 
 abbrev pub invariant-loop-at : goal.invariant-loop-at

@@ -1,9 +1,12 @@
 //! Rules of collation in drafts of ICU's texts. ICU's compiler makes a binary form of them, without
-//! which ICU opens no collator; this program makes none, and says so.
-//! Texts are read and files written elsewhere.
+//! which ICU opens no collator; this program makes none, but takes it from that compiler's files.
+//! How such a draft becomes a file is in `drafted`.
 use crate::say::complain;
 use resb_draft::{Draft, Piece};
-use resb_words::CompileWords;
+use resb_filter::CollationForm;
+use resb_opened::{Found, Handle};
+use resb_words::{Collation, CompileWords};
+use std::alloc::{AllocError, Global};
 use std::fmt;
 
 /// The key of a root's table in which each type of collation has a table.
@@ -13,31 +16,41 @@ const COLLATIONS: &str = "collations";
 pub(crate) const RULES: &str = "Sequence";
 
 /// The key of the binary form of a type's rules.
-const BINARY: &str = "%%CollationBin";
+pub(crate) const BINARY: &str = "%%CollationBin";
 
 /// What a type's key begins with whose rules have no binary form: others import them.
 const PRIVATE: &str = "private-";
 
-/// A type whose rules have no binary form, and whether that is allowed.
-struct Unbuilt<'k> {
-    key: &'k str,
-    is_allowed: bool,
+/// What is said of the rules of a type.
+enum Said {
+    /// They have no binary form, and are refused.
+    Refused,
+    /// They are compiled without one.
+    Unbuilt,
+    /// The file that should have one has none.
+    Lacking,
 }
 
-impl fmt::Display for Unbuilt<'_> {
+/// What is said of the rules of the type of a key.
+struct OfType<'k> {
+    key: &'k str,
+    said: Said,
+}
+
+impl fmt::Display for OfType<'_> {
     fn fmt<W: fmt::Write>(&self, f: &mut fmt::Formatter<W>) -> fmt::Result {
         let key = self.key;
         write!(f, "the rules of collation '{key}' have no binary form")?;
-        if self.is_allowed {
-            f.write_str(": ICU opens no collator by them")
-        } else {
-            f.write_str(", which ICU's own genrb makes; see --no-binary-collation")
+        match self.said {
+            Said::Refused => f.write_str(", which ICU's genrb makes; see --collation"),
+            Said::Unbuilt => f.write_str(": ICU opens no collator by them"),
+            Said::Lacking => f.write_str(" here"),
         }
     }
 }
 
 /// The status of a draft in which rules may have no binary form, once that is said of the first of
-/// them: as an error where it isn't allowed.
+/// them: as an error where they aren't compiled without it.
 pub(crate) fn check_collations(
     rt: &HostRuntime,
     name: &str,
@@ -47,27 +60,44 @@ pub(crate) fn check_collations(
     let Some(key) = first_unbuilt(draft) else {
         return Ok(0);
     };
-    let is_allowed = wanted.allows_unbuilt;
-    if !is_allowed || !wanted.is_quiet {
-        complain(rt, name, Unbuilt { key, is_allowed });
+    if wanted.collation == Collation::Refused {
+        let said = Said::Refused;
+        complain(rt, name, OfType { key, said });
+        return Err(1);
     }
-    if is_allowed {
-        Ok(u8::from(wanted.is_strict))
-    } else {
-        Err(1)
+    if !wanted.is_quiet {
+        let said = Said::Unbuilt;
+        complain(rt, name, OfType { key, said });
     }
+    Ok(u8::from(wanted.is_strict))
 }
 
 /// The key of the first type of collation whose rules have no binary form and need one.
 fn first_unbuilt<'a>(draft: &Draft<'a>) -> Option<&'a str> {
     let types = value_at(draft, draft.root, COLLATIONS)?;
-    let keys = keys_at(draft, types)?;
-    for key in keys {
+    for key in keys_at(draft, types)? {
         if is_unbuilt(draft, value_at(draft, types, key)?, key) {
             return Some(*key);
         }
     }
     None
+}
+
+/// The keys of the types of collation whose rules have no binary form and need one.
+pub(crate) fn unbuilt<'a>(alloc: Global, draft: &Draft<'a>) -> Result<Vec<&'a str>, AllocError> {
+    let mut unbuilt = Vec::new(alloc);
+    let Some(types) = value_at(draft, draft.root, COLLATIONS) else {
+        return Ok(unbuilt);
+    };
+    let Some(keys) = keys_at(draft, types) else {
+        return Ok(unbuilt);
+    };
+    for key in keys {
+        if value_at(draft, types, key).is_some_and(|table| is_unbuilt(draft, table, key)) {
+            unbuilt.push(*key)?;
+        }
+    }
+    Ok(unbuilt)
 }
 
 /// Whether the table of a type has rules without a binary form, and needs one.
@@ -100,4 +130,35 @@ fn value_at(draft: &Draft<'_>, number: u32, key: &str) -> Option<u32> {
     let place = keys_at(draft, number)?.iter().position(|name| *name == key)?;
     let values = draft.members.get(part.from as usize..)?;
     values.get(place).copied()
+}
+
+/// The binary forms that a file of a name has for types of these keys; or the status, once it is
+/// said of which it has none.
+pub(crate) fn forms_in<'f>(
+    rt: &HostRuntime,
+    name: &str,
+    root: Handle<'f>,
+    types: &[&'f str],
+) -> Result<Vec<CollationForm<'f>>, u8> {
+    let mut forms = Vec::new(rt.alloc());
+    for key in types.iter().copied() {
+        let Some(bytes) = form_in(root, key) else {
+            let said = Said::Lacking;
+            complain(rt, name, OfType { key, said });
+            return Err(1);
+        };
+        if forms.push(CollationForm { key, bytes }).is_err() {
+            complain(rt, name, "out of memory");
+            return Err(1);
+        }
+    }
+    Ok(forms)
+}
+
+/// The binary form that a file has for the type of a key.
+fn form_in<'f>(root: Handle<'f>, key: &str) -> Option<&'f [u8]> {
+    match root.get(&[COLLATIONS, key, BINARY])? {
+        Found::Resource(handle) => handle.bytes(),
+        Found::Number(_) => None,
+    }
 }

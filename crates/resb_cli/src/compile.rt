@@ -1,21 +1,20 @@
 //! The command `compile`: each text to a file of its own.
 //! What a text's file is, and why it has none, is in `resb_program`.
-use crate::collation::{RULES, check_collations};
+use crate::collation::RULES;
+use crate::drafted::{Source, drafted_file};
 use crate::encoding::utf8_of;
-use crate::filter::filtered_file;
 use crate::folders::{Named, TEXTS, named_files};
 use crate::input::lending_pool;
 use crate::place::{Place, place_of};
 use crate::progress::Progress;
 use crate::save::{Bytes, save, saved};
-use crate::say::{complain, fail, fail_input, or_fail, refuse, refuse_memory};
+use crate::say::{complain, fail, fail_input, or_fail, refuse};
 use crate::show::settled;
 use crate::streams::{made, read_input};
 use crate::taken::Taken;
 use crate::warn::warn;
 use crate::words::{NO_UTF8, is_marked};
 use resb_compile::{compile_icu_with_pool, compile_with_pool};
-use resb_icu_text::IcuReader;
 use resb_pool_bundle::PoolBundle;
 use resb_program::{
     SourceError, bundle_name, compile_icu_source, compile_icu_source_within, compile_source,
@@ -206,31 +205,28 @@ fn file_of(
     work: Work<'_, '_, '_>,
 ) -> Result<(Vec<u8>, u8), u8> {
     let wanted = work.wanted;
-    let (file, status) = if wanted.filters.is_some() {
-        filtered_file(rt, name, text, wanted, work.pool.as_ref())?
-    } else {
-        match compiled(rt.alloc(), text, work) {
-            Ok(file) => (file, unbuilt_status(rt, name, text, wanted)?),
-            Err(e) => return Err(refuse(rt, name, text.as_bytes(), &e)),
-        }
-    };
+    let (file, status) = file_at_once(rt, name, text, work)?;
     Ok((file, status.max(warned(rt, name, text, wanted))))
 }
 
-/// The status of a text in ICU's form that is compiled, by the rules of collation in it. Few texts
-/// hold any: of others no draft is made again.
-fn unbuilt_status(
+/// The same, but for warnings. A text that rules filter, or that may hold rules of collation, is
+/// compiled by its draft.
+fn file_at_once(
     rt: &HostRuntime,
     name: &str,
     text: &str,
-    wanted: &CompileWords<'_>,
-) -> Result<u8, u8> {
-    if !wanted.is_icu || !text.contains(RULES) {
-        return Ok(0);
+    work: Work<'_, '_, '_>,
+) -> Result<(Vec<u8>, u8), u8> {
+    let wanted = work.wanted;
+    let pool = work.pool.as_ref();
+    let source = Source { name, text, pool };
+    if wanted.filters.is_some() {
+        return drafted_file(rt, source, wanted);
     }
-    match IcuReader::read_draft(rt.alloc(), text) {
-        Ok((bundle, _)) => check_collations(rt, name, &bundle.root, wanted),
-        Err(_) => Err(refuse_memory(rt, name)),
+    match compiled(rt.alloc(), text, work) {
+        Ok(_) if wanted.is_icu && text.contains(RULES) => drafted_file(rt, source, wanted),
+        Ok(file) => Ok((file, 0)),
+        Err(e) => Err(refuse(rt, name, text.as_bytes(), &e)),
     }
 }
 

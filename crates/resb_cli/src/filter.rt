@@ -1,9 +1,8 @@
-//! The bundles of texts without what rules leave out, and their files.
-//! What rules say is in `resb_filter`, and how a text without rules is compiled in `compile`.
+//! The drafts of texts without what rules leave out.
+//! What rules say is in `resb_filter`, and how a draft becomes a file in `drafted`.
 ghost use Rattle.std.specs.Prelude.{◌≡◌, true, IfOk};
 ghost use Rattle.resb_draft.specs.Drafts.{is_ready};
 
-use crate::collation::check_collations;
 use crate::genrb::PARSE_ERROR;
 use crate::input::bytes_of;
 use crate::say::{complain, fail, refuse, refuse_memory};
@@ -11,36 +10,11 @@ use resb_compile::{IcuCompileError, read_icu_filtered};
 use resb_draft::DraftBundle;
 use resb_filter::{RuleError, Rules};
 use resb_icu_text::IcuReader;
-use resb_pool_bundle::PoolBundle;
 use resb_program::{SourceError, text_of};
 use resb_tree::Key;
-use resb_words::{CompileWords, Filters};
-use resb_write::Serializer;
+use resb_words::Filters;
 use std::alloc::{AllocError, Global};
 use std::path::Path;
-
-/// The file of a text in ICU's own form without what its rules leave out, over a pool bundle if
-/// there is one, and the status of its warnings; or the status, once it is said why there is none.
-pub(crate) fn filtered_file(
-    rt: &HostRuntime,
-    name: &str,
-    text: &str,
-    wanted: &CompileWords<'_>,
-    pool: Option<&PoolBundle<'_>>,
-) -> Result<(Vec<u8>, u8), u8> {
-    let (bundle, keys) = filtered_draft(rt, name, text, wanted.filters)?;
-    let status = check_collations(rt, name, &bundle.root, wanted)?;
-    let has_fallback = bundle.is_locale_fallback_enabled;
-    let (alloc, root, keys) = (rt.alloc(), bundle.root, keys.as_slice());
-    let file = match pool {
-        Some(pool) => Serializer::draft_to_bytes_with_pool(alloc, root, has_fallback, keys, pool),
-        None => Serializer::draft_to_bytes(alloc, root, has_fallback, keys),
-    };
-    match file {
-        Ok(file) => Ok((file, status)),
-        Err(e) => Err(refuse_text(rt, name, text, IcuCompileError::Writing(e))),
-    }
-}
 
 /// The bundle of a text in ICU's own form, without what its rules leave out if there are some, and
 /// the text's keys; or the status, once it is said why there is none.
@@ -98,7 +72,7 @@ fn refuse_rules(rt: &HostRuntime, name: &str, e: RuleError) -> u8 {
 }
 
 /// Says why a text has no file, and gives the status of that.
-fn refuse_text(rt: &HostRuntime, name: &str, text: &str, e: IcuCompileError) -> u8 {
+pub(crate) fn refuse_text(rt: &HostRuntime, name: &str, text: &str, e: IcuCompileError) -> u8 {
     refuse(rt, name, text.as_bytes(), &SourceError::IcuRefused(e))
 }
 

@@ -76,7 +76,7 @@ fn compile_texts(rt: &HostRuntime, wanted: &GenrbWords<'_>, texts: &[PathBuf]) -
             limit: None,
             pool: wanted.used_pool,
             filters: wanted.filters,
-            allows_unbuilt: wanted.allows_unbuilt,
+            collation: wanted.collation,
             is_check: false,
             is_quiet: wanted.is_quiet,
             is_strict: false,

@@ -9,6 +9,7 @@ mod collation;
 mod compile;
 mod derb;
 mod diff;
+mod drafted;
 mod dump;
 mod encoding;
 mod filter;

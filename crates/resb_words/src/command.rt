@@ -2,7 +2,7 @@
 //! What is read from words that were given is in `request`, and those of ICU's tools are in
 //! `icu_command`.
 use crate::described::{Argument, Described, FLAG, VALUE, WORD, WORDS, command_of};
-use crate::icu_command::{DERB, GENRB};
+use crate::icu_command::{COLLATION, DERB, GENRB};
 use clap::Command;
 use std::alloc::{AllocError, Global};
 
@@ -103,6 +103,7 @@ const COMPILE: Described<'static> = Described {
             help: "Compiles rules of collation without the binary form that ICU needs of them",
             ..FLAG
         },
+        COLLATION,
         Argument {
             id: "check",
             option: Some("check"),

@@ -90,6 +90,16 @@ const REFUSED: Argument<'static> = Argument {
     ..VALUE
 };
 
+/// The folder of files from which the binary forms of rules of collation are taken.
+pub(crate) const COLLATION: Argument<'static> = Argument {
+    id: "collation",
+    option: Some("collation"),
+    value: Some("DIR"),
+    help: "Takes the binary forms of collation rules from genrb's .res files in this folder",
+    against: Some("noBinaryCollation"),
+    ..VALUE
+};
+
 /// ICU's compiler, by its own words.
 pub(crate) const GENRB: Described<'static> = Described {
     name: "genrb",
@@ -173,9 +183,10 @@ pub(crate) const GENRB: Described<'static> = Described {
             id: "noBinaryCollation",
             letter: Some('C'),
             option: Some("noBinaryCollation"),
-            help: "Compiles rules of collation without their binary form, which this doesn't make",
+            help: "Compiles rules of collation without their binary form",
             ..FLAG
         },
+        COLLATION,
         Argument {
             id: "formatVersion",
             option: Some("formatVersion"),

@@ -1,5 +1,6 @@
 //! What is asked in the words of ICU's own tools, `genrb` and `derb`.
 //! The words that they take are in `icu_command`.
+use crate::collation::{Collation, asked_collation};
 use crate::error::WordsError;
 use crate::icu_command::{IcuTool, NOT_DONE};
 use crate::request::{Request, names};
@@ -22,8 +23,8 @@ pub struct GenrbWords<'w> {
     pub written_pool: Option<&'w str>,
     /// The rules by which parts are left out of the files, if there are some.
     pub filters: Option<Filters<'w>>,
-    /// Whether rules of collation are compiled without their binary form, and not refused.
-    pub allows_unbuilt: bool,
+    /// What becomes of rules of collation.
+    pub collation: Collation<'w>,
     /// Whether warnings are left unsaid.
     pub is_quiet: bool,
 }
@@ -98,7 +99,7 @@ fn genrb<'w>(alloc: Global, matches: &ArgMatches<'w>) -> Result<Request<'w>, Wor
         used_pool: pool(matches, "usePoolBundle", source),
         written_pool: pool(matches, "writePoolBundle", destination),
         filters: rules_of(matches, source),
-        allows_unbuilt: matches.get_flag("noBinaryCollation"),
+        collation: asked_collation(matches),
         is_quiet: matches.get_flag("quiet"),
     }))
 }

@@ -2,6 +2,7 @@
 //! What is done then, and the files and streams that the words name, are the program's.
 #![tactic(auto)]
 
+mod collation;
 mod command;
 mod described;
 mod error;
@@ -9,6 +10,7 @@ mod icu_command;
 mod icu_request;
 mod request;
 
+pub use collation::Collation;
 pub use error::WordsError;
 pub use icu_request::{DerbWords, Filters, GenrbWords, are_of_icu};
 pub use request::{

@@ -1,6 +1,7 @@
 //! What words ask for: the command, the files, and what is wished of them.
 //! The words that the program knows are in `command`, and why they may be refused in `error`.
 
+use crate::collation::{Collation, asked_collation};
 use crate::command::program;
 use crate::error::WordsError;
 use crate::icu_command::{IcuTool, tool_itself};
@@ -50,8 +51,8 @@ pub struct CompileWords<'w> {
     pub pool: Option<&'w str>,
     /// The rules by which parts are left out of the files, if there are some.
     pub filters: Option<Filters<'w>>,
-    /// Whether rules of collation are compiled without their binary form, and not refused.
-    pub allows_unbuilt: bool,
+    /// What becomes of rules of collation.
+    pub collation: Collation<'w>,
     /// Whether no file is written.
     pub is_check: bool,
     /// Whether warnings and progress are left unsaid.
@@ -176,7 +177,7 @@ fn compile<'w>(alloc: Global, matches: &ArgMatches<'w>) -> Result<Request<'w>, W
         limit,
         pool: matches.get_str("POOL"),
         filters: None,
-        allows_unbuilt: matches.get_flag("noBinaryCollation"),
+        collation: asked_collation(matches),
         is_check: matches.get_flag("check"),
         is_quiet: matches.get_flag("quiet"),
         is_strict: matches.get_flag("strict"),

@@ -98,6 +98,33 @@ told 4 '' 'rules/root.txt: no such file' genrb -q -s source -d built --filterDir
 printf -- '-/a\nb\n' > rules/root.txt
 told 9 '' 'rules/root.txt: line 2: a rule begins with + or -' \
   genrb -q -s source -d built --filterDir rules root.txt
+# rules of collation: refused, as they stand by the words of ICU 72's compiler, or with the binary
+# form that a file has for them
+printf 'de{ collations{ standard{ Version{"1"} Sequence{"&a<b"} } private-x{ Sequence{"&c<d"} } } }' \
+  > source/coll.txt
+told 3 '' "source/coll.txt: the rules of collation 'standard' have no binary form, which ICU's genrb \
+makes; see --collation" genrb -q -s source -d built coll.txt
+told 0 '' '' genrb -q -C -s source -d built coll.txt
+words 2 20000023 7 14 25 25 2 0 1f 6c6c6f63 6f697461 7300736e 646e6174 647261 73726556 6e6f69 \
+  75716553 65636e65 69727000 65746176 aa00782d 310000 260000 3c0061 62 630026 64003c 10000 8003c \
+  3c0002 30034 aaaa0001 450002 aaaa002b 5000000d 50000010 200001 2000001f > wanted.res
+same built/de.res wanted.res
+told 0 '' "source/coll.txt: the rules of collation 'standard' have no binary form: ICU opens no \
+collator by them" compile --icu --no-binary-collation source/coll.txt -o one.res
+same one.res wanted.res
+told 1 '' "source/coll.txt: the rules of collation 'standard' have no binary form: ICU opens no \
+collator by them" compile --icu --no-binary-collation --strict source/coll.txt -o one.res
+told 3 '' "built/de.res: the rules of collation 'standard' have no binary form here" \
+  genrb -q -s source -d built --collation built coll.txt
+mkdir -p forms
+printf 'de{ collations{ standard{ %%%%CollationBin:bin{00ff} x{"1"} } } }' > forms.txt
+told 0 '' '' compile --icu forms.txt -o forms/de.res
+told 0 '' '' genrb -q -s source -d built --collation forms coll.txt
+told 0 '{"collations":{"private-x":{"Sequence":"&c<d"},"standard":{"%%CollationBin":{"binary":"00ff"},\
+"Sequence":"&a<b","Version":"1"}}}' '' dump --json built/de.res
+printf -- '-/collations/standard\n' > rules/coll.txt
+told 0 '' '' genrb -q -s source -d built --filterDir rules coll.txt
+told 0 '{"collations":{"private-x":{"Sequence":"&c<d"}}}' '' dump --json built/de.res
 # the words of ICU's derb
 mkdir -p printed
 told 0 '' '' derb -A -s built -d printed root

@@ -4,7 +4,7 @@ use Rattle.std.proofs.Common.{arith, subst, sym, refl, ◌∙◌, ap, ◌⊎◌,
 use Rattle.std.specs.Prelude.{◌%◌, ◌^◌, slice_index}
 use Rattle.std.proofs.lemmas.Bool.{false≢true}
 use Rattle.resb_grammar.specs.Ascii as ascii
-use Rattle.resb_grammar.specs.Group.{hex_bytes}
+use Rattle.resb_icu_grammar.specs.Groups.{digit_bytes}
 use Rattle.resb_icu_grammar.specs.Kinds.{Kind}
 use Rattle.resb_grammar.specs.BundleText.{first_places}
 use Rattle.resb_tree.specs.Tree.{Tree, string, alias, array, table, binary, integer}
@@ -153,7 +153,7 @@ LeafContent-one text from a b _ t u (alias_content i s p k) (alias_content j r q
 LeafContent-one text from a b _ t u (binary_content i s bs p h k) (binary_content j r cs q g l) c d
     =
     let both = string_skipped text from i j a b s r p k q l in
-    let e : Some bs ≡ Some cs = sym h ∙ ap hex_bytes both.1 ∙ g in
+    let e : Some bs ≡ Some cs = sym h ∙ ap (digit_bytes text from) both.1 ∙ g in
     let f : bs ≡ cs = cc in
     (both.0, ap binary f)
 LeafContent-one text from a b _ t u (integer_content i v p k) (integer_content j w q l) c d =

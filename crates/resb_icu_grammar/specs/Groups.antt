@@ -1,11 +1,12 @@
 -- Groups of ICU's text form: what a group without a type is, the members of arrays and the entries
 -- of tables, as least relations on a text and two places.
-use Rattle.std.specs.Prelude.{◌≡◌, ◌⊎◌, ◌+◌, ◌%◌, ◌^◌, not, ℕ, Bool, true, false}
-use Rattle.std.specs.Prelude.{List, [], ◌∷◌, ◌++◌, Some, slice_index, nat_eq}
+use Rattle.std.specs.Prelude.{◌≡◌, ◌⊎◌, ◌+◌, ◌%◌, ◌^◌, ◌&&◌, not, ℕ, Bool, true, false}
+use Rattle.std.specs.Prelude.{List, [], ◌∷◌, ◌++◌, Option, Some, None, slice_index}
+use Rattle.std.specs.Prelude.{nat_eq, ◌*◌, ◌==◌, if◌then◌else◌}
 use Rattle.std.specs.List.{list_any}
 use Rattle.std.specs.Cmp.Lexicographic.{pointwise}
 use Rattle.resb_grammar.specs.Ascii as ascii
-use Rattle.resb_grammar.specs.Group.{hex_bytes}
+use Rattle.resb_grammar.specs.Group.{is_hex, hex_value, byte_before, hex_bytes}
 use Rattle.resb_tree.specs.Tree.{Tree, string, alias, array, table, binary, integer}
 use Rattle.resb_tree.specs.Tree.{int_vector, trees_of, map_of}
 use Rattle.resb_icu_grammar.specs.Blanks.{Skip}
@@ -32,14 +33,29 @@ pub data Numbers (text : List ℕ) : ℕ → ℕ → List ℕ → Type 0 where
       → slice_index text j ≡ ascii.comma → Skip text (j + 1) k → Numbers text k to ns
       → Numbers text from to (v ∷ ns)
 
+-- the bytes that pairs of hex digits say, with blanks before a pair and behind it
+abbrev pub spaced_bytes : List ℕ → Option (List ℕ)
+spaced_bytes [] = Some []
+spaced_bytes (h ∷ []) = if h == ascii.space then Some [] else None
+spaced_bytes (h ∷ l ∷ rest) =
+    if h == ascii.space then spaced_bytes (l ∷ rest)
+    else byte_before (is_hex h && is_hex l) (hex_value h * 16 + hex_value l) (spaced_bytes rest)
+
+-- the bytes that a string at a place says as pairs of hex digits: unquoted strings in a row are
+-- joined by blanks, and none of these may stand in a pair; a quoted string has none
+abbrev pub digit_bytes : List ℕ → ℕ → List ℕ → Option (List ℕ)
+digit_bytes text from s =
+    if slice_index text from == ascii.quote then hex_bytes s else spaced_bytes s
+
 -- the content of a group that holds neither members nor entries
 pub data LeafContent (text : List ℕ) (from to : ℕ) : Kind → Tree → Type 0 where
   string_content : (i : ℕ) (s : List ℕ) → Text text from i s → Skip text i to
       → LeafContent text from to string_kind (string s)
   alias_content : (i : ℕ) (s : List ℕ) → Text text from i s → Skip text i to
       → LeafContent text from to alias_kind (alias s)
-  binary_content : (i : ℕ) (s bytes : List ℕ) → Text text from i s → hex_bytes s ≡ Some bytes
-      → Skip text i to → LeafContent text from to binary_kind (binary bytes)
+  binary_content : (i : ℕ) (s bytes : List ℕ) → Text text from i s
+      → digit_bytes text from s ≡ Some bytes → Skip text i to
+      → LeafContent text from to binary_kind (binary bytes)
   integer_content : (i v : ℕ) → Number text from i v → Skip text i to
       → LeafContent text from to integer_kind (integer (v % 2 ^ 28))
   no_numbers : from ≡ to → LeafContent text from to vector_kind (int_vector [])

@@ -2,7 +2,6 @@
 use Rattle.std.specs.Prelude.{◌≡◌, ◌≢◌, ◌+◌, ◌<◌, ℕ, Bool, true, false, None, List, []}
 use Rattle.std.specs.Prelude.{length, slice_index, if◌then◌else◌}
 use Rattle.resb_grammar.specs.Ascii as ascii
-use Rattle.resb_grammar.specs.Group.{hex_bytes}
 use Rattle.resb_tree.specs.Tree.{Tree}
 use Rattle.resb_icu_grammar.specs.Blanks.{Begins, Skip}
 use Rattle.resb_icu_grammar.specs.Kinds.{Kind, Names, string_kind, alias_kind, binary_kind}
@@ -11,7 +10,7 @@ use Rattle.resb_icu_grammar.specs.Words.{Text, KeyText, Name, Number, TypeName, 
 use Rattle.resb_icu_grammar.specs.Expected.{instead_of}
 use Rattle.resb_icu_grammar.specs.Faults.{Told}
 use Rattle.resb_icu_grammar.specs.Bundle.{Header}
-use Rattle.resb_icu_grammar.specs.Groups.{Last, is_member, ends_in_string}
+use Rattle.resb_icu_grammar.specs.Groups.{Last, is_member, ends_in_string, digit_bytes}
 use Rattle.resb_icu_grammar.specs.Machine.{Waiting, AreDistinct, Standing, among_members}
 use Rattle.resb_icu_grammar.specs.Machine.{among_entries, before_group, in_untyped, in_typed}
 use Rattle.resb_icu_grammar.specs.Machine.{behind_group, Reading, reading_at, at_root, BeginsGroup}
@@ -70,10 +69,10 @@ pub data LeafStuck (text : List ℕ) (from : ℕ) : Kind → ℕ → IcuExpected
   -- in `:bin{..}` a string of pairs of hex digits, and a `}` behind it
   no_digits : (to : ℕ) (x : IcuExpected) → NoStringAt text from → Told text from expect.String to x
       → LeafStuck text from binary_kind to x
-  odd_digits : (i : ℕ) (s : List ℕ) → Text text from i s → hex_bytes s ≡ None
+  odd_digits : (i : ℕ) (s : List ℕ) → Text text from i s → digit_bytes text from s ≡ None
       → LeafStuck text from binary_kind from expect.HexPairs
-  open_binary : (i j : ℕ) (s : List ℕ) → Text text from i s → (hex_bytes s ≢ None) → Skip text i j
-      → slice_index text j ≢ ascii.right_brace
+  open_binary : (i j : ℕ) (s : List ℕ) → Text text from i s → (digit_bytes text from s ≢ None)
+      → Skip text i j → slice_index text j ≢ ascii.right_brace
       → LeafStuck text from binary_kind j expect.RightBrace
   -- in `:int{..}` a number, and a `}` behind it
   no_integer : NoNumberAt text from → LeafStuck text from integer_kind from expect.Number

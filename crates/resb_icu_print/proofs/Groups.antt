@@ -1,7 +1,10 @@
 -- A printed tree is a group of ICU's form that means that tree.
 use Rattle.std.proofs.Common.{◌≡◌, ℕ, ◌+◌, Bool, true, false, List, []}
 use Rattle.std.proofs.Common.{◌∷◌, refl, sym, ◌∙◌, ap, subst, arith, inl, inr, ⊎_elim}
-use Rattle.std.specs.Prelude.{slice_index, codes, ◌==◌, ◌||◌, not, nat_eq, ◌⊎◌}
+use Rattle.std.specs.Prelude.{slice_index, codes, ◌==◌, ◌||◌, not, nat_eq, ◌⊎◌, Some}
+use Rattle.resb_grammar.specs.Group.{hex_bytes}
+use Rattle.resb_icu_grammar.specs.Pieces.{Joined}
+use Rattle.resb_icu_grammar.proofs.Lexical.{joined_first}
 use Rattle.std.proofs.Common.{Less}
 use Rattle.std.specs.Cmp.Lexicographic.{pointwise, texts_ties}
 use Rattle.std.specs.List.{list_any, AllByRecursion}
@@ -67,6 +70,14 @@ sorted_rest k t es h = h.1
 -- behind a key stands `{` or `:`
 opens : ℕ → Bool
 opens b = b == ascii.left_brace || b == ascii.colon
+
+-- what quoted digits say
+quoted_digits : (text : List ℕ) (from to : ℕ) (s bytes : List ℕ) → Joined text from to s
+    → hex_bytes s ≡ Some bytes → groups.digit_bytes text from s ≡ Some bytes
+quoted_digits text from to s bytes j e =
+    let t : (slice_index text from == ascii.quote) ≡ true =
+    ap (λ b. b == ascii.quote) (joined_first text from to s j) in
+    rw t e
 
 opens_stop : (b : ℕ) → opens b ≡ true → IsStop b
 unfolding opens
@@ -400,7 +411,8 @@ module _ (text : List ℕ) where
         (hex_free bs held) f in
         leaf_done binary_kind (binary bs)
         (head (brace + 1) (no_skip text (solid_at text f refl refl)))
-        (binary_content q (encode_lower bs) bs (words.quoted joined) (hex_read bs held)
+        (binary_content q (encode_lower bs) bs (words.quoted joined)
+        (quoted_digits text (brace + 1) q (encode_lower bs) bs joined (hex_read bs held))
         (no_skip text (solid_at text g refl refl))) g
     group_at n (integer v) at rest held taken h =
         let (brace, f, head) = opening_at text integer_kind (codes "int") (inr refl) refl h in

@@ -340,12 +340,12 @@ module _ (text : List ℕ) where
       let (solid, word, g) = word_read w b rest e stop.no_word f in
       let to = at + length w in
       let one : Unquoted text at to w = record {
-          begins = word_begins (slice_index text at) (word.run.each at (omega arith) word.some);
-          some = word.some;
-          fits = word.run.fits;
-          each = λ k low high. word_goes_on text k (word.run.each k low high);
-          longest = and_false _ _ (ap is_unquoted (byte_at text g) ∙ stop.no_string);
-          means = word.means;
+        begins = word_begins (slice_index text at) (word.run.each at (omega arith) word.some);
+        some = word.some;
+        fits = word.run.fits;
+        each = λ k low high. word_goes_on text k (word.run.each k low high);
+        longest = and_false _ _ (ap is_unquoted (byte_at text g) ∙ stop.no_string);
+        means = word.means;
       } in (
         solid,
         last_one at to to w one (no_skip text (solid_at text g stop.no_white stop.no_slash))

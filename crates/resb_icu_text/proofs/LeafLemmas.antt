@@ -5,7 +5,7 @@ use Rattle.std.proofs.Common.{arith, length-append}
 use Rattle.std.proofs.lemmas.Bool.{false≢true}
 use Rattle.std.specs.Prelude.{slice_index}
 use Rattle.resb_grammar.specs.Ascii as ascii
-use Rattle.resb_grammar.specs.Group.{hex_bytes}
+use Rattle.resb_icu_grammar.specs.Groups.{digit_bytes}
 use Rattle.resb_icu_grammar.specs.Kinds.{Kind, string_kind, alias_kind, binary_kind, integer_kind}
 use Rattle.resb_icu_grammar.specs.Kinds.{vector_kind}
 use Rattle.resb_grammar.specs.Limit.{number_bytes}
@@ -60,7 +60,8 @@ alias_stands text at i to s p c =
 
 -- the content of a binary
 pub binary_stands : (text : List ℕ) (at i to : ℕ) (s bytes : List ℕ) → Text text at i s
-    → hex_bytes s ≡ Some bytes → Closing text i to → Leaf text at binary_kind to (binary bytes)
+    → digit_bytes text at s ≡ Some bytes → Closing text i to
+    → Leaf text at binary_kind to (binary bytes)
 binary_stands text at i to s bytes p e c =
     record { content = binary_content i s bytes p e c.blanks; closes = c.closes }
 

@@ -17,6 +17,7 @@ mod QuotaLemmas
 mod MakingLemmas
 mod DraftLemmas
 mod DigitsLemmas
+mod PairsLemmas
 mod LeafLemmas
 mod ReadingLemmas
 mod StepsLemmas

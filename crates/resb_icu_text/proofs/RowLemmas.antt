@@ -22,7 +22,7 @@ use Rattle.resb_icu_grammar.specs.Limit.{is_put_together, joining_bytes}
 use Rattle.resb_grammar.specs.Limit.{request_bytes}
 use Rattle.resb_icu_grammar.specs.Words.{Text}
 use Rattle.resb_icu_grammar.proofs.Lexical.{Unquoted-one, Skip-one, row_first, joined_first, String-one}
-use Rattle.resb_icu_grammar.proofs.Lexical.{no_quote_word}
+use Rattle.resb_icu_grammar.proofs.Lexical.{no_quote_word, no_quote_row}
 use Rattle.resb_icu_text.specs.Lexemes.{Verbatim, a_word, a_piece}
 use Rattle.resb_icu_text.specs.Inner.Digits.{are_digits}
 use Rattle.resb_icu_text.specs.Inner.Found.{IsFound, Shows, is_whole, length_of}
@@ -205,13 +205,23 @@ row_goes_further text at mid end next first s h r n k =
           subst (λ i. begins_unquoted text i ≡ true) same (row_first text other end later j),
         )
 
+-- where a row begins stands no quote
+pub row_no_quote : (text : List ℕ) (from to : ℕ) (s : List ℕ) → UnquotedRow text from to s
+    → (slice_index text from == ascii.quote) ≡ false
+row_no_quote text from to s r = by (slice_index text from == ascii.quote) refl
+  where
+    by : (b : Bool) → (slice_index text from == ascii.quote) ≡ b
+        → (slice_index text from == ascii.quote) ≡ false
+    by false e = e
+    by true e = absurd (no_quote_row text from to s (grind (arith, nat_tests, e)) r)
+
 -- a row has a string at its place
 pub row_has_one : (text : List ℕ) (from to : ℕ) (s : List ℕ) → UnquotedRow text from to s
     → ((end : ℕ) (first : List ℕ) → Unquoted text from end first → ⊥) → ⊥
 row_has_one text from to s (last_one _ _ n _ p k h) f = f to s p
 row_has_one text from to s (one_more _ m n _ us vs p w k r) f = f m us p
 
--- no blank is in an unquoted string
+-- a blank ends one
 blank_ends : (b : ℕ) → is_unquoted b ≡ true → (b == ascii.space) ≡ false
 blank_ends b h = grind (arith, nat_tests, h)
 
@@ -237,7 +247,8 @@ no_blank text (suc n) at to e each fits =
     ∙ no_blank text n (at + 1) to (omega (arith, e)) (λ k low high. each k (omega (arith, low)) high)
     fits
 
-unquoted_no_blank : (text : List ℕ) (from to : ℕ) (s : List ℕ) → Unquoted text from to s
+-- no blank is in an unquoted string
+pub unquoted_no_blank : (text : List ℕ) (from to : ℕ) (s : List ℕ) → Unquoted text from to s
     → list_any (λ b. b == ascii.space) s ≡ false
 unquoted_no_blank text from to s w =
     ap (λ u. list_any (λ b. b == ascii.space) u) w.means

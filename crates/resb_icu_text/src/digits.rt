@@ -6,10 +6,12 @@ ghost use Rattle.resb_grammar.specs.Ascii as ascii;
 ghost use Rattle.resb_grammar.specs.Group as group;
 ghost use Rattle.resb_icu_grammar.specs.Pieces.{QuotedBytes, Joined};
 ghost use Rattle.resb_icu_text.specs.Inner.Digits.{are_digits, DigitAt, SaysPairs, SaysNone};
+ghost use Rattle.resb_icu_text.specs.Inner.Digits.{IsPairs, IsNoPairs};
 ghost use Rattle.resb_icu_text.specs.Inner.Found.{IsFound};
 
 use crate::blanks::{byte, skip};
 use crate::escapes::escape;
+use crate::rows::row_pairs;
 use crate::strings::{Found, Stands};
 use crate::turns::IcuTurns;
 
@@ -24,7 +26,7 @@ fn is_hex(number: u32) -> bool
 }
 
 /// Whether each byte is a hex digit.
-fn are_hex(bytes: &[u8]) -> bool
+pub(crate) fn are_hex(bytes: &[u8]) -> bool
     ensures { result ≡ are_digits bytes.now }
 {
     for b in bytes {
@@ -92,8 +94,26 @@ fn says_digits(found: Found<'_>, text: &str, from: usize) -> bool
     }
 }
 
+/// How many bytes a string says as pairs of hex digits without blanks, if it says such, where it was
+/// found at a place of a text.
+fn pairs_length(found: Found<'_>, text: &str, from: usize) -> Option<usize>
+    requires found { IsFound text.now from found }
+    ensures { MatchOption result (IsNoPairs text.now from found.entry)
+        (IsPairs text.now from found.entry) }
+{
+    if !says_digits(found, text, from) {
+        return None;
+    }
+    let length = found.length();
+    if length % 2 == 0 {
+        Some(length / 2)
+    } else {
+        None
+    }
+}
+
 /// How many bytes a string says as pairs of hex digits, if it says such, where it was found at a
-/// place of a text. Nothing is put together. Counts two turns for each byte of the text there: a
+/// place of a text: unquoted strings in a row each whole pairs. Nothing is put together. Counts two turns for each byte of the text there: a
 /// digit is looked at here, and decoded later.
 pub(crate) fn hex_length(
     found: Found<'_>,
@@ -108,13 +128,9 @@ pub(crate) fn hex_length(
 {
     turns.add(found.end - from);
     turns.add(found.end - from);
-    if !says_digits(found, text, from) {
-        return None;
-    }
-    let length = found.length();
-    if length % 2 == 0 {
-        Some(length / 2)
-    } else {
-        None
+    match found.stands {
+        Stands::InRow(_) => row_pairs(text, from, found.end),
+        Stands::Whole(_) => pairs_length(found, text, from),
+        Stands::InPieces(_) => pairs_length(found, text, from),
     }
 }

@@ -3,7 +3,7 @@
 ghost use Rattle.std.specs.Prelude.{◌≡◌, ◌≢◌, ◌+◌, ◌*◌, ◌<◌, ◌≤◌, length, MatchResult};
 ghost use Rattle.std.specs.Prelude.{◌-◌, None, Some, IfOk, slice_index};
 ghost use Rattle.resb_grammar.specs.Ascii as ascii;
-ghost use Rattle.resb_grammar.specs.Group.{hex_bytes};
+ghost use Rattle.resb_icu_grammar.specs.Groups.{digit_bytes};
 ghost use Rattle.resb_icu_grammar.specs.Kinds.{kind_of, string_kind, alias_kind, binary_kind};
 ghost use Rattle.resb_icu_grammar.specs.Kinds.{integer_kind, vector_kind, array_kind, table_kind};
 ghost use Rattle.resb_icu_text.specs.Inner.Found.{IsFound, turns_to_make};
@@ -16,7 +16,8 @@ use crate::blanks::{byte, skip};
 use crate::digits::hex_length;
 use crate::error::IcuTextError;
 use crate::quota::{BINARY_BYTE, BLOCK, Meter, NUMBER, asked_bytes};
-use crate::strings::{Found, found_or};
+use crate::rows::row_bytes;
+use crate::strings::{Found, Stands, found_or};
 use crate::turns::IcuTurns;
 use crate::words::number;
 use resb_grammar::bytes_of_hex;
@@ -118,12 +119,16 @@ fn decoded(
     turns: &mut IcuTurns,
 ) -> Result<Vec<u8>, NoMemory>
     requires found { IsFound text.now from found }
-    requires pairs { (is : IsFound text.now from found) → hex_bytes is.said ≢ None }
+    requires pairs { (is : IsFound text.now from found)
+        → digit_bytes text.now from is.said ≢ None }
     ensures bytes { IfOk result (λ v. (is : IsFound text.now from found.entry)
-        → hex_bytes is.said ≡ Some v.items) }
+        → digit_bytes text.now from is.said ≡ Some v.items) }
     ensures cost { let bytes = found.entry.end - from in turns.new.count
         ≤ turns.old.count + turns_to_make bytes found.entry.stands }
 {
+    if let Stands::InRow(_) = found.stands {
+        return row_bytes(alloc, text, from, found.end, turns);
+    }
     let digits = found.text(alloc, text, from, turns)?;
     match bytes_of_hex(alloc, &digits)? {
         Some(bytes) => Ok(bytes),

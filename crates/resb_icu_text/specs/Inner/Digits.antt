@@ -2,7 +2,9 @@
 use Rattle.std.specs.Prelude.{◌≡◌, ℕ, Bool, true, List, ◌∷◌, length, Some, None}
 use Rattle.std.specs.List.{list_all}
 use Rattle.resb_grammar.specs.Group.{is_hex, hex_bytes}
+use Rattle.resb_icu_grammar.specs.Groups.{spaced_bytes, digit_bytes}
 use Rattle.resb_icu_grammar.specs.Pieces.{QuotedBytes}
+use Rattle.resb_icu_grammar.specs.Unquoted.{UnquotedRow}
 use Rattle.resb_icu_text.specs.Inner.Found.{IsFound}
 use Rattle.resb_icu_text.specs.declared.strings.Found.{Found}
 
@@ -23,8 +25,29 @@ pub record DigitAt (text : List ℕ) (last : ℕ) (bytes : List ℕ) (to : ℕ) 
 abbrev pub SaysPairs : List ℕ → ℕ → Found → ℕ → Type 0
 SaysPairs text from f n =
     (is : IsFound text from f)
-    → (bytes : List ℕ) × (hex_bytes is.said ≡ Some bytes) × (length bytes ≡ n)
+    → (bytes : List ℕ) × (digit_bytes text from is.said ≡ Some bytes) × (length bytes ≡ n)
 
 -- it says no such pairs
 abbrev pub SaysNone : List ℕ → ℕ → Found → Type 0
-SaysNone text from f = (is : IsFound text from f) → hex_bytes is.said ≡ None
+SaysNone text from f = (is : IsFound text from f) → digit_bytes text from is.said ≡ None
+
+-- what it says is pairs of hex digits without blanks, for so many bytes
+abbrev pub IsPairs : List ℕ → ℕ → Found → ℕ → Type 0
+IsPairs text from f n =
+    (is : IsFound text from f)
+    → (bytes : List ℕ) × (hex_bytes is.said ≡ Some bytes) × (length bytes ≡ n)
+
+-- it is no such pairs
+abbrev pub IsNoPairs : List ℕ → ℕ → Found → Type 0
+IsNoPairs text from f = (is : IsFound text from f) → hex_bytes is.said ≡ None
+
+-- the unquoted strings in a row between these places say pairs of hex digits, for so many bytes
+abbrev pub RowSaysPairs : List ℕ → ℕ → ℕ → ℕ → Type 0
+RowSaysPairs text from end n =
+    (said : List ℕ) → UnquotedRow text from end said
+    → (bytes : List ℕ) × (spaced_bytes said ≡ Some bytes) × (length bytes ≡ n)
+
+-- they say no such pairs
+abbrev pub RowSaysNone : List ℕ → ℕ → ℕ → Type 0
+RowSaysNone text from end =
+    (said : List ℕ) → UnquotedRow text from end said → spaced_bytes said ≡ None

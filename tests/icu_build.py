@@ -1,18 +1,24 @@
 #!/usr/bin/env python3
 """Runs the build of ICU's own data twice, by `genrb` and with `resb` in its place.
 
-    icu_build.py SOURCE FOLDER [--resb PROGRAM] [--jobs N]
+    icu_build.py SOURCE FOLDER [--resb PROGRAM] [--jobs N] [--filters FILE]
 
-SOURCE is ICU's folder `source` with its `data` and `python`, as the source package of firefox-esr
-has it below `intl/icu`. FOLDER is a new one for what is built. ICU's `databuilder` writes the rules
-for `make`, which are run with the tools of Debian's icu-devtools: once as they are, and once with
-`genrb` as a link to the program `resb`, the proved one if none is named. What one of the two can't
-build is left out by `make -k`, and counted.
+SOURCE is ICU's folder `source` with its `data` and `python`, as `icu_sources.py` fetches it. FOLDER
+is a new one for what is built. ICU's `databuilder` writes the rules for `make`, which are run with
+the tools of Debian's icu-devtools: once as they are, and once with `genrb` as a link to the program
+`resb`, the proved one if none is named. What one of the two can't build is left out by `make -k`,
+and counted.
+
+FILE says in ICU's own form which data are left out, as ICU's `ICU_DATA_FILTER_FILE` does. The
+databuilder makes of it a file of rules for each text that it is about, and hands their folders to
+`genrb --filterDir`; a first line counts these files. Without a FILE it does so too, for the
+collations of two old character sets.
 
 Each `.res` file that both have is printed by ICU's `derb`, and the prints are compared. A line for
-each folder has how many files the one and the other have, how many have the same print, and their
-bytes, with the pool bundle. The last line is 'N passed, M failed': files of `genrb` that the other
-has with the same print, and those that it lacks or has otherwise.
+each folder has how many files the one and the other have, how many have the same print, how many
+the same bytes, and their bytes, with the pool bundle. A line for each other file of `genrb` says
+what the program said of its text. The last line is 'N passed, M failed': files of `genrb` that the
+other has with the same print, and those that it lacks or has otherwise.
 """
 import argparse
 import collections
@@ -29,27 +35,28 @@ TOOLS = ('genbrk', 'gencfu', 'gencnval', 'gendict', 'gensprep', 'icupkg', 'makec
 PATH = '/usr/bin:/usr/sbin:/bin:/sbin'
 
 
-def rules_of(source):
+def rules_of(source, filters):
     """ICU's rules for `make`."""
     words = [sys.executable, '-B', '-m', 'icutools.databuilder', '--mode', 'gnumake', '--src_dir',
-             f'{source}/data']
+             f'{source}/data', *(['--filter_file', str(filters)] if filters else [])]
     surroundings = {**os.environ, 'PYTHONPATH': f'{source}/python'}
     ran = subprocess.run(words, env=surroundings, capture_output=True, check=True)
     return ran.stdout
 
 
-def build(source, folder, genrb, jobs):
-    """Builds all data below the folder with this `genrb`."""
+def build(rules, source, folder, genrb, jobs):
+    """Builds all data below the folder by the rules, with this `genrb`."""
     tools = folder / 'tools'
     tools.mkdir(parents=True)
     for tool in TOOLS:
         (tools / tool).symlink_to(shutil.which(tool, path=PATH))
     (tools / 'genrb').symlink_to(genrb)
-    (folder / 'rules.mk').write_bytes(rules_of(source))
+    (folder / 'rules.mk').write_bytes(rules)
     (folder / 'Makefile').write_text('everything:\n\ninclude rules.mk\n\n'
                                      'everything: $(ICUDATA_ALL_OUTPUT_FILES)\n')
     words = ['make', '-k', f'-j{jobs}', f'TOOLBINDIR={tools}', 'INVOKE=', f'srcdir={source}/data',
-             f'OUT_DIR={folder}/out', f'TMP_DIR={folder}/tmp', 'MKINSTALLDIRS=mkdir -p']
+             f'OUT_DIR={folder}/out', f'TMP_DIR={folder}/tmp', 'MKINSTALLDIRS=mkdir -p',
+             'ICUDATA_CHAR=l']
     with open(folder / 'log', 'wb') as log:
         subprocess.run(words, cwd=folder, stdout=log, stderr=log, check=False)
     return folder / 'out'
@@ -78,30 +85,59 @@ def files_in(folder):
     return {str(it.relative_to(folder)) for it in folder.rglob('*.res')}
 
 
-def compare(theirs, ours, jobs):
-    """Prints a line for each folder, and answers how many files are the same, and how many not."""
-    wanted, had = files_in(theirs), files_in(ours)
-    both = sorted(it for it in wanted & had if not it.endswith('pool.res'))
+def is_pool(name):
+    """Whether a file of a name is a pool bundle."""
+    return name.endswith('pool.res')
+
+
+def size(path):
+    """The bytes of a file, none where it isn't there."""
+    return path.stat().st_size if path.exists() else 0
+
+
+def said_of(name, said):
+    """What the program said of the text that a file is made of."""
+    # a text and its file are one name but for the ending, and one folder but for the locales' own
+    place = f'{os.path.dirname(name) or "locales"}/{pathlib.Path(name).stem}.txt:'
+    found = [it.partition(place)[2] for it in said if place in it]
+    return found[0].strip() if found else 'missing'
+
+
+def same_prints(theirs, ours, names, jobs):
+    """The names under which both have one print."""
     with concurrent.futures.ThreadPoolExecutor(jobs) as pool:
-        right = pool.map(lambda it: is_same(theirs, ours, it), both)
-        same = {it for it, is_right in zip(both, right) if is_right}
-    rows = collections.defaultdict(lambda: [0] * 5)
+        right = pool.map(lambda it: is_same(theirs, ours, it), names)
+        return {it for it, is_right in zip(names, right) if is_right}
+
+
+def print_rows(theirs, ours, wanted, had, same):
+    """A line for each folder."""
+    rows = collections.defaultdict(lambda: [0] * 6)
     for name in sorted(wanted | had):
-        row = rows[os.path.dirname(name) or '.']
-        is_bundle = not name.endswith('pool.res')
-        row[0] += is_bundle and name in wanted
-        row[1] += is_bundle and name in had
-        row[2] += name in same
-        row[3] += (theirs / name).stat().st_size if name in wanted else 0
-        row[4] += (ours / name).stat().st_size if name in had else 0
-    print('folder | genrb | resb | same | bytes of genrb | bytes of resb')
+        row, one, other = rows[os.path.dirname(name) or '.'], theirs / name, ours / name
+        row[4] += size(one)
+        row[5] += size(other)
+        if not is_pool(name):
+            row[0] += name in wanted
+            row[1] += name in had
+            row[2] += name in same
+            row[3] += name in same and one.read_bytes() == other.read_bytes()
+    print('folder | genrb | resb | same | same bytes | bytes of genrb | bytes of resb')
     for folder, row in sorted(rows.items()):
         print(folder, *row, sep=' | ')
-    for name in sorted(it for it in wanted if not it.endswith('pool.res')):
-        if name not in same:
-            print(f'{name}: {"another print" if name in had else "missing"}')
-    bundles = sum(not it.endswith('pool.res') for it in wanted)
-    return len(same), bundles - len(same)
+    print('all', *(sum(column) for column in zip(*rows.values())), sep=' | ')
+
+
+def compare(theirs, ours, jobs):
+    """Prints what differs, and answers how many files are the same, and how many not."""
+    wanted, had = files_in(theirs), files_in(ours)
+    same = same_prints(theirs, ours, sorted(it for it in wanted & had if not is_pool(it)), jobs)
+    print_rows(theirs, ours, wanted, had, same)
+    said = (ours.parent / 'log').read_text(errors='replace').splitlines()
+    failed = [it for it in sorted(wanted - same) if it in wanted - had or not is_pool(it)]
+    for name in failed:
+        print(f'{name}: {"another print" if name in had else said_of(name, said)}')
+    return len(same), len(failed)
 
 
 def main():
@@ -111,10 +147,14 @@ def main():
     words.add_argument('folder', type=pathlib.Path)
     words.add_argument('--resb', type=pathlib.Path, default=RESB)
     words.add_argument('--jobs', type=int, default=2)
+    words.add_argument('--filters', type=pathlib.Path)
     given = words.parse_args()
     source, folder = given.source.resolve(), given.folder.resolve()
-    theirs = build(source, folder / 'genrb', shutil.which('genrb', path=PATH), given.jobs)
-    ours = build(source, folder / 'resb', given.resb.resolve(), given.jobs)
+    rules = rules_of(source, given.filters and given.filters.resolve())
+    theirs = build(rules, source, folder / 'genrb', shutil.which('genrb', path=PATH), given.jobs)
+    ours = build(rules, source, folder / 'resb', given.resb.resolve(), given.jobs)
+    filtered = sum(it.is_file() for it in (folder / 'resb/tmp/filters').rglob('*'))
+    print(f'{filtered} files of rules')
     passed, failed = compare(theirs, ours, given.jobs)
     print(f'{passed} passed, {failed} failed')
     return failed > 0

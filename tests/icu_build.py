@@ -6,8 +6,8 @@
 SOURCE is ICU's folder `source` with its `data` and `python`, as `icu_sources.py` fetches it. FOLDER
 is a new one for what is built. ICU's `databuilder` writes the rules for `make`, which are run with
 the tools of Debian's icu-devtools: once as they are, and once with `genrb` as a link to the program
-`resb`, the proved one if none is named. What one of the two can't build is left out by `make -k`,
-and counted.
+`resb`, the proved one if none is named. A call that fails stops none that is behind it, by `make
+-i`: what one of the two can't build is counted.
 
 FILE says in ICU's own form which data are left out, as ICU's `ICU_DATA_FILTER_FILE` does. The
 databuilder makes of it a file of rules for each text that it is about, and hands their folders to
@@ -16,15 +16,17 @@ collations of two old character sets.
 
 Each `.res` file that both have is printed by ICU's `derb`, and the prints are compared. A line for
 each folder has how many files the one and the other have, how many have the same print, how many
-the same bytes, and their bytes, with the pool bundle. A line for each other file of `genrb` says
-what the program said of its text. The last line is 'N passed, M failed': files of `genrb` that the
-other has with the same print, and those that it lacks or has otherwise.
+the same bytes, and their bytes, with the pool bundle. A line for each reason why the other has no
+such file, as the program said it of the text, has the files with it. The last line is 'N passed, M
+failed': files of `genrb` that the other has with the same print, and those that it lacks or has
+otherwise.
 """
 import argparse
 import collections
 import concurrent.futures
 import os
 import pathlib
+import re
 import shutil
 import subprocess
 import sys
@@ -54,7 +56,7 @@ def build(rules, source, folder, genrb, jobs):
     (folder / 'rules.mk').write_bytes(rules)
     (folder / 'Makefile').write_text('everything:\n\ninclude rules.mk\n\n'
                                      'everything: $(ICUDATA_ALL_OUTPUT_FILES)\n')
-    words = ['make', '-k', f'-j{jobs}', f'TOOLBINDIR={tools}', 'INVOKE=', f'srcdir={source}/data',
+    words = ['make', '-i', f'-j{jobs}', f'TOOLBINDIR={tools}', 'INVOKE=', f'srcdir={source}/data',
              f'OUT_DIR={folder}/out', f'TMP_DIR={folder}/tmp', 'MKINSTALLDIRS=mkdir -p',
              'ICUDATA_CHAR=l']
     with open(folder / 'log', 'wb') as log:
@@ -97,10 +99,11 @@ def size(path):
 
 def said_of(name, said):
     """What the program said of the text that a file is made of."""
-    # a text and its file are one name but for the ending, and one folder but for the locales' own
-    place = f'{os.path.dirname(name) or "locales"}/{pathlib.Path(name).stem}.txt:'
-    found = [it.partition(place)[2] for it in said if place in it]
-    return found[0].strip() if found else 'missing'
+    # the files of two folders of texts stand in the upper one
+    folder = os.path.dirname(name) or '(?:locales|misc)'
+    place = re.compile(rf'/{folder}/{pathlib.Path(name).stem}\.txt:[\d:]* (.*)')
+    found = [it[1] for it in map(place.search, said) if it]
+    return found[0] if found else 'missing'
 
 
 def same_prints(theirs, ours, names, jobs):
@@ -135,8 +138,11 @@ def compare(theirs, ours, jobs):
     print_rows(theirs, ours, wanted, had, same)
     said = (ours.parent / 'log').read_text(errors='replace').splitlines()
     failed = [it for it in sorted(wanted - same) if it in wanted - had or not is_pool(it)]
+    reasons = collections.defaultdict(list)
     for name in failed:
-        print(f'{name}: {"another print" if name in had else said_of(name, said)}')
+        reasons['another print' if name in had else said_of(name, said)].append(name)
+    for reason, names in reasons.items():
+        print(f'{len(names)} {reason}: {" ".join(names)}')
     return len(same), len(failed)
 
 

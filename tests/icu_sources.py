@@ -6,10 +6,11 @@
 WHICH is a version of ICU: 67, 71, 72, 73, 77 or 78, and 73 where none is said. Each is a part of a
 source package of Debian's bookworm, as SOURCES says: the newest of that name whose version begins
 as there. Its tarball, of 26 to 800 MB, is fetched by apt's own helper, which compares its sum with
-that of the signed list. ICU's `data` and `python` are taken out of it, and the `data_filter.json`
-of Firefox, and put below FOLDER/WHICH as `source/data`, `source/python` and `data_filter.json`;
-then the tarball is removed. apt's lists stand in FOLDER/lists; root isn't needed, nor a line
-`deb-src`. A line says for each where it lies, or what couldn't be had, which is status 1.
+that of the signed list. ICU's `data`, its `python` and its other texts are taken out of it, and the
+`data_filter.json` of Firefox, and put below FOLDER/WHICH as `source` and `data_filter.json`; then
+the tarball is removed. That of ICU 72 has no texts of locales. apt's lists stand in FOLDER/lists;
+root isn't needed, nor a line `deb-src`. A line says for each where it lies, or what couldn't be
+had, which is status 1.
 """
 import argparse
 import pathlib
@@ -20,12 +21,12 @@ import sys
 
 # by ICU's version: the package, how its version begins, and where ICU lies in its tarball
 SOURCES = {
-    '67': ('mozjs78', '78.', 'intl/icu'),
-    '71': ('mozjs102', '102.', 'intl/icu'),
+    '67': ('mozjs78', '78.', 'intl/icu/'),
+    '71': ('mozjs102', '102.', 'intl/icu/'),
     '72': ('icu', '72.', ''),
-    '73': ('firefox-esr', '115.', 'intl/icu'),
-    '77': ('firefox-esr', '140.', 'intl/icu'),
-    '78': ('firefox-esr', '153.', 'intl/icu'),
+    '73': ('firefox-esr', '115.', 'intl/icu/'),
+    '77': ('firefox-esr', '140.', 'intl/icu/'),
+    '78': ('firefox-esr', '153.', 'intl/icu/'),
 }
 KEYS = '/usr/share/keyrings/debian-archive-keyring.gpg'
 LISTED = f'''deb-src [signed-by={KEYS}] http://deb.debian.org/debian bookworm main
@@ -78,10 +79,10 @@ def take_out(tarball, inside, target):
     """Puts the parts of a tarball that are wanted where they shall stand."""
     unpacked = target / 'unpacked'
     unpacked.mkdir(parents=True)
-    patterns = ['*/source/data/*', '*/source/python/*', '*/data_filter.json']
+    wanted = ['source/data/*', 'source/*.txt', 'source/python/*', 'data_filter.json']
     said_by('tar', '-xf', str(tarball), '-C', str(unpacked), '--wildcards',
-            *(f'*/{inside}/{it[2:]}' if inside else it for it in patterns[:3 if inside else 2]))
-    for found in next(unpacked.glob(f'*/{inside}' if inside else '*')).iterdir():
+            *(f'*/{inside}{it}' for it in wanted[:4 if inside else 3]))
+    for found in next(unpacked.glob(f'*/{inside}')).iterdir():
         found.rename(target / found.name)
     shutil.rmtree(unpacked)
 

@@ -11,12 +11,13 @@ differ, with the reasons that are found (genrb lets a key lie at the end of a lo
 records that are alike in size and in what sharing saves stand in another order), and files of
 different trees. A text that we alone take, of another tree, or of one tree in another file for no
 reason that is found, is listed.
-Trees are compared as the prints of ICU's derb, and as the texts of `resb dump --icu` where `resb`
-takes genrb's file, which it refuses with strings of the older form. A line says how much processor
-time all processes of each program took. With --back each file that we make is printed by `resb dump
---icu` too, that print is compiled by genrb, and the two trees are compared; what comes back
-otherwise is listed. At the end a table has a row for each folder. The status is 1 where anything is
-listed.
+Trees are compared as the prints of ICU's derb, and as the texts of `resb dump --icu`: where derb
+prints nothing, by these alone, which is said, and where `resb` refuses genrb's file, since its
+strings are of the older form, by derb's. A line says how much processor time all processes of each
+program took.
+With --back each file that we make is printed by `resb dump --icu` too, that print is compiled by
+genrb, and the two trees are compared; what comes back otherwise is listed. At the end a table has a
+row for each folder. The status is 1 where anything is listed.
 """
 import argparse
 import collections
@@ -60,18 +61,30 @@ def derb_print(file):
     return text.partition(b"\n%s" % file.stem.encode())[2] or None
 
 
-def is_one_tree(program, ours, theirs):
-    """Whether two files have one tree and flag."""
+# what two files are that aren't equal
+SAME = "equal trees"
+SAME_HERE = "equal trees, by resb's reader alone"
+DIFFERENT = "different trees"
+
+
+def beside(program, ours, theirs):
+    """What two files are by their trees and flags."""
     prints = derb_print(ours), derb_print(theirs)
     trees = tree_of(program, ours), tree_of(program, theirs)
     pairs = [it for it in (prints, trees) if it[1] is not None]
-    return bool(pairs) and all(one == other for one, other in pairs)
+    if not pairs or any(one != other for one, other in pairs):
+        return DIFFERENT
+    return SAME if prints[1] is not None else SAME_HERE
 
 
-# what shouldn't come of a text
-UNEXPLAINED = "equal trees: for another reason"
 ALONE = "refused here alone: "
-LISTED = ("taken here alone", "different trees", UNEXPLAINED)
+TAKEN_ALONE = "taken here alone"
+OTHER_REASON = "for another reason"
+
+
+def is_listed(what):
+    """Whether it shouldn't come of a text."""
+    return what in (TAKEN_ALONE, DIFFERENT) or what.endswith(OTHER_REASON)
 
 
 def words_of(said):
@@ -134,15 +147,15 @@ def compare(program, text, folder, took):
     took["genrb"] += processor_time() - middle
     theirs = next(below.glob("*.res"), None)
     if theirs is None:
-        return "taken here alone" if taken else "refused by both"
+        return TAKEN_ALONE if taken else "refused by both"
     if not taken:
         return ALONE + words_of(said)
     if ours.read_bytes() == theirs.read_bytes():
         return "equal files"
-    if not is_one_tree(program, ours, theirs):
-        return "different trees"
-    found = " and ".join(reasons(ours, theirs))
-    return "equal trees: " + found if found else UNEXPLAINED
+    what = beside(program, ours, theirs)
+    if what == DIFFERENT:
+        return what
+    return "%s: %s" % (what, " and ".join(reasons(ours, theirs)) or OTHER_REASON)
 
 
 def comes_back(program, folder):
@@ -154,7 +167,7 @@ def comes_back(program, folder):
     print_of_ours.write_bytes(run(program, "dump", "--icu", ours)[0])
     run("genrb", "-q", "-e", "UTF-8", "-C", "-d", below, print_of_ours)
     theirs = next(below.glob("*.res"), None)
-    return theirs is not None and is_one_tree(program, ours, theirs)
+    return theirs is not None and beside(program, ours, theirs) != DIFFERENT
 
 
 def compare_all(program, texts, asks_back):
@@ -166,7 +179,7 @@ def compare_all(program, texts, asks_back):
         for text in texts:
             what = compare(program, text, made, took)
             counts[what] += 1
-            if what in LISTED:
+            if is_listed(what):
                 listed.append("%s: %s" % (what, text))
             if asks_back and (made / "ours.res").exists():
                 is_back = comes_back(program, made)
@@ -180,13 +193,13 @@ def compare_all(program, texts, asks_back):
 def row(folder, texts, counts):
     """A folder's row of the table."""
     equal = counts["equal files"]
-    trees = equal + sum(it for what, it in counts.items() if what.startswith("equal trees"))
-    ours = trees + counts["different trees"]
+    trees = equal + sum(it for what, it in counts.items() if what.startswith(SAME))
+    ours = trees + counts[DIFFERENT]
     alone = [(what.removeprefix(ALONE), it) for what, it in counts.most_common()
              if what.startswith(ALONE)]
     theirs = ours + sum(it for _, it in alone)
     reasons = ", ".join("%d %s" % (it, what) for what, it in alone) or "none"
-    columns = [folder, len(texts), theirs, ours + counts["taken here alone"], trees, equal, reasons]
+    columns = [folder, len(texts), theirs, ours + counts[TAKEN_ALONE], trees, equal, reasons]
     return "| %s |" % " | ".join(str(it) for it in columns)
 
 

@@ -14,12 +14,13 @@ databuilder makes of it a file of rules for each text that it is about, and hand
 `genrb --filterDir`; a first line counts these files. Without a FILE it does so too, for the
 collations of two old character sets.
 
-Each `.res` file that both have is printed by ICU's `derb`, and the prints are compared. A line for
-each folder has how many files the one and the other have, how many have the same print, how many
-the same bytes, and their bytes, with the pool bundle. A line for each reason why the other has no
-such file, as the program said it of the text, has the files with it. The last line is 'N passed, M
-failed': files of `genrb` that the other has with the same print, and those that it lacks or has
-otherwise.
+Each `.res` file that both have with other bytes is printed by ICU's `derb`, and the prints are
+compared; where `derb` prints nothing, as on some aliases, those of `resb dump --icu`. A line for
+each folder has how many files the one and the other have, how many are the same or have the same
+print, how many the same bytes, and their bytes, with the pool bundle. A line for each reason why
+the other has no such file, as the program said it of the text, has the files with it. The last line
+is 'N passed, M failed': files of `genrb` that the other has with the same print, and those that it
+lacks or has otherwise.
 """
 import argparse
 import collections
@@ -35,6 +36,8 @@ TOP = pathlib.Path(__file__).resolve().parent.parent
 RESB = TOP / 'crates/resb_cli/out/resb_cli'
 TOOLS = ('genbrk', 'gencfu', 'gencnval', 'gendict', 'gensprep', 'icupkg', 'makeconv')
 PATH = '/usr/bin:/usr/sbin:/bin:/sbin'
+# the seconds after which derb, which goes round for ever on some aliases, prints nothing more
+PATIENCE = 10
 
 
 def rules_of(source, filters):
@@ -65,21 +68,33 @@ def build(rules, source, folder, genrb, jobs):
 
 
 def printed(folder, name):
-    """What ICU's `derb` prints of a file."""
-    # it prints the folder that it was given, so that this is the one in which it runs
-    words = ['derb', '-c', '-A', '-s', '.', pathlib.Path(name).name]
+    """What ICU's `derb` prints of a file. None where it prints nothing."""
+    # it prints the folder that it was given, so that this is the one in which it runs; of a file
+    # in `.`, without the slash, it finds none, and its status is 0
+    words = ['derb', '-c', '-A', '-s', './', pathlib.Path(name).name]
     place = (folder / name).parent
     try:
-        ran = subprocess.run(words, cwd=place, capture_output=True, timeout=20, check=False)
+        ran = subprocess.run(words, cwd=place, capture_output=True, timeout=PATIENCE, check=False)
     except subprocess.TimeoutExpired:
         return None
-    return ran.stdout if ran.returncode == 0 else None
+    return ran.stdout or None
 
 
-def is_same(theirs, ours, name):
-    """Whether both files of a name have one print, and there is one."""
+def dumped(resb, path):
+    """What `resb` prints of a file, which has ICU's own form or is JSON."""
+    ran = subprocess.run([resb, 'dump', '--icu', path], capture_output=True, check=True)
+    return ran.stdout
+
+
+def judge(resb, theirs, ours, name):
+    """By which reader both files of a name have one tree, if they have one."""
+    one, other = theirs / name, ours / name
+    if one.read_bytes() == other.read_bytes():
+        return 'derb'
     wanted = printed(theirs, name)
-    return wanted is not None and wanted == printed(ours, name)
+    if wanted is not None:
+        return 'derb' if wanted == printed(ours, name) else None
+    return 'resb' if dumped(resb, one) == dumped(resb, other) else None
 
 
 def files_in(folder):
@@ -106,11 +121,11 @@ def said_of(name, said):
     return found[0] if found else 'missing'
 
 
-def same_prints(theirs, ours, names, jobs):
-    """The names under which both have one print."""
+def judges(resb, theirs, ours, names, jobs):
+    """The names under which both have one tree, with the reader that says so."""
     with concurrent.futures.ThreadPoolExecutor(jobs) as pool:
-        right = pool.map(lambda it: is_same(theirs, ours, it), names)
-        return {it for it, is_right in zip(names, right) if is_right}
+        found = pool.map(lambda it: judge(resb, theirs, ours, it), names)
+        return {name: reader for name, reader in zip(names, found) if reader}
 
 
 def print_rows(theirs, ours, wanted, had, same):
@@ -118,26 +133,29 @@ def print_rows(theirs, ours, wanted, had, same):
     rows = collections.defaultdict(lambda: [0] * 6)
     for name in sorted(wanted | had):
         row, one, other = rows[os.path.dirname(name) or '.'], theirs / name, ours / name
-        row[4] += size(one)
-        row[5] += size(other)
         if not is_pool(name):
             row[0] += name in wanted
             row[1] += name in had
             row[2] += name in same
             row[3] += name in same and one.read_bytes() == other.read_bytes()
+        row[4] += size(one)
+        row[5] += size(other)
     print('folder | genrb | resb | same | same bytes | bytes of genrb | bytes of resb')
     for folder, row in sorted(rows.items()):
         print(folder, *row, sep=' | ')
     print('all', *(sum(column) for column in zip(*rows.values())), sep=' | ')
 
 
-def compare(theirs, ours, jobs):
+def compare(resb, theirs, ours, jobs):
     """Prints what differs, and answers how many files are the same, and how many not."""
     wanted, had = files_in(theirs), files_in(ours)
-    same = same_prints(theirs, ours, sorted(it for it in wanted & had if not is_pool(it)), jobs)
+    both = sorted(it for it in wanted & had if not is_pool(it))
+    same = judges(resb, theirs, ours, both, jobs)
     print_rows(theirs, ours, wanted, had, same)
+    by_resb = [name for name, reader in same.items() if reader == 'resb']
+    print(f'{len(by_resb)} the same by resb dump, where derb prints nothing: {" ".join(by_resb)}')
     said = (ours.parent / 'log').read_text(errors='replace').splitlines()
-    failed = [it for it in sorted(wanted - same) if it in wanted - had or not is_pool(it)]
+    failed = [it for it in sorted(wanted - set(same)) if it in wanted - had or not is_pool(it)]
     reasons = collections.defaultdict(list)
     for name in failed:
         reasons['another print' if name in had else said_of(name, said)].append(name)
@@ -155,13 +173,13 @@ def main():
     words.add_argument('--jobs', type=int, default=2)
     words.add_argument('--filters', type=pathlib.Path)
     given = words.parse_args()
-    source, folder = given.source.resolve(), given.folder.resolve()
+    source, folder, resb = (it.resolve() for it in (given.source, given.folder, given.resb))
     rules = rules_of(source, given.filters and given.filters.resolve())
     theirs = build(rules, source, folder / 'genrb', shutil.which('genrb', path=PATH), given.jobs)
-    ours = build(rules, source, folder / 'resb', given.resb.resolve(), given.jobs)
+    ours = build(rules, source, folder / 'resb', resb, given.jobs)
     filtered = sum(it.is_file() for it in (folder / 'resb/tmp/filters').rglob('*'))
     print(f'{filtered} files of rules')
-    passed, failed = compare(theirs, ours, given.jobs)
+    passed, failed = compare(resb, theirs, ours, given.jobs)
     print(f'{passed} passed, {failed} failed')
     return failed > 0
 

@@ -6,11 +6,11 @@
 WHICH is a version of ICU: 67, 71, 72, 73, 77 or 78, and 73 where none is said. Each is a part of a
 source package of Debian's bookworm, as SOURCES says: the newest of that name whose version begins
 as there. Its tarball, of 26 to 800 MB, is fetched by apt's own helper, which compares its sum with
-that of the signed list. ICU's `data`, its `python` and its other texts are taken out of it, and the
-`data_filter.json` of Firefox, and put below FOLDER/WHICH as `source` and `data_filter.json`; then
-the tarball is removed. That of ICU 72 has no texts of locales. apt's lists stand in FOLDER/lists;
-root isn't needed, nor a line `deb-src`. A line says for each where it lies, or what couldn't be
-had, which is status 1.
+that of the signed list. ICU's `data` and `python`, the data of its tests and its other texts are
+taken out of it, and the `data_filter.json` of Firefox, and put below FOLDER/WHICH as `source` and
+`data_filter.json`; then the tarball is removed. That of ICU 72 has no texts of locales. apt's lists
+stand in FOLDER/lists; root isn't needed, nor a line `deb-src`. A line says for each where it lies,
+or what couldn't be had, which is status 1.
 """
 import argparse
 import pathlib
@@ -79,9 +79,10 @@ def take_out(tarball, inside, target):
     """Puts the parts of a tarball that are wanted where they shall stand."""
     unpacked = target / 'unpacked'
     unpacked.mkdir(parents=True)
-    wanted = ['source/data/*', 'source/*.txt', 'source/python/*', 'data_filter.json']
+    wanted = ['source/*.txt', 'source/data/*', 'source/python/*', 'source/test/testdata/*',
+              'data_filter.json']
     said_by('tar', '-xf', str(tarball), '-C', str(unpacked), '--wildcards',
-            *(f'*/{inside}{it}' for it in wanted[:4 if inside else 3]))
+            *(f'*/{inside}{it}' for it in (wanted if inside else wanted[:-1])))
     for found in next(unpacked.glob(f'*/{inside}')).iterdir():
         found.rename(target / found.name)
     shutil.rmtree(unpacked)

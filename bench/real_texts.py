@@ -3,7 +3,7 @@
 
     real_texts.py [NAME ..]               all four texts or these: locales, unit, zone, lang
     real_texts.py --make FOLDER           writes the texts there, and times nothing
-    real_texts.py --prints FOLDER         writes there what derb prints of each file, for icu_texts.py
+    real_texts.py --prints FOLDER         writes what derb prints of each file, for icu_texts.py
     real_texts.py --turns N ..            the least of N runs, in place of five
 
 `--program PATH` in front of these times another program; it may be given more than once. `--resb

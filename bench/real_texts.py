@@ -3,6 +3,7 @@
 
     real_texts.py [NAME ..]               all four texts or these: locales, unit, zone, lang
     real_texts.py --make FOLDER           writes the texts there, and times nothing
+    real_texts.py --prints FOLDER         writes what derb prints of each file, for icu_texts.py
     real_texts.py --turns N ..            the least of N runs, in place of five
 
 `--program PATH` in front of these times another program; it may be given more than once. `--resb
@@ -115,13 +116,30 @@ def make(folder):
     return made
 
 
+def write_prints(folder):
+    """Writes below a folder what derb prints of each file of the library, where it prints it."""
+    with tempfile.TemporaryDirectory() as made:
+        files = pathlib.Path(made)
+        cut(files)
+        for path in sorted(files.rglob('*.res')):
+            text = printed(path)
+            if text:
+                target = folder / path.relative_to(files).with_suffix('.txt')
+                target.parent.mkdir(parents=True, exist_ok=True)
+                target.write_text(text)
+
+
 def main(words):
     programs, turns, names = [], 5, []
     if '--help' in words:
         print(__doc__)
         return
-    if words and words[-1] in ('--program', '--resb', '--icu', '--turns', '--make'):
+    if words and words[-1] in ('--program', '--resb', '--icu', '--turns', '--make',
+                               '--prints'):
         sys.exit(words[-1] + ' takes a word more')
+    if words[:1] == ['--prints']:
+        write_prints(pathlib.Path(words[1]).resolve())
+        return
     while words:
         word = words.pop(0)
         if word == '--program':

@@ -1,24 +1,33 @@
 #!/usr/bin/env python3
 """Runs the build of ICU's own data twice, by `genrb` and with `resb` in its place.
 
-    icu_build.py SOURCE FOLDER [--resb PROGRAM] [--jobs N]
+    icu_build.py SOURCE FOLDER [--resb PROGRAM] [--jobs N] [--filters FILE]
 
-SOURCE is ICU's folder `source` with its `data` and `python`, as the source package of firefox-esr
-has it below `intl/icu`. FOLDER is a new one for what is built. ICU's `databuilder` writes the rules
-for `make`, which are run with the tools of Debian's icu-devtools: once as they are, and once with
-`genrb` as a link to the program `resb`, the proved one if none is named. What one of the two can't
-build is left out by `make -k`, and counted.
+SOURCE is ICU's folder `source` with its `data` and `python`, as `icu_sources.py` fetches it. FOLDER
+is a new one for what is built. ICU's `databuilder` writes the rules for `make`, which are run with
+the tools of Debian's icu-devtools: once as they are, and once with `genrb` as a link to the program
+`resb`, the proved one if none is named. A call that fails stops none that is behind it, by `make
+-i`: what one of the two can't build is counted.
 
-Each `.res` file that both have is printed by ICU's `derb`, and the prints are compared. A line for
-each folder has how many files the one and the other have, how many have the same print, and their
-bytes, with the pool bundle. The last line is 'N passed, M failed': files of `genrb` that the other
-has with the same print, and those that it lacks or has otherwise.
+FILE says in ICU's own form which data are left out, as ICU's `ICU_DATA_FILTER_FILE` does. The
+databuilder makes of it a file of rules for each text that it is about, and hands their folders to
+`genrb --filterDir`; a first line counts these files. Without a FILE it does so too, for the
+collations of two old character sets.
+
+Each `.res` file that both have with other bytes is printed by ICU's `derb`, and the prints are
+compared; where `derb` prints nothing, as on some aliases, those of `resb dump --icu`. A line for
+each folder has how many files the one and the other have, how many are the same or have the same
+print, how many the same bytes, and their bytes, with the pool bundle. A line for each reason why
+the other has no such file, as the program said it of the text, has the files with it. The last line
+is 'N passed, M failed': files of `genrb` that the other has with the same print, and those that it
+lacks or has otherwise.
 """
 import argparse
 import collections
 import concurrent.futures
 import os
 import pathlib
+import re
 import shutil
 import subprocess
 import sys
@@ -27,50 +36,65 @@ TOP = pathlib.Path(__file__).resolve().parent.parent
 RESB = TOP / 'crates/resb_cli/out/resb_cli'
 TOOLS = ('genbrk', 'gencfu', 'gencnval', 'gendict', 'gensprep', 'icupkg', 'makeconv')
 PATH = '/usr/bin:/usr/sbin:/bin:/sbin'
+# the seconds after which derb, which goes round for ever on some aliases, prints nothing more
+PATIENCE = 10
 
 
-def rules_of(source):
+def rules_of(source, filters):
     """ICU's rules for `make`."""
     words = [sys.executable, '-B', '-m', 'icutools.databuilder', '--mode', 'gnumake', '--src_dir',
-             f'{source}/data']
+             f'{source}/data', *(['--filter_file', str(filters)] if filters else [])]
     surroundings = {**os.environ, 'PYTHONPATH': f'{source}/python'}
     ran = subprocess.run(words, env=surroundings, capture_output=True, check=True)
     return ran.stdout
 
 
-def build(source, folder, genrb, jobs):
-    """Builds all data below the folder with this `genrb`."""
+def build(rules, source, folder, genrb, jobs):
+    """Builds all data below the folder by the rules, with this `genrb`."""
     tools = folder / 'tools'
     tools.mkdir(parents=True)
     for tool in TOOLS:
         (tools / tool).symlink_to(shutil.which(tool, path=PATH))
     (tools / 'genrb').symlink_to(genrb)
-    (folder / 'rules.mk').write_bytes(rules_of(source))
+    (folder / 'rules.mk').write_bytes(rules)
     (folder / 'Makefile').write_text('everything:\n\ninclude rules.mk\n\n'
                                      'everything: $(ICUDATA_ALL_OUTPUT_FILES)\n')
-    words = ['make', '-k', f'-j{jobs}', f'TOOLBINDIR={tools}', 'INVOKE=', f'srcdir={source}/data',
-             f'OUT_DIR={folder}/out', f'TMP_DIR={folder}/tmp', 'MKINSTALLDIRS=mkdir -p']
+    words = ['make', '-i', f'-j{jobs}', f'TOOLBINDIR={tools}', 'INVOKE=', f'srcdir={source}/data',
+             f'OUT_DIR={folder}/out', f'TMP_DIR={folder}/tmp', 'MKINSTALLDIRS=mkdir -p',
+             'ICUDATA_CHAR=l']
     with open(folder / 'log', 'wb') as log:
         subprocess.run(words, cwd=folder, stdout=log, stderr=log, check=False)
     return folder / 'out'
 
 
 def printed(folder, name):
-    """What ICU's `derb` prints of a file."""
-    # it prints the folder that it was given, so that this is the one in which it runs
-    words = ['derb', '-c', '-A', '-s', '.', pathlib.Path(name).name]
+    """What ICU's `derb` prints of a file. None where it prints nothing."""
+    # it prints the folder that it was given, so that this is the one in which it runs; of a file
+    # in `.`, without the slash, it finds none, and its status is 0
+    words = ['derb', '-c', '-A', '-s', './', pathlib.Path(name).name]
     place = (folder / name).parent
     try:
-        ran = subprocess.run(words, cwd=place, capture_output=True, timeout=20, check=False)
+        ran = subprocess.run(words, cwd=place, capture_output=True, timeout=PATIENCE, check=False)
     except subprocess.TimeoutExpired:
         return None
-    return ran.stdout if ran.returncode == 0 else None
+    return ran.stdout or None
 
 
-def is_same(theirs, ours, name):
-    """Whether both files of a name have one print, and there is one."""
+def dumped(resb, path):
+    """What `resb` prints of a file, which has ICU's own form or is JSON."""
+    ran = subprocess.run([resb, 'dump', '--icu', path], capture_output=True, check=True)
+    return ran.stdout
+
+
+def judge(resb, theirs, ours, name):
+    """By which reader both files of a name have one tree, if they have one."""
+    one, other = theirs / name, ours / name
+    if one.read_bytes() == other.read_bytes():
+        return 'derb'
     wanted = printed(theirs, name)
-    return wanted is not None and wanted == printed(ours, name)
+    if wanted is not None:
+        return 'derb' if wanted == printed(ours, name) else None
+    return 'resb' if dumped(resb, one) == dumped(resb, other) else None
 
 
 def files_in(folder):
@@ -78,30 +102,66 @@ def files_in(folder):
     return {str(it.relative_to(folder)) for it in folder.rglob('*.res')}
 
 
-def compare(theirs, ours, jobs):
-    """Prints a line for each folder, and answers how many files are the same, and how many not."""
-    wanted, had = files_in(theirs), files_in(ours)
-    both = sorted(it for it in wanted & had if not it.endswith('pool.res'))
+def is_pool(name):
+    """Whether a file of a name is a pool bundle."""
+    return name.endswith('pool.res')
+
+
+def size(path):
+    """The bytes of a file, none where it isn't there."""
+    return path.stat().st_size if path.exists() else 0
+
+
+def said_of(name, said):
+    """What the program said of the text that a file is made of."""
+    # the files of two folders of texts stand in the upper one
+    folder = os.path.dirname(name) or '(?:locales|misc)'
+    place = re.compile(rf'/{folder}/{pathlib.Path(name).stem}\.txt:[\d:]* (.*)')
+    found = [it[1] for it in map(place.search, said) if it]
+    return found[0] if found else 'missing'
+
+
+def judges(resb, theirs, ours, names, jobs):
+    """The names under which both have one tree, with the reader that says so."""
     with concurrent.futures.ThreadPoolExecutor(jobs) as pool:
-        right = pool.map(lambda it: is_same(theirs, ours, it), both)
-        same = {it for it, is_right in zip(both, right) if is_right}
-    rows = collections.defaultdict(lambda: [0] * 5)
+        found = pool.map(lambda it: judge(resb, theirs, ours, it), names)
+        return {name: reader for name, reader in zip(names, found) if reader}
+
+
+def print_rows(theirs, ours, wanted, had, same):
+    """A line for each folder."""
+    rows = collections.defaultdict(lambda: [0] * 6)
     for name in sorted(wanted | had):
-        row = rows[os.path.dirname(name) or '.']
-        is_bundle = not name.endswith('pool.res')
-        row[0] += is_bundle and name in wanted
-        row[1] += is_bundle and name in had
-        row[2] += name in same
-        row[3] += (theirs / name).stat().st_size if name in wanted else 0
-        row[4] += (ours / name).stat().st_size if name in had else 0
-    print('folder | genrb | resb | same | bytes of genrb | bytes of resb')
+        row, one, other = rows[os.path.dirname(name) or '.'], theirs / name, ours / name
+        if not is_pool(name):
+            row[0] += name in wanted
+            row[1] += name in had
+            row[2] += name in same
+            row[3] += name in same and one.read_bytes() == other.read_bytes()
+        row[4] += size(one)
+        row[5] += size(other)
+    print('folder | genrb | resb | same | same bytes | bytes of genrb | bytes of resb')
     for folder, row in sorted(rows.items()):
         print(folder, *row, sep=' | ')
-    for name in sorted(it for it in wanted if not it.endswith('pool.res')):
-        if name not in same:
-            print(f'{name}: {"another print" if name in had else "missing"}')
-    bundles = sum(not it.endswith('pool.res') for it in wanted)
-    return len(same), bundles - len(same)
+    print('all', *(sum(column) for column in zip(*rows.values())), sep=' | ')
+
+
+def compare(resb, theirs, ours, jobs):
+    """Prints what differs, and answers how many files are the same, and how many not."""
+    wanted, had = files_in(theirs), files_in(ours)
+    both = sorted(it for it in wanted & had if not is_pool(it))
+    same = judges(resb, theirs, ours, both, jobs)
+    print_rows(theirs, ours, wanted, had, same)
+    by_resb = [name for name, reader in same.items() if reader == 'resb']
+    print(f'{len(by_resb)} the same by resb dump, where derb prints nothing: {" ".join(by_resb)}')
+    said = (ours.parent / 'log').read_text(errors='replace').splitlines()
+    failed = [it for it in sorted(wanted - set(same)) if it in wanted - had or not is_pool(it)]
+    reasons = collections.defaultdict(list)
+    for name in failed:
+        reasons['another print' if name in had else said_of(name, said)].append(name)
+    for reason, names in reasons.items():
+        print(f'{len(names)} {reason}: {" ".join(names)}')
+    return len(same), len(failed)
 
 
 def main():
@@ -111,11 +171,15 @@ def main():
     words.add_argument('folder', type=pathlib.Path)
     words.add_argument('--resb', type=pathlib.Path, default=RESB)
     words.add_argument('--jobs', type=int, default=2)
+    words.add_argument('--filters', type=pathlib.Path)
     given = words.parse_args()
-    source, folder = given.source.resolve(), given.folder.resolve()
-    theirs = build(source, folder / 'genrb', shutil.which('genrb', path=PATH), given.jobs)
-    ours = build(source, folder / 'resb', given.resb.resolve(), given.jobs)
-    passed, failed = compare(theirs, ours, given.jobs)
+    source, folder, resb = (it.resolve() for it in (given.source, given.folder, given.resb))
+    rules = rules_of(source, given.filters and given.filters.resolve())
+    theirs = build(rules, source, folder / 'genrb', shutil.which('genrb', path=PATH), given.jobs)
+    ours = build(rules, source, folder / 'resb', resb, given.jobs)
+    filtered = sum(it.is_file() for it in (folder / 'resb/tmp/filters').rglob('*'))
+    print(f'{filtered} files of rules')
+    passed, failed = compare(resb, theirs, ours, given.jobs)
     print(f'{passed} passed, {failed} failed')
     return failed > 0
 

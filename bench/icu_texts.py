@@ -4,8 +4,8 @@
     icu_texts.py [--back] [--resb PROGRAM] FOLDER ..
 
 A text is a file whose name ends with .txt; `tests/icu_sources.py` fetches ICU's own. It is compiled
-by `genrb -e UTF-8 -C` without a pool bundle, and by `resb compile --icu`, the proved one if no
-PROGRAM is named. Counted are texts that both refuse, that genrb alone takes (by our words for it),
+by `genrb -e UTF-8 -C` without a pool bundle, and by `resb compile --icu --no-binary-collation`, the
+proved one if no PROGRAM is named. Counted are texts that both refuse, that genrb alone takes (by our words for it),
 that we alone take, and, where both take one, files that are equal, files of one tree and flag that
 differ, with the reasons that are found (genrb lets a key lie at the end of a longer one, and
 records that are alike in size and in what sharing saves stand in another order), and files of
@@ -140,7 +140,7 @@ def compare(program, text, folder, took):
     for old in [ours, *below.glob("*.res")]:
         old.unlink(missing_ok=True)
     start = processor_time()
-    said, taken = run(program, "compile", "--icu", text, "-o", ours)[1:]
+    said, taken = run(program, "compile", "--icu", "--no-binary-collation", text, "-o", ours)[1:]
     middle = processor_time()
     run("genrb", "-q", "-e", "UTF-8", "-C", "-d", below, text)
     took["resb"] += middle - start

@@ -5,8 +5,9 @@
 
 SOURCE is ICU's folder `source` with its `data` and `python`, as `icu_sources.py` fetches it. FOLDER
 is a new one for what is built. ICU's `databuilder` writes the rules for `make`, which are run with
-the tools of Debian's icu-devtools: once as they are, and once with `genrb` as a link to the program
-`resb`, the proved one if none is named. A call that fails stops none that is behind it, by `make
+the tools of Debian's icu-devtools: once as they are, and once with the program `resb` in the place
+of `genrb`, the proved one if none is named. The binary forms of rules of collation are taken from
+the files of the first build, since only ICU's compiler makes them (`--collation`). A call that fails stops none that is behind it, by `make
 -i`: what one of the two can't build is counted.
 
 FILE says in ICU's own form which data are left out, as ICU's `ICU_DATA_FILTER_FILE` does. The
@@ -50,12 +51,13 @@ def rules_of(source, filters):
 
 
 def build(rules, source, folder, genrb, jobs):
-    """Builds all data below the folder by the rules, with this `genrb`."""
+    """Builds all data below the folder by the rules, with these words in the place of `genrb`."""
     tools = folder / 'tools'
     tools.mkdir(parents=True)
     for tool in TOOLS:
         (tools / tool).symlink_to(shutil.which(tool, path=PATH))
-    (tools / 'genrb').symlink_to(genrb)
+    (tools / 'genrb').write_text(f'#!/bin/sh\nexec {genrb} "$@"\n')
+    (tools / 'genrb').chmod(0o755)
     (folder / 'rules.mk').write_bytes(rules)
     (folder / 'Makefile').write_text('everything:\n\ninclude rules.mk\n\n'
                                      'everything: $(ICUDATA_ALL_OUTPUT_FILES)\n')
@@ -176,7 +178,8 @@ def main():
     source, folder, resb = (it.resolve() for it in (given.source, given.folder, given.resb))
     rules = rules_of(source, given.filters and given.filters.resolve())
     theirs = build(rules, source, folder / 'genrb', shutil.which('genrb', path=PATH), given.jobs)
-    ours = build(rules, source, folder / 'resb', resb, given.jobs)
+    words = f'{resb} genrb --collation {theirs}/coll'
+    ours = build(rules, source, folder / 'resb', words, given.jobs)
     filtered = sum(it.is_file() for it in (folder / 'resb/tmp/filters').rglob('*'))
     print(f'{filtered} files of rules')
     passed, failed = compare(resb, theirs, ours, given.jobs)

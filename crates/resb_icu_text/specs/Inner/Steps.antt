@@ -197,7 +197,8 @@ StepFails {X} text place p q e =
     (tree : X → Tree) (ws : List Waiting) (ks : List (List ℕ))
     → StopsAt text p q (place.there tree ws ks) e
 
--- a reading comes from behind a group to among what was open around it, and makes nothing; that passes what was open and the group, and stands further on in the text
+-- a reading comes from behind a group to among what was open around it, and makes nothing; that
+-- passes what was open and the group, and stands further on in the text
 pub record Resumes {X : Type 0} (text : List ℕ) (w : Open X) (x : X) (at : ℕ) (s : Step X)
     : Type 0 where
   pub comes : (tree : X → Tree) (ws : List Waiting) (ks : List (List ℕ)) (q : Quota)

@@ -10,7 +10,7 @@ use Rattle.resb_icu_grammar.specs.Kinds.{table_kind, binary_kind, integer_kind, 
 use Rattle.resb_icu_grammar.specs.Bytes.{is_word, is_key_byte, are_key_bytes}
 use Rattle.resb_icu_grammar.specs.Blanks.{Comment, line, block, none, white, Skip, without_a_mark}
 use Rattle.resb_icu_grammar.specs.Escapes.{Escape, itself, line_feed, carriage_return, tab}
-use Rattle.resb_icu_grammar.specs.Escapes.{four_digits, eight_digits}
+use Rattle.resb_icu_grammar.specs.Escapes.{four_digits, eight_digits, control}
 use Rattle.resb_icu_grammar.specs.Pieces.{QuotedBytes, ends, byte, escape, Joined, last_piece}
 use Rattle.resb_icu_grammar.specs.Pieces.{one_more}
 use Rattle.resb_icu_grammar.specs.Faults.{NoEscapeAt, StringFault, this_piece, later_piece}
@@ -94,6 +94,13 @@ comment_refused to (block at a b f e) = never at f.order f.closer.star
 escape_accepted : Escape (codes "u00e9") 0 5 (encode_utf8 0xe9)
 escape_accepted = four_digits 0xe9 refl refl refl refl (λ h. absurd (omega arith))
 
+-- `\U00000000` is U+0000, and `\c'` is U+0007
+zero_accepted : Escape (codes "U00000000") 0 9 (encode_utf8 0)
+zero_accepted = eight_digits 0 refl refl refl (lit≤ tt) refl
+
+control_accepted : Escape (codes "c'") 0 2 (7 ∷ [])
+control_accepted = control refl (lit≤ tt) (lit≤ tt)
+
 -- `\u005C` would be a backslash, and is none; nor is `\x`
 escape_refused : (to : ℕ) (s : List ℕ) → Escape (codes "u005C") 0 to s → ⊥
 escape_refused to s (itself f h) = false≢true (sym h)
@@ -102,6 +109,7 @@ escape_refused to s (carriage_return h) = absurd (omega arith)
 escape_refused to s (tab h) = absurd (omega arith)
 escape_refused to s (four_digits c h x e y z) = z e
 escape_refused to s (eight_digits c h x e y z) = absurd (omega arith)
+escape_refused to s (control h l m) = absurd (omega arith)
 
 -- `"a\q"` has a fault at the backslash, where a known escape is expected
 escape_told : StringFault (codes "\"a\\q\"") 0 2 expect.Escape
@@ -117,6 +125,7 @@ escape_told =
     never to s (tab h) = absurd (omega arith)
     never to s (four_digits c h x e y z) = absurd (omega arith)
     never to s (eight_digits c h x e y z) = absurd (omega arith)
+    never to s (control h l m) = absurd (omega arith)
 
 -- `"a" "b` has one at its second piece, which no quote closes
 open_quote_told : StringFault (codes "\"a\" \"b") 0 4 expect.ClosingQuote

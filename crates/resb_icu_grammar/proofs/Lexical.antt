@@ -20,7 +20,7 @@ use Rattle.resb_icu_grammar.specs.Blanks.{LineRest, Comment, line, block, Blanks
 use Rattle.resb_grammar.specs.ByteRuns.{is_line_end}
 use Rattle.resb_icu_grammar.specs.Blanks.{white, comment, IsSolid, Skip}
 use Rattle.resb_icu_grammar.specs.Escapes.{Escape, itself, line_feed, carriage_return, tab}
-use Rattle.resb_icu_grammar.specs.Escapes.{four_digits, eight_digits}
+use Rattle.resb_icu_grammar.specs.Escapes.{four_digits, eight_digits, control}
 use Rattle.resb_icu_grammar.specs.Pieces.{QuotedBytes, ends, byte, escape, QuotedPiece, Joined}
 use Rattle.resb_icu_grammar.specs.Pieces.{last_piece}
 use Rattle.resb_icu_grammar.specs.Pieces.{one_more}
@@ -133,6 +133,19 @@ Escape-one text at a b s t (eight_digits c h x e y z) (four_digits d k x' e' y' 
     absurd (omega arith)
 Escape-one text at a b s t (eight_digits c h x e y z) (eight_digits d k x' e' y' z') =
     (refl, ap encode_utf8 (e ∙ sym e'))
+Escape-one text at a b s t (itself f h) (control k l m) = absurd (no_letter _ 99 h k refl)
+Escape-one text at a b s t (line_feed h) (control k l m) = absurd (omega arith)
+Escape-one text at a b s t (carriage_return h) (control k l m) = absurd (omega arith)
+Escape-one text at a b s t (tab h) (control k l m) = absurd (omega arith)
+Escape-one text at a b s t (four_digits c h x e y z) (control k l m) = absurd (omega arith)
+Escape-one text at a b s t (eight_digits c h x e y z) (control k l m) = absurd (omega arith)
+Escape-one text at a b s t (control h l m) (itself f k) = absurd (no_letter _ 99 k h refl)
+Escape-one text at a b s t (control h l m) (line_feed k) = absurd (omega arith)
+Escape-one text at a b s t (control h l m) (carriage_return k) = absurd (omega arith)
+Escape-one text at a b s t (control h l m) (tab k) = absurd (omega arith)
+Escape-one text at a b s t (control h l m) (four_digits c k x e y z) = absurd (omega arith)
+Escape-one text at a b s t (control h l m) (eight_digits c k x e y z) = absurd (omega arith)
+Escape-one text at a b s t (control h l m) (control k n o) = (refl, refl)
 
 -- what stands inside quotes has one end and says one thing
 pub Inside-one : (text : List ℕ) (at a b : ℕ) (s t : List ℕ) → QuotedBytes text at a s

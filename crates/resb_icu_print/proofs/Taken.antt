@@ -16,7 +16,7 @@ use Rattle.resb_grammar.specs.Ascii as ascii
 use Rattle.resb_icu_grammar.specs.Kinds.{Kind}
 use Rattle.resb_icu_grammar.specs.Bytes.{is_word, is_unquoted, are_key_bytes, backslash}
 use Rattle.resb_icu_grammar.specs.Escapes.{Escape, itself, line_feed, carriage_return, tab}
-use Rattle.resb_icu_grammar.specs.Escapes.{four_digits, eight_digits}
+use Rattle.resb_icu_grammar.specs.Escapes.{four_digits, eight_digits, control}
 use Rattle.resb_icu_grammar.specs.Pieces.{QuotedBytes, ends, byte, escape}
 use Rattle.resb_icu_grammar.specs.Unquoted.{Unquoted}
 use Rattle.resb_icu_grammar.specs.Words.{KeyText, a_word, quoted}
@@ -83,6 +83,7 @@ escape_order text at to s (carriage_return _) = omega arith
 escape_order text at to s (tab _) = omega arith
 escape_order text at to s (four_digits _ _ _ _ _ _) = omega arith
 escape_order text at to s (eight_digits _ _ _ _ _ _) = omega arith
+escape_order text at to s (control _ _ _) = omega arith
 
 inside_order : (text : List ℕ) (at to : ℕ) (s : List ℕ) → QuotedBytes text at to s → at ≤ to
 inside_order text at to s (ends _ h) = omega arith

@@ -1,5 +1,5 @@
 -- Laws of the hex digits that a string says.
-use Rattle.std.proofs.Common.{◌≡◌, ◌≢◌, ℕ, ◌+◌, ◌*◌, ◌<◌, ◌≤◌, Bool, true, false, List, []}
+use Rattle.std.proofs.Common.{◌≡◌, ◌≢◌, ℕ, ◌+◌, ◌*◌, ◌%◌, ◌<◌, ◌≤◌, Bool, true, false, List, []}
 use Rattle.std.proofs.Common.{◌∷◌, ◌++◌, ◌-◌, length, arith, subst, sym, refl, ap, ◌∙◌}
 use Rattle.std.proofs.Common.{encode_utf8, append-nil}
 use Rattle.std.specs.Prelude.{slice_index, Option, Some, None, ◌&&◌}
@@ -12,7 +12,7 @@ use Rattle.resb_grammar.specs.Group.{is_hex, hex_value, hex_bytes, byte_before}
 use Rattle.resb_icu_grammar.specs.Bytes.{backslash}
 use Rattle.resb_icu_grammar.specs.Blanks.{Skip}
 use Rattle.resb_icu_grammar.specs.Escapes.{Escape, itself, line_feed, carriage_return, tab}
-use Rattle.resb_icu_grammar.specs.Escapes.{four_digits, eight_digits}
+use Rattle.resb_icu_grammar.specs.Escapes.{four_digits, eight_digits, control}
 use Rattle.resb_icu_grammar.specs.Pieces.{QuotedBytes, ends, byte, escape, Joined, last_piece}
 use Rattle.resb_icu_grammar.specs.Pieces.{one_more}
 use Rattle.resb_icu_grammar.proofs.Lexical.{Skip-one}
@@ -83,15 +83,18 @@ hex_encoded c h = by (encode_utf8 c) refl
     by [] e = absurd (omega (arith, length-encode c, (len_utf8_bounds c).0, ap length e))
     by (b ∷ t) e = first b t (is_hex b) e refl
 
--- the byte behind a backslash that begins an escape is no hex digit
+-- the byte behind a backslash that stands for itself is no hex digit
 escape_no_digit : (text : List ℕ) (at to : ℕ) (s : List ℕ) → Escape text at to s
-    → is_hex (slice_index text at) ≡ false
-escape_no_digit text at to s (itself f h) = grind (arith, nat_tests, h)
-escape_no_digit text at to s (line_feed h) = ap is_hex h
-escape_no_digit text at to s (carriage_return h) = ap is_hex h
-escape_no_digit text at to s (tab h) = ap is_hex h
-escape_no_digit text at to s (four_digits c h k e f g) = ap is_hex h
-escape_no_digit text at to s (eight_digits c h k e f g) = ap is_hex h
+    → s ≡ slice_index text at ∷ [] → is_hex (slice_index text at) ≡ false
+escape_no_digit text at to s (itself f h) is = grind (arith, nat_tests, h)
+escape_no_digit text at to s (line_feed h) is = ap is_hex h
+escape_no_digit text at to s (carriage_return h) is = ap is_hex h
+escape_no_digit text at to s (tab h) is = ap is_hex h
+escape_no_digit text at to s (four_digits c h k e f g) is = ap is_hex h
+escape_no_digit text at to s (eight_digits c h k e f g) is = ap is_hex h
+escape_no_digit text at to s (control h l m) is =
+    let same : slice_index text (at + 1) % 32 ≡ slice_index text at = cc in
+    absurd (omega (arith, same, h))
 
 module _ {text : List ℕ} where
   -- an escape of a character
@@ -122,7 +125,7 @@ module _ {text : List ℕ} where
       → are_digits bytes ≡ false
   escaped_itself at last bytes to s x =
       escaped_none at last bytes to (slice_index text (at + 1) ∷ []) s x
-      (ap (λ b. b && true) (escape_no_digit text (at + 1) to (slice_index text (at + 1) ∷ []) x))
+      (ap (λ b. b && true) (escape_no_digit text (at + 1) to (slice_index text (at + 1) ∷ []) x refl))
 
 -- what stands from a place inside a piece on, up to the end of the row of pieces
 pub record Onward (text : List ℕ) (at end : ℕ) (said : List ℕ) : Type 0 where

@@ -1,5 +1,5 @@
 -- Laws of hex digits and escapes, as the reader's functions use them.
-use Rattle.std.proofs.Common.{◌≡◌, ◌≢◌, ℕ, ◌+◌, ◌-◌, ◌*◌, ◌<◌, ◌≤◌, true, false, List, [], ◌∷◌}
+use Rattle.std.proofs.Common.{◌≡◌, ◌≢◌, ℕ, ◌+◌, ◌-◌, ◌*◌, ◌%◌, ◌<◌, ◌≤◌, true, false, List, [], ◌∷◌}
 use Rattle.std.proofs.Common.{arith, subst, sym, ap, ◌∙◌, encode_utf8, lit≤}
 use Rattle.std.proofs.lemmas.Str.{encode_ascii}
 use Rattle.std.specs.Prelude.{slice_index}
@@ -10,7 +10,7 @@ use Rattle.resb_grammar.specs.Group.{is_hex, hex_value}
 use Rattle.resb_icu_grammar.specs.Bytes.{backslash}
 use Rattle.resb_icu_grammar.specs.Escapes.{Escape, itself, line_feed, carriage_return, tab}
 use Rattle.resb_icu_grammar.specs.Escapes.{four_digits, eight_digits, are_hex, hex_number}
-use Rattle.resb_icu_grammar.specs.Escapes.{is_surrogate}
+use Rattle.resb_icu_grammar.specs.Escapes.{is_surrogate, is_not_meant, control}
 
 pub hex_some : (b : ℕ) → is_hex b ≡ true → 0 < b
 hex_some b h = grind (arith, nat_tests, h)
@@ -106,10 +106,11 @@ no_short text at e f to s (tab h) = absurd (omega arith)
 no_short text at e f to s (four_digits c h x i y z) =
     f x (subst (λ n. is_surrogate n ≡ false) i y) (λ g. z (i ∙ g))
 no_short text at e f to s (eight_digits c h x i y z) = absurd (omega arith)
+no_short text at e f to s (control h l m) = absurd (omega arith)
 
 pub no_long : (text : List ℕ) (at : ℕ) → slice_index text at ≡ 85
-    → ((are_hex text (at + 1) 8 ≡ true) → 65536 ≤ hex_number text (at + 1) 8
-    → hex_number text (at + 1) 8 ≤ 0x10_ffff → ⊥)
+    → ((are_hex text (at + 1) 8 ≡ true) → hex_number text (at + 1) 8 ≤ 0x10_ffff
+    → is_not_meant (hex_number text (at + 1) 8) ≡ false → ⊥)
     → (to : ℕ) (s : List ℕ) → Escape text at to s → ⊥
 no_long text at e f to s (itself g h) = false≢true (sym h ∙ ap is_ascii_alphanumeric e)
 no_long text at e f to s (line_feed h) = absurd (omega arith)
@@ -117,19 +118,33 @@ no_long text at e f to s (carriage_return h) = absurd (omega arith)
 no_long text at e f to s (tab h) = absurd (omega arith)
 no_long text at e f to s (four_digits c h x i y z) = absurd (omega arith)
 no_long text at e f to s (eight_digits c h x i y z) =
-    f x (omega (arith, i, y)) (omega (arith, i, z))
+    f x (omega (arith, i, y)) (subst (λ n. is_not_meant n ≡ false) i z)
+no_long text at e f to s (control h l m) = absurd (omega arith)
+
+-- nor one of a control character where no character of ASCII stands
+pub no_control : (text : List ℕ) (at : ℕ) → slice_index text at ≡ 99
+    → (0 < slice_index text (at + 1) → slice_index text (at + 1) < 128 → ⊥)
+    → (to : ℕ) (s : List ℕ) → Escape text at to s → ⊥
+no_control text at e f to s (itself g h) = false≢true (sym h ∙ ap is_ascii_alphanumeric e)
+no_control text at e f to s (line_feed h) = absurd (omega arith)
+no_control text at e f to s (carriage_return h) = absurd (omega arith)
+no_control text at e f to s (tab h) = absurd (omega arith)
+no_control text at e f to s (four_digits c h x i y z) = absurd (omega arith)
+no_control text at e f to s (eight_digits c h x i y z) = absurd (omega arith)
+no_control text at e f to s (control h l m) = f l m
 
 -- no other letter or digit is an escape
 pub no_escape : (text : List ℕ) (at b : ℕ) → b ≡ slice_index text at
-    → is_ascii_alphanumeric b ≡ true → b ≢ 110 → b ≢ 114 → b ≢ 116 → b ≢ 117 → b ≢ 85
+    → is_ascii_alphanumeric b ≡ true → b ≢ 110 → b ≢ 114 → b ≢ 116 → b ≢ 117 → b ≢ 85 → b ≢ 99
     → (to : ℕ) (s : List ℕ) → Escape text at to s → ⊥
-no_escape text at b e a n r t u l to s (itself g h) =
+no_escape text at b e a n r t u l d to s (itself g h) =
     false≢true (sym h ∙ ap is_ascii_alphanumeric (sym e) ∙ a)
-no_escape text at b e a n r t u l to s (line_feed h) = n (e ∙ h)
-no_escape text at b e a n r t u l to s (carriage_return h) = r (e ∙ h)
-no_escape text at b e a n r t u l to s (tab h) = t (e ∙ h)
-no_escape text at b e a n r t u l to s (four_digits c h x i y z) = u (e ∙ h)
-no_escape text at b e a n r t u l to s (eight_digits c h x i y z) = l (e ∙ h)
+no_escape text at b e a n r t u l d to s (line_feed h) = n (e ∙ h)
+no_escape text at b e a n r t u l d to s (carriage_return h) = r (e ∙ h)
+no_escape text at b e a n r t u l d to s (tab h) = t (e ∙ h)
+no_escape text at b e a n r t u l d to s (four_digits c h x i y z) = u (e ∙ h)
+no_escape text at b e a n r t u l d to s (eight_digits c h x i y z) = l (e ∙ h)
+no_escape text at b e a n r t u l d to s (control h p m) = d (e ∙ h)
 
 -- the bytes of the three characters that have a letter
 feed_bytes : encode_utf8 10 ≡ 10 ∷ []
@@ -162,10 +177,27 @@ is_short text at n c h x e is y z =
 
 pub is_long : (text : List ℕ) (at n c : ℕ) → slice_index text at ≡ 85
     → are_hex text (at + 1) 8 ≡ true → n ≡ hex_number text (at + 1) 8 → c ≡ n
-    → 65536 ≤ n → n ≤ 0x10_ffff → Escape text at (at + 9) (encode_utf8 c)
+    → n ≤ 0x10_ffff → is_not_meant n ≡ false → Escape text at (at + 9) (encode_utf8 c)
 is_long text at n c h x e is y z =
     subst (λ k. Escape text at (at + 9) (encode_utf8 k)) (sym is)
     (eight_digits n h x e y z)
+
+pub is_control : (text : List ℕ) (at b c : ℕ) → slice_index text at ≡ 99
+    → b ≡ slice_index text (at + 1) → c ≡ b % 32 → 0 < b → b < 128
+    → Escape text at (at + 2) (encode_utf8 c)
+is_control text at b c h e is low high =
+    let same : c ≡ slice_index text (at + 1) % 32 = is ∙ ap (λ n. n % 32) e in
+    subst (λ s. Escape text at (at + 2) s)
+    (ap (λ n. n ∷ []) (sym same) ∙ sym (encode_ascii c (omega (arith, is))))
+    (control h (omega (arith, e, low)) (omega (arith, e, high)))
+
+-- the character behind `\c`
+pub second_ascii : (text : List ℕ) (at b : ℕ) → b ≡ slice_index text (at + 1) → 0 < b → b < 128
+    → (0 < slice_index text (at + 2 - 1)) × (slice_index text (at + 2 - 1) < 128)
+second_ascii text at b e low high =
+    let same : at + 1 ≡ at + 2 - 1 = omega arith in
+    subst (λ i. (0 < slice_index text i) × (slice_index text i < 128)) same
+    (omega (arith, e, low), omega (arith, e, high))
 
 -- four digits say no character that an escape may stand for
 pub said_short : (text : List ℕ) (at n : ℕ) → slice_index text at ≡ 117
@@ -178,10 +210,11 @@ said_short text at n h e low f =
 
 -- nor do eight
 pub said_long : (text : List ℕ) (at n : ℕ) → slice_index text at ≡ 85
-    → n ≡ hex_number text (at + 1) 8 → (65536 ≤ n → n ≤ 0x10_ffff → ⊥)
+    → n ≡ hex_number text (at + 1) 8 → (n ≤ 0x10_ffff → is_not_meant n ≡ false → ⊥)
     → (to : ℕ) (s : List ℕ) → Escape text at to s → ⊥
 said_long text at n h e f =
-    no_long text at h (λ x y z. f (omega (arith, e, y)) (omega (arith, e, z)))
+    no_long text at h (λ x y z. f (omega (arith, e, y))
+    (subst (λ k. is_not_meant k ≡ false) (sym e) z))
 
 -- a hex digit is ASCII
 pub hex_ascii : (b : ℕ) → is_hex b ≡ true → (0 < b) × (b < 128)
@@ -216,4 +249,7 @@ pub ruleset escapes = (
   said_long,
   fourth_ascii,
   eighth_ascii,
+  no_control,
+  is_control,
+  second_ascii,
 )

@@ -8,7 +8,7 @@ use Rattle.std.proofs.Common.{length-drop}
 use Rattle.std.proofs.lemmas.List.{length-append, length-take-le}
 use Rattle.std.proofs.lemmas.Str.{length-encode, len_utf8_bounds}
 use Rattle.resb_icu_grammar.specs.Escapes.{Escape, itself, line_feed, carriage_return, tab}
-use Rattle.resb_icu_grammar.specs.Escapes.{four_digits, eight_digits}
+use Rattle.resb_icu_grammar.specs.Escapes.{four_digits, eight_digits, control}
 use Rattle.resb_icu_grammar.specs.Pieces.{QuotedBytes, ends, byte, escape, Joined, last_piece}
 use Rattle.resb_icu_grammar.specs.Pieces.{one_more}
 use Rattle.resb_icu_grammar.specs.Blanks.{Comment, line, block, Blanks, none, white, comment}
@@ -44,6 +44,7 @@ escape_short text at to s (carriage_return h) = omega arith
 escape_short text at to s (tab h) = omega arith
 escape_short text at to s (four_digits c h k e f g) = omega (arith, encoded c)
 escape_short text at to s (eight_digits c h k e f g) = omega (arith, encoded c)
+escape_short text at to s (control h l m) = omega arith
 
 -- nor is what a piece says
 pub inside_short : (text : List ℕ) (at to : ℕ) (s : List ℕ) → QuotedBytes text at to s

@@ -1,11 +1,12 @@
 //! Escapes: what a backslash and the bytes behind it stand for.
 //! Where quoted pieces end, and what they say, is in `pieces`.
-ghost use Rattle.std.specs.Prelude.{◌≡◌, ◌≢◌, ℕ, ◌+◌, ◌-◌, ◌<◌, ◌≤◌, true, false, List};
+ghost use Rattle.std.specs.Prelude.{◌≡◌, ◌≢◌, ℕ, ◌+◌, ◌-◌, ◌%◌, ◌<◌, ◌≤◌, true, false, List};
 ghost use Rattle.std.specs.Prelude.{length, Some, None};
 ghost use Rattle.std.specs.Prelude.{slice_index, IfSome, IfNone};
 ghost use Rattle.resb_grammar.specs.Group.{is_hex, hex_value};
 ghost use Rattle.resb_icu_grammar.specs.Bytes.{backslash};
 ghost use Rattle.resb_icu_grammar.specs.Escapes.{Escape, are_hex, hex_number, is_surrogate};
+ghost use Rattle.resb_icu_grammar.specs.Escapes.{is_not_meant};
 ghost use Rattle.resb_icu_text.specs.Inner.Escaped.{bytes_of, IsAscii};
 
 use crate::blanks::byte;
@@ -65,15 +66,27 @@ fn short_character(number: u32) -> Option<char>
     char::from_u32(number)
 }
 
-/// The character of a number of eight digits, which has more than 16 bits.
+/// The character of a number of eight digits, which is neither a backslash nor a `U`.
 fn long_character(number: u32) -> Option<char>
-    ensures found { IfSome result (λ c. (c ≡ number) × (65536 ≤ number) × (number ≤ 0x10_ffff)) }
-    ensures none { IfNone result (65536 ≤ number → number ≤ 0x10_ffff → ⊥) }
+    ensures found { IfSome result (λ c. (c ≡ number) × (number ≤ 0x10_ffff)
+        × (is_not_meant number ≡ false)) }
+    ensures none { IfNone result (number ≤ 0x10_ffff → is_not_meant number ≡ false → ⊥) }
 {
-    if number < 65536 {
+    if number == 92 || number == 85 {
         return None;
     }
     char::from_u32(number)
+}
+
+/// The character of the last five bits of a character of ASCII other than U+0000.
+fn control_character(b: u8) -> Option<char>
+    ensures found { IfSome result (λ c. (c ≡ b % 32) × (0 < b) × (b < 128)) }
+    ensures none { IfNone result (0 < b → b < 128 → ⊥) }
+{
+    if b == 0 || b >= 128 {
+        return None;
+    }
+    char::from_u32((b % 32) as u32)
 }
 
 /// The escape whose backslash stands before this place: where it ends, and the character that it
@@ -108,6 +121,9 @@ pub(crate) fn escape(text: &str, at: usize) -> Option<(usize, Option<char>)>
         let number = eight_digits(text, at + 1)?;
         let c = long_character(number)?;
         Some((at + 9, Some(c)))
+    } else if b == b'c' {
+        let c = control_character(byte(text, at + 1))?;
+        Some((at + 2, Some(c)))
     } else {
         None
     }

@@ -27,8 +27,8 @@ abbrev pub is_not_meant : ℕ → Bool
 is_not_meant c = is_surrogate c || (c == backslash || c == 85)
 
 -- what a backslash and the bytes behind it stand for: `n`, `r` and `t`, `u` and four hex digits,
--- `U` and eight, `c` and a character. A byte that is no ASCII letter or digit stands for itself, so that a character of
--- several bytes does
+-- `U` and eight, `c` and a character. A byte that is no ASCII letter or digit stands for itself, so
+-- that a character of several bytes does
 pub data Escape (text : List ℕ) (at : ℕ) : ℕ → List ℕ → Type 0 where
   -- `\\`, `\"`, `\{`, a backslash at a line's end, `\é` by its first byte
   itself : at < length text → is_ascii_alphanumeric (slice_index text at) ≡ false

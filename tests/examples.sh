@@ -178,6 +178,47 @@ zone_rows() {
     'fault 9: the file uses a pool bundle, and none was given' '' "$@" "$folder/a.res" Types 0
 }
 
+# offset_rows LANGUAGE COMMAND..: the rows of the built example that looks the offsets of a zone up
+# by its transitions: those of `zone_rows`, where no rule is needed
+offset_rows() {
+  local language=$1
+  shift
+  expect "$language: transitions by hand" 0 $'-100\n3600\n-100\n5400' '' \
+    "$@" "$folder/zones.res" A/Old -2147483650 -2147483649 0 4294967296
+  expect "$language: a link by hand" 0 '3600' '' "$@" "$folder/zones.res" B/Link 100
+  expect "$language: no zone by hand" 1 'fault 12' '' "$@" "$folder/zones.res" A/Older 0
+  expect "$language: no file of zones by hand" 1 'fault 12' '' "$@" "$folder/large.res" Types 0
+}
+
+# walk_rows LANGUAGE COMMAND..: the rows of the built example that goes through a file: each kind,
+# an array of two forms, an empty table, and a file that is none
+walk_rows() {
+  local language=$1
+  shift
+  "$folder/zones" > "$folder/walk.res" << 'T'
+a {
+  v:intvector { 7, -2 } n:int { -5 } b { "c\td" } list { "x", "y" } raw:bin { 01ff }
+  many:array { :int { 1 } { "z" } :table { "a/b" { "" } } }
+}
+T
+  expect "$language: a walk" 0 '13 resources
+table
+  b: string c	d
+  list: array
+    string x
+    string y
+  many: array
+    int 1
+    string z
+    table
+      a/b: string 
+  n: int -5
+  raw: bin 01ff
+  v: intvector 7 4294967294' '' "$@" "$folder/walk.res"
+  expect "$language: no walk without the pool" 1 \
+    'fault 9: the file uses a pool bundle, and none was given' '' "$@" "$folder/a.res"
+}
+
 # write_statuses FILE: the program that asks each call that takes a file about the bytes of standard
 # input: check, measure and dump, in either form and as JSON, and a zone; the same beside no pool
 # bundle, and what stands at the root; and where these are the pool too. It prints each status and
@@ -277,6 +318,16 @@ if command -v cc > /dev/null; then
   built 'the C example of zones' cc -std=c99 -Wall -Wextra -Werror -O2 ${CFLAGS:-} \
     -I "$top/include" "$top/examples/c/zone.c" "$RESB_LIB/libresb_c.a" "$RATTLE_C/liblibc_c.a" \
     -o "$folder/zone" && zone_rows C "$folder/zone"
+  built 'the C example of offsets' cc -std=c99 -Wall -Wextra -Werror -O2 ${CFLAGS:-} \
+    -I "$top/include" "$top/examples/c/offset.c" "$RESB_LIB/libresb_c.a" \
+    "$RATTLE_C/liblibc_c.a" -o "$folder/offset" && offset_rows C "$folder/offset"
+  built 'the C example of a walk' cc -std=c99 -Wall -Wextra -Werror -O2 ${CFLAGS:-} \
+    -I "$top/include" "$top/examples/c/walk.c" "$RESB_LIB/libresb_c.a" "$RATTLE_C/liblibc_c.a" \
+    -o "$folder/walk" && walk_rows C "$folder/walk" &&
+    expect 'C: a walk over a pool' 0 '3 resources
+table
+  alpha: string one two three
+  beta: string x' '' "$folder/walk" "$folder/a.res" "$folder/pool.res"
   write_statuses "$folder/statuses.c"
   built 'the program of statuses' cc -std=c99 -Wall -Wextra -Werror -O2 ${CFLAGS:-} \
     -I "$top/include" "$folder/statuses.c" "$RESB_LIB/libresb_c.a" "$RATTLE_C/liblibc_c.a" \
@@ -287,7 +338,9 @@ if command -v cargo > /dev/null; then
     "$top/examples/rust/Cargo.toml" --target-dir "$folder/target" &&
     rows Rust "$folder/target/debug/resb_example" &&
     path_rows Rust "$folder/target/debug/resb_example" &&
-    zone_rows Rust "$folder/target/debug/resb_example" --zone
+    zone_rows Rust "$folder/target/debug/resb_example" --zone &&
+    offset_rows Rust "$folder/target/debug/resb_example" --offset &&
+    walk_rows Rust "$folder/target/debug/resb_example" --walk
 fi
 echo "$passed passed, $failed failed"
 [ "$failed" = 0 ]

@@ -3,3 +3,7 @@ mod HeadLemmas
 mod PathLemmas
 mod ThereLemmas
 mod ZoneLemmas
+mod OpenedLemmas
+mod WithinLemmas
+mod NamedLemmas
+mod SeenLemmas

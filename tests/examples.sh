@@ -276,6 +276,80 @@ int main(void) {
 C
 }
 
+# write_any FILE: the program that hands any resources in: it opens the file of standard input, and
+# asks each call about a hundred thousand resources by their numbers, of which few stand in the file.
+# It says how many of the parts that it was given lie outside the file, and that a file which was not
+# opened has nothing.
+write_any() {
+  cat > "$1" << 'C'
+#include "resb.h"
+
+#include <stdio.h>
+#include <string.h>
+
+static uint8_t file[200000], out[200000];
+static size_t length, outside;
+static resb_opened opened;
+
+/* Counts a part that lies outside the file. */
+static void note(uint32_t status, resb_bytes part) {
+  if (status == RESB_OK && part.length > 0 &&
+      (part.bytes < file || part.length > length ||
+       (size_t)(part.bytes - file) > length - part.length))
+    outside++;
+}
+
+/* Asks each call about a resource, whose members have numbers like this. */
+static void ask(resb_resource resource, size_t number) {
+  resb_resource found;
+  resb_bytes part;
+  uint32_t kind, value;
+  int32_t integer;
+  size_t size;
+  resb_kind_of(&opened, resource, &kind, &size);
+  resb_find(&opened, resource, (const uint8_t *)"/0/a", 4, &found);
+  resb_value(&opened, resource, (const uint8_t *)"b", 1, &found);
+  resb_member(&opened, resource, number, &found);
+  resb_integer_of(&opened, resource, &integer);
+  resb_unsigned_of(&opened, resource, &value);
+  if (resb_string_of(&opened, resource, out, sizeof out, &size) == RESB_OK && size > sizeof out)
+    outside++;
+  note(resb_key_of(&opened, resource, number, &part), part);
+  note(resb_utf16_of(&opened, resource, &part), part);
+  note(resb_bytes_of(&opened, resource, &part), part);
+  note(resb_vector_of(&opened, resource, &part), part);
+}
+
+int main(void) {
+  resb_error error;
+  resb_resource resource;
+  uint32_t random = 1, status;
+  length = fread(file, 1, sizeof file, stdin);
+  memset(&opened, 0xff, sizeof opened);
+  status = resb_open(file, length, file, 0, &opened, &error);
+  for (size_t count = 0; count < 100000; count++) {
+    random = random * 1664525 + 1013904223;
+    resource.form = (random >> 8) % 4;
+    random = random * 1664525 + 1013904223;
+    /* any type, and a small number most times */
+    resource.number = count % 4 == 0 ? random : (random & 0xf0000000u) | (random >> 8) % 500;
+    ask(resource, count % 7);
+  }
+  printf("%u: %zu resources, %zu parts outside\n", (unsigned)status, opened.count, outside);
+  return 0;
+}
+C
+}
+
+# any_rows COMMAND..: the rows of that program, built: a file, the same without its end, and none
+any_rows() {
+  expect 'C: any resources' 0 '0: 13 resources, 0 parts outside' '' \
+    bash -c '"$0" < "$1"' "$1" "$folder/walk.res"
+  expect 'C: any resources of a file without its end' 0 '5: 0 resources, 0 parts outside' '' \
+    bash -c 'head -c 100 "$1" | "$0"' "$1" "$folder/walk.res"
+  expect 'C: any resources of no file' 0 '5: 0 resources, 0 parts outside' 'ab' "$1"
+}
+
 # status_rows COMMAND..: the rows of that program, built: a header of 24 bytes, and no body. What
 # the header says is looked at first: characters of 16 bytes are not supported.
 status_rows() {
@@ -328,6 +402,10 @@ if command -v cc > /dev/null; then
 table
   alpha: string one two three
   beta: string x' '' "$folder/walk" "$folder/a.res" "$folder/pool.res"
+  write_any "$folder/any.c"
+  built 'the program of any resources' cc -std=c99 -Wall -Wextra -Werror -O2 ${CFLAGS:-} \
+    -I "$top/include" "$folder/any.c" "$RESB_LIB/libresb_c.a" "$RATTLE_C/liblibc_c.a" \
+    -o "$folder/any" && any_rows "$folder/any"
   write_statuses "$folder/statuses.c"
   built 'the program of statuses' cc -std=c99 -Wall -Wextra -Werror -O2 ${CFLAGS:-} \
     -I "$top/include" "$folder/statuses.c" "$RESB_LIB/libresb_c.a" "$RATTLE_C/liblibc_c.a" \

@@ -7,3 +7,4 @@ mod OpenedLemmas
 mod WithinLemmas
 mod NamedLemmas
 mod SeenLemmas
+mod OpeningLemmas

@@ -19,7 +19,10 @@
  *   - an input doesn't change while the call runs.
  *
  * To ask how long an answer is, pass a length of 0 with any pointer that isn't null: the call does
- * its whole work, and answers RESB_TOO_SHORT. */
+ * its whole work, and answers RESB_TOO_SHORT.
+ *
+ * A file that is looked into more than once is best opened: resb_open checks it as a whole, and
+ * what comes after goes from resource to resource without another check. */
 #ifndef RESB_H
 #define RESB_H
 
@@ -31,7 +34,7 @@ extern "C" {
 #endif
 
 /* The version of this header. It grows where a call, an answer or a kind is added. */
-#define RESB_VERSION 3u
+#define RESB_VERSION 4u
 
 /* The version of the header that the library was built with. */
 uint32_t resb_version(void);
@@ -321,6 +324,137 @@ uint32_t resb_get_bytes(const uint8_t *file, size_t file_length, const uint8_t *
 uint32_t resb_key(const uint8_t *file, size_t file_length, const uint8_t *pool, size_t pool_length,
                   const uint8_t *path, size_t path_length, size_t number, uint8_t *out,
                   size_t out_length, size_t *length, resb_error *error);
+
+/* Files that are opened. resb_open checks a file once, and leaves what it learned in a struct of
+ * the caller's. The calls that take this struct look at nothing but what they are asked for, and
+ * ask for no memory, but for resb_find and resb_string_of. They answer by a status alone.
+ *
+ * The file and the pool bundle stay the caller's, and have to stay as they are while the struct is
+ * in use. The struct may be copied, and any number of threads may use it at a time. It is the
+ * library's: what the caller owes of it is that it is one that resb_open wrote, since its parts
+ * lead into the file's bytes. Where that call failed, nothing stands in it, and it may be handed on
+ * all the same.
+ *
+ * A resource that is handed in may be any: one that did not come from this file is answered
+ * somehow, perhaps by RESB_NOT_A_FILE or by RESB_UNSUPPORTED, and nothing is read outside the
+ * file. */
+
+/* Bytes that lie in the file, or in the pool bundle beside it. They are the caller's own, and stay
+ * as long as these do. Where there are none, the pointer isn't null all the same. */
+typedef struct resb_bytes {
+  const uint8_t *bytes;
+  size_t length;
+} resb_bytes;
+
+/* A resource of a file, or a number of a vector: what a call has found. What its numbers say is the
+ * library's. They hold for the file in which it was found, in each run. */
+typedef struct resb_resource {
+  uint32_t form;
+  uint32_t number;
+} resb_resource;
+
+/* A file that was opened. */
+typedef struct resb_opened {
+  /* the root of its tree */
+  resb_resource root;
+  /* the resources of its tree, the root included */
+  size_t count;
+  /* the library's own */
+  resb_bytes parts[5];
+  uint32_t limit;
+  uint16_t short_limit;
+} resb_opened;
+
+/* Opens a file beside a pool bundle of pool_length bytes; a length of 0 says that there is none. It
+ * is checked as a whole, as resb_check_with_pool does.
+ *
+ * RESB_OK: *opened is the file. Else nothing stands in *opened, and its count is 0, for the reasons
+ * of resb_check_with_pool. */
+uint32_t resb_open(const uint8_t *file, size_t file_length, const uint8_t *pool,
+                   size_t pool_length, resb_opened *opened, resb_error *error);
+
+/* Finds what stands at a path from a resource on: from the root it is as said above of paths. The
+ * empty path leads to the resource itself, and nothing lies inside a number.
+ *
+ * RESB_OK: *found is what stands there. Else it is a RESB_INTEGER, 0: RESB_NOT_FOUND, RESB_NOT_UTF8
+ * for the path, RESB_NO_MEMORY for its names. */
+uint32_t resb_find(const resb_opened *opened, resb_resource from, const uint8_t *path,
+                   size_t path_length, resb_resource *found);
+
+/* Finds what has a number, from 0 up to the size that resb_kind_of tells: the member of an array,
+ * the value of an entry of a table, as they stand in the file, or the number of a vector.
+ *
+ * RESB_OK: *member is that. Else it is a RESB_INTEGER, 0: RESB_NOT_FOUND where there are not so
+ * many, RESB_OTHER_KIND where the resource is neither an array nor a table nor a vector. */
+uint32_t resb_member(const resb_opened *opened, resb_resource resource, size_t number,
+                     resb_resource *member);
+
+/* Finds the value that a table has at a key, which is UTF-8 of key_length bytes: that of the last
+ * entry of the key.
+ *
+ * RESB_OK: *value is that. Else it is a RESB_INTEGER, 0: RESB_NOT_FOUND where the table has no such
+ * entry, RESB_OTHER_KIND where the resource is no table, RESB_NOT_UTF8 for the key. */
+uint32_t resb_value(const resb_opened *opened, resb_resource resource, const uint8_t *key,
+                    size_t key_length, resb_resource *value);
+
+/* Tells the key of an entry of a table. Entries have numbers from 0 up to the size that
+ * resb_kind_of tells, as for resb_member, so that a table is gone through by the two calls.
+ *
+ * RESB_OK: *key is the key, as UTF-8. Else there are no bytes: RESB_NOT_FOUND where the table has
+ * no such entry, RESB_OTHER_KIND where the resource is no table. */
+uint32_t resb_key_of(const resb_opened *opened, resb_resource resource, size_t number,
+                     resb_bytes *key);
+
+/* Tells which kind a resource has, and how much is in it, as resb_kind does. It doesn't fail for a
+ * resource of the file. */
+uint32_t resb_kind_of(const resb_opened *opened, resb_resource resource, uint32_t *kind,
+                      size_t *size);
+
+/* Tells the number of a RESB_INTEGER with its sign: its highest bit, of 28, or of 32 in a vector.
+ *
+ * RESB_OK: *value is the number. Else it is 0: RESB_OTHER_KIND. */
+uint32_t resb_integer_of(const resb_opened *opened, resb_resource resource, int32_t *value);
+
+/* Tells the number of a RESB_INTEGER without a sign: less than 2^28, or in a vector than 2^32.
+ *
+ * RESB_OK: *value is the number. Else it is 0: RESB_OTHER_KIND. */
+uint32_t resb_unsigned_of(const resb_opened *opened, resb_resource resource, uint32_t *value);
+
+/* Copies the text of a string, as UTF-8 without a zero at its end.
+ *
+ * RESB_OK: the text is the first *length bytes of out, and the bytes behind it are as they were.
+ * RESB_TOO_SHORT: out is as it was, and *length is the length of the text. Else out is as it was,
+ * and *length is 0: RESB_OTHER_KIND, RESB_NO_MEMORY. */
+uint32_t resb_string_of(const resb_opened *opened, resb_resource resource, uint8_t *out,
+                        size_t out_length, size_t *length);
+
+/* Tells where the text of a string lies in the file, or in the pool bundle, as UTF-16: two bytes
+ * for each unit, the lower one first. It is well-formed.
+ *
+ * RESB_OK: *units are those bytes. Else there are none: RESB_OTHER_KIND. */
+uint32_t resb_utf16_of(const resb_opened *opened, resb_resource resource, resb_bytes *units);
+
+/* Tells where the bytes of a binary lie in the file.
+ *
+ * RESB_OK: *bytes are those. Else there are none: RESB_OTHER_KIND. */
+uint32_t resb_bytes_of(const resb_opened *opened, resb_resource resource, resb_bytes *bytes);
+
+/* Tells where the numbers of a vector lie in the file: four bytes for each, the lowest one first.
+ * They begin a multiple of 4 bytes behind the file's header. Each file of ICU and of resb_compile
+ * has a header of a multiple of 4 bytes, so that they may be read in place by a machine of that
+ * order of bytes where the file's first byte is aligned to 4. A stranger's header may have any
+ * length: there resb_number reads them, which asks for no alignment, and for no order of bytes.
+ *
+ * RESB_OK: *numbers are those bytes. Else there are none: RESB_OTHER_KIND. */
+uint32_t resb_vector_of(const resb_opened *opened, resb_resource resource, resb_bytes *numbers);
+
+/* The number of a vector that has this number in it, from 0 up to numbers.length / 4, without a
+ * sign. The header alone has it: it's no call of the library. */
+static inline uint32_t resb_number(resb_bytes numbers, size_t number) {
+  const uint8_t *bytes = numbers.bytes + 4 * number;
+  return (uint32_t)bytes[0] | (uint32_t)bytes[1] << 8 | (uint32_t)bytes[2] << 16 |
+         (uint32_t)bytes[3] << 24;
+}
 
 /* Tells the offset of a time zone from universal time at a moment, out of ICU's file of zones,
  * zoneinfo64.res. The moment is in seconds since 1970-01-01T00:00:00Z, and may lie before. The

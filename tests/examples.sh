@@ -178,6 +178,47 @@ zone_rows() {
     'fault 9: the file uses a pool bundle, and none was given' '' "$@" "$folder/a.res" Types 0
 }
 
+# offset_rows LANGUAGE COMMAND..: the rows of the built example that looks the offsets of a zone up
+# by its transitions: those of `zone_rows`, where no rule is needed
+offset_rows() {
+  local language=$1
+  shift
+  expect "$language: transitions by hand" 0 $'-100\n3600\n-100\n5400' '' \
+    "$@" "$folder/zones.res" A/Old -2147483650 -2147483649 0 4294967296
+  expect "$language: a link by hand" 0 '3600' '' "$@" "$folder/zones.res" B/Link 100
+  expect "$language: no zone by hand" 1 'fault 12' '' "$@" "$folder/zones.res" A/Older 0
+  expect "$language: no file of zones by hand" 1 'fault 12' '' "$@" "$folder/large.res" Types 0
+}
+
+# walk_rows LANGUAGE COMMAND..: the rows of the built example that goes through a file: each kind,
+# an array of two forms, an empty table, and a file that is none
+walk_rows() {
+  local language=$1
+  shift
+  "$folder/zones" > "$folder/walk.res" << 'T'
+a {
+  v:intvector { 7, -2 } n:int { -5 } b { "c\td" } list { "x", "y" } raw:bin { 01ff }
+  many:array { :int { 1 } { "z" } :table { "a/b" { "" } } }
+}
+T
+  expect "$language: a walk" 0 '13 resources
+table
+  b: string c	d
+  list: array
+    string x
+    string y
+  many: array
+    int 1
+    string z
+    table
+      a/b: string 
+  n: int -5
+  raw: bin 01ff
+  v: intvector 7 4294967294' '' "$@" "$folder/walk.res"
+  expect "$language: no walk without the pool" 1 \
+    'fault 9: the file uses a pool bundle, and none was given' '' "$@" "$folder/a.res"
+}
+
 # write_statuses FILE: the program that asks each call that takes a file about the bytes of standard
 # input: check, measure and dump, in either form and as JSON, and a zone; the same beside no pool
 # bundle, and what stands at the root; and where these are the pool too. It prints each status and
@@ -235,6 +276,80 @@ int main(void) {
 C
 }
 
+# write_any FILE: the program that hands any resources in: it opens the file of standard input, and
+# asks each call about a hundred thousand resources by their numbers, of which few stand in the file.
+# It says how many of the parts that it was given lie outside the file, and that a file which was not
+# opened has nothing.
+write_any() {
+  cat > "$1" << 'C'
+#include "resb.h"
+
+#include <stdio.h>
+#include <string.h>
+
+static uint8_t file[200000], out[200000];
+static size_t length, outside;
+static resb_opened opened;
+
+/* Counts a part that lies outside the file. */
+static void note(uint32_t status, resb_bytes part) {
+  if (status == RESB_OK && part.length > 0 &&
+      (part.bytes < file || part.length > length ||
+       (size_t)(part.bytes - file) > length - part.length))
+    outside++;
+}
+
+/* Asks each call about a resource, whose members have numbers like this. */
+static void ask(resb_resource resource, size_t number) {
+  resb_resource found;
+  resb_bytes part;
+  uint32_t kind, value;
+  int32_t integer;
+  size_t size;
+  resb_kind_of(&opened, resource, &kind, &size);
+  resb_find(&opened, resource, (const uint8_t *)"/0/a", 4, &found);
+  resb_value(&opened, resource, (const uint8_t *)"b", 1, &found);
+  resb_member(&opened, resource, number, &found);
+  resb_integer_of(&opened, resource, &integer);
+  resb_unsigned_of(&opened, resource, &value);
+  if (resb_string_of(&opened, resource, out, sizeof out, &size) == RESB_OK && size > sizeof out)
+    outside++;
+  note(resb_key_of(&opened, resource, number, &part), part);
+  note(resb_utf16_of(&opened, resource, &part), part);
+  note(resb_bytes_of(&opened, resource, &part), part);
+  note(resb_vector_of(&opened, resource, &part), part);
+}
+
+int main(void) {
+  resb_error error;
+  resb_resource resource;
+  uint32_t random = 1, status;
+  length = fread(file, 1, sizeof file, stdin);
+  memset(&opened, 0xff, sizeof opened);
+  status = resb_open(file, length, file, 0, &opened, &error);
+  for (size_t count = 0; count < 100000; count++) {
+    random = random * 1664525 + 1013904223;
+    resource.form = (random >> 8) % 4;
+    random = random * 1664525 + 1013904223;
+    /* any type, and a small number most times */
+    resource.number = count % 4 == 0 ? random : (random & 0xf0000000u) | (random >> 8) % 500;
+    ask(resource, count % 7);
+  }
+  printf("%u: %zu resources, %zu parts outside\n", (unsigned)status, opened.count, outside);
+  return 0;
+}
+C
+}
+
+# any_rows COMMAND..: the rows of that program, built: a file, the same without its end, and none
+any_rows() {
+  expect 'C: any resources' 0 '0: 13 resources, 0 parts outside' '' \
+    bash -c '"$0" < "$1"' "$1" "$folder/walk.res"
+  expect 'C: any resources of a file without its end' 0 '5: 0 resources, 0 parts outside' '' \
+    bash -c 'head -c 100 "$1" | "$0"' "$1" "$folder/walk.res"
+  expect 'C: any resources of no file' 0 '5: 0 resources, 0 parts outside' 'ab' "$1"
+}
+
 # status_rows COMMAND..: the rows of that program, built: a header of 24 bytes, and no body. What
 # the header says is looked at first: characters of 16 bytes are not supported.
 status_rows() {
@@ -277,6 +392,20 @@ if command -v cc > /dev/null; then
   built 'the C example of zones' cc -std=c99 -Wall -Wextra -Werror -O2 ${CFLAGS:-} \
     -I "$top/include" "$top/examples/c/zone.c" "$RESB_LIB/libresb_c.a" "$RATTLE_C/liblibc_c.a" \
     -o "$folder/zone" && zone_rows C "$folder/zone"
+  built 'the C example of offsets' cc -std=c99 -Wall -Wextra -Werror -O2 ${CFLAGS:-} \
+    -I "$top/include" "$top/examples/c/offset.c" "$RESB_LIB/libresb_c.a" \
+    "$RATTLE_C/liblibc_c.a" -o "$folder/offset" && offset_rows C "$folder/offset"
+  built 'the C example of a walk' cc -std=c99 -Wall -Wextra -Werror -O2 ${CFLAGS:-} \
+    -I "$top/include" "$top/examples/c/walk.c" "$RESB_LIB/libresb_c.a" "$RATTLE_C/liblibc_c.a" \
+    -o "$folder/walk" && walk_rows C "$folder/walk" &&
+    expect 'C: a walk over a pool' 0 '3 resources
+table
+  alpha: string one two three
+  beta: string x' '' "$folder/walk" "$folder/a.res" "$folder/pool.res"
+  write_any "$folder/any.c"
+  built 'the program of any resources' cc -std=c99 -Wall -Wextra -Werror -O2 ${CFLAGS:-} \
+    -I "$top/include" "$folder/any.c" "$RESB_LIB/libresb_c.a" "$RATTLE_C/liblibc_c.a" \
+    -o "$folder/any" && any_rows "$folder/any"
   write_statuses "$folder/statuses.c"
   built 'the program of statuses' cc -std=c99 -Wall -Wextra -Werror -O2 ${CFLAGS:-} \
     -I "$top/include" "$folder/statuses.c" "$RESB_LIB/libresb_c.a" "$RATTLE_C/liblibc_c.a" \
@@ -287,7 +416,9 @@ if command -v cargo > /dev/null; then
     "$top/examples/rust/Cargo.toml" --target-dir "$folder/target" &&
     rows Rust "$folder/target/debug/resb_example" &&
     path_rows Rust "$folder/target/debug/resb_example" &&
-    zone_rows Rust "$folder/target/debug/resb_example" --zone
+    zone_rows Rust "$folder/target/debug/resb_example" --zone &&
+    offset_rows Rust "$folder/target/debug/resb_example" --offset &&
+    walk_rows Rust "$folder/target/debug/resb_example" --walk
 fi
 echo "$passed passed, $failed failed"
 [ "$failed" = 0 ]

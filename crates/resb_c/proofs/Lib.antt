@@ -3,3 +3,8 @@ mod HeadLemmas
 mod PathLemmas
 mod ThereLemmas
 mod ZoneLemmas
+mod OpenedLemmas
+mod WithinLemmas
+mod NamedLemmas
+mod SeenLemmas
+mod OpeningLemmas

@@ -2,3 +2,4 @@
 pub mod Heads
 pub mod Leaves
 pub mod Keys
+pub mod Contents

@@ -10,4 +10,8 @@ pub mod Measures
 pub mod AtPlaces
 pub mod AtPaths
 pub mod Zones
+pub mod Opened
+pub mod Opening
+pub mod Shown
+pub mod Handed
 pub mod Inner

@@ -1,6 +1,7 @@
 //! What the caller is told: a status, a number, and an error with its message.
 //! Which fault there is, is found in `compiling`, `files` and `found`.
-ghost use Rattle.resb_c.specs.Calls.{IsMessage, Reports, Tells};
+ghost use Rattle.std.specs.Prelude.{◌≡◌};
+ghost use Rattle.resb_c.specs.Calls.{IsMessage, Reports, Tells, number_told};
 ghost use Rattle.resb_c.specs.Faults.{message_of};
 
 use crate::fault::Fault;
@@ -44,6 +45,18 @@ pub(crate) fn tell<T>(alloc: Global, answer: &Result<T, Fault>, error: &mut Resb
     error.kind
 }
 
+/// The number that the caller gets of an answer: the answer, or the length that an error has for
+/// him.
+pub(crate) fn length_of(answer: &Result<usize, Fault>) -> usize
+    ensures { result ≡ number_told answer.now }
+{
+    match answer {
+        Ok(found) => *found,
+        Err(Fault::TooShort(needed)) => *needed,
+        Err(_) => 0,
+    }
+}
+
 /// The same of an answer that is a number, or an error that has one, which is written too.
 pub(crate) fn report(
     alloc: Global,
@@ -53,10 +66,6 @@ pub(crate) fn report(
 ) -> u32
     ensures { Reports answer result number.new error.new }
 {
-    *number = match &answer {
-        Ok(found) => *found,
-        Err(Fault::TooShort(needed)) => *needed,
-        Err(_) => 0,
-    };
+    *number = length_of(&answer);
     tell(alloc, &answer, error)
 }

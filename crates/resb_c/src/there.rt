@@ -23,14 +23,16 @@ use resb_walk::places::index_of;
 use resb_walk::types::readable;
 use resb_walk::{Leaf, Standing, TableParts, key_at, standing_at, text_at};
 
-/// What stands at a place of a resource. A number of a vector and a key are none.
-fn standing_there(found: Cursor<'_>) -> Result<Standing<'_>, BinaryDeserializerError>
-    ensures { let p = place_of found.entry in let there = content_from p.parts p.at in
+/// What stands at a spot of the parts of a file. A number of a vector and a key are none.
+pub(crate) fn standing_in(
+    file: FileBlocks<'_>,
+    at: Spot,
+) -> Result<Standing<'_>, BinaryDeserializerError>
+    ensures { let p = parts_in file.entry in let there = content_from p at in
         MatchResult result (λ s. there ≡ Some (content_of s))
-        (λ e. (there ≡ None) × Says (spot_refusal p.parts p.at) e) }
+        (λ e. (there ≡ None) × Says (spot_refusal p at) e) }
 {
-    let file = found.file();
-    match found.spot() {
+    match at {
         Spot::Descriptor(word) => standing_at(file, word),
         Spot::Unit(unit) => {
             let text = text_at(file, index_of(file, unit))?;
@@ -38,6 +40,15 @@ fn standing_there(found: Cursor<'_>) -> Result<Standing<'_>, BinaryDeserializerE
         }
         Spot::Word(_) | Spot::Key(_) => Err(past_end()),
     }
+}
+
+/// What stands at a place of a resource. A number of a vector and a key are none.
+fn standing_there(found: Cursor<'_>) -> Result<Standing<'_>, BinaryDeserializerError>
+    ensures { let p = place_of found.entry in let there = content_from p.parts p.at in
+        MatchResult result (λ s. there ≡ Some (content_of s))
+        (λ e. (there ≡ None) × Says (spot_refusal p.parts p.at) e) }
+{
+    standing_in(found.file(), found.spot())
 }
 
 /// The number of the kind of a leaf.
@@ -66,7 +77,7 @@ fn leaf_length(leaf: Leaf<'_>) -> usize
 }
 
 /// The number of the kind of what stands there.
-fn kind_of(there: Standing<'_>) -> u32
+pub(crate) fn kind_of(there: Standing<'_>) -> u32
     ensures { result ≡ kind_number (content_of there.entry) }
 {
     match there {
@@ -77,7 +88,7 @@ fn kind_of(there: Standing<'_>) -> u32
 }
 
 /// How many members, entries, bytes or numbers are there.
-fn size_of(there: Standing<'_>) -> usize
+pub(crate) fn size_of(there: Standing<'_>) -> usize
     ensures { result ≡ size_in (content_of there.entry) }
 {
     match there {
@@ -165,7 +176,7 @@ pub(crate) fn bytes_there(found: Cursor<'_>) -> Result<&[u8], Fault>
 }
 
 /// The key of the entry of a number, from 0 on, of a table.
-fn entry_key<'a>(
+pub(crate) fn entry_key<'a>(
     file: FileBlocks<'a>,
     entries: TableParts<'a>,
     number: usize,

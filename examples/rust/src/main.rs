@@ -3,8 +3,12 @@
 //! Where paths are given, what stands at each is printed alone: a string or a number as it is, a
 //! binary in hexadecimal, and of all else its kind and size, with the keys of a table.
 //! `--zone FILE NAME MOMENT..` prints the offsets of a time zone out of ICU's file of zones.
+//! `--offset FILE NAME MOMENT..` looks them up by hand, and `--walk FILE` prints each resource.
+mod offset;
+mod opened;
 mod resb;
 
+use opened::{Opened, Resource};
 use resb::Form;
 use std::io::Read;
 use std::process::ExitCode;
@@ -87,12 +91,82 @@ fn show_zone(file: &[u8], zone: &str, moments: &[String]) -> bool {
     is_all
 }
 
+/// Prints the offset of a zone at each moment by its transitions.
+fn show_offsets(file: &[u8], zone: &str, moments: &[String]) -> Result<(), String> {
+    let opened = Opened::new(resb::Input { file, pool: &[] }).map_err(|e| e.to_string())?;
+    let zone = offset::find_zone(&opened, zone).map_err(|status| format!("fault {status}"))?;
+    for moment in moments {
+        let moment = moment.parse().expect("a moment in seconds since 1970");
+        match offset::offset_at(&opened, zone, moment) {
+            Ok(offset) => println!("{offset}"),
+            Err(status) => return Err(format!("fault {status}")),
+        }
+    }
+    Ok(())
+}
+
+/// The value of what has no members.
+fn value_of(opened: &Opened<'_>, resource: Resource) -> String {
+    if let Ok(text) = opened.string(resource) {
+        return format!(" {text}");
+    }
+    if let Ok(value) = opened.integer(resource) {
+        return format!(" {value}");
+    }
+    if let Ok(bytes) = opened.bytes(resource) {
+        return format!(" {}", bytes.iter().map(|b| format!("{b:02x}")).collect::<String>());
+    }
+    match opened.vector(resource) {
+        Ok(numbers) => numbers.map(|n| format!(" {n}")).collect(),
+        Err(_) => String::new(),
+    }
+}
+
+/// Prints each resource, with two blanks for each level.
+fn walk(opened: &Opened<'_>) -> Result<(), u32> {
+    println!("{} resources", opened.count());
+    let mut rest = vec![(opened.root(), 0, String::new())];
+    while let Some((resource, level, key)) = rest.pop() {
+        let (kind, size) = opened.kind(resource)?;
+        let (name, value) = (resb::kind_name(kind), value_of(opened, resource));
+        println!("{:1$}{key}{name}{value}", "", 2 * level);
+        if !matches!(name, "table" | "array") {
+            continue;
+        }
+        for number in (0..size).rev() {
+            let key = opened.key(resource, number).map_or(String::new(), |key| format!("{key}: "));
+            rest.push((opened.member(resource, number)?, level + 1, key));
+        }
+    }
+    Ok(())
+}
+
+/// Prints what is wrong, if anything is, and gives the status for the system.
+fn finished(answer: Result<(), String>) -> ExitCode {
+    if let Err(said) = &answer {
+        println!("{said}");
+    }
+    ExitCode::from(u8::from(answer.is_err()))
+}
+
 fn main() -> ExitCode {
     let words: Vec<String> = std::env::args().skip(1).collect();
     if let [option, name, zone, moments @ ..] = words.as_slice() {
-        if option == "--zone" {
+        if option == "--zone" || option == "--offset" {
             let file = std::fs::read(name).expect("a file of zones");
+            if option == "--offset" {
+                return finished(show_offsets(&file, zone, moments));
+            }
             return ExitCode::from(u8::from(!show_zone(&file, zone, moments)));
+        }
+    }
+    if let [option, name] = words.as_slice() {
+        if option == "--walk" {
+            let file = std::fs::read(name).expect("a file");
+            return finished(match Opened::new(resb::Input { file: &file, pool: &[] }) {
+                Ok(opened) => walk(&opened).map_err(|status| format!("fault {status}")),
+                Err(e) => Err(e.to_string()),
+            });
         }
     }
     let mut text = Vec::new();

@@ -10,7 +10,7 @@ pub struct Error {
 }
 
 impl Error {
-    fn none() -> Error {
+    pub fn none() -> Error {
         Error { kind: 0, place: 0, message: [0; 256] }
     }
 

@@ -1,0 +1,56 @@
+-- A file that was opened, and what its resources stand for, where the caller hands both in.
+--     parts_of o              the parts of the file, as the struct says them
+--     spot_of r               the spot that a resource names
+--     Shows o r s             what this resource names is this tree, or this number of a vector
+--     HoldsEntries o r ts     a table stands there, with these entries in this order
+use Rattle.std.specs.Prelude.{◌≡◌, ◌==◌, ◌&&◌, ◌^◌, ℕ, List, Some, nat_lt, if◌then◌else◌}
+use Rattle.resb_tree.specs.Tree.{Tree}
+use Rattle.resb_format.specs.Bytes.{units_of}
+use Rattle.resb_format.specs.Content.{Member, entry_list}
+use Rattle.resb_format.specs.Denotes.{DenEntries}
+use Rattle.resb_format.specs.Parts.{Parts}
+use Rattle.resb_read.specs.Places.{Place}
+use Rattle.resb_read.specs.declared.cursor.Spot as cursor
+use Rattle.resb_read.specs.declared.cursor.Spot.TheVariants as spot
+use Rattle.resb_path.specs.Finding.{Spot}
+use Rattle.resb_path.specs.InFiles.{IsAt}
+use Rattle.resb_c.specs.AtPlaces.{content_from}
+use Rattle.resb_c.specs.declared.opened.ResbOpened.{ResbOpened}
+use Rattle.resb_c.specs.declared.resource.ResbResource.{ResbResource}
+
+-- the parts of a file, as the struct says them; aliases and strings of the older form are read
+abbrev pub parts_of : ResbOpened → Parts
+parts_of o = record {
+  body = o.body.now;
+  keys = o.keys.now;
+  block = units_of o.block.now;
+  lent = Some (record {
+    keys = o.pool_keys.now;
+    block = units_of o.pool_block.now;
+    limit = o.limit;
+    short_limit = o.short_limit;
+  });
+}
+
+-- the spot that a resource names: a descriptor, a unit of 16 bits, and else a number of a vector
+abbrev pub spot_of : ResbResource → cursor.Spot
+spot_of r =
+    if r.form == 0 then spot.Descriptor r.number
+    else if r.form == 1 && nat_lt r.number (2 ^ 16) then spot.Unit r.number
+    else spot.Word r.number
+
+-- where a resource stands in the file of the struct
+abbrev pub place_in : ResbOpened → ResbResource → Place
+place_in o r = record { parts = parts_of o; at = spot_of r }
+
+-- in the file of the struct the resource denotes this tree, or names this number of a vector
+abbrev pub Shows : ResbOpened → ResbResource → Spot → Type 0
+Shows o r s = IsAt (place_in o r) s
+
+-- a table stands there, and its entries, those that are replaced too, have these keys and trees in
+-- this order
+abbrev pub HoldsEntries : ResbOpened → ResbResource → List (List ℕ × Tree) → Type 0
+HoldsEntries o r ts =
+    (es : List (ℕ × Member)) × (n : ℕ)
+    × (content_from (parts_of o) (spot_of r) ≡ Some (entry_list es))
+    × DenEntries (parts_of o) es ts n

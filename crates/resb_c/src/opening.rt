@@ -1,0 +1,22 @@
+//! How a file is opened: it is counted, which checks it as a whole, and its parts are kept.
+//! What stands in them is found in `seen` and `within`.
+ghost use Rattle.std.specs.Prelude.{◌≡◌};
+ghost use Rattle.resb_c.specs.Opening.{OpensFile};
+
+use crate::fault::Fault;
+use crate::files::{Input, count_file, pool_of};
+use crate::opened::ResbOpened;
+use resb_pool_bundle::read_with_pool;
+use std::alloc::Global;
+
+/// Opens a file beside the pool bundle that is given, if one is.
+pub(crate) fn open_file<'a>(alloc: Global, input: Input<'a>) -> Result<ResbOpened<'a>, Fault>
+    ensures { OpensFile input.entry.pool.now input.entry.file.now result }
+{
+    let count = count_file(alloc, input)?;
+    let pool = pool_of(input.pool)?;
+    match read_with_pool(input.file, pool) {
+        Ok(parts) => Ok(ResbOpened::of(parts, count)),
+        Err(e) => Err(Fault::Reading(e)),
+    }
+}

@@ -1,6 +1,6 @@
 //! The files of texts by their drafts: without what rules leave out, and with the binary forms of
 //! rules of collation. Texts that have neither are compiled at once, in `compile`.
-ghost use Rattle.std.specs.Prelude.{◌≡◌, true};
+ghost use Rattle.std.specs.Prelude.{◌≡◌, true, IfOk};
 ghost use Rattle.resb_draft.specs.Drafts.{is_ready};
 
 use crate::collation::{BINARY, check_collations, forms_in, unbuilt};
@@ -10,7 +10,7 @@ use crate::say::refuse_memory;
 use crate::show::opened_of;
 use resb_compile::IcuCompileError;
 use resb_draft::DraftBundle;
-use resb_filter::with_collation_forms;
+use resb_filter::{Rules, with_collation_forms};
 use resb_pool_bundle::PoolBundle;
 use resb_tree::Key;
 use resb_words::{Collation, CompileWords};
@@ -32,11 +32,43 @@ pub(crate) fn drafted_file(
     wanted: &CompileWords<'_>,
 ) -> Result<(Vec<u8>, u8), u8> {
     let (bundle, keys) = filtered_draft(rt, source.name, source.text, wanted.filters)?;
+    let bundle = if wanted.leaves_unihan {
+        without_unihan(rt, source.name, bundle)?
+    } else {
+        bundle
+    };
     if let Collation::From(folder) = wanted.collation {
         return Ok((collated_file(rt, source, bundle, keys, folder)?, 0));
     }
     let status = check_collations(rt, source.name, &bundle.root, wanted)?;
     Ok((written(rt, source, bundle, keys.as_slice())?, status))
+}
+
+/// A bundle without the collations of type `unihan`, which ICU's compiler leaves out.
+fn without_unihan<'s>(
+    rt: &HostRuntime,
+    name: &str,
+    bundle: DraftBundle<'s>,
+) -> Result<DraftBundle<'s>, u8>
+    requires { is_ready bundle.root ≡ true }
+    ensures { IfOk result (λ b. is_ready b.root ≡ true) }
+{
+    let Ok(rules) = Rules::read(rt.alloc(), "-/collations/unihan") else {
+        return Err(refuse_memory(rt, name));
+    };
+    let DraftBundle {
+        name: own_name,
+        root,
+        is_locale_fallback_enabled,
+    } = bundle;
+    match rules.filtered(rt.alloc(), root) {
+        Ok(root) => Ok(DraftBundle {
+            name: own_name,
+            root,
+            is_locale_fallback_enabled,
+        }),
+        Err(_) => Err(refuse_memory(rt, name)),
+    }
 }
 
 /// The same with the binary forms of rules of collation that the file of the bundle's name has in a

@@ -206,6 +206,12 @@ points_next ca {fa} {fb} first later p es (name ∷ names) left left' b are (inl
 points_next ca {fa} {fb} first later p es (name ∷ names) left left' b are (inr h) =
     later p es names h.here left' b are h.blamed
 
+-- three fields and the others
+pub points_three : (ca cb cc : Option Place → ℕ → Type 0) {fa fb fc : BlamingField}
+    {fd : BlamingFields} → PointedField fa → PointedField fb → PointedField fc → PointedFields fd
+    → PointedFields (BlamesNext ca fa (BlamesNext cb fb (BlamesNext cc fc fd)))
+points_three ca cb cc a b c later = points_next ca a (points_next cb b (points_next cc c later))
+
 -- a record points to the place itself, or where its fields do
 pub record_points : (blames : BlamingFields) → PointedFields blames → (names : List (List ℕ))
     → Pointed (BlamesRecord blames names)

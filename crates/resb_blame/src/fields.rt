@@ -11,7 +11,7 @@ ghost use Rattle.resb_blame.specs.Blamed.{Blamed, Points};
 ghost use Rattle.resb_blame.specs.BlamedFields.{BlamesAt, BlamesRequired, BlamesFound};
 ghost use Rattle.resb_blame.specs.BlamedFields.{BlamesNone, BlamesNext};
 ghost use Rattle.resb_blame.specs.Pointing.{required_points, found_points};
-ghost use Rattle.resb_blame.specs.Pointing.{points_none, points_next};
+ghost use Rattle.resb_blame.specs.Pointing.{points_none, points_next, points_three};
 
 use crate::blame::Blame;
 use crate::blames::Blames;
@@ -190,8 +190,7 @@ impl<
 > BlamesChain<'de> for (A, B, C, D) {
     ghost blames = { ⟦<(A, (B, (C, D))) as BlamesChain<'de>>⟧.blames };
 
-    ghost points = { points_next A.counts A.points (points_next B.counts B.points
-        (points_next C.counts C.points D.points)) };
+    ghost points = { points_three A.counts B.counts C.counts A.points B.points C.points D.points };
 
     fn blame_chain<'m>(
         alloc: Global,

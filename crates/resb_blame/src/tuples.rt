@@ -1,5 +1,7 @@
 //! Tuples of fields, of 1 to 12. Each is to blame as the chain of its members, three by three as
 //! long as there are so many. What is to blame in a chain is said in `fields`.
+ghost use Rattle.resb_blame.specs.Pointing.{points_next, points_none, points_three};
+
 use crate::blame::Blame;
 use crate::fields::{BlamesChain, BlamesField};
 use crate::records::BlamesFields;
@@ -9,7 +11,7 @@ use std::alloc::Global;
 impl<'de, A: BlamesField<'de>> BlamesFields<'de> for (A,) {
     ghost blames = { ⟦<(A, ()) as BlamesChain<'de>>⟧.blames };
 
-    ghost points = { ⟦<(A, ()) as BlamesChain<'de>>⟧.points };
+    ghost points = { points_next A.counts A.points points_none };
 
     fn blame_fields<'m>(
         alloc: Global,
@@ -24,7 +26,7 @@ impl<'de, A: BlamesField<'de>> BlamesFields<'de> for (A,) {
 impl<'de, A: BlamesField<'de>, B: BlamesField<'de>> BlamesFields<'de> for (A, B) {
     ghost blames = { ⟦<(A, (B, ())) as BlamesChain<'de>>⟧.blames };
 
-    ghost points = { ⟦<(A, (B, ())) as BlamesChain<'de>>⟧.points };
+    ghost points = { points_next A.counts A.points (points_next B.counts B.points points_none) };
 
     fn blame_fields<'m>(
         alloc: Global,
@@ -40,7 +42,8 @@ impl<'de, A: BlamesField<'de>, B: BlamesField<'de>, C: BlamesField<'de>> BlamesF
     for (A, B, C) {
     ghost blames = { ⟦<(A, B, C, ()) as BlamesChain<'de>>⟧.blames };
 
-    ghost points = { ⟦<(A, B, C, ()) as BlamesChain<'de>>⟧.points };
+    ghost points = { points_three A.counts B.counts C.counts A.points B.points C.points
+        points_none };
 
     fn blame_fields<'m>(
         alloc: Global,
@@ -61,7 +64,8 @@ impl<
 > BlamesFields<'de> for (A, B, C, D) {
     ghost blames = { ⟦<(A, B, C, (D, ())) as BlamesChain<'de>>⟧.blames };
 
-    ghost points = { ⟦<(A, B, C, (D, ())) as BlamesChain<'de>>⟧.points };
+    ghost points = { points_three A.counts B.counts C.counts A.points B.points C.points
+        (points_next D.counts D.points points_none) };
 
     fn blame_fields<'m>(
         alloc: Global,
@@ -83,7 +87,9 @@ impl<
 > BlamesFields<'de> for (A, B, C, D, E) {
     ghost blames = { ⟦<(A, B, C, (D, (E, ()))) as BlamesChain<'de>>⟧.blames };
 
-    ghost points = { ⟦<(A, B, C, (D, (E, ()))) as BlamesChain<'de>>⟧.points };
+    ghost points = { points_three A.counts B.counts C.counts A.points B.points C.points
+        (points_next D.counts D.points
+        (points_next E.counts E.points points_none)) };
 
     fn blame_fields<'m>(
         alloc: Global,
@@ -106,7 +112,8 @@ impl<
 > BlamesFields<'de> for (A, B, C, D, E, F) {
     ghost blames = { ⟦<(A, B, C, (D, E, F, ())) as BlamesChain<'de>>⟧.blames };
 
-    ghost points = { ⟦<(A, B, C, (D, E, F, ())) as BlamesChain<'de>>⟧.points };
+    ghost points = { points_three A.counts B.counts C.counts A.points B.points C.points
+        (points_three D.counts E.counts F.counts D.points E.points F.points points_none) };
 
     fn blame_fields<'m>(
         alloc: Global,
@@ -130,7 +137,9 @@ impl<
 > BlamesFields<'de> for (A, B, C, D, E, F, G) {
     ghost blames = { ⟦<(A, B, C, (D, E, F, (G, ()))) as BlamesChain<'de>>⟧.blames };
 
-    ghost points = { ⟦<(A, B, C, (D, E, F, (G, ()))) as BlamesChain<'de>>⟧.points };
+    ghost points = { points_three A.counts B.counts C.counts A.points B.points C.points
+        (points_three D.counts E.counts F.counts D.points E.points F.points
+        (points_next G.counts G.points points_none)) };
 
     fn blame_fields<'m>(
         alloc: Global,
@@ -155,7 +164,10 @@ impl<
 > BlamesFields<'de> for (A, B, C, D, E, F, G, H) {
     ghost blames = { ⟦<(A, B, C, (D, E, F, (G, (H, ())))) as BlamesChain<'de>>⟧.blames };
 
-    ghost points = { ⟦<(A, B, C, (D, E, F, (G, (H, ())))) as BlamesChain<'de>>⟧.points };
+    ghost points = { points_three A.counts B.counts C.counts A.points B.points C.points
+        (points_three D.counts E.counts F.counts D.points E.points F.points
+        (points_next G.counts G.points
+        (points_next H.counts H.points points_none))) };
 
     fn blame_fields<'m>(
         alloc: Global,
@@ -183,7 +195,9 @@ impl<
 > BlamesFields<'de> for (A, B, C, D, E, F, G, H, I) {
     ghost blames = { ⟦<(A, B, C, (D, E, F, (G, H, I, ()))) as BlamesChain<'de>>⟧.blames };
 
-    ghost points = { ⟦<(A, B, C, (D, E, F, (G, H, I, ()))) as BlamesChain<'de>>⟧.points };
+    ghost points = { points_three A.counts B.counts C.counts A.points B.points C.points
+        (points_three D.counts E.counts F.counts D.points E.points F.points
+        (points_three G.counts H.counts I.counts G.points H.points I.points points_none)) };
 
     fn blame_fields<'m>(
         alloc: Global,
@@ -212,7 +226,10 @@ impl<
 > BlamesFields<'de> for (A, B, C, D, E, F, G, H, I, J) {
     ghost blames = { ⟦<(A, B, C, (D, E, F, (G, H, I, (J, ())))) as BlamesChain<'de>>⟧.blames };
 
-    ghost points = { ⟦<(A, B, C, (D, E, F, (G, H, I, (J, ())))) as BlamesChain<'de>>⟧.points };
+    ghost points = { points_three A.counts B.counts C.counts A.points B.points C.points
+        (points_three D.counts E.counts F.counts D.points E.points F.points
+        (points_three G.counts H.counts I.counts G.points H.points I.points
+        (points_next J.counts J.points points_none))) };
 
     fn blame_fields<'m>(
         alloc: Global,
@@ -242,7 +259,11 @@ impl<
 > BlamesFields<'de> for (A, B, C, D, E, F, G, H, I, J, K) {
     ghost blames = { ⟦<(A, B, C, (D, E, F, (G, H, I, (J, (K, ()))))) as BlamesChain<'de>>⟧.blames };
 
-    ghost points = { ⟦<(A, B, C, (D, E, F, (G, H, I, (J, (K, ()))))) as BlamesChain<'de>>⟧.points };
+    ghost points = { points_three A.counts B.counts C.counts A.points B.points C.points
+        (points_three D.counts E.counts F.counts D.points E.points F.points
+        (points_three G.counts H.counts I.counts G.points H.points I.points
+        (points_next J.counts J.points
+        (points_next K.counts K.points points_none)))) };
 
     fn blame_fields<'m>(
         alloc: Global,
@@ -271,9 +292,13 @@ impl<
     K: BlamesField<'de>,
     L: BlamesField<'de>,
 > BlamesFields<'de> for (A, B, C, D, E, F, G, H, I, J, K, L) {
-    ghost blames = { ⟦<(A, B, C, (D, E, F, (G, H, I, (J, K, L, ())))) as BlamesChain<'de>>⟧.blames };
+    ghost blames = {
+        ⟦<(A, B, C, (D, E, F, (G, H, I, (J, K, L, ())))) as BlamesChain<'de>>⟧.blames };
 
-    ghost points = { ⟦<(A, B, C, (D, E, F, (G, H, I, (J, K, L, ())))) as BlamesChain<'de>>⟧.points };
+    ghost points = { points_three A.counts B.counts C.counts A.points B.points C.points
+        (points_three D.counts E.counts F.counts D.points E.points F.points
+        (points_three G.counts H.counts I.counts G.points H.points I.points
+        (points_three J.counts K.counts L.counts J.points K.points L.points points_none))) };
 
     fn blame_fields<'m>(
         alloc: Global,

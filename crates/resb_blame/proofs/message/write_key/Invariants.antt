@@ -11,4 +11,4 @@ invariant-loop-c g l =
     (cs : List ℕ) × (encode_utf8_all cs ≡ chars_rest l.c-iterator)
     × (IsPlainFormatter l.initial.f → (done : List ℕ)
     × HasWritten g.W.Write.write_str_gives l.initial.f done l.f
-    × (done ++ flat_map character_text cs ≡ key_text l.key.now))
+    × (done ++ flat_map character_text cs ≡ key_text l.key))

@@ -292,8 +292,7 @@ impl<
     K: BlamesField<'de>,
     L: BlamesField<'de>,
 > BlamesFields<'de> for (A, B, C, D, E, F, G, H, I, J, K, L) {
-    ghost blames = {
-        ⟦<(A, B, C, (D, E, F, (G, H, I, (J, K, L, ())))) as BlamesChain<'de>>⟧.blames };
+    ghost blames = { ⟦<(A, B, C, (D, E, F, (G, H, I, (J, K, L, ())))) as BlamesChain<'de>>⟧.blames };
 
     ghost points = { points_three A.counts B.counts C.counts A.points B.points C.points
         (points_three D.counts E.counts F.counts D.points E.points F.points

@@ -127,7 +127,9 @@ fn value_at(draft: &Draft<'_>, number: u32, key: &str) -> Option<u32> {
     let Some(Piece::Table(part, _)) = draft.pieces.get(number as usize) else {
         return None;
     };
-    let place = keys_at(draft, number)?.iter().position(|name| *name == key)?;
+    let place = keys_at(draft, number)?
+        .iter()
+        .position(|name| *name == key)?;
     let values = draft.members.get(part.from as usize..)?;
     values.get(place).copied()
 }

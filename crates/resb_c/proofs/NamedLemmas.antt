@@ -37,7 +37,7 @@ use Rattle.resb_c.specs.declared.fault.Fault.{Fault}
 use Rattle.resb_c.specs.declared.fault.Fault.TheVariants.{NotFound, OtherKind}
 use Rattle.resb_c.specs.declared.opened.ResbOpened.{ResbOpened}
 use Rattle.resb_c.specs.declared.resource.ResbResource.{ResbResource}
-use Rattle.resb_c.proofs.OpenedLemmas.{none_some, Fits, shown_fits, MemberAs, each_at}
+use Rattle.resb_c.proofs.OpenedLemmas.{none_some, shown_fits, each_at}
 use Rattle.resb_c.proofs.WithinLemmas.{found_as, none_as, number_as, no_number_as}
 
 -- what is found by a name stands where a member does

@@ -1,6 +1,6 @@
 -- What is told of a resource of an opened file is so of its tree.
 use Rattle.std.proofs.Common.{◌≡◌, ◌≤◌, ℕ, List, Option, Some, None, refl, sym, ap, subst, ◌∙◌}
-use Rattle.std.proofs.Common.{arith, length, slice_get}
+use Rattle.std.proofs.Common.{length, slice_get}
 use Rattle.std.specs.Prelude.{option_map}
 use Rattle.std.proofs.lemmas.Option.{same_Some}
 use Rattle.resb_tree.specs.Inner.Dropping.{IsNoCollection}
@@ -11,7 +11,6 @@ use Rattle.resb_format.specs.Content.{Content, Member, leaf, list, entry_list}
 use Rattle.resb_format.specs.Denotes.{DenEntries}
 use Rattle.resb_format.specs.Lookups.{key_in}
 use Rattle.resb_format.specs.Parts.{Parts}
-use Rattle.resb_read.specs.Resources.{DenSpot}
 use Rattle.resb_path.specs.Finding.{Spot, tree_spot, number_spot}
 use Rattle.resb_c.specs.AtPlaces.{content_from, found_kind, kind_number, leaf_size, size_in}
 use Rattle.resb_c.specs.AtPlaces.{tree_kind, HasKey}

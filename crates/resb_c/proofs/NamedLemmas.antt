@@ -28,7 +28,8 @@ use Rattle.resb_walk.specs.Inner.Members.{content_of, leaf_tree, members_of}
 use Rattle.resb_walk.specs.declared.members.Standing.{Standing}
 use Rattle.resb_walk.specs.declared.members.Standing.TheVariants as standing
 use Rattle.resb_walk.specs.declared.members.TableParts.{TableParts}
-use Rattle.resb_path.specs.Finding.{Spot, tree_spot, number_spot, number_said, found_at, found_inside}
+use Rattle.resb_path.specs.Finding.{Spot, tree_spot, number_spot, number_said, found_at}
+use Rattle.resb_path.specs.Finding.{found_inside}
 use Rattle.resb_c.specs.AtPlaces.{content_from}
 use Rattle.resb_c.specs.Inner.Contents.{IsNamed, IsNumbered, spot_inside}
 use Rattle.resb_c.specs.Opened.{parts_of, spot_of, place_in, Shows}

@@ -31,12 +31,11 @@ is_opened pool file lent q root o is cut at mine named =
     record {
       parts = parts;
       root = there;
-      tree = λ t n d.
-          (
-            n,
-            subst (λ p. DenSpot p (spot_of o.root) t n) (sym parts)
-                (subst (λ s. DenSpot (parts_with (given pool) file) s t n) (sym there) d.root),
-          );
+      tree = λ t n d. (
+        n,
+        subst (λ p. DenSpot p (spot_of o.root) t n) (sym parts)
+            (subst (λ s. DenSpot (parts_with (given pool) file) s t n) (sym there) d.root),
+      );
     }
 
 -- a file that was counted passes each check of its head

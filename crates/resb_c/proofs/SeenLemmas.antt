@@ -155,8 +155,8 @@ module _ (o : ResbOpened) (r : ResbResource) (k : ℕ) where
   none_given es NotFound h past ts holds =
       (get_past ts k (subst (λ n. n ≤ k) (held_at es h ts holds).1 past), refl)
   none_given es (Reading e) h (at, (m, later, behind), is, says) ts holds =
-      absurd (entry_has_key (parts_of o) (slice_get es k) (slice_get ts k) (held_at es h ts holds).0 (at, m)
-      (get_first es k (at, m) later behind) is)
+      absurd (entry_has_key (parts_of o) (slice_get es k) (slice_get ts k)
+      (held_at es h ts holds).0 (at, m) (get_first es k (at, m) later behind) is)
   none_given es _ h none ts holds = absurd none
 
   pub key_lacking : (es : List (ℕ × Member)) (e : Fault)

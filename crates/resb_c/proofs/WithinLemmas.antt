@@ -47,7 +47,8 @@ get_past (x ∷ xs) (suc k) h = get_past xs k (omega (arith, h))
 
 module _ (o : ResbOpened) where
   -- a member that is found shows its tree
-  pub found_as : (m : ResbResource) (x : Option Member) (t : Option Tree) → MemberAs (parts_of o) x t
+  pub found_as : (m : ResbResource) (x : Option Member) (t : Option Tree)
+      → MemberAs (parts_of o) x t
       → option_map places.spot_of x ≡ Some (spot_of m) → IsFound o (option_map tree_spot t) (Ok m)
   found_as m (Some x) (Some t) (n, d) e =
       (n, subst (λ s. DenSpot (parts_of o) s t n) (same_Some _ _ e) d)

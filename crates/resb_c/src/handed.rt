@@ -38,10 +38,7 @@ pub(crate) fn hand_on(answer: &Result<ResbResource, Fault>, found: &mut ResbReso
 }
 
 /// Writes where the bytes lie that were found, or that there are none, and gives the call's status.
-pub(crate) fn hand_bytes<'a>(
-    answer: &Result<&'a [u8], Fault>,
-    found: &mut ResbBytes<'a>,
-) -> u32
+pub(crate) fn hand_bytes<'a>(answer: &Result<&'a [u8], Fault>, found: &mut ResbBytes<'a>) -> u32
     ensures { MatchResult answer.now
         (λ bytes. (result ≡ 0) × (found.new.bytes.now ≡ bytes.now))
         (λ e. (result ≡ number_of e) × (found.new.bytes.now ≡ [])) }

@@ -57,8 +57,9 @@ use crate::handed::{hand_bytes, hand_on, status_of};
 use crate::json::dump_json_into;
 use crate::opening::open_file;
 use crate::report::{length_of, report, tell};
-use crate::seen::{bytes_seen, kind_seen, numbers_seen, signed_seen, text_into, units_seen};
-use crate::seen::unsigned_seen;
+use crate::seen::{
+    bytes_seen, kind_seen, numbers_seen, signed_seen, text_into, units_seen, unsigned_seen,
+};
 use crate::within::{find_at_path, key_seen, member_seen, value_at_key};
 use crate::zones::tell_offset;
 pub use compiling::CompilingFault;
@@ -69,10 +70,10 @@ pub use measured::ResbMeasured;
 pub use opened::ResbOpened;
 pub use printing::PrintingFault;
 pub use report::ResbError;
-pub use resource::ResbResource;
 use resb_diagnostics::location_of;
 use resb_fields::Fields;
 use resb_zoneinfo::InfoFields;
+pub use resource::ResbResource;
 use std::alloc::Global;
 
 /// The version of the header that this library has the calls of: its `RESB_VERSION`.

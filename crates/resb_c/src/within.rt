@@ -105,11 +105,7 @@ pub(crate) fn key_seen<'a>(
 }
 
 /// The value of the last of these entries that has a name.
-fn named(
-    file: FileBlocks<'_>,
-    entries: TableParts<'_>,
-    name: &str,
-) -> Result<ResbResource, Fault>
+fn named(file: FileBlocks<'_>, entries: TableParts<'_>, name: &str) -> Result<ResbResource, Fault>
     ensures { IsNamed (parts_in file.entry) (keyed_members entries.entry) name.now result }
 {
     match TableView::of(file, entries).get(name) {
@@ -161,11 +157,7 @@ fn numbered(there: Standing<'_>, name: &str) -> Result<ResbResource, Fault>
 }
 
 /// What stands inside a resource under one name of a path.
-fn step(
-    opened: &ResbOpened<'_>,
-    resource: ResbResource,
-    name: &str,
-) -> Result<ResbResource, Fault>
+fn step(opened: &ResbOpened<'_>, resource: ResbResource, name: &str) -> Result<ResbResource, Fault>
     ensures { (s : finding.Spot) → Shows opened.now resource s
         → IsFound opened.now (found_inside s name.now) result }
 {

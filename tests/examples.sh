@@ -277,9 +277,9 @@ C
 }
 
 # write_any FILE: the program that hands any resources in: it opens the file of standard input, and
-# asks each call about a hundred thousand resources by their numbers, of which few stand in the file.
-# It says how many of the parts that it was given lie outside the file, and that a file which was not
-# opened has nothing.
+# asks each call about a hundred thousand resources by their numbers, of which few stand in the
+# file. It says how many of the parts that it was given lie outside the file, and that a file which
+# was not opened has nothing.
 write_any() {
   cat > "$1" << 'C'
 #include "resb.h"

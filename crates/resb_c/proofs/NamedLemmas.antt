@@ -28,7 +28,8 @@ use Rattle.resb_walk.specs.Inner.Members.{content_of, leaf_tree, members_of}
 use Rattle.resb_walk.specs.declared.members.Standing.{Standing}
 use Rattle.resb_walk.specs.declared.members.Standing.TheVariants as standing
 use Rattle.resb_walk.specs.declared.members.TableParts.{TableParts}
-use Rattle.resb_path.specs.Finding.{Spot, tree_spot, number_spot, number_said, found_at, found_inside}
+use Rattle.resb_path.specs.Finding.{Spot, tree_spot, number_spot, number_said, found_at}
+use Rattle.resb_path.specs.Finding.{found_inside}
 use Rattle.resb_c.specs.AtPlaces.{content_from}
 use Rattle.resb_c.specs.Inner.Contents.{IsNamed, IsNumbered, spot_inside}
 use Rattle.resb_c.specs.Opened.{parts_of, spot_of, place_in, Shows}
@@ -37,7 +38,7 @@ use Rattle.resb_c.specs.declared.fault.Fault.{Fault}
 use Rattle.resb_c.specs.declared.fault.Fault.TheVariants.{NotFound, OtherKind}
 use Rattle.resb_c.specs.declared.opened.ResbOpened.{ResbOpened}
 use Rattle.resb_c.specs.declared.resource.ResbResource.{ResbResource}
-use Rattle.resb_c.proofs.OpenedLemmas.{none_some, Fits, shown_fits, MemberAs, each_at}
+use Rattle.resb_c.proofs.OpenedLemmas.{none_some, shown_fits, each_at}
 use Rattle.resb_c.proofs.WithinLemmas.{found_as, none_as, number_as, no_number_as}
 
 -- what is found by a name stands where a member does

@@ -1,5 +1,5 @@
 -- What a resource of an opened file stands for is told by what stands there.
-use Rattle.std.proofs.Common.{◌≡◌, ℕ, zero, suc, List, [], ◌∷◌, Option, Some, None, refl, sym, ap}
+use Rattle.std.proofs.Common.{◌≡◌, ℕ, zero, suc, List, [], Option, Some, None, refl, sym, ap}
 use Rattle.std.proofs.Common.{subst, ◌∙◌, length, slice_get}
 use Rattle.std.specs.Prelude.{option_map}
 use Rattle.std.proofs.lemmas.Option.{same_Some}
@@ -13,10 +13,8 @@ use Rattle.resb_format.specs.Denotes.{entries_none, entries_more}
 use Rattle.resb_format.specs.Lookups.{key_in}
 use Rattle.resb_format.specs.Parts.{Parts}
 use Rattle.resb_format.proofs.Mapped.{content_leaf}
-use Rattle.resb_read.specs.Inside.{StandsAs}
 use Rattle.resb_read.specs.Places as places
 use Rattle.resb_read.specs.Resources.{DenSpot}
-use Rattle.resb_read.specs.Sequences.{at_spot}
 use Rattle.resb_read.specs.declared.cursor.Spot as cursor
 use Rattle.resb_read.specs.declared.cursor.Spot.TheVariants as spot
 use Rattle.resb_path.specs.Finding.{Spot, tree_spot, number_spot}

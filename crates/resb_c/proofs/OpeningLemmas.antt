@@ -1,6 +1,5 @@
 -- A file that is opened has the parts and the root of its bytes.
-use Rattle.std.proofs.Common.{◌≡◌, ℕ, List, Option, Some, None, Ok, true, sym, ap, subst, ◌∙◌}
-use Rattle.resb_tree.specs.Tree.{Tree}
+use Rattle.std.proofs.Common.{◌≡◌, ℕ, List, Option, Some, Ok, true, sym, ap, subst, ◌∙◌}
 use Rattle.resb_format.specs.Error.{refusal_of}
 use Rattle.resb_format.specs.Parts.{Parts, reads_older}
 use Rattle.resb_format.specs.declared.error.ReadingError.{ReadingError}

@@ -1,6 +1,6 @@
 -- What is told of a resource of an opened file is so of its tree.
 use Rattle.std.proofs.Common.{◌≡◌, ◌≤◌, ℕ, List, Option, Some, None, refl, sym, ap, subst, ◌∙◌}
-use Rattle.std.proofs.Common.{arith, length, slice_get}
+use Rattle.std.proofs.Common.{length, slice_get}
 use Rattle.std.specs.Prelude.{option_map}
 use Rattle.std.proofs.lemmas.Option.{same_Some}
 use Rattle.resb_tree.specs.Inner.Dropping.{IsNoCollection}
@@ -11,7 +11,6 @@ use Rattle.resb_format.specs.Content.{Content, Member, leaf, list, entry_list}
 use Rattle.resb_format.specs.Denotes.{DenEntries}
 use Rattle.resb_format.specs.Lookups.{key_in}
 use Rattle.resb_format.specs.Parts.{Parts}
-use Rattle.resb_read.specs.Resources.{DenSpot}
 use Rattle.resb_path.specs.Finding.{Spot, tree_spot, number_spot}
 use Rattle.resb_c.specs.AtPlaces.{content_from, found_kind, kind_number, leaf_size, size_in}
 use Rattle.resb_c.specs.AtPlaces.{tree_kind, HasKey}
@@ -156,8 +155,8 @@ module _ (o : ResbOpened) (r : ResbResource) (k : ℕ) where
   none_given es NotFound h past ts holds =
       (get_past ts k (subst (λ n. n ≤ k) (held_at es h ts holds).1 past), refl)
   none_given es (Reading e) h (at, (m, later, behind), is, says) ts holds =
-      absurd (entry_has_key (parts_of o) (slice_get es k) (slice_get ts k) (held_at es h ts holds).0 (at, m)
-      (get_first es k (at, m) later behind) is)
+      absurd (entry_has_key (parts_of o) (slice_get es k) (slice_get ts k)
+      (held_at es h ts holds).0 (at, m) (get_first es k (at, m) later behind) is)
   none_given es _ h none ts holds = absurd none
 
   pub key_lacking : (es : List (ℕ × Member)) (e : Fault)

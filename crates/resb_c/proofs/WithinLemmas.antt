@@ -1,20 +1,17 @@
 -- What is inside a resource of an opened file is what is inside its tree.
-use Rattle.std.proofs.Common.{◌≡◌, ℕ, zero, suc, Bool, true, false, List, [], ◌∷◌, Option, Some, None}
-use Rattle.std.proofs.Common.{refl, sym, ap, subst, ◌∙◌, ◌≤◌, arith, length, drop, slice_get, map}
+use Rattle.std.proofs.Common.{◌≡◌, ℕ, zero, suc, false, List, [], ◌∷◌, Option, Some, None}
+use Rattle.std.proofs.Common.{refl, sym, ap, subst, ◌∙◌, ◌≤◌, arith, length, drop, slice_get}
 use Rattle.std.proofs.Common.{Result, Ok, Err}
 use Rattle.std.specs.Prelude.{option_map}
 use Rattle.std.proofs.lemmas.Bool.{false≢true}
 use Rattle.std.proofs.lemmas.Option.{same_Some}
 use Rattle.resb_tree.specs.Inner.Dropping.{IsNoCollection}
-use Rattle.resb_tree.specs.LayingOrder.{array_members}
 use Rattle.resb_tree.specs.Tree.{Tree, string, alias, array, table, binary, integer, int_vector}
-use Rattle.resb_tree.specs.Tree.{trees_of, map_of}
+use Rattle.resb_tree.specs.Tree.{trees_of}
 use Rattle.resb_format.specs.Content.{Content, Member, leaf, list, entry_list}
 use Rattle.resb_format.specs.Denotes.{DenEach, DenEntries}
-use Rattle.resb_format.specs.Parts.{Parts}
 use Rattle.resb_read.specs.Places as places
 use Rattle.resb_read.specs.Resources.{DenSpot}
-use Rattle.resb_read.specs.declared.cursor.Spot as cursor
 use Rattle.resb_read.specs.declared.cursor.Spot.TheVariants as spot
 use Rattle.resb_path.specs.Finding.{Spot, tree_spot, number_spot}
 use Rattle.resb_c.specs.AtPlaces.{content_from}
@@ -50,7 +47,8 @@ get_past (x ∷ xs) (suc k) h = get_past xs k (omega (arith, h))
 
 module _ (o : ResbOpened) where
   -- a member that is found shows its tree
-  pub found_as : (m : ResbResource) (x : Option Member) (t : Option Tree) → MemberAs (parts_of o) x t
+  pub found_as : (m : ResbResource) (x : Option Member) (t : Option Tree)
+      → MemberAs (parts_of o) x t
       → option_map places.spot_of x ≡ Some (spot_of m) → IsFound o (option_map tree_spot t) (Ok m)
   found_as m (Some x) (Some t) (n, d) e =
       (n, subst (λ s. DenSpot (parts_of o) s t n) (same_Some _ _ e) d)

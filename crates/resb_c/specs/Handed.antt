@@ -9,7 +9,7 @@ use Rattle.resb_tree.specs.Tree.{Tree, string, alias, array, table, binary, inte
 use Rattle.resb_path.specs.Finding.{Spot, tree_spot, number_spot}
 use Rattle.resb_read.specs.declared.cursor.Spot.TheVariants as spot
 use Rattle.resb_c.specs.Faults.{number_of}
-use Rattle.resb_c.specs.Opened.{spot_of, HoldsEntries}
+use Rattle.resb_c.specs.Opened.{spot_of, HoldsEntries, IsClosed}
 use Rattle.resb_c.specs.declared.fault.Fault.{Fault}
 use Rattle.resb_c.specs.declared.handed.ResbBytes.{ResbBytes}
 use Rattle.resb_c.specs.declared.opened.ResbOpened.{ResbOpened}
@@ -20,10 +20,10 @@ abbrev pub status_of : {A : Type 0} → Result A Fault → ℕ
 status_of (Ok x) = 0
 status_of (Err fault) = number_of fault
 
--- the file that was opened, or one that counts nothing
+-- the file that was opened, or one in which nothing stands
 abbrev pub IsOpenedAs : Result ResbOpened Fault → ResbOpened → Type 0
 IsOpenedAs (Ok o) new = new ≡ o
-IsOpenedAs (Err fault) new = new.count ≡ 0
+IsOpenedAs (Err fault) new = IsClosed new
 
 -- the status, and what was found, or the number 0
 abbrev pub HandsOn : Result ResbResource Fault → ℕ → ResbResource → Type 0

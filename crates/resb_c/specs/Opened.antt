@@ -3,7 +3,8 @@
 --     spot_of r               the spot that a resource names
 --     Shows o r s             what this resource names is this tree, or this number of a vector
 --     HoldsEntries o r ts     a table stands there, with these entries in this order
-use Rattle.std.specs.Prelude.{◌≡◌, ◌==◌, ◌&&◌, ◌^◌, ℕ, List, Some, nat_lt, if◌then◌else◌}
+--     IsClosed o              nothing stands in the file
+use Rattle.std.specs.Prelude.{◌≡◌, ◌==◌, ◌&&◌, ◌^◌, ℕ, List, [], Some, nat_lt, if◌then◌else◌}
 use Rattle.resb_tree.specs.Tree.{Tree}
 use Rattle.resb_format.specs.Bytes.{units_of}
 use Rattle.resb_format.specs.Content.{Member, entry_list}
@@ -54,3 +55,12 @@ HoldsEntries o r ts =
     (es : List (ℕ × Member)) × (n : ℕ)
     × (content_from (parts_of o) (spot_of r) ≡ Some (entry_list es))
     × DenEntries (parts_of o) es ts n
+
+-- nothing stands in the file of the struct: it has no resources, and no bytes
+pub record IsClosed (o : ResbOpened) : Type 0 where
+  pub count : o.count ≡ 0
+  pub body : o.body.now ≡ []
+  pub keys : o.keys.now ≡ []
+  pub block : o.block.now ≡ []
+  pub pool_keys : o.pool_keys.now ≡ []
+  pub pool_block : o.pool_block.now ≡ []

@@ -17,7 +17,8 @@ use Rattle.resb_c.specs.AtPaths.{names_in}
 use Rattle.resb_c.specs.Calls.{Fills, IsNotUtf8}
 use Rattle.resb_c.specs.Opened.{Shows, HoldsEntries}
 use Rattle.resb_c.specs.declared.fault.Fault.{Fault}
-use Rattle.resb_c.specs.declared.fault.Fault.TheVariants.{NotFound, NotUtf8, OtherKind, Reading, TooShort}
+use Rattle.resb_c.specs.declared.fault.Fault.TheVariants.{NotFound, NotUtf8, OtherKind}
+use Rattle.resb_c.specs.declared.fault.Fault.TheVariants.{Reading, TooShort}
 use Rattle.resb_c.specs.declared.opened.ResbOpened.{ResbOpened}
 use Rattle.resb_c.specs.declared.resource.ResbResource.{ResbResource}
 
@@ -86,8 +87,8 @@ abbrev pub signed_shown : Spot → Option ℤ
 signed_shown (tree_spot t) = option_map signed (tree_integer t)
 signed_shown (number_spot n) = Some (cast_signed w32 n)
 
--- how much is in it: an array's members, the entries of a table, those that are replaced included, a
--- vector's numbers, a binary's bytes; and else nothing
+-- how much is in it: an array's members, the entries of a table, those that are replaced included,
+-- a vector's numbers, a binary's bytes; and else nothing
 abbrev pub HasSize : ResbOpened → ResbResource → Spot → ℕ → Type 0
 HasSize o r (tree_spot (array ts)) n = n ≡ length (array_members ts)
 HasSize o r (tree_spot (table es)) n =

@@ -4,7 +4,8 @@
 //! `seen` and `within`, and why a call fails is in `fault`.
 #![tactic(auto)]
 
-ghost use Rattle.std.specs.Prelude.{◌≡◌, ℕ, ℤ, pos, List, [], Result, MatchOption, length, min};
+ghost use Rattle.std.specs.Prelude.{◌≡◌, ◌⊎◌, ℕ, ℤ, pos, List, [], length, min, Result};
+ghost use Rattle.std.specs.Prelude.{MatchOption};
 ghost use Rattle.resb_tree.specs.Tree.{Tree, Entries, table, map_of};
 ghost use Rattle.resb_format.specs.Bytes.{words_of};
 ghost use Rattle.resb_path.specs.Finding.{Spot, tree_spot};
@@ -643,17 +644,18 @@ pub extern "C" fn resb_string_of(
     out: &mut [u8],
     length: &mut usize,
 ) -> u32
-    ensures { (s : Spot) → Shows opened.now resource s → (r : Result ℕ Fault)
+    ensures told { (s : Spot) → Shows opened.now resource s → (r : Result ℕ Fault)
         × FillsText (text_shown s) out.old out.new r
         × (result ≡ handed.status_of r) × (length.new ≡ number_told r) }
+    ensures kept { (result ≡ 0) ⊎ (out.new ≡ out.old) }
 {
     let answer = text_into(alloc, opened, resource, out);
     *length = length_of(&answer);
     status_of(&answer)
 }
 
-/// Tells where the UTF-16 units of the string at a resource of an opened file lie, in the file or in
-/// the pool bundle: two bytes for each, the lower one first. `units` gets them, else none.
+/// Tells where the UTF-16 units of the string at a resource of an opened file lie, in the file or
+/// in the pool bundle: two bytes for each, the lower one first. `units` gets them, else none.
 #[unsafe(no_mangle)]
 pub extern "C" fn resb_utf16_of<'a>(
     opened: &ResbOpened<'a>,
@@ -667,8 +669,8 @@ pub extern "C" fn resb_utf16_of<'a>(
     hand_bytes(&answer, units)
 }
 
-/// Tells where the bytes of the binary at a resource of an opened file lie in the file. `bytes` gets
-/// them, else none.
+/// Tells where the bytes of the binary at a resource of an opened file lie in the file. `bytes`
+/// gets them, else none.
 #[unsafe(no_mangle)]
 pub extern "C" fn resb_bytes_of<'a>(
     opened: &ResbOpened<'a>,

@@ -4,7 +4,7 @@
 ghost use Rattle.std.specs.Prelude.{◌≡◌, true};
 ghost use Rattle.resb_format.specs.Parts.{parts_in, reads_older};
 ghost use Rattle.resb_read.specs.declared.cursor.Spot.TheVariants as spot;
-ghost use Rattle.resb_c.specs.Opened.{parts_of, spot_of};
+ghost use Rattle.resb_c.specs.Opened.{parts_of, spot_of, IsClosed};
 
 use crate::resource::ResbResource;
 use resb_format::{FileBlocks, PoolBlocks};
@@ -39,7 +39,7 @@ pub struct ResbOpened<'a> {
 impl<'a> ResbOpened<'a> {
     /// What is told of a file that is not opened: nothing stands in it.
     pub(crate) fn none() -> ResbOpened<'a>
-        ensures { result.count ≡ 0 }
+        ensures { IsClosed result }
     {
         ResbOpened {
             root: ResbResource::of_member(Member::Word(0)),

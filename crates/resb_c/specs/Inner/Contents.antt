@@ -44,7 +44,8 @@ content_integer (entry_list es) = None
 abbrev pub spot_inside : Content → ℕ → Option Spot
 spot_inside (list ms) k = option_map places.spot_of (slice_get ms k)
 spot_inside (entry_list es) k = option_map (λ e. places.spot_of e.1) (slice_get es k)
-spot_inside (leaf t) k = option_map spot.Word (option_and_then (λ ns. slice_get ns k) (tree_numbers t))
+spot_inside (leaf t) k =
+    option_map spot.Word (option_and_then (λ ns. slice_get ns k) (tree_numbers t))
 
 -- something may be inside: members, entries or numbers
 abbrev pub has_inside : Content → Bool

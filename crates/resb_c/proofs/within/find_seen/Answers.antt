@@ -1,4 +1,4 @@
-use Rattle.std.proofs.Common.{◌≡◌, ◌+◌, ap, sym, ◌∙◌, arith, map, drop, Bor, List, ℕ}
+use Rattle.std.proofs.Common.{◌+◌, ap, sym, ◌∙◌, arith, map, drop, Bor, List, ℕ}
 use Rattle.std.proofs.lemmas.List.{drop_more}
 use Rattle.resb_path.specs.Finding.{found_at}
 use Rattle.resb_c.proofs.NamedLemmas.{goes_on, stops}

@@ -1,4 +1,4 @@
-use Rattle.std.proofs.Common.{◌≡◌, ap, sym, subst, ◌∙◌, Some}
+use Rattle.std.proofs.Common.{ap, sym, subst, ◌∙◌, Some}
 use Rattle.resb_walk.specs.Inner.Members.{content_of, keyed_members}
 use Rattle.resb_c.specs.AtPlaces.{HasKey}
 use Rattle.resb_c.specs.Inner.Keys.{HasNoKeyIn}

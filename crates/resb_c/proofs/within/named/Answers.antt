@@ -1,4 +1,4 @@
-use Rattle.std.proofs.Common.{ap, sym, ◌∙◌, Some, map}
+use Rattle.std.proofs.Common.{ap, sym, ◌∙◌, Some}
 use Rattle.resb_format.specs.Parts.{parts_in}
 use Rattle.resb_read.specs.Places.{place_of}
 use Rattle.resb_read.specs.Sequences.{at_spot}

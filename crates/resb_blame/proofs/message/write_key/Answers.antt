@@ -16,7 +16,7 @@ loop-c-init g c = (
   chars c.args.key.now,
   encodes-chars c.args.key.now c.utf8.key ∙ sym c.chars-c-items.ensures.rest ∙ ap chars_rest
       (sym c.into_iter-c-iterator.ensures.into_iter_gives),
-  λ plain. ([], record { wrote = writes_in_calls_nil _; plain = plain }, refl),
+  λ plain. ([], record { wrote = writes_in_calls_nil _ _; plain = plain }, refl),
 )
 
 pub loop-c-preserved : goal.loop-c-preserved

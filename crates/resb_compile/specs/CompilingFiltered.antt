@@ -25,10 +25,11 @@ pub record IsFilteredBundle (rules : List Rule) (text : List ℕ) (t : Tree) (fa
   pub fallback_is : fallback ≡ bundle.fallback
   pub keys : ks ≡ bundle.keys
 
--- why a text's bundle isn't filtered: the reader refuses the text, or memory was wanted
+-- why a text's bundle isn't filtered: the reader refuses the text, or the text is a bundle, and
+-- memory was wanted
 abbrev pub IsUnfiltered : List ℕ → IcuCompileError → Type 0
 IsUnfiltered text (Reading e) = IsIcuUnreadable text e
-IsUnfiltered text (Writing e) = fault_of e ≡ fault.out_of_memory
+IsUnfiltered text (Writing e) = IsIcuBundle text × (fault_of e ≡ fault.out_of_memory)
 
 -- the bytes are a written file of what the rules leave of the tree that the text is, with its flag
 -- and keys

@@ -189,7 +189,8 @@ row_of_one : (text : List ℕ) (from : ℕ) → may_begin (slice_index text from
     → UnquotedRow text from (from + 1) (slice_range text from (from + 1))
 row_of_one text from first h stop fits no_white other =
     last_one from (from + 1) (from + 1) _ (word_of_one text from first h stop fits)
-    (stays text (from + 1) no_white other) (ap (λ b. b && rows.begins_unquoted text (from + 1)) no_white)
+    (stays text (from + 1) no_white other)
+    (ap (λ b. b && rows.begins_unquoted text (from + 1)) no_white)
 
 -- two unquoted strings are joined by a blank
 row_of_two : UnquotedRow (codes "a\t\nb}") 0 4 (codes "a b")
@@ -264,7 +265,8 @@ bundle_accepted = record {
       (a_key _ 2 refl refl refl (lit≤ tt) refl (λ h. absurd (omega arith)) refl)
       (stays _ 3 refl (λ h. absurd (omega arith)))
       (untyped 3 4 5 _ [] refl (stays _ 4 refl (λ h. absurd (omega arith)))
-      (one_string 4 5 5 (codes "x") (a_row (row_of_one _ 4 refl refl refl (lit≤ tt) refl (λ h. absurd (omega arith))))
+      (one_string 4 5 5 (codes "x") (a_row
+      (row_of_one _ 4 refl refl refl (lit≤ tt) refl (λ h. absurd (omega arith))))
       (stays _ 5 refl (λ h. absurd (omega arith)))) refl)
       refl (stays _ 6 refl (λ h. absurd (omega arith))) (no_entry 6) refl;
   closes = refl;
@@ -447,10 +449,12 @@ before_y = record {
       (moves _ (InValue (among_members a_string (string (codes "x") ∷ [])) 5) _ _ _ _
       (moves _ (InValue in_untyped 4) _ _ _ _
       (moves _ (InValue before_group 3) [] [] (among_entries []) 2 (here _)
-      (key_of_entry [] 2 3 3 (codes "a") (a_key _ 2 refl refl refl (lit≤ tt) refl (λ h. absurd (omega arith)) refl)
+      (key_of_entry [] 2 3 3 (codes "a") (a_key _ 2 refl refl refl (lit≤ tt) refl
+      (λ h. absurd (omega arith)) refl)
       (blanks_end 3 refl (λ h. absurd (omega arith)))))
       (group_opens 3 4 refl (blanks_end 4 refl (λ h. absurd (omega arith)))))
-      (begins_with_string 4 5 5 (codes "x") (a_row (row_of_one _ 4 refl refl refl (lit≤ tt) refl (λ h. absurd (omega arith))))
+      (begins_with_string 4 5 5 (codes "x")
+      (a_row (row_of_one _ 4 refl refl refl (lit≤ tt) refl (λ h. absurd (omega arith))))
       (blanks_end 5 refl (λ h. absurd (omega arith))) refl))
       (comma_behind a_string _ 5 6 refl refl (blanks_end 6 refl (λ h. absurd (omega arith))));
   sum = refl;
@@ -461,7 +465,8 @@ abbrev y_follows : Move (codes "b{a{x,y}}") (in_table [] (codes "a") 3 ∷ []) (
     (among_members a_comma (string (codes "x") ∷ [])) 6
     (InValue (among_members a_string (string (codes "x") ∷ string (codes "y") ∷ [])) 7)
 y_follows =
-    string_member a_comma _ 6 7 7 (codes "y") refl (a_row (row_of_one _ 6 refl refl refl (lit≤ tt) refl (λ h. absurd (omega arith))))
+    string_member a_comma _ 6 7 7 (codes "y") refl
+    (a_row (row_of_one _ 6 refl refl refl (lit≤ tt) refl (λ h. absurd (omega arith))))
     (blanks_end 7 refl (λ h. absurd (omega arith)))
 
 -- the text is read within 1513 bytes, of which 75 are its second string's

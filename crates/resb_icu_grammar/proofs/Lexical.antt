@@ -354,7 +354,8 @@ UnquotedRow-one text from a b s t (rows.one_more _ m i _ us vs p w k r)
     (rows.one_more _ n j _ ws xs q x l z) =
     let first = Unquoted-one text from m n us ws p q in
     let e : i ≡ j = Skip-one text m i j k (subst (λ x. Skip text x j) (sym first.0) l) in
-    let both = UnquotedRow-one text i a b vs xs r (subst (λ x. UnquotedRow text x b xs) (sym e) z) in
+    let both = UnquotedRow-one text i a b vs xs r (subst (λ x. UnquotedRow text x b xs) (sym e) z)
+    in
     (both.0, (λ x. first.1 x ++ ascii.space ∷ both.1 x))
 
 -- it begins with a byte that may stand in one

@@ -19,7 +19,8 @@ abbrev pub is_word : ℕ → Bool
 is_word b =
     is_ascii_alphanumeric b || (is_added_mark b || (b == ascii.dash || b == ascii.plus))
 
--- what may stand in an unquoted string: all but white characters, U+0000 and `"` `,` `:` `\` `{` `}`
+-- what may stand in an unquoted string: all but white characters, U+0000 and `"` `,` `:` `\` `{`
+-- `}`
 abbrev pub is_unquoted : ℕ → Bool
 is_unquoted b =
     not (is_white b) && not (list_any (λ mark. b == mark) (0 ∷ codes "\",:\\{}"))

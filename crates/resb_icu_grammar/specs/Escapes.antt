@@ -55,7 +55,8 @@ abbrev pub is_not_meant : ℕ → Bool
 is_not_meant c = is_surrogate c || is_lost 85 c
 
 -- what a backslash and the bytes behind it stand for: `n`, `r` and `t`, `u` and four hex digits,
--- `U` and eight, `c` and a character, `x` and hex digits, and octal ones. A byte that is no ASCII letter or digit stands for itself, so that a character of
+-- `U` and eight, `c` and a character, `x` and hex digits, and octal ones. A byte that is no ASCII
+-- letter or digit stands for itself, so that a character of
 -- several bytes does
 pub data Escape (text : List ℕ) (at : ℕ) : ℕ → List ℕ → Type 0 where
   -- `\\`, `\"`, `\{`, a backslash at a line's end, `\é` by its first byte

@@ -29,7 +29,8 @@ use Rattle.resb_icu_print.specs.declared.error.IcuPrintError.{IcuPrintError}
 use Rattle.resb_icu_print.specs.declared.error.IcuPrintError.TheVariants.{OutOfMemory}
 use Rattle.resb_icu_print.proofs.Taken.{none_named, none_in_taken, no_cause}
 use Rattle.resb_icu_print.proofs.Places.{solid_byte, solid_at, no_skip, white_on}
-use Rattle.resb_icu_print.proofs.Strings.{word_read, bare_read, word_each, bare_words, bare_some, words_key}
+use Rattle.resb_icu_print.proofs.Strings.{word_read, bare_read, word_each, bare_words, bare_some}
+use Rattle.resb_icu_print.proofs.Strings.{words_key}
 use Rattle.resb_icu_print.proofs.Groups.{root_starts, entries_at, close_line}
 
 no_mark : (b : ℕ) → is_word b ≡ true → b ≡ 0xef → ⊥

@@ -146,7 +146,8 @@ module _ {text : List ℕ} where
       → are_digits bytes ≡ false
   escaped_itself at last bytes to s x =
       escaped_none at last bytes to (slice_index text (at + 1) ∷ []) s x
-      (ap (λ b. b && true) (escape_no_digit text (at + 1) to (slice_index text (at + 1) ∷ []) x refl))
+      (ap (λ b. b && true) (escape_no_digit text (at + 1) to (slice_index text (at + 1) ∷ []) x
+      refl))
 
 -- what stands from a place inside a piece on, up to the end of the row of pieces
 pub record Onward (text : List ℕ) (at end : ℕ) (said : List ℕ) : Type 0 where

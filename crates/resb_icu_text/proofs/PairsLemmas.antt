@@ -3,7 +3,8 @@ use Rattle.std.proofs.Common.{◌≡◌, ◌≢◌, ℕ, ◌+◌, ◌*◌, ◌-�
 use Rattle.std.proofs.Common.{◌∷◌, ◌++◌, length, arith, subst, sym, refl, ap, ◌∙◌, append_assoc}
 use Rattle.std.proofs.Common.{append-nil}
 use Rattle.std.specs.Prelude.{Result, Ok, Err, IfOk}
-use Rattle.std.specs.Prelude.{slice_index, MatchOption, Option, Some, None, ◌&&◌, ◌||◌, ◌==◌, if◌then◌else◌}
+use Rattle.std.specs.Prelude.{slice_index, MatchOption, Option, Some, None, ◌&&◌, ◌||◌, ◌==◌}
+use Rattle.std.specs.Prelude.{if◌then◌else◌}
 use Rattle.std.specs.List.{list_any}
 use Rattle.std.specs.Option.{option_map}
 use Rattle.std.proofs.lemmas.Bool.{false≢true}
@@ -257,7 +258,8 @@ module _ (text : List ℕ) (at mid end : ℕ) (first said : List ℕ) (w : Unquo
               (let a = f (bs ++ cs) (spaced_pairs first bs (ascii.space ∷ later) (Some cs) e
               (spaced_blank later ∙ h)) in
               (a.0, a.1, omega (arith, a.2, c, length-append bs cs)));
-          none = λ h. g (spaced_pairs first bs (ascii.space ∷ later) None e (spaced_blank later ∙ h));
+          none = λ h. g (spaced_pairs first bs (ascii.space ∷ later) None e
+              (spaced_blank later ∙ h));
         }
 
 -- what is left of a row of which these bytes are made

@@ -1,5 +1,6 @@
 -- Laws of unquoted strings in a row, as the reader's functions use them.
-use Rattle.std.proofs.Common.{◌≡◌, ◌≢◌, ℕ, zero, suc, ◌+◌, ◌-◌, ◌<◌, ◌≤◌, Bool, true, false, List, []}
+use Rattle.std.proofs.Common.{◌≡◌, ◌≢◌, ℕ, zero, suc, ◌+◌, ◌-◌, ◌<◌, ◌≤◌, Bool, true, false, List}
+use Rattle.std.proofs.Common.{[]}
 use Rattle.std.proofs.Common.{◌∷◌, ◌++◌, length, arith, subst, sym, refl, ap, ◌∙◌, append_assoc}
 use Rattle.std.proofs.Common.{append-nil, ◌⊎◌, inl, inr, ⊎_elim}
 use Rattle.std.specs.Prelude.{slice_index, slice_range, nat_lt, ◌==◌, ◌||◌, ◌&&◌, if◌then◌else◌}
@@ -21,7 +22,8 @@ use Rattle.resb_icu_grammar.specs.Words as words
 use Rattle.resb_icu_grammar.specs.Limit.{is_put_together, joining_bytes}
 use Rattle.resb_grammar.specs.Limit.{request_bytes}
 use Rattle.resb_icu_grammar.specs.Words.{Text}
-use Rattle.resb_icu_grammar.proofs.Lexical.{Unquoted-one, Skip-one, row_first, joined_first, String-one}
+use Rattle.resb_icu_grammar.proofs.Lexical.{Unquoted-one, Skip-one, row_first, joined_first}
+use Rattle.resb_icu_grammar.proofs.Lexical.{String-one}
 use Rattle.resb_icu_grammar.proofs.Lexical.{no_quote_word, no_quote_row}
 use Rattle.resb_icu_text.specs.Lexemes.{Verbatim, a_word, a_piece}
 use Rattle.resb_icu_text.specs.Inner.Digits.{are_digits}
@@ -244,7 +246,8 @@ no_blank text (suc n) at to e each fits =
     (slice_cons text at to (omega (arith, e)) (omega (arith, e, fits)))
     ∙ ap (λ c. c || list_any (λ b. b == ascii.space) (slice_range text (at + 1) to))
     (blank_ends _ (and_parts _ _ (each at (omega arith) (omega (arith, e)))).0)
-    ∙ no_blank text n (at + 1) to (omega (arith, e)) (λ k low high. each k (omega (arith, low)) high)
+    ∙ no_blank text n (at + 1) to (omega (arith, e))
+    (λ k low high. each k (omega (arith, low)) high)
     fits
 
 -- no blank is in an unquoted string

@@ -94,7 +94,8 @@ fn says_digits(found: Found<'_>, text: &str, from: usize) -> bool
     }
 }
 
-/// How many bytes a string says as pairs of hex digits without blanks, if it says such, where it was
+/// How many bytes a string says as pairs of hex digits without blanks, if it says such, where it
+/// was
 /// found at a place of a text.
 fn pairs_length(found: Found<'_>, text: &str, from: usize) -> Option<usize>
     requires found { IsFound text.now from found }
@@ -113,7 +114,8 @@ fn pairs_length(found: Found<'_>, text: &str, from: usize) -> Option<usize>
 }
 
 /// How many bytes a string says as pairs of hex digits, if it says such, where it was found at a
-/// place of a text: unquoted strings in a row each whole pairs. Nothing is put together. Counts two turns for each byte of the text there: a
+/// place of a text: unquoted strings in a row each whole pairs. Nothing is put together. Counts
+/// two turns for each byte of the text there: a
 /// digit is looked at here, and decoded later.
 pub(crate) fn hex_length(
     found: Found<'_>,

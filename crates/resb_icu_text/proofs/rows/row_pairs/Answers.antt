@@ -23,14 +23,16 @@ pub returns-in_default-pairs_in : goal.returns-in_default-pairs_in
 returns-in_default-pairs_in c = λ said r.
     let none = ap hex_bytes (sym c.as_bytes.ensures.value)
     ∙ rw c.in_default-pairs_in.is at c.pairs_in.ensures in
-    pairs_none c.args.text.now c.row.at c.in-Some.to c.args.end _ said c.in-Some.ensures.found _ none
+    pairs_none c.args.text.now c.row.at c.in-Some.to c.args.end _ said c.in-Some.ensures.found _
+    none
     (c.row.invariant.left said r)
 
 pub returns-then-to-end : goal.returns-then-to-end
 returns-then-to-end c = λ said r.
     let pairs = rw c.in-Some-pairs_in.is at c.pairs_in.ensures in
     pairs_over c.args.text.now c.row.at c.in-Some.to c.args.end _ said c.in-Some.ensures.found _ _ _
-    (ap hex_bytes (sym c.as_bytes.ensures.value) ∙ pairs.1) pairs.2 c.if-to-end.true (c.row.invariant.left said r)
+    (ap hex_bytes (sym c.as_bytes.ensures.value) ∙ pairs.1) pairs.2 c.if-to-end.true
+    (c.row.invariant.left said r)
 
 pub row-preserved : goal.row-preserved
 row-preserved c =
@@ -42,7 +44,8 @@ row-preserved c =
     some.row c.if-to-end.false c.skip-at.ensures.skip in
     record {
       left = λ said r. pairs_more text c.row.at c.in-Some.to c.args.end _ said string _ _
-          c.skip-at.result _ (ap hex_bytes (sym c.as_bytes.ensures.value) ∙ pairs.1) pairs.2 c.if-to-end.false c.skip-at.ensures.skip
+          c.skip-at.result _ (ap hex_bytes (sym c.as_bytes.ensures.value) ∙ pairs.1) pairs.2
+          c.if-to-end.false c.skip-at.ensures.skip
           (c.row.invariant.left said r);
       below = next.0;
       counted = omega (

@@ -99,11 +99,11 @@ icu_row '"b\q"{}' 3 'a known escape'
 icu_row 'b{a{"x" "y}}' 9 'a quote that closes this string'
 icu_row 'b{a{x}"k{y}}' 7 'a quote that closes this string'
 icu_row 'b{a{,}}' 5 "a resource or '}'"
-icu_row 'b{a:array{"x" =}}' 15 "a comma, a resource or '}'"
-icu_row 'b{a{"x" =}}' 9 "'}', a comma, '{' or a type"
+icu_row 'b{a:array{"x" /}}' 15 "a comma, a resource or '}'"
+icu_row 'b{a{"x" y}}' 9 "'}', a comma, '{' or a type"
 icu_row 'b{a{"\"" {}}}' 5 'a string that may be a key'
 icu_row 'b{a:array{"x" y}}' 15 'a comma between two strings'
-icu_row 'b{a{x} =}' 8 "a key or '}'"
+icu_row 'b{a{x} /}' 8 "a key or '}'"
 icu_row 'b{a{x} a{y}}' 12 'each key once in the table that ends here' \
   '1:8: the key "a" stands at 1:3 too'
 icu_row 'b{collations{a{"x"}}}' 13 'no table with rules of collation'

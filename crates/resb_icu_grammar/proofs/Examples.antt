@@ -10,7 +10,8 @@ use Rattle.resb_icu_grammar.specs.Kinds.{table_kind, binary_kind, integer_kind, 
 use Rattle.resb_icu_grammar.specs.Bytes.{is_word, is_key_byte, are_key_bytes}
 use Rattle.resb_icu_grammar.specs.Blanks.{Comment, line, block, none, white, Skip, without_a_mark}
 use Rattle.resb_icu_grammar.specs.Escapes.{Escape, itself, line_feed, carriage_return, tab}
-use Rattle.resb_icu_grammar.specs.Escapes.{four_digits, eight_digits, control}
+use Rattle.resb_icu_grammar.specs.Escapes.{four_digits, eight_digits, control, short_hex, octal}
+use Rattle.resb_icu_grammar.specs.Escapes.{two_digits, three_octal}
 use Rattle.resb_icu_grammar.specs.Pieces.{QuotedBytes, ends, byte, escape, Joined, last_piece}
 use Rattle.resb_icu_grammar.specs.Pieces.{one_more}
 use Rattle.resb_icu_grammar.specs.Faults.{NoEscapeAt, StringFault, this_piece, later_piece}
@@ -33,6 +34,7 @@ use Rattle.resb_icu_grammar.specs.Limit.{IcuMakes, IcuMadeWithin, IcuMakesMore, 
 use Rattle.resb_icu_grammar.specs.Stuck.{Stuck, in_root, inside, no_group, TypeStuck, no_tree}
 use Rattle.resb_icu_grammar.specs.declared.expected.IcuExpected.{IcuExpected}
 use Rattle.resb_icu_grammar.specs.declared.expected.IcuExpected.TheVariants as expect
+use Rattle.resb_icu_grammar.proofs.Lexical.{octal_first}
 use Rattle.resb_icu_grammar.proofs.Moves.{one_move}
 use Rattle.resb_icu_grammar.proofs.OneRefusal.{stuck_in_one_way}
 
@@ -101,7 +103,14 @@ zero_accepted = eight_digits 0 refl refl refl (lit≤ tt) refl
 control_accepted : Escape (codes "c'") 0 2 (7 ∷ [])
 control_accepted = control refl (lit≤ tt) (lit≤ tt)
 
--- `\u005C` would be a backslash, and is none; nor is `\x`
+-- `\x41` is A, and so is `\101`
+hex_accepted : Escape (codes "x41") 0 3 (encode_utf8 65)
+hex_accepted = short_hex 65 3 refl (two_digits refl refl) refl
+
+octal_accepted : Escape (codes "101") 0 3 (encode_utf8 65)
+octal_accepted = octal 65 3 (three_octal refl refl refl) refl
+
+-- `\u005C` would be a backslash, and is none
 escape_refused : (to : ℕ) (s : List ℕ) → Escape (codes "u005C") 0 to s → ⊥
 escape_refused to s (itself f h) = false≢true (sym h)
 escape_refused to s (line_feed h) = absurd (omega arith)
@@ -110,6 +119,9 @@ escape_refused to s (tab h) = absurd (omega arith)
 escape_refused to s (four_digits c h x e y z) = z e
 escape_refused to s (eight_digits c h x e y z) = absurd (omega arith)
 escape_refused to s (control h l m) = absurd (omega arith)
+escape_refused to s (short_hex c _ h p o) = absurd (omega arith)
+escape_refused to s (octal c _ p o) =
+    false≢true (octal_first (codes "u005C") 0 to c p)
 
 -- `"a\q"` has a fault at the backslash, where a known escape is expected
 escape_told : StringFault (codes "\"a\\q\"") 0 2 expect.Escape
@@ -126,6 +138,8 @@ escape_told =
     never to s (four_digits c h x e y z) = absurd (omega arith)
     never to s (eight_digits c h x e y z) = absurd (omega arith)
     never to s (control h l m) = absurd (omega arith)
+    never to s (short_hex c _ h p o) = absurd (omega arith)
+    never to s (octal c _ p o) = false≢true (octal_first (codes "\"a\\q\"") 3 to c p)
 
 -- `"a" "b` has one at its second piece, which no quote closes
 open_quote_told : StringFault (codes "\"a\" \"b") 0 4 expect.ClosingQuote

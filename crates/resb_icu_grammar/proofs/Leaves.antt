@@ -139,8 +139,8 @@ no_leaf_there text from _ at _ (open_alias j _ s p l n) to _ (alias_content i u 
     (subst (λ w. Skip text w to) same.0 k) l)) ∙ c)
 no_leaf_there text from _ _ _ (no_digits _ _ f w) to _ (binary_content i s bytes p e k) c = f i s p
 no_leaf_there text from _ _ _ (odd_digits j s p n) to _ (binary_content i u bytes q e k) c =
-    none-some bytes (sym n
-    ∙ ap (digit_bytes text from) (sym (String-one text from i j u s q p).1) ∙ e)
+    none-some bytes (sym n ∙ ap (digit_bytes text from) (sym (String-one text from i j u s q p).1)
+    ∙ e)
 no_leaf_there text from _ at _ (open_binary j _ s p h l n) to _ (binary_content i u bytes q e k) c =
     let same = String-one text from i j u s q p in
     n (ap (λ w. slice_index text w) (sym (Skip-one text j to at

@@ -20,7 +20,9 @@ use Rattle.resb_icu_grammar.specs.Blanks.{LineRest, Comment, line, block, Blanks
 use Rattle.resb_grammar.specs.ByteRuns.{is_line_end}
 use Rattle.resb_icu_grammar.specs.Blanks.{white, comment, IsSolid, Skip}
 use Rattle.resb_icu_grammar.specs.Escapes.{Escape, itself, line_feed, carriage_return, tab}
-use Rattle.resb_icu_grammar.specs.Escapes.{four_digits, eight_digits, control}
+use Rattle.resb_icu_grammar.specs.Escapes.{four_digits, eight_digits, control, short_hex, octal}
+use Rattle.resb_icu_grammar.specs.Escapes.{ShortHex, one_digit, two_digits, Octal, one_octal}
+use Rattle.resb_icu_grammar.specs.Escapes.{two_octal, three_octal, is_octal}
 use Rattle.resb_icu_grammar.specs.Pieces.{QuotedBytes, ends, byte, escape, QuotedPiece, Joined}
 use Rattle.resb_icu_grammar.specs.Pieces.{last_piece}
 use Rattle.resb_icu_grammar.specs.Pieces.{one_more}
@@ -85,6 +87,44 @@ no_letter : (b n : ℕ) → is_ascii_alphanumeric b ≡ false → b ≡ n → is
     → ⊥
 no_letter b n h e f = false≢true (sym h ∙ ap is_ascii_alphanumeric e ∙ f)
 
+-- short hex digits have one end and say one number
+pub ShortHex-one : (text : List ℕ) (at a b c d : ℕ) → ShortHex text at a c → ShortHex text at b d
+    → (a ≡ b) × (c ≡ d)
+ShortHex-one text at a b c d (one_digit h k) (one_digit m n) = (refl, refl)
+ShortHex-one text at a b c d (one_digit h k) (two_digits m n) = absurd (false≢true (sym k ∙ n))
+ShortHex-one text at a b c d (two_digits h k) (one_digit m n) = absurd (false≢true (sym n ∙ k))
+ShortHex-one text at a b c d (two_digits h k) (two_digits m n) = (refl, refl)
+
+-- so have octal digits
+pub Octal-one : (text : List ℕ) (at a b c d : ℕ) → Octal text at a c → Octal text at b d
+    → (a ≡ b) × (c ≡ d)
+Octal-one text at a b c d (one_octal h k) (one_octal m n) = (refl, refl)
+Octal-one text at a b c d (one_octal h k) (two_octal m n o) = absurd (false≢true (sym k ∙ n))
+Octal-one text at a b c d (one_octal h k) (three_octal m n o) = absurd (false≢true (sym k ∙ n))
+Octal-one text at a b c d (two_octal h k l) (one_octal m n) = absurd (false≢true (sym n ∙ k))
+Octal-one text at a b c d (two_octal h k l) (two_octal m n o) = (refl, refl)
+Octal-one text at a b c d (two_octal h k l) (three_octal m n o) = absurd (false≢true (sym l ∙ o))
+Octal-one text at a b c d (three_octal h k l) (one_octal m n) = absurd (false≢true (sym n ∙ k))
+Octal-one text at a b c d (three_octal h k l) (two_octal m n o) = absurd (false≢true (sym o ∙ l))
+Octal-one text at a b c d (three_octal h k l) (three_octal m n o) = (refl, refl)
+
+-- they begin with an octal digit
+pub octal_first : (text : List ℕ) (at to c : ℕ) → Octal text at to c
+    → is_octal (slice_index text at) ≡ true
+octal_first text at to c (one_octal h k) = h
+octal_first text at to c (two_octal h k l) = h
+octal_first text at to c (three_octal h k l) = h
+
+octal_alphanumeric : (b : ℕ) → is_ascii_alphanumeric b ≡ false → is_octal b ≡ true → ⊥
+octal_alphanumeric b h k = false≢true (sym h ∙ alphanumeric)
+  where
+    alphanumeric : is_ascii_alphanumeric b ≡ true
+    alphanumeric = grind (arith, nat_tests, k)
+
+-- which is no other byte
+pub no_octal : (b n : ℕ) → is_octal b ≡ true → b ≡ n → is_octal n ≡ false → ⊥
+no_octal b n h e f = false≢true (sym f ∙ ap is_octal (sym e) ∙ h)
+
 -- an escape has one end and stands for one thing
 pub Escape-one : (text : List ℕ) (at a b : ℕ) (s t : List ℕ) → Escape text at a s
     → Escape text at b t
@@ -146,6 +186,56 @@ Escape-one text at a b s t (control h l m) (tab k) = absurd (omega arith)
 Escape-one text at a b s t (control h l m) (four_digits c k x e y z) = absurd (omega arith)
 Escape-one text at a b s t (control h l m) (eight_digits c k x e y z) = absurd (omega arith)
 Escape-one text at a b s t (control h l m) (control k n o) = (refl, refl)
+Escape-one text at a b s t (itself f h) (short_hex d _ k q r) = absurd (no_letter _ 120 h k refl)
+Escape-one text at a b s t (itself f h) (octal d _ q r) =
+    absurd (octal_alphanumeric (slice_index text at) h (octal_first text at b d q))
+Escape-one text at a b s t (line_feed h) (short_hex d _ k q r) = absurd (omega arith)
+Escape-one text at a b s t (line_feed h) (octal d _ q r) =
+    absurd (no_octal _ 110 (octal_first text at b d q) h refl)
+Escape-one text at a b s t (carriage_return h) (short_hex d _ k q r) = absurd (omega arith)
+Escape-one text at a b s t (carriage_return h) (octal d _ q r) =
+    absurd (no_octal _ 114 (octal_first text at b d q) h refl)
+Escape-one text at a b s t (tab h) (short_hex d _ k q r) = absurd (omega arith)
+Escape-one text at a b s t (tab h) (octal d _ q r) =
+    absurd (no_octal _ 116 (octal_first text at b d q) h refl)
+Escape-one text at a b s t (four_digits c h x e y z) (short_hex d _ k q r) = absurd (omega arith)
+Escape-one text at a b s t (four_digits c h x e y z) (octal d _ q r) =
+    absurd (no_octal _ 117 (octal_first text at b d q) h refl)
+Escape-one text at a b s t (eight_digits c h x e y z) (short_hex d _ k q r) = absurd (omega arith)
+Escape-one text at a b s t (eight_digits c h x e y z) (octal d _ q r) =
+    absurd (no_octal _ 85 (octal_first text at b d q) h refl)
+Escape-one text at a b s t (control h l m) (short_hex d _ k q r) = absurd (omega arith)
+Escape-one text at a b s t (control h l m) (octal d _ q r) =
+    absurd (no_octal _ 99 (octal_first text at b d q) h refl)
+Escape-one text at a b s t (short_hex c _ h p o) (itself f k) = absurd (no_letter _ 120 k h refl)
+Escape-one text at a b s t (short_hex c _ h p o) (line_feed k) = absurd (omega arith)
+Escape-one text at a b s t (short_hex c _ h p o) (carriage_return k) = absurd (omega arith)
+Escape-one text at a b s t (short_hex c _ h p o) (tab k) = absurd (omega arith)
+Escape-one text at a b s t (short_hex c _ h p o) (four_digits d k x e y z) = absurd (omega arith)
+Escape-one text at a b s t (short_hex c _ h p o) (eight_digits d k x e y z) = absurd (omega arith)
+Escape-one text at a b s t (short_hex c _ h p o) (control k l m) = absurd (omega arith)
+Escape-one text at a b s t (short_hex c _ h p o) (short_hex d _ k q r) =
+    let both = ShortHex-one text (at + 1) a b c d p q in (both.0, ap encode_utf8 both.1)
+Escape-one text at a b s t (short_hex c _ h p o) (octal d _ q r) =
+    absurd (no_octal _ 120 (octal_first text at b d q) h refl)
+Escape-one text at a b s t (octal c _ p o) (itself f k) =
+    absurd (octal_alphanumeric (slice_index text at) k (octal_first text at a c p))
+Escape-one text at a b s t (octal c _ p o) (line_feed k) =
+    absurd (no_octal _ 110 (octal_first text at a c p) k refl)
+Escape-one text at a b s t (octal c _ p o) (carriage_return k) =
+    absurd (no_octal _ 114 (octal_first text at a c p) k refl)
+Escape-one text at a b s t (octal c _ p o) (tab k) =
+    absurd (no_octal _ 116 (octal_first text at a c p) k refl)
+Escape-one text at a b s t (octal c _ p o) (four_digits d k x e y z) =
+    absurd (no_octal _ 117 (octal_first text at a c p) k refl)
+Escape-one text at a b s t (octal c _ p o) (eight_digits d k x e y z) =
+    absurd (no_octal _ 85 (octal_first text at a c p) k refl)
+Escape-one text at a b s t (octal c _ p o) (control k l m) =
+    absurd (no_octal _ 99 (octal_first text at a c p) k refl)
+Escape-one text at a b s t (octal c _ p o) (short_hex d _ k q r) =
+    absurd (no_octal _ 120 (octal_first text at a c p) k refl)
+Escape-one text at a b s t (octal c _ p o) (octal d _ q r) =
+    let both = Octal-one text at a b c d p q in (both.0, ap encode_utf8 both.1)
 
 -- what stands inside quotes has one end and says one thing
 pub Inside-one : (text : List ℕ) (at a b : ℕ) (s t : List ℕ) → QuotedBytes text at a s
@@ -264,8 +354,8 @@ UnquotedRow-one text from a b s t (rows.one_more _ m i _ us vs p w k r)
     (rows.one_more _ n j _ ws xs q x l z) =
     let first = Unquoted-one text from m n us ws p q in
     let e : i ≡ j = Skip-one text m i j k (subst (λ x. Skip text x j) (sym first.0) l) in
-    let both = UnquotedRow-one text i a b vs xs r (subst (λ x. UnquotedRow text x b xs) (sym e)
-    z) in
+    let both = UnquotedRow-one text i a b vs xs r (subst (λ x. UnquotedRow text x b xs) (sym e) z)
+    in
     (both.0, (λ x. first.1 x ++ ascii.space ∷ both.1 x))
 
 -- it begins with a byte that may stand in one

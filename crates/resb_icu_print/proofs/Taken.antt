@@ -16,7 +16,8 @@ use Rattle.resb_grammar.specs.Ascii as ascii
 use Rattle.resb_icu_grammar.specs.Kinds.{Kind}
 use Rattle.resb_icu_grammar.specs.Bytes.{is_word, is_unquoted, are_key_bytes, backslash}
 use Rattle.resb_icu_grammar.specs.Escapes.{Escape, itself, line_feed, carriage_return, tab}
-use Rattle.resb_icu_grammar.specs.Escapes.{four_digits, eight_digits, control}
+use Rattle.resb_icu_grammar.specs.Escapes.{four_digits, eight_digits, control, short_hex, octal}
+use Rattle.resb_icu_grammar.specs.Escapes.{one_digit, two_digits, one_octal, two_octal, three_octal}
 use Rattle.resb_icu_grammar.specs.Pieces.{QuotedBytes, ends, byte, escape}
 use Rattle.resb_icu_grammar.specs.Unquoted.{Unquoted}
 use Rattle.resb_icu_grammar.specs.Words.{KeyText, a_word, quoted}
@@ -84,6 +85,11 @@ escape_order text at to s (tab _) = omega arith
 escape_order text at to s (four_digits _ _ _ _ _ _) = omega arith
 escape_order text at to s (eight_digits _ _ _ _ _ _) = omega arith
 escape_order text at to s (control _ _ _) = omega arith
+escape_order text at to s (short_hex _ _ _ (one_digit _ _) _) = omega arith
+escape_order text at to s (short_hex _ _ _ (two_digits _ _) _) = omega arith
+escape_order text at to s (octal _ _ (one_octal _ _) _) = omega arith
+escape_order text at to s (octal _ _ (two_octal _ _ _) _) = omega arith
+escape_order text at to s (octal _ _ (three_octal _ _ _) _) = omega arith
 
 inside_order : (text : List ℕ) (at to : ℕ) (s : List ℕ) → QuotedBytes text at to s → at ≤ to
 inside_order text at to s (ends _ h) = omega arith

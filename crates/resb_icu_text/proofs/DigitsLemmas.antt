@@ -2,7 +2,7 @@
 use Rattle.std.proofs.Common.{◌≡◌, ◌≢◌, ℕ, ◌+◌, ◌*◌, ◌%◌, ◌<◌, ◌≤◌, Bool, true, false, List, []}
 use Rattle.std.proofs.Common.{◌∷◌, ◌++◌, ◌-◌, length, arith, subst, sym, refl, ap, ◌∙◌}
 use Rattle.std.proofs.Common.{encode_utf8, append-nil}
-use Rattle.std.specs.Prelude.{slice_index, Option, Some, None, ◌&&◌}
+use Rattle.std.specs.Prelude.{slice_index, Option, Some, None, ◌&&◌, ◌||◌, ◌==◌}
 use Rattle.std.proofs.lemmas.Bool.{false≢true, and_parts}
 use Rattle.std.proofs.lemmas.Bool.Decides.{nat_tests}
 use Rattle.std.proofs.lemmas.List.Folds.{list_all-append}
@@ -12,7 +12,9 @@ use Rattle.resb_grammar.specs.Group.{is_hex, hex_value, hex_bytes, byte_before}
 use Rattle.resb_icu_grammar.specs.Bytes.{backslash}
 use Rattle.resb_icu_grammar.specs.Blanks.{Skip}
 use Rattle.resb_icu_grammar.specs.Escapes.{Escape, itself, line_feed, carriage_return, tab}
-use Rattle.resb_icu_grammar.specs.Escapes.{four_digits, eight_digits, control}
+use Rattle.resb_icu_grammar.specs.Escapes.{four_digits, eight_digits, control, short_hex, octal}
+use Rattle.resb_icu_grammar.specs.Escapes.{is_octal, is_lost}
+use Rattle.resb_icu_grammar.proofs.Lexical.{octal_first}
 use Rattle.resb_icu_grammar.specs.Pieces.{QuotedBytes, ends, byte, escape, Joined, last_piece}
 use Rattle.resb_icu_grammar.specs.Pieces.{one_more}
 use Rattle.resb_icu_grammar.proofs.Lexical.{Skip-one}
@@ -83,6 +85,18 @@ hex_encoded c h = by (encode_utf8 c) refl
     by [] e = absurd (omega (arith, length-encode c, (len_utf8_bounds c).0, ap length e))
     by (b ∷ t) e = first b t (is_hex b) e refl
 
+octal_ascii : (b : ℕ) → is_octal b ≡ true → (0 < b) × (b < 128)
+octal_ascii b h = (grind (arith, nat_tests, h), grind (arith, nat_tests, h))
+
+lost : (c first : ℕ) → c ≡ first → is_lost first c ≡ true
+lost c first e =
+    let same : (c == first) ≡ true = grind (arith, nat_tests, e) in
+    rw same (either (c == backslash))
+  where
+    either : (b : Bool) → (b || true) ≡ true
+    either true = refl
+    either false = refl
+
 -- the byte behind a backslash that stands for itself is no hex digit
 escape_no_digit : (text : List ℕ) (at to : ℕ) (s : List ℕ) → Escape text at to s
     → s ≡ slice_index text at ∷ [] → is_hex (slice_index text at) ≡ false
@@ -95,6 +109,13 @@ escape_no_digit text at to s (eight_digits c h k e f g) is = ap is_hex h
 escape_no_digit text at to s (control h l m) is =
     let same : slice_index text (at + 1) % 32 ≡ slice_index text at = cc in
     absurd (omega (arith, same, h))
+escape_no_digit text at to s (short_hex c _ h p o) is = ap is_hex h
+escape_no_digit text at to s (octal c _ p o) is =
+    let low = octal_ascii (slice_index text at) (octal_first text at to c p) in
+    let same : c ≡ slice_index text at =
+    char_from_byte (slice_index text at ∷ []) [] c (sym (append-nil (encode_utf8 c) ∙ is)) low.1
+    (omega arith) in
+    absurd (false≢true (sym o ∙ lost c (slice_index text at) same))
 
 module _ {text : List ℕ} where
   -- an escape of a character
@@ -125,8 +146,8 @@ module _ {text : List ℕ} where
       → are_digits bytes ≡ false
   escaped_itself at last bytes to s x =
       escaped_none at last bytes to (slice_index text (at + 1) ∷ []) s x
-      (ap (λ b. b && true)
-      (escape_no_digit text (at + 1) to (slice_index text (at + 1) ∷ []) x refl))
+      (ap (λ b. b && true) (escape_no_digit text (at + 1) to (slice_index text (at + 1) ∷ []) x
+      refl))
 
 -- what stands from a place inside a piece on, up to the end of the row of pieces
 pub record Onward (text : List ℕ) (at end : ℕ) (said : List ℕ) : Type 0 where

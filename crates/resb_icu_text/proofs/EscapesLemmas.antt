@@ -1,6 +1,6 @@
 -- Laws of hex digits and escapes, as the reader's functions use them.
 use Rattle.std.proofs.Common.{◌≡◌, ◌≢◌, ℕ, ◌+◌, ◌-◌, ◌*◌, ◌%◌, ◌<◌, ◌≤◌, true, false, List, [], ◌∷◌}
-use Rattle.std.proofs.Common.{arith, subst, sym, ap, ◌∙◌, encode_utf8, lit≤}
+use Rattle.std.proofs.Common.{arith, subst, sym, ap, ◌∙◌, encode_utf8, lit≤, refl}
 use Rattle.std.proofs.lemmas.Str.{encode_ascii}
 use Rattle.std.specs.Prelude.{slice_index}
 use Rattle.std.proofs.lemmas.Bool.{false≢true, and_parts, and_from}
@@ -10,7 +10,9 @@ use Rattle.resb_grammar.specs.Group.{is_hex, hex_value}
 use Rattle.resb_icu_grammar.specs.Bytes.{backslash}
 use Rattle.resb_icu_grammar.specs.Escapes.{Escape, itself, line_feed, carriage_return, tab}
 use Rattle.resb_icu_grammar.specs.Escapes.{four_digits, eight_digits, are_hex, hex_number}
-use Rattle.resb_icu_grammar.specs.Escapes.{is_surrogate, is_not_meant, control}
+use Rattle.resb_icu_grammar.specs.Escapes.{is_surrogate, is_not_meant, control, short_hex, octal}
+use Rattle.resb_icu_grammar.specs.Escapes.{is_octal}
+use Rattle.resb_icu_grammar.proofs.Lexical.{octal_first, no_octal}
 
 pub hex_some : (b : ℕ) → is_hex b ≡ true → 0 < b
 hex_some b h = grind (arith, nat_tests, h)
@@ -107,6 +109,9 @@ no_short text at e f to s (four_digits c h x i y z) =
     f x (subst (λ n. is_surrogate n ≡ false) i y) (λ g. z (i ∙ g))
 no_short text at e f to s (eight_digits c h x i y z) = absurd (omega arith)
 no_short text at e f to s (control h l m) = absurd (omega arith)
+no_short text at e f to s (short_hex c _ h p o) = absurd (omega arith)
+no_short text at e f to s (octal c _ p o) =
+    no_octal _ 117 (octal_first text at to c p) e refl
 
 pub no_long : (text : List ℕ) (at : ℕ) → slice_index text at ≡ 85
     → ((are_hex text (at + 1) 8 ≡ true) → hex_number text (at + 1) 8 ≤ 0x10_ffff
@@ -120,6 +125,9 @@ no_long text at e f to s (four_digits c h x i y z) = absurd (omega arith)
 no_long text at e f to s (eight_digits c h x i y z) =
     f x (omega (arith, i, y)) (subst (λ n. is_not_meant n ≡ false) i z)
 no_long text at e f to s (control h l m) = absurd (omega arith)
+no_long text at e f to s (short_hex c _ h p o) = absurd (omega arith)
+no_long text at e f to s (octal c _ p o) =
+    no_octal _ 85 (octal_first text at to c p) e refl
 
 -- nor one of a control character where no character of ASCII stands
 pub no_control : (text : List ℕ) (at : ℕ) → slice_index text at ≡ 99
@@ -132,19 +140,25 @@ no_control text at e f to s (tab h) = absurd (omega arith)
 no_control text at e f to s (four_digits c h x i y z) = absurd (omega arith)
 no_control text at e f to s (eight_digits c h x i y z) = absurd (omega arith)
 no_control text at e f to s (control h l m) = f l m
+no_control text at e f to s (short_hex c _ h p o) = absurd (omega arith)
+no_control text at e f to s (octal c _ p o) =
+    no_octal _ 99 (octal_first text at to c p) e refl
 
 -- no other letter or digit is an escape
 pub no_escape : (text : List ℕ) (at b : ℕ) → b ≡ slice_index text at
     → is_ascii_alphanumeric b ≡ true → b ≢ 110 → b ≢ 114 → b ≢ 116 → b ≢ 117 → b ≢ 85 → b ≢ 99
-    → (to : ℕ) (s : List ℕ) → Escape text at to s → ⊥
-no_escape text at b e a n r t u l d to s (itself g h) =
+    → b ≢ 120 → is_octal b ≡ false → (to : ℕ) (s : List ℕ) → Escape text at to s → ⊥
+no_escape text at b e a n r t u l d q i to s (itself g h) =
     false≢true (sym h ∙ ap is_ascii_alphanumeric (sym e) ∙ a)
-no_escape text at b e a n r t u l d to s (line_feed h) = n (e ∙ h)
-no_escape text at b e a n r t u l d to s (carriage_return h) = r (e ∙ h)
-no_escape text at b e a n r t u l d to s (tab h) = t (e ∙ h)
-no_escape text at b e a n r t u l d to s (four_digits c h x i y z) = u (e ∙ h)
-no_escape text at b e a n r t u l d to s (eight_digits c h x i y z) = l (e ∙ h)
-no_escape text at b e a n r t u l d to s (control h p m) = d (e ∙ h)
+no_escape text at b e a n r t u l d q i to s (line_feed h) = n (e ∙ h)
+no_escape text at b e a n r t u l d q i to s (carriage_return h) = r (e ∙ h)
+no_escape text at b e a n r t u l d q i to s (tab h) = t (e ∙ h)
+no_escape text at b e a n r t u l d q i to s (four_digits c h x j y z) = u (e ∙ h)
+no_escape text at b e a n r t u l d q i to s (eight_digits c h x j y z) = l (e ∙ h)
+no_escape text at b e a n r t u l d q i to s (control h p m) = d (e ∙ h)
+no_escape text at b e a n r t u l d q i to s (short_hex c _ h p o) = q (e ∙ h)
+no_escape text at b e a n r t u l d q i to s (octal c _ p o) =
+    false≢true (sym i ∙ ap is_octal e ∙ octal_first text at to c p)
 
 -- the bytes of the three characters that have a letter
 feed_bytes : encode_utf8 10 ≡ 10 ∷ []

@@ -1,14 +1,20 @@
 -- What a string stands for isn't longer than its text.
 use Rattle.std.proofs.Common.{◌≡◌, ℕ, ◌+◌, ◌-◌, ◌<◌, ◌≤◌, true, List, ◌∷◌, length, arith, ap, sym}
 use Rattle.std.proofs.Common.{◌∙◌, encode_utf8}
-use Rattle.std.specs.Prelude.{slice_index}
+use Rattle.std.specs.Prelude.{slice_index, nat_lt, Bool, false, cond, ◌*◌}
+use Rattle.std.proofs.Common.{lit≤}
 use Rattle.std.proofs.lemmas.Bool.{false≢true}
 use Rattle.resb_grammar.specs.ByteRuns.{is_white}
 use Rattle.std.proofs.Common.{length-drop}
 use Rattle.std.proofs.lemmas.List.{length-append, length-take-le}
-use Rattle.std.proofs.lemmas.Str.{length-encode, len_utf8_bounds}
+use Rattle.std.proofs.lemmas.Str.{length-encode, len_utf8_bounds, len_utf8_ascii}
+use Rattle.std.proofs.lemmas.Bool.Decides.{nat_tests}
 use Rattle.resb_icu_grammar.specs.Escapes.{Escape, itself, line_feed, carriage_return, tab}
-use Rattle.resb_icu_grammar.specs.Escapes.{four_digits, eight_digits, control}
+use Rattle.resb_icu_grammar.specs.Escapes.{four_digits, eight_digits, control, short_hex, octal}
+use Rattle.resb_icu_grammar.specs.Escapes.{one_digit, two_digits, one_octal, two_octal, three_octal}
+use Rattle.resb_icu_grammar.specs.Escapes.{is_octal}
+use Rattle.resb_grammar.specs.Group.{is_hex, hex_value}
+use Rattle.std.specs.Char.{len_utf8}
 use Rattle.resb_icu_grammar.specs.Pieces.{QuotedBytes, ends, byte, escape, Joined, last_piece}
 use Rattle.resb_icu_grammar.specs.Pieces.{one_more}
 use Rattle.resb_icu_grammar.specs.Blanks.{Comment, line, block, Blanks, none, white, comment}
@@ -36,6 +42,30 @@ blanks_order text from to (comment _ k _ c r) =
 encoded : (c : ℕ) → length (encode_utf8 c) ≤ 4
 encoded c = omega (arith, length-encode c, (len_utf8_bounds c).1)
 
+-- a character below U+0080 is one byte, one below U+0400 at most three
+encoded_low : (c : ℕ) → c < 128 → length (encode_utf8 c) ≤ 1
+encoded_low c l = omega (arith, length-encode c, len_utf8_ascii c l)
+
+encoded_most : (c : ℕ) → c < 1024 → length (encode_utf8 c) ≤ 3
+encoded_most c l = omega (arith, length-encode c, three)
+  where
+    three : len_utf8 c ≤ 3
+    three = by (nat_lt c 0x80) (nat_lt c 0x800)
+      where
+        low : nat_lt c 0x1_0000 ≡ true
+        low = grind (arith, nat_tests, l)
+
+        by : (x y : Bool) → cond x 1 (cond y 2 (cond (nat_lt c 0x1_0000) 3 4)) ≤ 3
+        by true y = omega arith
+        by false true = omega arith
+        by false false = rw low (lit≤ tt)
+
+hex_low : (b : ℕ) → is_hex b ≡ true → hex_value b < 16
+hex_low b h = grind (arith, nat_tests, h)
+
+octal_low : (b : ℕ) → is_octal b ≡ true → b - 48 < 8
+octal_low b h = grind (arith, nat_tests, h)
+
 pub escape_short : (text : List ℕ) (at to : ℕ) (s : List ℕ) → Escape text at to s
     → length s + at ≤ to
 escape_short text at to s (itself f h) = omega arith
@@ -45,6 +75,23 @@ escape_short text at to s (tab h) = omega arith
 escape_short text at to s (four_digits c h k e f g) = omega (arith, encoded c)
 escape_short text at to s (eight_digits c h k e f g) = omega (arith, encoded c)
 escape_short text at to s (control h l m) = omega arith
+escape_short text at to s (short_hex c _ h (one_digit k l) o) =
+    omega (arith, encoded_low c (omega (arith, hex_low (slice_index text (at + 1)) k)))
+escape_short text at to s (short_hex c _ h (two_digits k l) o) =
+    let first = hex_low (slice_index text (at + 1)) k in
+    let second = hex_low (slice_index text (at + 1 + 1)) l in
+    omega (arith, encoded_most c (omega (arith, first, second)))
+escape_short text at to s (octal c _ (one_octal h k) o) =
+    omega (arith, encoded_low c (omega (arith, octal_low (slice_index text at) h)))
+escape_short text at to s (octal c _ (two_octal h k l) o) =
+    let first = octal_low (slice_index text at) h in
+    let second = octal_low (slice_index text (at + 1)) k in
+    omega (arith, encoded_low c (omega (arith, first, second)))
+escape_short text at to s (octal c _ (three_octal h k l) o) =
+    let first = octal_low (slice_index text at) h in
+    let second = octal_low (slice_index text (at + 1)) k in
+    let third = octal_low (slice_index text (at + 2)) l in
+    omega (arith, encoded_most c (omega (arith, first, second, third)))
 
 -- nor is what a piece says
 pub inside_short : (text : List ℕ) (at to : ℕ) (s : List ℕ) → QuotedBytes text at to s

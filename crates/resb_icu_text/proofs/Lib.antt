@@ -4,6 +4,7 @@ mod ReachLemmas
 mod BlanksLemmas
 mod WordsLemmas
 mod UnquotedLemmas
+mod NumbersLemmas
 mod EscapesLemmas
 mod StopsLemmas
 mod PiecesLemmas

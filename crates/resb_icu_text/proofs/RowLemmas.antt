@@ -1,7 +1,8 @@
 -- Laws of unquoted strings in a row, as the reader's functions use them.
-use Rattle.std.proofs.Common.{◌≡◌, ◌≢◌, ℕ, zero, suc, ◌+◌, ◌-◌, ◌<◌, ◌≤◌, Bool, true, false}
-use Rattle.std.proofs.Common.{List, [], ◌∷◌, ◌++◌, length, arith, subst, sym, refl, ap, ◌∙◌}
-use Rattle.std.proofs.Common.{append_assoc, append-nil, ◌⊎◌, inl, inr, ⊎_elim}
+use Rattle.std.proofs.Common.{◌≡◌, ◌≢◌, ℕ, zero, suc, ◌+◌, ◌-◌, ◌<◌, ◌≤◌, Bool, true, false, List}
+use Rattle.std.proofs.Common.{[]}
+use Rattle.std.proofs.Common.{◌∷◌, ◌++◌, length, arith, subst, sym, refl, ap, ◌∙◌, append_assoc}
+use Rattle.std.proofs.Common.{append-nil, ◌⊎◌, inl, inr, ⊎_elim}
 use Rattle.std.specs.Prelude.{slice_index, slice_range, nat_lt, ◌==◌, ◌||◌, ◌&&◌, if◌then◌else◌}
 use Rattle.std.specs.Borrow.{Bor}
 use Rattle.std.specs.List.{list_any}
@@ -246,7 +247,8 @@ no_blank text (suc n) at to e each fits =
     ∙ ap (λ c. c || list_any (λ b. b == ascii.space) (slice_range text (at + 1) to))
     (blank_ends _ (and_parts _ _ (each at (omega arith) (omega (arith, e)))).0)
     ∙ no_blank text n (at + 1) to (omega (arith, e))
-    (λ k low high. each k (omega (arith, low)) high) fits
+    (λ k low high. each k (omega (arith, low)) high)
+    fits
 
 -- no blank is in an unquoted string
 pub unquoted_no_blank : (text : List ℕ) (from to : ℕ) (s : List ℕ) → Unquoted text from to s

@@ -27,10 +27,11 @@ stands_whole (the.Slice s) = true
 stands_whole (the.Built s) = false
 
 -- an unquoted string, or one quoted piece without a backslash, with no other behind it: what it
--- says stands in the text as it is
+-- says
+-- stands in the text as it is
 pub data Verbatim (text : List ℕ) (from to : ℕ) (bytes : List ℕ) : Type 0 where
-  a_word : UnquotedRow text from to bytes → Unquoted text from to bytes
-      → Verbatim text from to bytes
+  a_word : UnquotedRow text from to bytes → Unquoted text from to bytes → Verbatim text from to
+      bytes
   a_piece : Joined text from to bytes → QuotedPiece text from to bytes → HasNoEscape text from to
       → Verbatim text from to bytes
 

@@ -95,7 +95,8 @@ fn says_digits(found: Found<'_>, text: &str, from: usize) -> bool
 }
 
 /// How many bytes a string says as pairs of hex digits without blanks, if it says such, where it
-/// was found at a place of a text.
+/// was
+/// found at a place of a text.
 fn pairs_length(found: Found<'_>, text: &str, from: usize) -> Option<usize>
     requires found { IsFound text.now from found }
     ensures { MatchOption result (IsNoPairs text.now from found.entry)
@@ -113,8 +114,9 @@ fn pairs_length(found: Found<'_>, text: &str, from: usize) -> Option<usize>
 }
 
 /// How many bytes a string says as pairs of hex digits, if it says such, where it was found at a
-/// place of a text: unquoted strings in a row each whole pairs. Nothing is put together. Counts two
-/// turns for each byte of the text there: a digit is looked at here, and decoded later.
+/// place of a text: unquoted strings in a row each whole pairs. Nothing is put together. Counts
+/// two turns for each byte of the text there: a
+/// digit is looked at here, and decoded later.
 pub(crate) fn hex_length(
     found: Found<'_>,
     text: &str,

@@ -6,8 +6,8 @@ ghost use Rattle.std.specs.Prelude.{slice_index, IfSome, IfNone};
 ghost use Rattle.resb_grammar.specs.Group.{is_hex, hex_value};
 ghost use Rattle.resb_icu_grammar.specs.Bytes.{backslash};
 ghost use Rattle.resb_icu_grammar.specs.Escapes.{Escape, are_hex, hex_number, is_surrogate};
-ghost use Rattle.resb_icu_grammar.specs.Escapes.{is_not_meant};
-ghost use Rattle.resb_icu_text.specs.Inner.Escaped.{bytes_of, IsAscii};
+ghost use Rattle.resb_icu_grammar.specs.Escapes.{is_not_meant, is_octal, is_lost, ShortHex, Octal};
+ghost use Rattle.resb_icu_text.specs.Inner.Escaped.{bytes_of, IsAscii, ShortNumber};
 
 use crate::blanks::byte;
 
@@ -89,6 +89,76 @@ fn control_character(b: u8) -> Option<char>
     char::from_u32((b % 32) as u32)
 }
 
+/// The number that one hex digit or two say, and where they end.
+fn short_hex(text: &str, at: usize) -> Option<(usize, u32)>
+    requires within { at ≤ length text.now }
+    ensures found { IfSome result (λ r. ShortHex text.now at r.0 r.1) }
+    ensures none { IfNone result (is_hex (slice_index text.now at) ≡ false) }
+    ensures within { IfSome result (λ r. (at < r.0) × (r.0 ≤ length text.now) × (r.1 < 1024)) }
+{
+    let first = hex_digit(byte(text, at))?;
+    match hex_digit(byte(text, at + 1)) {
+        Some(second) => Some((at + 2, first * 16 + second)),
+        None => Some((at + 1, first)),
+    }
+}
+
+/// The value of an octal digit.
+fn octal_digit(b: u8) -> Option<u32>
+    ensures found { IfSome result (λ v. (is_octal b ≡ true) × (v ≡ b - 48) × (v < 8)) }
+    ensures none { IfNone result (is_octal b ≡ false) }
+{
+    if b >= b'0' && b <= b'7' {
+        Some((b - b'0') as u32)
+    } else {
+        None
+    }
+}
+
+/// The number that one octal digit to three say, and where they end.
+fn octal(text: &str, at: usize) -> Option<(usize, u32)>
+    requires within { at ≤ length text.now }
+    ensures found { IfSome result (λ r. Octal text.now at r.0 r.1) }
+    ensures none { IfNone result (is_octal (slice_index text.now at) ≡ false) }
+    ensures within { IfSome result (λ r. (at < r.0) × (r.0 ≤ length text.now) × (r.1 < 1024)) }
+{
+    let first = octal_digit(byte(text, at))?;
+    let Some(second) = octal_digit(byte(text, at + 1)) else {
+        return Some((at + 1, first));
+    };
+    match octal_digit(byte(text, at + 2)) {
+        Some(third) => Some((at + 3, (first * 8 + second) * 8 + third)),
+        None => Some((at + 2, first * 8 + second)),
+    }
+}
+
+/// The number that short hex digits behind an `x`, or else octal digits say, and where they end.
+#[tactic(auto, using(crate::proofs::NumbersLemmas::short_numbers))]
+fn short_number(text: &str, at: usize) -> Option<(usize, u32)>
+    requires within { at < length text.now }
+    ensures found { IfSome result (λ r. ShortNumber text.now at r.0 r.1) }
+    ensures none { IfNone result ((to c : ℕ) → ShortNumber text.now at to c → ⊥) }
+    ensures within { IfSome result (λ r. (at < r.0) × (r.0 ≤ length text.now) × (r.1 < 1024)) }
+{
+    if byte(text, at) == b'x' {
+        short_hex(text, at + 1)
+    } else {
+        octal(text, at)
+    }
+}
+
+/// The character of such a number behind this byte, if it is meant.
+fn meant(first: u8, number: u32) -> Option<char>
+    requires low { number < 1024 }
+    ensures found { IfSome result (λ c. (c ≡ number) × (is_lost first number ≡ false)) }
+    ensures none { IfNone result (is_lost first number ≡ true) }
+{
+    if number == 92 || number == first as u32 {
+        return None;
+    }
+    char::from_u32(number)
+}
+
 /// The escape whose backslash stands before this place: where it ends, and the character that it
 /// stands for, which is none where the byte there stands for itself.
 #[tactic(auto, using(crate::proofs::EscapesLemmas::escapes))]
@@ -125,6 +195,8 @@ pub(crate) fn escape(text: &str, at: usize) -> Option<(usize, Option<char>)>
         let c = control_character(byte(text, at + 1))?;
         Some((at + 2, Some(c)))
     } else {
-        None
+        let (to, number) = short_number(text, at)?;
+        let c = meant(b, number)?;
+        Some((to, Some(c)))
     }
 }

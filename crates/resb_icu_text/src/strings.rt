@@ -214,9 +214,9 @@ fn put_together(
 }
 
 /// The string that begins at a place of a text: unquoted ones in a row, or all quoted pieces that
-/// stand in a row with nothing but blanks between them. `None` where none does; refused is want of
-/// memory alone. One unquoted string and one piece without escapes are slices of the text; others
-/// are built.
+/// stand in a row
+/// with nothing but blanks between them. `None` where none does; refused is want of memory alone.
+/// One unquoted string and one piece without escapes are slices of the text; others are built.
 pub fn string<'a>(
     alloc: Global,
     text: &'a str,

@@ -1,8 +1,9 @@
-use Rattle.std.proofs.Common.{◌≡◌, sym, ◌∙◌, subst, rules, false}
+use Rattle.std.proofs.Common.{◌≡◌, sym, ◌∙◌, subst, rules, false, true}
 use Rattle.std.specs.Prelude.{slice_index}
 use Rattle.std.specs.Char.{is_ascii_alphanumeric}
 use Rattle.resb_icu_grammar.specs.Escapes.{itself}
 use Rattle.resb_icu_text.proofs.EscapesLemmas.{no_long, said_long}
+use Rattle.resb_icu_text.proofs.NumbersLemmas.{lost_there, is_short_number, last_ascii}
 use Rattle.resb_icu_text.proofs.Lists.{IfNone_from}
 use Rattle.resb_icu_text.proofs.escapes.escape.Goals as goal
 
@@ -24,3 +25,20 @@ returns-in_err-number-2-clause-none c =
     IfNone_from _ _
     (no_long _ _ (sym c.byte-b.ensures.byte ∙ c.if-b-eq85.true)
     (λ h y z. c.in_err-number-2.ensures.none h))
+
+pub returns-in_err-c-4-clause-none : goal.returns-in_err-c-4-clause-none
+returns-in_err-c-4-clause-none c =
+    let a : is_ascii_alphanumeric c.byte-b.result ≡ true = search rules in
+    IfNone_from _ _
+    (lost_there c.args.text.now c.args.at _ c.byte-b.ensures.byte a
+    c.if-b-eq110.false c.if-b-eq114.false c.if-b-eq116.false c.if-b-eq117.false c.if-b-eq85.false
+    c.if-b-eq99.false _ _ c.in_ok-to.ensures.found c.in_err-c-4.ensures.none)
+
+pub returns-in_ok-c-4-clause-found : goal.returns-in_ok-c-4-clause-found
+returns-in_ok-c-4-clause-found c =
+    is_short_number c.args.text.now c.args.at _ _ _ _ c.byte-b.ensures.byte
+    c.in_ok-to.ensures.found c.in_ok-c-4.ensures.found.0 c.in_ok-c-4.ensures.found.1
+
+pub returns-in_ok-c-4-clause-ascii : goal.returns-in_ok-c-4-clause-ascii
+returns-in_ok-c-4-clause-ascii c = λ k e.
+    last_ascii c.args.text.now c.args.at _ _ c.in_ok-to.ensures.found

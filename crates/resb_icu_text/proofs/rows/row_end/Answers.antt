@@ -20,8 +20,8 @@ pub unreachable-requires : goal.unreachable-requires
 unreachable-requires c =
     let q : row_goes_on c.args.text.now c.row.seen.end c.row.seen.next ≡ true =
     sym c.row_goes_on.ensures ∙ c.row-test.true in
-    false≢true (sym c.in_default.ensures.stops
-    ∙ follows_begins c.args.text.now c.row.seen.end c.row.seen.next q)
+    false≢true (sym c.in_default.ensures.stops ∙ follows_begins c.args.text.now c.row.seen.end
+    c.row.seen.next q)
 
 pub row-preserved : goal.row-preserved
 row-preserved c =

@@ -24,7 +24,8 @@ returns-in_default-pairs_in c = λ said r.
     let none = ap hex_bytes (sym c.as_bytes.ensures.value)
     ∙ rw c.in_default-pairs_in.is at c.pairs_in.ensures in
     pairs_none c.args.text.now c.row.at c.in-Some.to c.args.end _ said c.in-Some.ensures.found _
-    none (c.row.invariant.left said r)
+    none
+    (c.row.invariant.left said r)
 
 pub returns-then-to-end : goal.returns-then-to-end
 returns-then-to-end c = λ said r.
@@ -44,7 +45,8 @@ row-preserved c =
     record {
       left = λ said r. pairs_more text c.row.at c.in-Some.to c.args.end _ said string _ _
           c.skip-at.result _ (ap hex_bytes (sym c.as_bytes.ensures.value) ∙ pairs.1) pairs.2
-          c.if-to-end.false c.skip-at.ensures.skip (c.row.invariant.left said r);
+          c.if-to-end.false c.skip-at.ensures.skip
+          (c.row.invariant.left said r);
       below = next.0;
       counted = omega (
         arith,

@@ -23,6 +23,13 @@ use Rattle.resb_icu_text.specs.declared.error.IcuTextError.{IcuTextError}
 use Rattle.resb_compile.specs.CompilingIcu.{IsIcuRefused, IsIcuUnreadable, IsIcuUnwritable}
 use Rattle.resb_compile.specs.declared.compiling_icu.IcuCompileError.{IcuCompileError}
 use Rattle.resb_compile.specs.declared.compiling_icu.IcuCompileError.TheVariants as icu
+use Rattle.resb_filter.specs.Filtered.{Rule, filtered}
+use Rattle.resb_filter.proofs.KeyLemmas.{filtered_key}
+use Rattle.resb_compile.specs.CompilingIcu.{IsIcuBundle}
+use Rattle.resb_compile.specs.CompilingFiltered.{IsFilteredBundle, IsUnfiltered}
+use Rattle.resb_compile.specs.CompilingFiltered.{IsFilteredRefused, IsFilteredUnwritable}
+use Rattle.resb_compile.specs.CompilingFiltered.{IsFilteredRefusedWithPool}
+use Rattle.resb_compile.specs.CompilingFiltered.{IsFilteredUnwritableWithPool}
 
 -- a tree whose keys are listed is not refused for one that isn't
 pub never_unlisted : (t : Tree) (ks : List (List ℕ))
@@ -122,3 +129,53 @@ pub icu_reading_refused_with : {X : Type 0} (pool : Pool) (text : List ℕ) (e :
 icu_reading_refused_with pool text e h (Ok x) is = tt
 icu_reading_refused_with pool text e h (Err made) is =
     subst (IsIcuRefusedWithPool pool text) (sym is) h
+
+-- the keys of what rules leave of a text's tree are listed
+filtered_listed : (rules : List Rule) (text : List ℕ) (b : IsIcuBundle text)
+    → (k : List ℕ) → is_key k (filtered rules b.tree) ≡ true → Contains b.keys k
+filtered_listed rules text b k h =
+    icu_listed text b.name b.fallback b.tree b.keys b.is k (filtered_key rules k b.tree h)
+
+-- what the writer refuses of what rules leave is refused for its reason
+pub filtered_unwritable : (rules : List Rule) (text : List ℕ) (e : BinarySerializerError)
+    (b : IsIcuBundle text) → RefusesWriting (filtered rules b.tree) b.keys (fault_of e)
+    → IsFilteredUnwritable rules text e
+filtered_unwritable rules text e b h = record {
+  bundle = b;
+  refused = h;
+  listed = never_unlisted (filtered rules b.tree) b.keys (filtered_listed rules text b)
+      (fault_of e) h;
+}
+
+pub filtered_unwritable_with : (rules : List Rule) (pool : Pool) (text : List ℕ)
+    (e : BinarySerializerError) (b : IsIcuBundle text)
+    → RefusesWritingWith pool (filtered rules b.tree) b.keys (fault_of e)
+    → IsFilteredUnwritableWithPool rules pool text e
+filtered_unwritable_with rules pool text e b h = record {
+  bundle = b;
+  refused = h;
+  listed = never_unlisted_with pool (filtered rules b.tree) b.keys (filtered_listed rules text b)
+      (fault_of e) h;
+}
+
+-- a text that isn't filtered isn't compiled for the same reason
+pub unfiltered_refused : (rules : List Rule) (text : List ℕ) (e : IcuCompileError)
+    → IsUnfiltered text e → IsFilteredRefused rules text e
+unfiltered_refused rules text (icu.Reading e) h = h
+unfiltered_refused rules text (icu.Writing e) h =
+    filtered_unwritable rules text e h.0
+    (subst (λ f. RefusesWriting (filtered rules h.0.tree) h.0.keys f) (sym h.1) no_memory)
+
+pub unfiltered_refused_with : (rules : List Rule) (pool : Pool) (text : List ℕ)
+    (e : IcuCompileError) → IsUnfiltered text e → IsFilteredRefusedWithPool rules pool text e
+unfiltered_refused_with rules pool text (icu.Reading e) h = h
+unfiltered_refused_with rules pool text (icu.Writing e) h =
+    filtered_unwritable_with rules pool text e h.0
+    (subst (λ f. RefusesWritingWith pool (filtered rules h.0.tree) h.0.keys f) (sym h.1)
+    (as_alone no_memory))
+
+-- an error that is one of these is as it is
+pub carried : {X E : Type 0} (P : E → Type 0) (e : E) → P e → (r : Result X E)
+    → IsErrAnd r (λ made. made ≡ e) → IfErr r P
+carried P e h (Ok x) is = tt
+carried P e h (Err made) is = subst P (sym is) h

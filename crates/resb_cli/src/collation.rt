@@ -49,18 +49,18 @@ impl fmt::Display for OfType<'_> {
     }
 }
 
-/// The status of a draft in which rules may have no binary form, once that is said of the first of
-/// them: as an error where they aren't compiled without it.
+/// The status of a draft with rules of types of these keys that have no binary form, once that is
+/// said of the first of them: as an error where they aren't compiled without it.
 pub(crate) fn check_collations(
     rt: &HostRuntime,
     name: &str,
-    draft: &Draft<'_>,
+    types: &[&str],
     wanted: &CompileWords<'_>,
 ) -> Result<u8, u8> {
-    let Some(key) = first_unbuilt(draft) else {
+    let [key, ..] = types else {
         return Ok(0);
     };
-    if wanted.collation == Collation::Refused {
+    if wanted.collation != Collation::Unbuilt {
         let said = Said::Refused;
         complain(rt, name, OfType { key, said });
         return Err(1);
@@ -72,29 +72,16 @@ pub(crate) fn check_collations(
     Ok(u8::from(wanted.is_strict))
 }
 
-/// The key of the first type of collation whose rules have no binary form and need one.
-fn first_unbuilt<'a>(draft: &Draft<'a>) -> Option<&'a str> {
-    let types = value_at(draft, draft.root, COLLATIONS)?;
-    for key in keys_at(draft, types)? {
-        if is_unbuilt(draft, value_at(draft, types, key)?, key) {
-            return Some(*key);
-        }
-    }
-    None
-}
-
 /// The keys of the types of collation whose rules have no binary form and need one.
 pub(crate) fn unbuilt<'a>(alloc: Global, draft: &Draft<'a>) -> Result<Vec<&'a str>, AllocError> {
     let mut unbuilt = Vec::new(alloc);
-    let Some(types) = value_at(draft, draft.root, COLLATIONS) else {
+    let types = value_at(draft, draft.root, COLLATIONS);
+    let Some((keys, tables)) = types.and_then(|types| entries_at(draft, types)) else {
         return Ok(unbuilt);
     };
-    let Some(keys) = keys_at(draft, types) else {
-        return Ok(unbuilt);
-    };
-    for key in keys {
-        if value_at(draft, types, key).is_some_and(|table| is_unbuilt(draft, table, key)) {
-            unbuilt.push(*key)?;
+    for (key, table) in keys.iter().copied().zip(tables.iter().copied()) {
+        if is_unbuilt(draft, table, key) {
+            unbuilt.push(key)?;
         }
     }
     Ok(unbuilt)
@@ -113,24 +100,22 @@ fn is_string(draft: &Draft<'_>, number: u32) -> bool {
     matches!(draft.pieces.get(number as usize), Some(Piece::String(_)))
 }
 
-/// The keys of the table that the piece of this number stands for, if it stands for one.
-fn keys_at<'d, 'a>(draft: &'d Draft<'a>, number: u32) -> Option<&'d [&'a str]> {
+/// The keys of the table that the piece of this number stands for, if it stands for one, and the
+/// numbers of its values.
+fn entries_at<'d, 'a>(draft: &'d Draft<'a>, number: u32) -> Option<(&'d [&'a str], &'d [u32])> {
     let Some(Piece::Table(part, first)) = draft.pieces.get(number as usize) else {
         return None;
     };
-    let behind = draft.keys.get(*first as usize..)?;
-    behind.get(..part.count as usize)
+    let keys = draft.keys.get(*first as usize..)?;
+    let values = draft.members.get(part.from as usize..)?;
+    let count = part.count as usize;
+    Some((keys.get(..count)?, values.get(..count)?))
 }
 
 /// The number of the value that the table of this number has at a key, if it is one and has it.
 fn value_at(draft: &Draft<'_>, number: u32, key: &str) -> Option<u32> {
-    let Some(Piece::Table(part, _)) = draft.pieces.get(number as usize) else {
-        return None;
-    };
-    let place = keys_at(draft, number)?
-        .iter()
-        .position(|name| *name == key)?;
-    let values = draft.members.get(part.from as usize..)?;
+    let (keys, values) = entries_at(draft, number)?;
+    let place = keys.iter().position(|name| *name == key)?;
     values.get(place).copied()
 }
 

@@ -1,6 +1,6 @@
 //! The files of texts by their drafts: without what rules leave out, and with the binary forms of
 //! rules of collation. Texts that have neither are compiled at once, in `compile`.
-ghost use Rattle.std.specs.Prelude.{◌≡◌, true, IfOk};
+ghost use Rattle.std.specs.Prelude.{◌≡◌, true};
 ghost use Rattle.resb_draft.specs.Drafts.{is_ready};
 
 use crate::collation::{BINARY, check_collations, forms_in, unbuilt};
@@ -10,7 +10,7 @@ use crate::say::refuse_memory;
 use crate::show::opened_of;
 use resb_compile::IcuCompileError;
 use resb_draft::DraftBundle;
-use resb_filter::{Rules, with_collation_forms};
+use resb_filter::with_collation_forms;
 use resb_pool_bundle::PoolBundle;
 use resb_tree::Key;
 use resb_words::{Collation, CompileWords};
@@ -24,6 +24,17 @@ pub(crate) struct Source<'s, 'p> {
     pub(crate) pool: Option<&'s PoolBundle<'p>>,
 }
 
+/// Where the binary forms of rules of collation are taken from.
+#[derive(Clone, Copy)]
+struct Builder<'b, 'k> {
+    /// The name of the file that has them.
+    file: &'b str,
+    /// The keys of the types whose forms are taken.
+    types: &'b [&'k str],
+    /// The most bytes of the file that are read.
+    limit: Option<u64>,
+}
+
 /// The file of a text in ICU's own form, and the status of what is said of its rules of collation;
 /// or the status, once it is said why there is none.
 pub(crate) fn drafted_file(
@@ -32,83 +43,55 @@ pub(crate) fn drafted_file(
     wanted: &CompileWords<'_>,
 ) -> Result<(Vec<u8>, u8), u8> {
     let (bundle, keys) = filtered_draft(rt, source.name, source.text, wanted.filters)?;
-    let bundle = if wanted.leaves_unihan {
-        without_unihan(rt, source.name, bundle)?
-    } else {
-        bundle
+    let Ok(types) = unbuilt(rt.alloc(), &bundle.root) else {
+        return Err(refuse_memory(rt, source.name));
     };
-    if let Collation::From(folder) = wanted.collation {
-        return Ok((collated_file(rt, source, bundle, keys, folder)?, 0));
-    }
-    let status = check_collations(rt, source.name, &bundle.root, wanted)?;
-    Ok((written(rt, source, bundle, keys.as_slice())?, status))
-}
-
-/// A bundle without the collations of type `unihan`, which ICU's compiler leaves out.
-fn without_unihan<'s>(
-    rt: &HostRuntime,
-    name: &str,
-    bundle: DraftBundle<'s>,
-) -> Result<DraftBundle<'s>, u8>
-    requires { is_ready bundle.root ≡ true }
-    ensures { IfOk result (λ b. is_ready b.root ≡ true) }
-{
-    let Ok(rules) = Rules::read(rt.alloc(), "-/collations/unihan") else {
-        return Err(refuse_memory(rt, name));
-    };
-    let DraftBundle {
-        name: own_name,
-        root,
-        is_locale_fallback_enabled,
-    } = bundle;
-    match rules.filtered(rt.alloc(), root) {
-        Ok(root) => Ok(DraftBundle {
-            name: own_name,
-            root,
-            is_locale_fallback_enabled,
-        }),
-        Err(_) => Err(refuse_memory(rt, name)),
+    let types = types.as_slice();
+    match wanted.collation {
+        Collation::From(folder) if !types.is_empty() => {
+            let name = bundle.name;
+            let Ok(file) = format!(in rt.alloc(); "{folder}/{name}.res") else {
+                return Err(refuse_memory(rt, source.name));
+            };
+            let (file, limit) = (file.as_str(), wanted.limit);
+            let builder = Builder { file, types, limit };
+            Ok((collated_file(rt, source, bundle, keys, builder)?, 0))
+        }
+        _ => {
+            let status = check_collations(rt, source.name, types, wanted)?;
+            Ok((written(rt, source, bundle, keys.as_slice())?, status))
+        }
     }
 }
 
-/// The same with the binary forms of rules of collation that the file of the bundle's name has in a
-/// folder.
+/// The file of a text's bundle with the binary forms of its rules of collation.
 fn collated_file<'s>(
     rt: &HostRuntime,
     source: Source<'s, '_>,
     bundle: DraftBundle<'s>,
     mut keys: Vec<Key<'s>>,
-    folder: &str,
+    builder: Builder<'_, 's>,
 ) -> Result<Vec<u8>, u8>
     requires { is_ready bundle.root ≡ true }
 {
-    let Ok(types) = unbuilt(rt.alloc(), &bundle.root) else {
+    let Builder { file, types, limit } = builder;
+    let input = Input::read(rt, file, limit)?;
+    let opened = input.open(rt, file)?;
+    let beside = opened.pool(rt, file, None, limit)?;
+    let built = opened_of(rt, file, opened.bytes, &beside, None)?;
+    let forms = forms_in(rt, file, built.root(), types)?;
+    let is_listed = keys.iter().any(|key| key.as_str() == BINARY);
+    if !is_listed && keys.push(Key::from(BINARY)).is_err() {
         return Err(refuse_memory(rt, source.name));
-    };
-    if types.is_empty() {
-        return written(rt, source, bundle, keys.as_slice());
     }
-    let name = bundle.name;
-    let Ok(path) = format!(in rt.alloc(); "{folder}/{name}.res") else {
-        return Err(refuse_memory(rt, source.name));
-    };
-    let path = path.as_str();
-    let input = Input::read(rt, path, None)?;
-    let opened = input.open(rt, path)?;
-    let beside = opened.pool(rt, path, None, None)?;
-    let file = opened_of(rt, path, opened.bytes, &beside, None)?;
-    let forms = forms_in(rt, path, file.root(), types.as_slice())?;
     let DraftBundle {
+        name,
         root,
         is_locale_fallback_enabled,
-        ..
     } = bundle;
     let Ok(root) = with_collation_forms(rt.alloc(), root, forms.as_slice()) else {
         return Err(refuse_memory(rt, source.name));
     };
-    if keys.push(Key::from(BINARY)).is_err() {
-        return Err(refuse_memory(rt, source.name));
-    }
     let bundle = DraftBundle {
         name,
         root,

@@ -77,7 +77,6 @@ fn compile_texts(rt: &HostRuntime, wanted: &GenrbWords<'_>, texts: &[PathBuf]) -
             pool: wanted.used_pool,
             filters: wanted.filters,
             collation: wanted.collation,
-            leaves_unihan: wanted.leaves_unihan,
             is_check: false,
             is_quiet: wanted.is_quiet,
             is_strict: false,

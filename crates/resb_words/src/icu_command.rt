@@ -188,12 +188,6 @@ pub(crate) const GENRB: Described<'static> = Described {
         },
         COLLATION,
         Argument {
-            id: "includeUnihanColl",
-            option: Some("includeUnihanColl"),
-            help: "Keeps the collations of type unihan, which are left out else",
-            ..FLAG
-        },
-        Argument {
             id: "formatVersion",
             option: Some("formatVersion"),
             value: Some("NUMBER"),

@@ -25,8 +25,6 @@ pub struct GenrbWords<'w> {
     pub filters: Option<Filters<'w>>,
     /// What becomes of rules of collation.
     pub collation: Collation<'w>,
-    /// Whether the collations of type `unihan` are left out of the files.
-    pub leaves_unihan: bool,
     /// Whether warnings are left unsaid.
     pub is_quiet: bool,
 }
@@ -102,7 +100,6 @@ fn genrb<'w>(alloc: Global, matches: &ArgMatches<'w>) -> Result<Request<'w>, Wor
         written_pool: pool(matches, "writePoolBundle", destination),
         filters: rules_of(matches, source),
         collation: asked_collation(matches),
-        leaves_unihan: !matches.get_flag("includeUnihanColl"),
         is_quiet: matches.get_flag("quiet"),
     }))
 }

@@ -53,8 +53,6 @@ pub struct CompileWords<'w> {
     pub filters: Option<Filters<'w>>,
     /// What becomes of rules of collation.
     pub collation: Collation<'w>,
-    /// Whether the collations of type `unihan` are left out of the files.
-    pub leaves_unihan: bool,
     /// Whether no file is written.
     pub is_check: bool,
     /// Whether warnings and progress are left unsaid.
@@ -180,7 +178,6 @@ fn compile<'w>(alloc: Global, matches: &ArgMatches<'w>) -> Result<Request<'w>, W
         pool: matches.get_str("POOL"),
         filters: None,
         collation: asked_collation(matches),
-        leaves_unihan: false,
         is_check: matches.get_flag("check"),
         is_quiet: matches.get_flag("quiet"),
         is_strict: matches.get_flag("strict"),

@@ -57,8 +57,8 @@ uint32_t resb_version(void);
  * format that isn't known at all is RESB_NOT_A_FILE. */
 #define RESB_UNSUPPORTED 6u
 /* The file's tree has no text: its root is no table, it has an alias, or a name, key or string
- * holds a '"'. In ICU's form: its root is no table, its name is no word, a key has a character that
- * may not stand in one, or a table stands under "collations" or "CollationElements". */
+ * holds a '"'. In ICU's form: its root is no table, its name is no word, or a key has a character
+ * that may not stand in one. */
 #define RESB_NOT_PRINTABLE 7u
 /* A request for memory was refused. The input may be sound. */
 #define RESB_NO_MEMORY 8u

@@ -7,8 +7,8 @@ SOURCE is ICU's folder `source` with its `data` and `python`, as `icu_sources.py
 is a new one for what is built. ICU's `databuilder` writes the rules for `make`, which are run with
 the tools of Debian's icu-devtools: once as they are, and once with the program `resb` in the place
 of `genrb`, the proved one if none is named. The binary forms of rules of collation are taken from
-the files of the first build, since only ICU's compiler makes them (`--collation`). A call that fails stops none that is behind it, by `make
--i`: what one of the two can't build is counted.
+the files of the first build, since only ICU's compiler makes them (`--collation`). A call that
+fails stops none that is behind it, by `make -i`: what one of the two can't build is counted.
 
 FILE says in ICU's own form which data are left out, as ICU's `ICU_DATA_FILTER_FILE` does. The
 databuilder makes of it a file of rules for each text that it is about, and hands their folders to

@@ -1,4 +1,4 @@
-use Rattle.std.proofs.Common.{subst, sym}
+use Rattle.std.proofs.Common.{subst}
 use Rattle.resb_draft.specs.Drafts.{draft_tree}
 use Rattle.resb_filter.specs.View.{rules_of}
 use Rattle.resb_filter.specs.Filtered.{filtered}

@@ -8,8 +8,8 @@ by `genrb -e UTF-8 -C` without a pool bundle, and by `resb compile --icu --no-bi
 proved one if no PROGRAM is named. Counted are texts that both refuse, that genrb alone takes (by
 our words for it), that we alone take, and, where both take one, files that are equal, files of one
 tree and flag that differ, with the reasons that are found (genrb lets a key lie at the end of a
-longer one, and records that are alike in size and in what sharing saves stand in another order), and files of
-different trees. A text that we alone take, of another tree, or of one tree in another file for no
+longer one, and records that are alike in size and in what sharing saves stand in another order),
+and files of different trees. A text that we alone take, of another tree, or of one tree in another file for no
 reason that is found, is listed.
 Trees are compared as the prints of ICU's derb, and as the texts of `resb dump --icu`: where derb
 prints nothing, by these alone, which is said, and where `resb` refuses genrb's file, since its

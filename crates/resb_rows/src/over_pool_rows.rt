@@ -1,5 +1,5 @@
-//! Bundles that are written over a pool bundle, or without what rules leave out, and their files, as
-//! the format's rules ask for them. Each row is an input and its answer, up to a `;`: a row more
+//! Bundles that are written over a pool bundle, or without what rules leave out, and their files,
+//! as the format's rules ask for them. Each row is an input and its answer, up to a `;`: a row more
 //! costs no proof.
 use resb_compile::{
     compile_icu_filtered, compile_icu_filtered_with_pool, compile_icu_with_pool, compile_with_pool,

@@ -22,6 +22,7 @@ pub(crate) const BINARY: &str = "%%CollationBin";
 const PRIVATE: &str = "private-";
 
 /// What is said of the rules of a type.
+#[derive(Clone, Copy)]
 enum Said {
     /// They have no binary form, and are refused.
     Refused,
@@ -32,6 +33,7 @@ enum Said {
 }
 
 /// What is said of the rules of the type of a key.
+#[derive(Clone, Copy)]
 struct OfType<'k> {
     key: &'k str,
     said: Said,

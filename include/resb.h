@@ -332,7 +332,7 @@ uint32_t resb_key(const uint8_t *file, size_t file_length, const uint8_t *pool, 
  * The file and the pool bundle stay the caller's, and have to stay as they are while the struct is
  * in use. The struct may be copied, and any number of threads may use it at a time. It is the
  * library's: what the caller owes of it is that it is one that resb_open wrote, since its parts
- * lead into the file's bytes. Where that call failed, nothing stands in it, and it may be handed on
+ * lead into the file's bytes. Where that call failed, no file stands in it, and it may be handed on
  * all the same.
  *
  * A resource that is handed in may be any: one that did not come from this file is answered
@@ -368,8 +368,8 @@ typedef struct resb_opened {
 /* Opens a file beside a pool bundle of pool_length bytes; a length of 0 says that there is none. It
  * is checked as a whole, as resb_check_with_pool does.
  *
- * RESB_OK: *opened is the file. Else nothing stands in *opened, and its count is 0, for the reasons
- * of resb_check_with_pool. */
+ * RESB_OK: *opened is the file. Else its count is 0 and its root an empty string, for the reasons of
+ * resb_check_with_pool. */
 uint32_t resb_open(const uint8_t *file, size_t file_length, const uint8_t *pool,
                    size_t pool_length, resb_opened *opened, resb_error *error);
 

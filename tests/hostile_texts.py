@@ -191,6 +191,8 @@ ICU_LONG = {
     'a string of pieces': ('b{v{', '"a" ', '}}', JOINED, ICU_ROOT + GROUP + REQUEST),
     'a string of long pieces':
         ('b{v{"a" "', 'a', '"}}', JOINED, ICU_ROOT + GROUP + REQUEST + JOINED),
+    'a string of a row': ('b{v{x', ' x', '}}', 2 * JOINED, ICU_ROOT + GROUP + REQUEST + JOINED),
+    'a row of blanks': ('b{v{x', ' ', 'x}}', 0, ICU_ROOT + GROUP + REQUEST + 3 * JOINED),
     'a string of escapes': ('b{v{"', '\\u0061', '"}}', JOINED, ICU_ROOT + GROUP + REQUEST),
     'a string of quotes': ('b{v{"', '\\"', '"}}', JOINED, ICU_ROOT + GROUP + REQUEST),
     'a typed string': ('b{v:string{"', 'a', '"}}', JOINED, ICU_ROOT + GROUP + REQUEST),
@@ -202,6 +204,7 @@ ICU_LONG = {
     'a binary of pieces': ('b{v:bin{', '"00" ', '}}', BINARY_BYTE, ICU_ROOT + GROUP + REQUEST),
     'a binary of long pieces':
         ('b{v:bin{"00" "', '00', '"}}', BINARY_BYTE, ICU_ROOT + GROUP + REQUEST + BINARY_BYTE),
+    'a binary of a row': ('b{v:bin{', '00 ', '}}', BINARY_BYTE, ICU_ROOT + GROUP + REQUEST),
     'a binary of escapes':
         ('b{v:bin{"', '\\u0030\\u0030', '"}}', BINARY_BYTE, ICU_ROOT + GROUP + REQUEST),
     'a name': ('b', 'b', '{}', 0, GROUP),

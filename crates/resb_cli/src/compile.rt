@@ -1,7 +1,7 @@
 //! The command `compile`: each text to a file of its own.
 //! What a text's file is, and why it has none, is in `resb_program`.
 use crate::collation::RULES;
-use crate::drafted::{Source, drafted_file};
+use crate::drafted::drafted_file;
 use crate::encoding::utf8_of;
 use crate::folders::{Named, TEXTS, named_files};
 use crate::input::lending_pool;
@@ -218,13 +218,13 @@ fn file_at_once(
     work: Work<'_, '_, '_>,
 ) -> Result<(Vec<u8>, u8), u8> {
     let wanted = work.wanted;
-    let pool = work.pool.as_ref();
-    let source = Source { name, text, pool };
     if wanted.filters.is_some() {
-        return drafted_file(rt, source, wanted);
+        return drafted_file(rt, name, text, wanted, work.pool.as_ref());
     }
     match compiled(rt.alloc(), text, work) {
-        Ok(_) if wanted.is_icu && text.contains(RULES) => drafted_file(rt, source, wanted),
+        Ok(_) if wanted.is_icu && text.contains(RULES) => {
+            drafted_file(rt, name, text, wanted, work.pool.as_ref())
+        }
         Ok(file) => Ok((file, 0)),
         Err(e) => Err(refuse(rt, name, text.as_bytes(), &e)),
     }

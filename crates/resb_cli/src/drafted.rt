@@ -15,22 +15,13 @@ use resb_pool_bundle::PoolBundle;
 use resb_tree::Key;
 use resb_words::{Collation, CompileWords};
 use resb_write::Serializer;
-
-/// A text, and the pool bundle over which its file is written.
-#[derive(Clone, Copy)]
-pub(crate) struct Source<'s, 'p> {
-    pub(crate) name: &'s str,
-    pub(crate) text: &'s str,
-    pub(crate) pool: Option<&'s PoolBundle<'p>>,
-}
+use std::alloc::AllocError;
 
 /// Where the binary forms of rules of collation are taken from.
 #[derive(Clone, Copy)]
-struct Builder<'b, 'k> {
+struct Builder<'b> {
     /// The name of the file that has them.
     file: &'b str,
-    /// The keys of the types whose forms are taken.
-    types: &'b [&'k str],
     /// The most bytes of the file that are read.
     limit: Option<u64>,
 }
@@ -39,87 +30,98 @@ struct Builder<'b, 'k> {
 /// or the status, once it is said why there is none.
 pub(crate) fn drafted_file(
     rt: &HostRuntime,
-    source: Source<'_, '_>,
+    name: &str,
+    text: &str,
     wanted: &CompileWords<'_>,
+    pool: Option<&PoolBundle<'_>>,
 ) -> Result<(Vec<u8>, u8), u8> {
-    let (bundle, keys) = filtered_draft(rt, source.name, source.text, wanted.filters)?;
+    let (bundle, keys) = filtered_draft(rt, name, text, wanted.filters)?;
     let Ok(types) = unbuilt(rt.alloc(), &bundle.root) else {
-        return Err(refuse_memory(rt, source.name));
+        return Err(refuse_memory(rt, name));
     };
-    let types = types.as_slice();
     match wanted.collation {
         Collation::From(folder) if !types.is_empty() => {
-            let name = bundle.name;
-            let Ok(file) = format!(in rt.alloc(); "{folder}/{name}.res") else {
-                return Err(refuse_memory(rt, source.name));
+            let own_name = bundle.name;
+            let Ok(file) = format!(in rt.alloc(); "{folder}/{own_name}.res") else {
+                return Err(refuse_memory(rt, name));
             };
             let (file, limit) = (file.as_str(), wanted.limit);
-            let builder = Builder { file, types, limit };
-            Ok((collated_file(rt, source, bundle, keys, builder)?, 0))
+            let builder = Builder { file, limit };
+            let Ok(keys) = listed(keys, BINARY) else {
+                return Err(refuse_memory(rt, name));
+            };
+            Ok((collated_file(rt, name, (bundle, keys), builder, pool)?, 0))
         }
         _ => {
-            let status = check_collations(rt, source.name, types, wanted)?;
-            Ok((written(rt, source, bundle, keys.as_slice())?, status))
+            let status = check_collations(rt, name, types.as_slice(), wanted)?;
+            Ok((written(rt, name, bundle, keys.as_slice(), pool)?, status))
         }
     }
+}
+
+/// Keys, and this one if it isn't among them.
+fn listed<'k>(mut keys: Vec<Key<'k>>, name: &'k str) -> Result<Vec<Key<'k>>, AllocError> {
+    for key in keys.as_slice() {
+        if key.as_str() == name {
+            return Ok(keys);
+        }
+    }
+    keys.push(Key::from(name))?;
+    Ok(keys)
 }
 
 /// The file of a text's bundle with the binary forms of its rules of collation.
 fn collated_file<'s>(
     rt: &HostRuntime,
-    source: Source<'s, '_>,
-    bundle: DraftBundle<'s>,
-    mut keys: Vec<Key<'s>>,
-    builder: Builder<'_, 's>,
+    name: &str,
+    read: (DraftBundle<'s>, Vec<Key<'s>>),
+    builder: Builder<'_>,
+    pool: Option<&PoolBundle<'_>>,
 ) -> Result<Vec<u8>, u8>
-    requires { is_ready bundle.root ≡ true }
+    requires { is_ready read.0.root ≡ true }
 {
-    let Builder { file, types, limit } = builder;
+    let Builder { file, limit } = builder;
     let input = Input::read(rt, file, limit)?;
     let opened = input.open(rt, file)?;
     let beside = opened.pool(rt, file, None, limit)?;
     let built = opened_of(rt, file, opened.bytes, &beside, None)?;
-    let forms = forms_in(rt, file, built.root(), types)?;
-    let is_listed = keys.iter().any(|key| key.as_str() == BINARY);
-    if !is_listed && keys.push(Key::from(BINARY)).is_err() {
-        return Err(refuse_memory(rt, source.name));
-    }
+    let (bundle, keys) = read;
+    let Ok(types) = unbuilt(rt.alloc(), &bundle.root) else {
+        return Err(refuse_memory(rt, name));
+    };
+    let forms = forms_in(rt, file, built.root(), types.as_slice())?;
     let DraftBundle {
-        name,
+        name: own_name,
         root,
         is_locale_fallback_enabled,
     } = bundle;
     let Ok(root) = with_collation_forms(rt.alloc(), root, forms.as_slice()) else {
-        return Err(refuse_memory(rt, source.name));
+        return Err(refuse_memory(rt, name));
     };
     let bundle = DraftBundle {
-        name,
+        name: own_name,
         root,
         is_locale_fallback_enabled,
     };
-    written(rt, source, bundle, keys.as_slice())
+    written(rt, name, bundle, keys.as_slice(), pool)
 }
 
-/// The file of a bundle, over the text's pool bundle if there is one.
+/// The file of a bundle, over a pool bundle if there is one.
 fn written(
     rt: &HostRuntime,
-    source: Source<'_, '_>,
+    name: &str,
     bundle: DraftBundle<'_>,
     keys: &[Key<'_>],
+    pool: Option<&PoolBundle<'_>>,
 ) -> Result<Vec<u8>, u8>
     requires { is_ready bundle.root ≡ true }
 {
     let has_fallback = bundle.is_locale_fallback_enabled;
     let (alloc, root) = (rt.alloc(), bundle.root);
-    let file = match source.pool {
+    let file = match pool {
         Some(pool) => Serializer::draft_to_bytes_with_pool(alloc, root, has_fallback, keys, pool),
         None => Serializer::draft_to_bytes(alloc, root, has_fallback, keys),
     };
-    match file {
-        Ok(file) => Ok(file),
-        Err(e) => {
-            let e = IcuCompileError::Writing(e);
-            Err(refuse_text(rt, source.name, source.text, e))
-        }
-    }
+    // what the writer refuses has no place in the text
+    file.map_err(|e| refuse_text(rt, name, "", IcuCompileError::Writing(e)))
 }

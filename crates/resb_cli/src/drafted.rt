@@ -11,19 +11,25 @@ use crate::show::opened_of;
 use resb_compile::IcuCompileError;
 use resb_draft::DraftBundle;
 use resb_filter::with_collation_forms;
+use resb_opened::Handle;
 use resb_pool_bundle::PoolBundle;
 use resb_tree::Key;
 use resb_words::{Collation, CompileWords};
 use resb_write::Serializer;
 use std::alloc::AllocError;
 
-/// Where the binary forms of rules of collation are taken from.
+/// A text and its name.
 #[derive(Clone, Copy)]
-struct Builder<'b> {
-    /// The name of the file that has them.
-    file: &'b str,
-    /// The most bytes of the file that are read.
-    limit: Option<u64>,
+struct Source<'n, 's> {
+    name: &'n str,
+    text: &'s str,
+}
+
+/// A file that has binary forms of rules of collation, and its name.
+#[derive(Clone, Copy)]
+struct Built<'f> {
+    name: &'f str,
+    root: Handle<'f>,
 }
 
 /// The file of a text in ICU's own form, and the status of what is said of its rules of collation;
@@ -39,24 +45,43 @@ pub(crate) fn drafted_file(
     let Ok(types) = unbuilt(rt.alloc(), &bundle.root) else {
         return Err(refuse_memory(rt, name));
     };
-    match wanted.collation {
-        Collation::From(folder) if !types.is_empty() => {
-            let own_name = bundle.name;
-            let Ok(file) = format!(in rt.alloc(); "{folder}/{own_name}.res") else {
+    if let Collation::From(folder) = wanted.collation {
+        if !types.is_empty() {
+            let bundle_name = bundle.name;
+            let Ok(path) = format!(in rt.alloc(); "{folder}/{bundle_name}.res") else {
                 return Err(refuse_memory(rt, name));
             };
-            let (file, limit) = (file.as_str(), wanted.limit);
-            let builder = Builder { file, limit };
-            let Ok(keys) = listed(keys, BINARY) else {
-                return Err(refuse_memory(rt, name));
-            };
-            Ok((collated_file(rt, name, (bundle, keys), builder, pool)?, 0))
-        }
-        _ => {
-            let status = check_collations(rt, name, types.as_slice(), wanted)?;
-            Ok((written(rt, name, bundle, keys.as_slice(), pool)?, status))
+            return Ok((
+                built_file(rt, Source { name, text }, path.as_str(), wanted, pool)?,
+                0,
+            ));
         }
     }
+    let status = check_collations(rt, name, types.as_slice(), wanted)?;
+    Ok((written(rt, name, bundle, keys.as_slice(), pool)?, status))
+}
+
+/// The same with the binary forms that the file of a name has.
+fn built_file(
+    rt: &HostRuntime,
+    source: Source<'_, '_>,
+    file: &str,
+    wanted: &CompileWords<'_>,
+    pool: Option<&PoolBundle<'_>>,
+) -> Result<Vec<u8>, u8> {
+    let input = Input::read(rt, file, wanted.limit)?;
+    let opened = input.open(rt, file)?;
+    let beside = opened.pool(rt, file, None, wanted.limit)?;
+    let built = opened_of(rt, file, opened.bytes, &beside, None)?;
+    let root = built.root();
+    let Source { name, text } = source;
+    collated_file(
+        rt,
+        Source { name, text },
+        Built { name: file, root },
+        wanted,
+        pool,
+    )
 }
 
 /// Keys, and this one if it isn't among them.
@@ -70,36 +95,34 @@ fn listed<'k>(mut keys: Vec<Key<'k>>, name: &'k str) -> Result<Vec<Key<'k>>, All
     Ok(keys)
 }
 
-/// The file of a text's bundle with the binary forms of its rules of collation.
+/// The same with the binary forms that a file has. The text is read once more: its draft and the
+/// forms are lent for one time.
 fn collated_file<'s>(
     rt: &HostRuntime,
-    name: &str,
-    read: (DraftBundle<'s>, Vec<Key<'s>>),
-    builder: Builder<'_>,
+    source: Source<'_, 's>,
+    built: Built<'s>,
+    wanted: &CompileWords<'_>,
     pool: Option<&PoolBundle<'_>>,
-) -> Result<Vec<u8>, u8>
-    requires { is_ready read.0.root ≡ true }
-{
-    let Builder { file, limit } = builder;
-    let input = Input::read(rt, file, limit)?;
-    let opened = input.open(rt, file)?;
-    let beside = opened.pool(rt, file, None, limit)?;
-    let built = opened_of(rt, file, opened.bytes, &beside, None)?;
-    let (bundle, keys) = read;
+) -> Result<Vec<u8>, u8> {
+    let Source { name, text } = source;
+    let (bundle, keys) = filtered_draft(rt, name, text, wanted.filters)?;
     let Ok(types) = unbuilt(rt.alloc(), &bundle.root) else {
         return Err(refuse_memory(rt, name));
     };
-    let forms = forms_in(rt, file, built.root(), types.as_slice())?;
+    let forms = forms_in(rt, built.name, built.root, types.as_slice())?;
     let DraftBundle {
-        name: own_name,
+        name: bundle_name,
         root,
         is_locale_fallback_enabled,
     } = bundle;
-    let Ok(root) = with_collation_forms(rt.alloc(), root, forms.as_slice()) else {
+    let (Ok(root), Ok(keys)) = (
+        with_collation_forms(rt.alloc(), root, forms.as_slice()),
+        listed(keys, BINARY),
+    ) else {
         return Err(refuse_memory(rt, name));
     };
     let bundle = DraftBundle {
-        name: own_name,
+        name: bundle_name,
         root,
         is_locale_fallback_enabled,
     };

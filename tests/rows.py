@@ -195,6 +195,12 @@ def nested():
     seen(is_read_back(file, ['--icu']), "a deep tree is printed in ICU's form")
 
 
+def location(text, place):
+    """The line and the column of a place in a text, both from 1, of bytes."""
+    lines = text.encode()[:place].split(b'\n')
+    return f'{len(lines)}:{len(lines[-1]) + 1}'
+
+
 def answers():
     """Texts through each command of `resb`, or the place where each is refused."""
     for asked, wanted in rows_of('bundles.txt', mark=' => '):
@@ -203,7 +209,7 @@ def answers():
         file, said = compiled(text, 'b', *words)
         place = re.fullmatch(r'(.*) (Nowhere|(At|Open)\((\d+)\))', wanted)
         if place:
-            column = '' if place[2] == 'Nowhere' else f'1:{int(place[4]) + 1}:'
+            column = '' if place[2] == 'Nowhere' else f'{location(text, int(place[4]))}:'
             inside = ' before the text ends inside this' if place[3] == 'Open' else ''
             line = f'b.txt:{column} {place[1]}{inside}\n'
             seen(file is None and said.startswith(line), f'{asked}: {said}')

@@ -120,8 +120,8 @@ mkdir -p forms
 printf 'de{ collations{ standard{ %%%%CollationBin:bin{00ff} x{"1"} } } }' > forms.txt
 told 0 '' '' compile --icu forms.txt -o forms/de.res
 told 0 '' '' genrb -q -s source -d built --collation forms coll.txt
-told 0 '{"collations":{"private-x":{"Sequence":"&c<d"},"standard":{"%%CollationBin":{"binary":"00ff"},\
-"Sequence":"&a<b","Version":"1"}}}' '' dump --json built/de.res
+told 0 '{"collations":{"private-x":{"Sequence":"&c<d"},"standard":{"%%CollationBin":{"binary":"00ff"},'\
+'"Sequence":"&a<b","Version":"1"}}}' '' dump --json built/de.res
 printf -- '-/collations/standard\n' > rules/coll.txt
 told 0 '' '' genrb -q -s source -d built --filterDir rules coll.txt
 told 0 '{"collations":{"private-x":{"Sequence":"&c<d"}}}' '' dump --json built/de.res

@@ -9,8 +9,8 @@ proved one if no PROGRAM is named. Counted are texts that both refuse, that genr
 our words for it), that we alone take, and, where both take one, files that are equal, files of one
 tree and flag that differ, with the reasons that are found (genrb lets a key lie at the end of a
 longer one, and records that are alike in size and in what sharing saves stand in another order),
-and files of different trees. A text that we alone take, of another tree, or of one tree in another file for no
-reason that is found, is listed.
+and files of different trees. A text that we alone take, of another tree, or of one tree in another
+file for no reason that is found, is listed.
 Trees are compared as the prints of ICU's derb, and as the texts of `resb dump --icu`: where derb
 prints nothing, by these alone, which is said, and where `resb` refuses genrb's file, since its
 strings are of the older form, by derb's. A line says how much processor time all processes of each

@@ -368,8 +368,8 @@ typedef struct resb_opened {
 /* Opens a file beside a pool bundle of pool_length bytes; a length of 0 says that there is none. It
  * is checked as a whole, as resb_check_with_pool does.
  *
- * RESB_OK: *opened is the file. Else its count is 0 and its root an empty string, for the reasons of
- * resb_check_with_pool. */
+ * RESB_OK: *opened is the file. Else its count is 0 and its root an empty string, for the reasons
+ * of resb_check_with_pool. */
 uint32_t resb_open(const uint8_t *file, size_t file_length, const uint8_t *pool,
                    size_t pool_length, resb_opened *opened, resb_error *error);
 

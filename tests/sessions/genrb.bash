@@ -100,10 +100,10 @@ told 9 '' 'rules/root.txt: line 2: a rule begins with + or -' \
   genrb -q -s source -d built --filterDir rules root.txt
 # rules of collation: refused, as they stand by the words of ICU 72's compiler, or with the binary
 # form that a file has for them
-printf 'de{ collations{ standard{ Version{"1"} Sequence{"&a<b"} } private-x{ Sequence{"&c<d"} } } }' \
-  > source/coll.txt
-told 3 '' "source/coll.txt: the rules of collation 'standard' have no binary form, which ICU's genrb \
-makes; see --collation" genrb -q -s source -d built coll.txt
+printf 'de{ collations{ standard{ Version{"1"} Sequence{"&a<b"} } %s } }' \
+  'private-x{ Sequence{"&c<d"} }' > source/coll.txt
+told 3 '' "source/coll.txt: the rules of collation 'standard' have no binary form, which ICU's \
+genrb makes; see --collation" genrb -q -s source -d built coll.txt
 told 0 '' '' genrb -q -C -s source -d built coll.txt
 words 2 20000023 7 14 25 25 2 0 1f 6c6c6f63 6f697461 7300736e 646e6174 647261 73726556 6e6f69 \
   75716553 65636e65 69727000 65746176 aa00782d 310000 260000 3c0061 62 630026 64003c 10000 8003c \
@@ -120,8 +120,8 @@ mkdir -p forms
 printf 'de{ collations{ standard{ %%%%CollationBin:bin{00ff} x{"1"} } } }' > forms.txt
 told 0 '' '' compile --icu forms.txt -o forms/de.res
 told 0 '' '' genrb -q -s source -d built --collation forms coll.txt
-told 0 '{"collations":{"private-x":{"Sequence":"&c<d"},"standard":{"%%CollationBin":{"binary":"00ff"},'\
-'"Sequence":"&a<b","Version":"1"}}}' '' dump --json built/de.res
+told 0 '{"collations":{"private-x":{"Sequence":"&c<d"},"standard":{'\
+'"%%CollationBin":{"binary":"00ff"},"Sequence":"&a<b","Version":"1"}}}' '' dump --json built/de.res
 printf -- '-/collations/standard\n' > rules/coll.txt
 told 0 '' '' genrb -q -s source -d built --filterDir rules coll.txt
 told 0 '{"collations":{"private-x":{"Sequence":"&c<d"}}}' '' dump --json built/de.res

@@ -7,7 +7,8 @@ The texts are made of ICU's German names of currencies, units and zones, which a
 installed ICU data and printed by `derb`, so that nothing of them is kept here: each kind breaks
 the entry in the middle of one. Both compile it, ours by `resb compile --icu`. A row for each kind
 says whether each refuses it, whether it warns of it, and whether it names the broken line or the
-next one; with --all also what each says. The last line counts.
+next one; with --all also what each says. The last line counts. Strings need no quotes in this form:
+of some kinds both make the same, a string with apostrophes or an array, and nothing is refused.
 """
 import pathlib
 import re
@@ -60,7 +61,8 @@ KINDS = {
     'no braces of an entry': entry('{key} "{text}"'),
     'no closing quote': entry('{key} {{ "{text} }}'),
     'no opening quote': entry('{key} {{ {text}" }}'),
-    'no quotes round words': entry('{key} {{ {text} und mehr, {{0}} }}'),
+    'no quotes round a message': entry('{key} {{ {text} und mehr {{0}} }}'),
+    'no quotes round words with a comma': entry('{key} {{ {text}, und mehr }}'),
     'another quote inside': entry('{key} {{ "{text} "und" mehr" }}'),
     'single quotes': entry("{key} {{ '{text}' }}"),
     'no key': entry('{{ "{text}" }}'),

@@ -1,16 +1,16 @@
 #!/usr/bin/env python3
 """Real texts beside ICU's genrb: compiles each text below folders with both, and counts.
 
-    icu_texts.py [--back] [--resb PROGRAM] FOLDER ..
+    icu_texts.py [--back] [--compact] [--resb PROGRAM] FOLDER ..
 
 A text is a file whose name ends with .txt; `tests/icu_sources.py` fetches ICU's own. It is compiled
 by `genrb -e UTF-8 -C` without a pool bundle, and by `resb compile --icu --no-binary-collation`, the
-proved one if no PROGRAM is named. Counted are texts that both refuse, that genrb alone takes (by
-our words for it), that we alone take, and, where both take one, files that are equal, files of one
-tree and flag that differ, with the reasons that are found (genrb lets a key lie at the end of a
-longer one, and records that are alike in size and in what sharing saves stand in another order),
-and files of different trees. A text that we alone take, of another tree, or of one tree in another
-file for no reason that is found, is listed.
+proved one if no PROGRAM is named; with --compact by `resb compile --icu --compact`. Counted are
+texts that both refuse, that genrb alone takes (by our words for it), that we alone take, and, where
+both take one, files that are equal, files of one tree and flag that differ, with the reasons that
+are found (genrb lets a key lie at the end of a longer one, and records that are alike in size and
+in what sharing saves stand in another order), and files of different trees. A text that we alone
+take, of another tree, or of one tree in another file for no reason that is found, is listed.
 Trees are compared as the prints of ICU's derb, and as the texts of `resb dump --icu`: where derb
 prints nothing, by these alone, which is said, and where `resb` refuses genrb's file, since its
 strings are of the older form, by derb's. A line says how much processor time all processes of each
@@ -134,13 +134,14 @@ def reasons(ours, theirs):
         yield "records in another order"
 
 
-def compare(program, text, folder, took):
+def compare(program, text, folder, took, layout):
     """What comes of a text. Adds what each program took."""
     ours, below = folder / "ours.res", folder / "theirs"
     for old in [ours, *below.glob("*.res")]:
         old.unlink(missing_ok=True)
     start = processor_time()
-    said, taken = run(program, "compile", "--icu", "--no-binary-collation", text, "-o", ours)[1:]
+    words = [program, "compile", "--icu", "--no-binary-collation", *layout, text, "-o", ours]
+    said, taken = run(*words)[1:]
     middle = processor_time()
     run("genrb", "-q", "-e", "UTF-8", "-C", "-d", below, text)
     took["resb"] += middle - start
@@ -170,14 +171,14 @@ def comes_back(program, folder):
     return theirs is not None and beside(program, ours, theirs) != DIFFERENT
 
 
-def compare_all(program, texts, asks_back):
+def compare_all(program, texts, asks_back, layout):
     """The counts of what comes of texts, what is listed, and what each program took."""
     counts, took, listed = collections.Counter(), collections.Counter(), []
     with tempfile.TemporaryDirectory() as made:
         made = pathlib.Path(made)
         (made / "theirs").mkdir()
         for text in texts:
-            what = compare(program, text, made, took)
+            what = compare(program, text, made, took, layout)
             counts[what] += 1
             if is_listed(what):
                 listed.append("%s: %s" % (what, text))
@@ -206,13 +207,15 @@ def row(folder, texts, counts):
 def main():
     words = argparse.ArgumentParser(usage=__doc__)
     words.add_argument("--back", action="store_true")
+    words.add_argument("--compact", action="store_const", const=["--compact"], default=[])
     words.add_argument("--resb", type=pathlib.Path, default=PROVED)
     words.add_argument("folders", nargs="+", metavar="FOLDER")
     given = words.parse_args()
     rows, fails = [], False
     for folder in given.folders:
         texts = sorted(pathlib.Path(folder).rglob("*.txt"))
-        counts, took, listed = compare_all(given.resb.resolve(), texts, given.back)
+        counts, took, listed = compare_all(
+            given.resb.resolve(), texts, given.back, given.compact)
         print(folder)
         for what, count in counts.most_common():
             print("%6d  %s" % (count, what))

@@ -33,8 +33,8 @@
 extern "C" {
 #endif
 
-/* The version of this header. It grows where a call, an answer or a kind is added. */
-#define RESB_VERSION 4u
+/* The version of this header. It grows where a call, an answer, a kind or a field is added. */
+#define RESB_VERSION 5u
 
 /* The version of the header that the library was built with. */
 uint32_t resb_version(void);
@@ -363,6 +363,7 @@ typedef struct resb_opened {
   resb_bytes parts[5];
   uint32_t limit;
   uint16_t short_limit;
+  uint16_t ascends;
 } resb_opened;
 
 /* Opens a file beside a pool bundle of pool_length bytes; a length of 0 says that there is none. It
@@ -390,7 +391,9 @@ uint32_t resb_member(const resb_opened *opened, resb_resource resource, size_t n
                      resb_resource *member);
 
 /* Finds the value that a table has at a key, which is UTF-8 of key_length bytes: that of the last
- * entry of the key.
+ * entry of the key. Entries are halved where resb_open found that the keys of all tables ascend, as
+ * in files of ICU and of resb_compile, and else gone through; so they are by resb_find. Of keys it
+ * looks at no more than 16 bytes for each byte of the file.
  *
  * RESB_OK: *value is that. Else it is a RESB_INTEGER, 0: RESB_NOT_FOUND where the table has no such
  * entry, RESB_OTHER_KIND where the resource is no table, RESB_NOT_UTF8 for the key. */

@@ -203,7 +203,7 @@ a {
 T
   expect "$language: a walk" 0 '13 resources
 table
-  b: string c	d
+  b: string c\td
   list: array
     string x
     string y
@@ -217,6 +217,52 @@ table
   v: intvector 7 4294967294' '' "$@" "$folder/walk.res"
   expect "$language: no walk without the pool" 1 \
     'fault 9: the file uses a pool bundle, and none was given' '' "$@" "$folder/a.res"
+}
+
+# write_ordered FILE: the program that looks three keys up, and one that isn't there: in a file
+# whose keys ascend, which is halved, in one in which the first and the last of them changed places,
+# and in one in which the first stands in the place of the last too.
+write_ordered() {
+  cat > "$1" << 'C'
+#include "resb.h"
+
+#include <stdio.h>
+#include <string.h>
+
+static const uint8_t text[] = "b{a{\"1\"}b{\"2\"}c{\"3\"}}";
+static const uint8_t places[] = {3, 0, 32, 0, 34, 0, 36, 0};
+
+static void look(const uint8_t *file, size_t length) {
+  resb_error error;
+  resb_opened opened;
+  resb_resource value;
+  unsigned status = (unsigned)resb_open(file, length, file, 0, &opened, &error);
+  printf("%u %u:", status, opened.ascends);
+  for (const char *key = "abcd"; *key; key++) {
+    uint8_t found[2] = "-";
+    size_t found_length;
+    if (resb_value(&opened, opened.root, (const uint8_t *)key, 1, &value) == RESB_OK)
+      resb_string_of(&opened, value, found, 1, &found_length);
+    printf(" %s", (const char *)found);
+  }
+  printf("\n");
+}
+
+int main(void) {
+  uint8_t file[400];
+  size_t length, at = 0;
+  resb_error error;
+  if (resb_compile(text, sizeof text - 1, file, sizeof file, &length, &error) != RESB_OK) return 1;
+  look(file, length);
+  while (memcmp(file + at, places, sizeof places) != 0) at++;
+  file[at + 2] = 36;
+  file[at + 6] = 32;
+  look(file, length);
+  file[at + 2] = 32;
+  look(file, length);
+  return 0;
+}
+C
 }
 
 # write_statuses FILE: the program that asks each call that takes a file about the bytes of standard
@@ -406,6 +452,12 @@ table
   built 'the program of any resources' cc -std=c99 -Wall -Wextra -Werror -O2 ${CFLAGS:-} \
     -I "$top/include" "$folder/any.c" "$RESB_LIB/libresb_c.a" "$RATTLE_C/liblibc_c.a" \
     -o "$folder/any" && any_rows "$folder/any"
+  write_ordered "$folder/ordered.c"
+  built 'the program of ordered keys' cc -std=c99 -Wall -Wextra -Werror -O2 ${CFLAGS:-} \
+    -I "$top/include" "$folder/ordered.c" "$RESB_LIB/libresb_c.a" "$RATTLE_C/liblibc_c.a" \
+    -o "$folder/ordered" && expect 'C: keys in order and not' 0 '0 1: 1 2 3 -
+0 0: 3 2 1 -
+0 0: 3 2 - -' '' "$folder/ordered"
   write_statuses "$folder/statuses.c"
   built 'the program of statuses' cc -std=c99 -Wall -Wextra -Werror -O2 ${CFLAGS:-} \
     -I "$top/include" "$folder/statuses.c" "$RESB_LIB/libresb_c.a" "$RATTLE_C/liblibc_c.a" \

@@ -251,7 +251,7 @@ def exported():
             names |= set(re.findall(r"\w+", found.group(0)))
             names |= passed_on(found.group(0))
         names |= set(re.findall(r"^pub (?:fn|enum|struct) (\w+)", text, re.M))
-    return names
+    return names - {"pub", "use"}
 
 
 def passed_on(use):

@@ -100,7 +100,8 @@ told 9 '' 'rules/root.txt: line 2: a rule begins with + or -' \
   genrb -q -s source -d built --filterDir rules root.txt
 # rules of collation: refused, as they stand by the words of ICU 72's compiler, or with the binary
 # form that a file has for them
-printf 'de{ collations{ standard{ Version{"1"} Sequence{"&a<b"} } %s } }' \
+# rules of several pieces, and private ones
+printf 'de{ collations{ standard{ Version{"1"} Sequence{"&a" "<b"} } %s } }' \
   'private-x{ Sequence{"&c<d"} }' > source/coll.txt
 told 3 '' "source/coll.txt: the rules of collation 'standard' have no binary form, which ICU's \
 genrb makes; see --collation" genrb -q -s source -d built coll.txt
@@ -122,9 +123,65 @@ told 0 '' '' compile --icu forms.txt -o forms/de.res
 told 0 '' '' genrb -q -s source -d built --collation forms coll.txt
 told 0 '{"collations":{"private-x":{"Sequence":"&c<d"},"standard":{'\
 '"%%CollationBin":{"binary":"00ff"},"Sequence":"&a<b","Version":"1"}}}' '' dump --json built/de.res
+# without the rules themselves
+told 0 '' '' genrb -q -R --collation forms -s source -d built coll.txt
+told 0 '{"collations":{"private-x":{},"standard":{"%%CollationBin":{"binary":"00ff"},'\
+'"Version":"1"}}}' '' dump --json built/de.res
+told 0 '' '' genrb -q -R -C -s source -d built coll.txt
+told 0 '{"collations":{"private-x":{},"standard":{"Version":"1"}}}' '' dump --json built/de.res
+# what rules leave out goes once its binary form is there
+printf -- '-/collations/standard/Sequence\n' > rules/coll.txt
+told 0 '' '' genrb -q -s source -d built --collation forms --filterDir rules coll.txt
+told 0 '{"collations":{"private-x":{"Sequence":"&c<d"},"standard":{'\
+'"%%CollationBin":{"binary":"00ff"},"Version":"1"}}}' '' dump --json built/de.res
+# a type that the file with binary forms hasn't at all: refused, unless rules leave it out here
+printf 'de{ collations{ private-y{ x{"1"} } } }' > none.txt
+mkdir -p lacking
+told 0 '' '' compile --icu none.txt -o lacking/de.res
+told 3 '' "lacking/de.res: the rules of collation 'standard' have no binary form here" \
+  genrb -q -s source -d built --collation lacking coll.txt
 printf -- '-/collations/standard\n' > rules/coll.txt
+told 0 '' '' genrb -q -s source -d built --collation lacking --filterDir rules coll.txt
+told 0 '{"collations":{"private-x":{"Sequence":"&c<d"}}}' '' dump --json built/de.res
 told 0 '' '' genrb -q -s source -d built --filterDir rules coll.txt
 told 0 '{"collations":{"private-x":{"Sequence":"&c<d"}}}' '' dump --json built/de.res
+# texts that name other files: what ICU 72's compiler makes of them
+printf 'a "b" \\ c\n' > source/rules.txt
+printf '\001\002' > source/data.bin
+printf "# a comment\n a > \\\\u0062 ; # more\n 'c # d' > e;\n" > source/trans.txt
+printf 'taking{ b{ x:process(dependency){"li" "ne.brk"} } i:include{rules.txt}\n %s %s }' \
+  'd:import{"data.bin"}' 'r:process(transliterator){"trans.txt"}' > source/taking.txt
+told 0 '' \
+  'source/taking.txt:1:13: warning: there is no file built/line.brk, on which this depends' \
+  genrb -s source -d built taking.txt
+told 0 '{"%%DEPENDENCY":["line.brk"],"b":{"x":"line.brk"},"d":{"binary":"0102"},'\
+'"i":"a \"b\" \\ c\n","r":"a > b ;'"'c # d'"' > e;"}' '' dump --json built/taking.res
+told 0 '' '' compile --icu source/taking.txt -o one.res
+same built/taking.res one.res
+printf 'lacks{ a:include{"rules.txt"}\n b{ c:import{none.bin} } }' > source/lacks.txt
+told 4 '' 'source/lacks.txt:2:6: this takes in source/none.bin: no such file' \
+  genrb -q -s source -d built lacks.txt
+printf '\377' > source/bytes.bin
+printf 'no{ a:include{bytes.bin} }' > source/bytes.txt
+told 3 '' 'source/bytes.txt:1:6: this takes in the text of source/bytes.bin, which is no UTF-8' \
+  genrb -q -s source -d built bytes.txt
+printf '\\u00g0 and more' > source/trans.txt
+told 3 '' 'source/taking.txt:2:24: this takes in the rules of source/trans.txt, where a \u '\
+'says no character' \
+  genrb -q -s source -d built taking.txt
+# what the reader refuses is told where it stands in the text's own file
+printf 'place{ a:include{"rules.txt"} b }' > source/place.txt
+told 1 '' "source/place.txt:1:33: expected '{' or a type
+place{ a:include{\"rules.txt\"} b }
+                                ^" compile --icu source/place.txt
+# a text that takes itself in, many times
+{
+  printf 'self{'
+  for number in $(seq 400); do printf 'k%s:include{"self.txt"}' "$number"; done
+  printf '}'
+} > source/self.txt
+told 1 '' "source/self.txt:1:414: this takes in source/self.txt, so that the text may have more \
+than 1048576 bytes" compile --icu --limit 1000 source/self.txt
 # the words of ICU's derb
 mkdir -p printed
 told 0 '' '' derb -A -s built -d printed root
@@ -137,3 +194,14 @@ told 1 '' 'resb: --encoding is UTF-8' derb -e latin1 -s built root
 (exec -a derb "$program" '-?') > help.txt
 grep -q '^Usage: derb \[OPTIONS\] <FILE>...$' help.txt \
   && passed=$((passed + 1)) || { failed=$((failed + 1)); cat help.txt; }
+# genrb's bytes: `b` lies at the end of `ab`, and the empty string has the word 0
+printf 'b{ab{"x"} b{"y"} e{""} t:array{"",:int{1}}}' > source/b.txt
+words 2 20000010 7 a 17 17 4 0 d 65006261 aa007400 780000 790000 aaaa0000 2 0 70000001 200004 \
+  230021 aaaa0025 60000001 60000003 0 8000000d > wanted.res
+told 0 '' '' genrb -q -s source -d built --compact b.txt
+same built/b.res wanted.res
+told 0 '' '' compile --icu --compact --limit 100000 source/b.txt -o one.res
+same one.res wanted.res
+told 0 '{"ab":"x","b":"y","e":"","t":["",1]}' '' dump --json built/b.res
+told 2 '' "resb: --compact is for texts in ICU's own form, which --icu says" \
+  compile --compact source/b.txt

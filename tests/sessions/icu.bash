@@ -106,6 +106,10 @@ icu_row 'b{a:array{"x" y}}' 15 'a comma between two strings'
 icu_row 'b{a{x} /}' 8 "a key or '}'"
 icu_row 'b{a{x} a{y}}' 12 'each key once in the table that ends here' \
   '1:8: the key "a" stands at 1:3 too'
+icu_row 'b{a/b{x} a/b{y}}' 16 'each key once in the table that ends here' \
+  '1:10: the key "a/b" stands at 1:3 too'
+icu_row 'b{(a){x} a{y} a{z}}' 19 'each key once in the table that ends here' \
+  '1:15: the key "a" stands at 1:10 too'
 icu_row 'b{}x' 4 'the end of the text'
 
 # a file's text in ICU's own form, which is compiled to the same file; and a file that has none

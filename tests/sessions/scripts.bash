@@ -20,9 +20,9 @@ holds alone 'names.res small.res warn.res'
 told 0 '' '' compile --strict --icu icu.txt -d alone
 rm alone/*
 
-# the warnings of ICU's form: of pieces that are joined over a line's end to a member of an array,
-# which a comma, a group before or `:array` shows; pieces that are all of a group are one string,
-# and so are pieces in one line
+# the warnings of ICU's form: of strings that are joined over a line's end to a member of an array,
+# which a comma, a group before or `:array` shows; those that are all of a group are one string, and
+# so are those in one line; unquoted ones are joined as pieces are, a comment between them or not
 cat > joined.txt <<'END'
 b{
   one{"a"
@@ -41,12 +41,33 @@ b{
   "five"{
     "six"{x}
   }
+  six{one
+    two, three
+    four
+    five}
+  seven:array{ a/b // c
+    (d) :int{1} é
+    [f] {g} }
+  eight{ {x} one two
+    three four
+    five }
+  nine{one
+    two}
+  ten{ "x",
+    one two, 0
+    1 }
 }
 END
 joined="joined.txt:5:5: warning: this string is joined to the one before; a comma would part them
 joined.txt:7:8: warning: this string is joined to the one before; a comma would part them
 joined.txt:10:5: warning: this string is joined to the one before; a comma would part them
-joined.txt:12:5: warning: this string is joined to the one before; a comma would part them"
+joined.txt:12:5: warning: this string is joined to the one before; a comma would part them
+joined.txt:19:5: warning: this string is joined to the one before; a comma would part them
+joined.txt:20:5: warning: this string is joined to the one before; a comma would part them
+joined.txt:23:5: warning: this string is joined to the one before; a comma would part them
+joined.txt:24:5: warning: this string is joined to the one before; a comma would part them
+joined.txt:26:5: warning: this string is joined to the one before; a comma would part them
+joined.txt:32:5: warning: this string is joined to the one before; a comma would part them"
 told 0 '' "$joined" compile --icu joined.txt
 # of an integer that 28 bits don't hold, with or without a sign: what is kept
 cat > bits.txt <<'END'
@@ -66,15 +87,20 @@ b{
   e:array{{0}} f{{00}} g{{"0"}} h{{0, 1}}
   i{Hello {0}} j{k{Hello { 1 }}} l:table{x{0}} m{"x"{0}} n{x{00}} o{x{"0"}} q{x{0, 1}}
   r{x{0} y{z}} s{x:string{0}}
+  t{(b) {0}} u{{(5)} x} v{{0/} of} w{5/ {0}} x{{*5}} y{é} z{{0 1} of}
 }
 END
 of_its_own='warning: this group is a string of its own; braces that are meant need quotes'
 braces="braces.txt:2:5: $of_its_own
 braces.txt:2:36: $of_its_own
 braces.txt:4:11: $of_its_own
-braces.txt:4:26: $of_its_own"
+braces.txt:4:26: $of_its_own
+braces.txt:6:9: $of_its_own
+braces.txt:6:41: $of_its_own"
 told 0 '' "$braces" compile --icu braces.txt
 printf 'b:table{x{0}}' > root.txt
+told 0 '' '' compile --icu root.txt
+printf '"b"{x{0}}' > root.txt
 told 0 '' '' compile --icu root.txt
 mkdir icu_texts
 cp joined.txt bits.txt icu_texts

@@ -156,6 +156,8 @@ pub use resb_write::laws::written_in_order;
 pub use resb_write::laws::written_is_denoted;
 // A bundle and a list of keys leave one file.
 pub use resb_write::laws::one_file;
+// The same of compact files, one file and their bodies in order.
+pub use resb_write::laws::{compact_in_order, one_compact_file};
 // A bundle, a list of keys and a pool bundle leave one file.
 pub use resb_write::laws::one_file_with_pool;
 // A file that is written over a pool bundle denotes its tree beside it.

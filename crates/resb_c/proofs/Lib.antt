@@ -4,6 +4,7 @@ mod PathLemmas
 mod ThereLemmas
 mod ZoneLemmas
 mod OpenedLemmas
+mod AscendingLemmas
 mod WithinLemmas
 mod NamedLemmas
 mod SeenLemmas

@@ -1,5 +1,5 @@
 -- What an opened file has at a name is what its tree has.
-use Rattle.std.proofs.Common.{◌≡◌, ℕ, Bool, true, false, List, [], ◌∷◌, Option, Some, None}
+use Rattle.std.proofs.Common.{◌≡◌, ℕ, Bool, true, false, List, ◌∷◌, Option, Some, None}
 use Rattle.std.proofs.Common.{refl, sym, ap, subst, ◌∙◌, slice_get, map, Result, Ok, Err}
 use Rattle.std.specs.Prelude.{option_map, MatchResult, if◌then◌else◌}
 use Rattle.std.specs.Option.{option_and_then}
@@ -20,7 +20,7 @@ use Rattle.resb_read.specs.Places.{Place}
 use Rattle.resb_read.specs.Resources.{DenSpot, DenPlace}
 use Rattle.resb_read.specs.Sequences.{at_spot, at_entry, content_entries, entries_from}
 use Rattle.resb_read.specs.Spots.{IsKeySpot}
-use Rattle.resb_read.specs.Tables.{has_name, last_from, last_named}
+use Rattle.resb_read.specs.Tables.{keys_ascend, last_named}
 use Rattle.resb_read.specs.declared.cursor.Spot as cursor
 use Rattle.resb_read.specs.declared.cursor.Spot.TheVariants as spot
 use Rattle.resb_read.proofs.InsideTrees.{entries_stand_inside}
@@ -32,39 +32,17 @@ use Rattle.resb_path.specs.Finding.{Spot, tree_spot, number_spot, number_said, f
 use Rattle.resb_path.specs.Finding.{found_inside}
 use Rattle.resb_c.specs.AtPlaces.{content_from}
 use Rattle.resb_c.specs.Inner.Contents.{IsNamed, IsNumbered, spot_inside}
-use Rattle.resb_c.specs.Opened.{parts_of, spot_of, place_in, Shows}
+use Rattle.resb_c.specs.Opened.{parts_of, spot_of, place_in, says_ascending, AscendsAt, Shows}
+use Rattle.resb_opened.specs.Ordered.{OrderedEach}
 use Rattle.resb_c.specs.Shown.{IsFound, ValueOf}
 use Rattle.resb_c.specs.declared.fault.Fault.{Fault}
 use Rattle.resb_c.specs.declared.fault.Fault.TheVariants.{NotFound, OtherKind}
 use Rattle.resb_c.specs.declared.opened.ResbOpened.{ResbOpened}
 use Rattle.resb_c.specs.declared.resource.ResbResource.{ResbResource}
+use Rattle.resb_c.proofs.AscendingLemmas.{in_entries, in_member, in_named}
 use Rattle.resb_c.proofs.OpenedLemmas.{none_some, shown_fits, each_at}
 use Rattle.resb_c.proofs.WithinLemmas.{found_as, none_as, number_as, no_number_as}
-
--- what is found by a name stands where a member does
-module _ (p : Parts) (name : List ℕ) where
-  abbrev IsMember : Place → Type 0
-  IsMember q = (x : Member) × (q ≡ at_spot p (places.spot_of x))
-
-  chosen : (b : Bool) (m : Member) (found : Option Place)
-      → ((q : Place) → found ≡ Some q → IsMember q) → (q : Place)
-      → (if b then Some (at_spot p (places.spot_of m)) else found) ≡ Some q → IsMember q
-  chosen true m found h q e = (m, sym (same_Some _ _ e))
-  chosen false m found h q e = h q e
-
-  found_in : (es : List (ℕ × Member)) (found : Option Place)
-      → ((q : Place) → found ≡ Some q → IsMember q) → (q : Place)
-      → last_from name found (map (at_entry p) es) ≡ Some q → IsMember q
-  found_in [] found h q e = h q e
-  found_in (x ∷ es) found h q e =
-      found_in es
-      (if has_name name (at_entry p x) then Some (at_spot p (places.spot_of x.1)) else found)
-      (chosen (has_name name (at_entry p x)) x.1 found h) q e
-
-  pub named_member : (es : List (ℕ × Member)) (q : Place)
-      → last_named name (map (at_entry p) es) ≡ Some q
-      → (x : Member) × (q ≡ at_spot p (places.spot_of x))
-  named_member es q e = found_in es None (λ r h. absurd (none_some h)) q e
+use Rattle.resb_c.proofs.WithinLemmas.{MemberAscends}
 
 -- a member stands at no key
 pub member_no_key : (x : Member) (s : cursor.Spot) → s ≡ places.spot_of x → IsKeySpot s → ⊥
@@ -91,11 +69,13 @@ entries_are p (spot.Key k) es found e h = absurd (none_some h)
 
 module _ (o : ResbOpened) where
   value_ok : (m : ResbResource) (x : Option Place) (t : Option Tree) → StandsAs x t
-      → x ≡ Some (at_spot (parts_of o) (spot_of m)) → IsFound o (option_map tree_spot t) (Ok m)
-  value_ok m (Some q) (Some t) (n, d) e =
-      (n, subst (λ y. DenPlace y t n) (same_Some _ _ e) d)
-  value_ok m (Some q) None h e = absurd h
-  value_ok m None t h e = absurd (none_some e)
+      → x ≡ Some (at_spot (parts_of o) (spot_of m))
+      → (says_ascending o ≡ true → AscendsAt (parts_of o) (spot_of m))
+      → IsFound o (option_map tree_spot t) (Ok m)
+  value_ok m (Some q) (Some t) (n, d) e asc =
+      ((n, subst (λ y. DenPlace y t n) (same_Some _ _ e) d), asc)
+  value_ok m (Some q) None h e asc = absurd h
+  value_ok m None t h e asc = absurd (none_some e)
 
   value_none : (x : Option Place) (t : Option Tree) (e : Fault) → StandsAs x t → x ≡ None
       → e ≡ NotFound → IsFound o (option_map tree_spot t) (Err e)
@@ -105,15 +85,17 @@ module _ (o : ResbOpened) where
 
   -- something of a number, or nothing of it
   member_ok : (ms : List Member) (ts : List Tree) (n : ℕ) → DenEach (parts_of o) ms ts n
-      → (x : Option ℕ) (a : Result ResbResource Fault)
+      → ((k : ℕ) → MemberAscends o (slice_get ms k)) → (x : Option ℕ)
+      (a : Result ResbResource Fault)
       → (MatchResult a (λ m. option_and_then (spot_inside (list ms)) x ≡ Some (spot_of m))
       (λ e. (option_and_then (spot_inside (list ms)) x ≡ None) × (e ≡ NotFound)))
       → IsFound o
       (option_map tree_spot (option_and_then (slice_get (array_members (trees_of ts))) x)) a
-  member_ok ms ts n d None (Ok m) h = absurd (none_some h)
-  member_ok ms ts n d None (Err e) h = h.1
-  member_ok ms ts n d (Some k) (Ok m) h = found_as o m (slice_get ms k) _ (each_at d k) h
-  member_ok ms ts n d (Some k) (Err e) h =
+  member_ok ms ts n d asc None (Ok m) h = absurd (none_some h)
+  member_ok ms ts n d asc None (Err e) h = h.1
+  member_ok ms ts n d asc (Some k) (Ok m) h =
+      found_as o m (slice_get ms k) _ (each_at d k) (asc k) h
+  member_ok ms ts n d asc (Some k) (Err e) h =
       subst (λ f. IsFound o (option_map tree_spot (slice_get (array_members (trees_of ts)) k))
       (Err f)) (sym h.1) (none_as o (slice_get ms k) _ (each_at d k) h.0)
 
@@ -172,13 +154,15 @@ module _ (o : ResbOpened) where
 
     named_found : (es : List (ℕ × Member)) (a : Result ResbResource Fault)
         → content_from (parts_of o) (spot_of r) ≡ Some (entry_list es)
-        → IsNamed (parts_of o) es name a → (us : Entries) (n : ℕ)
-        → DenSpot (parts_of o) (spot_of r) (table us) n
+        → IsNamed (parts_of o) es name a
+        → (says_ascending o ≡ true → OrderedEach (parts_of o) (map (λ e. e.1) es))
+        → (us : Entries) (n : ℕ) → DenSpot (parts_of o) (spot_of r) (table us) n
         → IsFound o (option_map tree_spot (get name us)) a
-    named_found es (Ok m) h is us n d =
+    named_found es (Ok m) h is each us n d =
         value_ok m (last_named name (map (at_entry (parts_of o)) es)) (get name us)
         (stand_named es h us n d) is
-    named_found es (Err e) h is us n d =
+        (λ yes. in_named (parts_of o) name es (spot_of m) is (each yes))
+    named_found es (Err e) h is each us n d =
         value_none (last_named name (map (at_entry (parts_of o)) es)) (get name us) e
         (stand_named es h us n d) is.0 is.1
 
@@ -187,26 +171,42 @@ module _ (o : ResbOpened) where
         → content_from (parts_of o) (spot_of r) ≡ Some (entry_list es) → (s : Spot) → Shows o r s
         → (us : Entries) × (n : ℕ) × (s ≡ tree_spot (table us))
         × DenSpot (parts_of o) (spot_of r) (table us) n
+        × (says_ascending o ≡ true → (keys_ascend (map (at_entry (parts_of o)) es) ≡ true)
+        × OrderedEach (parts_of o) (map (λ e. e.1) es))
     table_shown es h s shows =
         let (t, e, fits) = shown_fits o r (entry_list es) h s shows in
         let (ts, k, each, is) = fits in
         let same : s ≡ tree_spot (table (map_of ts)) = e ∙ ap tree_spot is in
-        let (n, d) = subst (Shows o r) same shows in (map_of ts, n, same, d)
+        let ((n, d), asc) = subst (Shows o r) same shows in (
+          map_of ts,
+          n,
+          same,
+          d,
+          λ yes. in_entries (parts_of o) (spot_of r) es (map_of ts) n h d (asc yes),
+        )
+
+    -- what is answered where the keys ascend if the struct says so
+    abbrev pub NamesAs : List (ℕ × Member) → Result ResbResource Fault → Type 0
+    NamesAs es a =
+        (says_ascending o ≡ true → keys_ascend (map (at_entry (parts_of o)) es) ≡ true)
+        → IsNamed (parts_of o) es name a
 
     pub value_told : (es : List (ℕ × Member)) (a : Result ResbResource Fault)
-        → content_from (parts_of o) (spot_of r) ≡ Some (entry_list es)
-        → IsNamed (parts_of o) es name a → (s : Spot) → Shows o r s → ValueOf o name a s
+        → content_from (parts_of o) (spot_of r) ≡ Some (entry_list es) → NamesAs es a
+        → (s : Spot) → Shows o r s → ValueOf o name a s
     value_told es a h is s shows =
-        let (us, n, e, d) = table_shown es h s shows in
-        subst (ValueOf o name a) (sym e) (named_found es a h is us n d)
+        let (us, n, e, d, asc) = table_shown es h s shows in
+        subst (ValueOf o name a) (sym e)
+        (named_found es a h (is (λ yes. (asc yes).0)) (λ yes. (asc yes).1) us n d)
 
     pub step_named : (es : List (ℕ × Member)) (a : Result ResbResource Fault)
         → content_from (parts_of o) (spot_of r) ≡ Some (entry_list es)
-        → IsNamed (parts_of o) es name a → (s : Spot) → Shows o r s
+        → NamesAs es a → (s : Spot) → Shows o r s
         → IsFound o (found_inside s name) a
     step_named es a h is s shows =
-        let (us, n, e, d) = table_shown es h s shows in
-        subst (λ x. IsFound o (found_inside x name) a) (sym e) (named_found es a h is us n d)
+        let (us, n, e, d, asc) = table_shown es h s shows in
+        subst (λ x. IsFound o (found_inside x name) a) (sym e)
+        (named_found es a h (is (λ yes. (asc yes).0)) (λ yes. (asc yes).1) us n d)
 
     no_value : (u : Tree) → IsNoCollection u → ValueOf o name (Err OtherKind) (tree_spot u)
     no_value (string s) is = refl
@@ -244,8 +244,12 @@ module _ (o : ResbOpened) where
     step_list ms a h is s shows =
         let (t, e, fits) = shown_fits o r (list ms) h s shows in
         let (ts, n, each, same) = fits in
-        subst (λ x. IsFound o (found_inside x name) a) (sym (e ∙ ap tree_spot same))
-        (member_ok ms ts n each (number_said name) a (numbered (list ms) name a is))
+        let whole = e ∙ ap tree_spot same in
+        let ((i, d), asc) = subst (Shows o r) whole shows in
+        subst (λ x. IsFound o (found_inside x name) a) (sym whole)
+        (member_ok ms ts n each
+        (λ k yes. in_member (parts_of o) (spot_of r) ms _ i h d (asc yes) k) (number_said name) a
+        (numbered (list ms) name a is))
 
     pub step_leaf : (u : Tree) (a : Result ResbResource Fault)
         → content_from (parts_of o) (spot_of r) ≡ Some (leaf u) → IsNumbered (leaf u) name a

@@ -71,24 +71,24 @@ stands_there p s t n d h =
 module _ (o : ResbOpened) (r : ResbResource) (c : Content)
     (h : content_from (parts_of o) (spot_of r) ≡ Some c) where
   pub shown_fits : (s : Spot) → Shows o r s → (t : Tree) × (s ≡ tree_spot t) × Fits (parts_of o) c t
-  shown_fits (tree_spot t) (n, d) = (t, refl, fits_there (parts_of o) (spot_of r) t n c d h)
-  shown_fits (number_spot m) is =
+  shown_fits (tree_spot t) ((n, d), asc) = (t, refl, fits_there (parts_of o) (spot_of r) t n c d h)
+  shown_fits (number_spot m) (is, asc) =
       absurd (none_some (sym (ap (content_from (parts_of o)) is) ∙ h))
 
 -- where nothing stands, the resource is a number
 pub nothing_shown : (o : ResbOpened) (r : ResbResource)
     → content_from (parts_of o) (spot_of r) ≡ None → (s : Spot) → Shows o r s
     → (m : ℕ) × (s ≡ number_spot m) × (spot_of r ≡ spot.Word m)
-nothing_shown o r h (tree_spot t) (n, d) =
+nothing_shown o r h (tree_spot t) ((n, d), asc) =
     absurd (stands_there (parts_of o) (spot_of r) t n d h)
-nothing_shown o r h (number_spot m) is = (m, refl, is)
+nothing_shown o r h (number_spot m) (is, asc) = (m, refl, is)
 
 -- a number denotes no tree
 pub number_shown : (o : ResbOpened) (r : ResbResource) (n : ℕ) → spot_of r ≡ spot.Word n
     → (s : Spot) → Shows o r s → s ≡ number_spot n
-number_shown o r n is (tree_spot t) (m, d) =
+number_shown o r n is (tree_spot t) ((m, d), asc) =
     absurd (subst (λ x. DenSpot (parts_of o) x t m) is d)
-number_shown o r n is (number_spot m) at = ap number_spot (word_same (sym at ∙ is))
+number_shown o r n is (number_spot m) (at, asc) = ap number_spot (word_same (sym at ∙ is))
   where
     word_of : cursor.Spot → ℕ
     word_of (spot.Word k) = k

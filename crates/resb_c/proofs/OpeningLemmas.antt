@@ -1,6 +1,8 @@
 -- A file that is opened has the parts and the root of its bytes.
-use Rattle.std.proofs.Common.{◌≡◌, ℕ, List, Option, Some, Ok, true, sym, ap, subst, ◌∙◌}
-use Rattle.resb_format.specs.Error.{refusal_of}
+use Rattle.std.proofs.Common.{◌≡◌, ℕ, List, Option, Some, Ok, Err, inl, inr, true, sym, ap, subst}
+use Rattle.std.proofs.Common.{◌∙◌}
+use Rattle.resb_format.specs.Error.{refusal_of, IsWantOfMemory}
+use Rattle.resb_format.specs.Content.{word}
 use Rattle.resb_format.specs.Parts.{Parts, reads_older}
 use Rattle.resb_format.specs.declared.error.ReadingError.{ReadingError}
 use Rattle.resb_head.specs.File.{root_word}
@@ -10,31 +12,40 @@ use Rattle.resb_read.specs.Resources.{DenSpot}
 use Rattle.resb_read.specs.Roots.{AnswersCountOf}
 use Rattle.resb_read.specs.WithPool.{over}
 use Rattle.resb_read.specs.declared.cursor.Spot.TheVariants as spot
-use Rattle.resb_c.specs.Opened.{parts_of, spot_of}
+use Rattle.resb_opened.specs.Ordered.{Ordered}
+use Rattle.resb_c.specs.Calls.{CountsFile}
+use Rattle.resb_c.specs.Opened.{parts_of, spot_of, says_ascending, AscendsAt}
 use Rattle.resb_c.specs.Opening.{IsOpened}
 use Rattle.resb_c.specs.Pools.{given}
+use Rattle.resb_c.specs.declared.fault.Fault.TheVariants.{Reading}
 use Rattle.resb_c.specs.declared.opened.ResbOpened.{ResbOpened}
+use Rattle.resb_c.proofs.HeadLemmas.{passes_given}
 use Rattle.resb_c.proofs.OpenedLemmas.{none_some}
 
 -- the struct of these parts is that of the file
 pub is_opened : (pool file : List ℕ) (lent : Option Pool) (q : Parts) (root : ℕ) (o : ResbOpened)
     → lent ≡ given pool → q ≡ parts_with lent file → root ≡ root_word file
     → (reads_older q ≡ true → parts_of o ≡ q) → spot_of o.root ≡ spot.Descriptor root
-    → IsOpened pool file o
+    → (says_ascending o ≡ true → Ordered q (word root)) → IsOpened pool file o
 unfolding parts_with
-is_opened pool file lent q root o is cut at mine named =
+is_opened pool file lent q root o is cut at mine named ordered =
     let whole : q ≡ parts_with (given pool) file = cut ∙ ap (λ l. parts_with l file) is in
     let parts : parts_of o ≡ parts_with (given pool) file =
     mine (ap reads_older whole) ∙ whole in
     let there : spot_of o.root ≡ spot.Descriptor (root_word file) =
     named ∙ ap spot.Descriptor at in
+    let same : parts_of o ≡ q = mine (ap reads_older whole) in
     record {
       parts = parts;
       root = there;
       tree = λ t n d. (
-        n,
-        subst (λ p. DenSpot p (spot_of o.root) t n) (sym parts)
-            (subst (λ s. DenSpot (parts_with (given pool) file) s t n) (sym there) d.root),
+        (
+          n,
+          subst (λ p. DenSpot p (spot_of o.root) t n) (sym parts)
+              (subst (λ s. DenSpot (parts_with (given pool) file) s t n) (sym there) d.root),
+        ),
+        λ yes. subst (λ s. AscendsAt (parts_of o) s) (sym named)
+            (subst (λ p. Ordered p (word root)) (sym same) (ordered yes)),
       );
     }
 
@@ -44,3 +55,14 @@ pub counted_passes : (pool file : List ℕ) (lent : Option Pool) (e : ReadingErr
     → refusal_with lent file ≡ Some (refusal_of e) → ⊥
 counted_passes pool file lent e n is (t, d, less) h =
     none_some (sym d.head ∙ ap (λ l. refusal_with l file) (sym is) ∙ h)
+
+-- once a file was counted, memory may be wanted
+pub memory_wanted : (pool file : List ℕ) (n : ℕ) (e : ReadingError) → CountsFile pool file (Ok n)
+    → IsWantOfMemory e → CountsFile pool file (Err (Reading e))
+memory_wanted pool file n e (is, (t, d, less)) want = (
+  is,
+  (
+    passes_given (given pool) file d.head,
+    inr (d.head, inl want, λ fault. absurd (fault.not_memory want.kind_is)),
+  ),
+)

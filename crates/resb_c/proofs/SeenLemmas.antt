@@ -197,7 +197,7 @@ module _ (o : ResbOpened) (r : ResbResource) (k : ℕ) where
 pub table_holds : (o : ResbOpened) (r : ResbResource) (us : Entries)
     → Shows o r (tree_spot (table us))
     → (ts : List (List ℕ × Tree)) × HoldsEntries o r ts × (us ≡ map_of ts)
-table_holds o r us (n, d) =
+table_holds o r us ((n, d), asc) =
     let (c, h, fits) = spot_fits (parts_of o) (spot_of r) (table us) n d in by c h fits
   where
     entries_of : Tree → Entries

@@ -1,5 +1,5 @@
 -- What is inside a resource of an opened file is what is inside its tree.
-use Rattle.std.proofs.Common.{◌≡◌, ℕ, zero, suc, false, List, [], ◌∷◌, Option, Some, None}
+use Rattle.std.proofs.Common.{◌≡◌, ℕ, zero, suc, true, false, List, [], ◌∷◌, Option, Some, None}
 use Rattle.std.proofs.Common.{refl, sym, ap, subst, ◌∙◌, ◌≤◌, arith, length, drop, slice_get}
 use Rattle.std.proofs.Common.{Result, Ok, Err}
 use Rattle.std.specs.Prelude.{option_map}
@@ -16,12 +16,13 @@ use Rattle.resb_read.specs.declared.cursor.Spot.TheVariants as spot
 use Rattle.resb_path.specs.Finding.{Spot, tree_spot, number_spot}
 use Rattle.resb_c.specs.AtPlaces.{content_from}
 use Rattle.resb_c.specs.Inner.Contents.{IsInside, has_inside}
-use Rattle.resb_c.specs.Opened.{parts_of, spot_of, Shows}
+use Rattle.resb_c.specs.Opened.{parts_of, spot_of, says_ascending, AscendsAt, Shows}
 use Rattle.resb_c.specs.Shown.{IsFound, MemberOf}
 use Rattle.resb_c.specs.declared.fault.Fault.{Fault}
 use Rattle.resb_c.specs.declared.fault.Fault.TheVariants.{NotFound, OtherKind}
 use Rattle.resb_c.specs.declared.opened.ResbOpened.{ResbOpened}
 use Rattle.resb_c.specs.declared.resource.ResbResource.{ResbResource}
+use Rattle.resb_c.proofs.AscendingLemmas.{at_number, in_entry, in_member}
 use Rattle.resb_c.proofs.OpenedLemmas.{none_some, Fits, shown_fits, MemberAs, each_at, EntryAs}
 use Rattle.resb_c.proofs.OpenedLemmas.{entries_at, same_entries}
 
@@ -46,14 +47,22 @@ get_past (x ∷ xs) zero h = absurd (omega (arith, h))
 get_past (x ∷ xs) (suc k) h = get_past xs k (omega (arith, h))
 
 module _ (o : ResbOpened) where
+  -- where the struct says so, the tables of a member ascend
+  abbrev pub MemberAscends : Option Member → Type 0
+  MemberAscends x =
+      says_ascending o ≡ true → (y : Member) → x ≡ Some y
+      → AscendsAt (parts_of o) (places.spot_of y)
+
   -- a member that is found shows its tree
   pub found_as : (m : ResbResource) (x : Option Member) (t : Option Tree)
-      → MemberAs (parts_of o) x t
+      → MemberAs (parts_of o) x t → MemberAscends x
       → option_map places.spot_of x ≡ Some (spot_of m) → IsFound o (option_map tree_spot t) (Ok m)
-  found_as m (Some x) (Some t) (n, d) e =
-      (n, subst (λ s. DenSpot (parts_of o) s t n) (same_Some _ _ e) d)
-  found_as m (Some x) None d e = absurd d
-  found_as m None t d e = absurd (none_some e)
+  found_as m (Some x) (Some t) (n, d) asc e = (
+    (n, subst (λ s. DenSpot (parts_of o) s t n) (same_Some _ _ e) d),
+    λ yes. subst (AscendsAt (parts_of o)) (same_Some _ _ e) (asc yes x refl),
+  )
+  found_as m (Some x) None d asc e = absurd d
+  found_as m None t d asc e = absurd (none_some e)
 
   pub none_as : (x : Option Member) (t : Option Tree) → MemberAs (parts_of o) x t
       → option_map places.spot_of x ≡ None → IsFound o (option_map tree_spot t) (Err NotFound)
@@ -62,14 +71,21 @@ module _ (o : ResbOpened) where
   none_as (Some x) t d e = absurd (none_some (sym e))
 
   -- the same of an entry
+  abbrev EntryAscends : Option (ℕ × Member) → Type 0
+  EntryAscends x =
+      says_ascending o ≡ true → (y : ℕ × Member) → x ≡ Some y
+      → AscendsAt (parts_of o) (places.spot_of y.1)
+
   entry_as : (m : ResbResource) (x : Option (ℕ × Member)) (e : Option (List ℕ × Tree))
-      → EntryAs (parts_of o) x e
+      → EntryAs (parts_of o) x e → EntryAscends x
       → option_map (λ (y : ℕ × Member). places.spot_of y.1) x ≡ Some (spot_of m)
       → IsFound o (option_map (λ (y : List ℕ × Tree). tree_spot y.1) e) (Ok m)
-  entry_as m (Some x) (Some e) (key, n, d) h =
-      (n, subst (λ s. DenSpot (parts_of o) s e.1 n) (same_Some _ _ h) d)
-  entry_as m (Some x) None d h = absurd d
-  entry_as m None e d h = absurd (none_some h)
+  entry_as m (Some x) (Some e) (key, n, d) asc h = (
+    (n, subst (λ s. DenSpot (parts_of o) s e.1 n) (same_Some _ _ h) d),
+    λ yes. subst (AscendsAt (parts_of o)) (same_Some _ _ h) (asc yes x refl),
+  )
+  entry_as m (Some x) None d asc h = absurd d
+  entry_as m None e d asc h = absurd (none_some h)
 
   no_entry_as : (x : Option (ℕ × Member)) (e : Option (List ℕ × Tree)) → EntryAs (parts_of o) x e
       → option_map (λ (y : ℕ × Member). places.spot_of y.1) x ≡ None
@@ -81,7 +97,9 @@ module _ (o : ResbOpened) where
   -- the same of a number of a vector
   pub number_as : (m : ResbResource) (x : Option ℕ) → option_map spot.Word x ≡ Some (spot_of m)
       → IsFound o (option_map number_spot x) (Ok m)
-  number_as m (Some n) h = sym (same_Some _ _ h)
+  number_as m (Some n) h =
+      let is = sym (same_Some _ _ h) in
+      (is, λ yes. at_number (parts_of o) (spot_of m) n is)
   number_as m None h = absurd (none_some h)
 
   pub no_number_as : (x : Option ℕ) → option_map spot.Word x ≡ None
@@ -92,21 +110,23 @@ module _ (o : ResbOpened) where
   module _ (r : ResbResource) (k : ℕ) where
     in_list : (ms : List Member) (a : Result ResbResource Fault) → IsInside (list ms) k a
         → (ts : List Tree) (n : ℕ) → DenEach (parts_of o) ms ts n
+        → MemberAscends (slice_get ms k)
         → MemberOf o r k a (tree_spot (array (trees_of ts)))
-    in_list ms (Ok m) h ts n d = found_as m (slice_get ms k) _ (each_at d k) h.0
-    in_list ms (Err NotFound) h ts n d = none_as (slice_get ms k) _ (each_at d k) h.0
-    in_list ms (Err OtherKind) h ts n d = absurd (false≢true (sym h.1))
-    in_list ms (Err _) h ts n d = absurd h
+    in_list ms (Ok m) h ts n d asc = found_as m (slice_get ms k) _ (each_at d k) asc h.0
+    in_list ms (Err NotFound) h ts n d asc = none_as (slice_get ms k) _ (each_at d k) h.0
+    in_list ms (Err OtherKind) h ts n d asc = absurd (false≢true (sym h.1))
+    in_list ms (Err _) h ts n d asc = absurd h
 
     in_table : (es : List (ℕ × Member)) (a : Result ResbResource Fault)
         → IsInside (entry_list es) k a → (ts : List (List ℕ × Tree)) (n : ℕ)
-        → DenEntries (parts_of o) es ts n
+        → DenEntries (parts_of o) es ts n → EntryAscends (slice_get es k)
         → IsFound o (option_map (λ (e : List ℕ × Tree). tree_spot e.1) (slice_get ts k)) a
-    in_table es (Ok m) h ts n d = entry_as m (slice_get es k) (slice_get ts k) (entries_at d k) h.0
-    in_table es (Err NotFound) h ts n d =
+    in_table es (Ok m) h ts n d asc =
+        entry_as m (slice_get es k) (slice_get ts k) (entries_at d k) asc h.0
+    in_table es (Err NotFound) h ts n d asc =
         no_entry_as (slice_get es k) (slice_get ts k) (entries_at d k) h.0
-    in_table es (Err OtherKind) h ts n d = absurd (false≢true (sym h.1))
-    in_table es (Err _) h ts n d = absurd h
+    in_table es (Err OtherKind) h ts n d asc = absurd (false≢true (sym h.1))
+    in_table es (Err _) h ts n d asc = absurd h
 
     none_inside : (c : Content) (a : Result ResbResource Fault) → has_inside c ≡ false
         → IsInside c k a → a ≡ Err OtherKind
@@ -130,16 +150,20 @@ module _ (o : ResbOpened) where
 
     by_content : (c : Content) (a : Result ResbResource Fault)
         → content_from (parts_of o) (spot_of r) ≡ Some c → IsInside c k a → (t : Tree)
-        → Fits (parts_of o) c t → MemberOf o r k a (tree_spot t)
-    by_content (leaf u) a h is t (e, none) =
+        → Fits (parts_of o) c t → Shows o r (tree_spot t) → MemberOf o r k a (tree_spot t)
+    by_content (leaf u) a h is t (e, none) shows =
         subst (λ x. MemberOf o r k a (tree_spot x)) (sym e) (in_leaf a u is none)
-    by_content (list ms) a h is t (ts, n, d, e) =
-        subst (λ x. MemberOf o r k a (tree_spot x)) (sym e) (in_list ms a is ts n d)
-    by_content (entry_list es) a h is t (ts, n, d, e) =
+    by_content (list ms) a h is t (ts, n, d, e) ((i, den), asc) =
+        let whole = subst (λ x. DenSpot (parts_of o) (spot_of r) x i) e den in
+        subst (λ x. MemberOf o r k a (tree_spot x)) (sym e) (in_list ms a is ts n d
+        (λ yes. in_member (parts_of o) (spot_of r) ms _ i h whole (asc yes) k))
+    by_content (entry_list es) a h is t (ts, n, d, e) ((i, den), asc) =
+        let whole = subst (λ x. DenSpot (parts_of o) (spot_of r) x i) e den in
         subst (λ x. MemberOf o r k a (tree_spot x)) (sym e) (λ us holds.
         let (fs, m, there, each) = holds in
         let same : fs ≡ es = same_entries fs es (same_Some _ _ (sym there ∙ h)) in
-        in_table es a is us m (subst (λ x. DenEntries (parts_of o) x us m) same each))
+        in_table es a is us m (subst (λ x. DenEntries (parts_of o) x us m) same each)
+        (λ yes. in_entry (parts_of o) (spot_of r) es _ i h whole (asc yes) k))
 
   -- what is answered of what stands at a resource is so of the tree
   pub member_told : (r : ResbResource) (k : ℕ) (c : Content) (a : Result ResbResource Fault)
@@ -147,7 +171,8 @@ module _ (o : ResbOpened) where
       → Shows o r s → MemberOf o r k a s
   member_told r k c a h is s shows =
       let (t, e, fits) = shown_fits o r c h s shows in
-      subst (MemberOf o r k a) (sym e) (by_content r k c a h is t fits)
+      subst (MemberOf o r k a) (sym e)
+      (by_content r k c a h is t fits (subst (Shows o r) e shows))
 
   -- nothing is inside a number
   pub number_told : (r : ResbResource) (k n : ℕ) (e : Fault) (s : Spot) → s ≡ number_spot n

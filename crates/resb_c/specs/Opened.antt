@@ -1,18 +1,21 @@
 -- A file that was opened, and what its resources stand for, where the caller hands both in.
 --     parts_of o              the parts of the file, as the struct says them
 --     spot_of r               the spot that a resource names
+--     AscendsAt p spot        the keys of all tables ascend in what stands at a spot
 --     Shows o r s             what this resource names is this tree, or this number of a vector
 --     HoldsEntries o r ts     a table stands there, with these entries in this order
 --     IsClosed o              nothing stands in the file
-use Rattle.std.specs.Prelude.{◌≡◌, ◌==◌, ◌&&◌, ◌^◌, ℕ, List, [], Some, nat_lt, if◌then◌else◌}
+use Rattle.std.specs.Prelude.{◌≡◌, ◌==◌, ◌&&◌, ◌^◌, not, ℕ, Bool, true, List, [], Some, nat_lt}
+use Rattle.std.specs.Prelude.{if◌then◌else◌}
 use Rattle.resb_tree.specs.Tree.{Tree}
 use Rattle.resb_format.specs.Bytes.{units_of}
-use Rattle.resb_format.specs.Content.{Member, entry_list}
+use Rattle.resb_format.specs.Content.{Member, word, unit, entry_list}
 use Rattle.resb_format.specs.Denotes.{DenEntries}
 use Rattle.resb_format.specs.Parts.{Parts}
 use Rattle.resb_read.specs.Places.{Place}
 use Rattle.resb_read.specs.declared.cursor.Spot as cursor
 use Rattle.resb_read.specs.declared.cursor.Spot.TheVariants as spot
+use Rattle.resb_opened.specs.Ordered.{Ordered}
 use Rattle.resb_path.specs.Finding.{Spot}
 use Rattle.resb_path.specs.InFiles.{IsAt}
 use Rattle.resb_c.specs.AtPlaces.{content_from}
@@ -44,9 +47,22 @@ spot_of r =
 abbrev pub place_in : ResbOpened → ResbResource → Place
 place_in o r = record { parts = parts_of o; at = spot_of r }
 
--- in the file of the struct the resource denotes this tree, or names this number of a vector
+-- the keys of all tables ascend in what stands at a spot; in a number of a vector there are none
+abbrev pub AscendsAt : Parts → cursor.Spot → Type 0
+AscendsAt p (spot.Descriptor w) = Ordered p (word w)
+AscendsAt p (spot.Unit u) = Ordered p (unit u)
+AscendsAt p (spot.Word n) = Unit {0}
+AscendsAt p (spot.Key k) = Unit {0}
+
+-- the struct says that the keys of all tables ascend
+abbrev pub says_ascending : ResbOpened → Bool
+says_ascending o = not (o.ascends == 0)
+
+-- in the file of the struct the resource denotes this tree, or names this number of a vector, and
+-- the keys of its tables ascend if the struct says so
 abbrev pub Shows : ResbOpened → ResbResource → Spot → Type 0
-Shows o r s = IsAt (place_in o r) s
+Shows o r s =
+    IsAt (place_in o r) s × (says_ascending o ≡ true → AscendsAt (parts_of o) (spot_of r))
 
 -- a table stands there, and its entries, those that are replaced too, have these keys and trees in
 -- this order

@@ -79,9 +79,9 @@ use std::alloc::Global;
 /// The version of the header that this library has the calls of: its `RESB_VERSION`.
 #[unsafe(no_mangle)]
 pub extern "C" fn resb_version() -> u32
-    ensures { result ≡ 4 }
+    ensures { result ≡ 5 }
 {
-    4
+    5
 }
 
 /// Compiles a bundle's text to the front of `out`. `length` gets the file's length, for

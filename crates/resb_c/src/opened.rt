@@ -4,7 +4,7 @@
 ghost use Rattle.std.specs.Prelude.{◌≡◌, true};
 ghost use Rattle.resb_format.specs.Parts.{parts_in, reads_older};
 ghost use Rattle.resb_read.specs.declared.cursor.Spot.TheVariants as spot;
-ghost use Rattle.resb_c.specs.Opened.{parts_of, spot_of, IsClosed};
+ghost use Rattle.resb_c.specs.Opened.{parts_of, says_ascending, spot_of, IsClosed};
 
 use crate::resource::ResbResource;
 use resb_format::{FileBlocks, PoolBlocks};
@@ -34,6 +34,8 @@ pub struct ResbOpened<'a> {
     pub limit: u32,
     /// The same as a unit tells it.
     pub short_limit: u16,
+    /// Not 0 where the keys of each table were found to ascend.
+    pub ascends: u16,
 }
 
 impl<'a> ResbOpened<'a> {
@@ -51,15 +53,17 @@ impl<'a> ResbOpened<'a> {
             pool_block: &[],
             limit: 0,
             short_limit: 0,
+            ascends: 0,
         }
     }
 
-    /// A file of these parts, which has so many resources.
-    pub(crate) fn of(parts: CheckedFile<'a>, count: usize) -> ResbOpened<'a>
+    /// A file of these parts, which has so many resources, and whose tables ascend or not.
+    pub(crate) fn of(parts: CheckedFile<'a>, count: usize, ascends: bool) -> ResbOpened<'a>
         ensures parts { reads_older (parts_in parts.entry.file) ≡ true
             → parts_of result ≡ parts_in parts.entry.file }
         ensures root { spot_of result.root ≡ spot.Descriptor parts.entry.root }
         ensures count { result.count ≡ count }
+        ensures ascends { says_ascending result ≡ ascends }
     {
         let file = parts.file;
         let pool = match file.pool {
@@ -76,7 +80,15 @@ impl<'a> ResbOpened<'a> {
             pool_block: pool.block,
             limit: pool.limit,
             short_limit: pool.short_limit,
+            ascends: u16::from(ascends),
         }
+    }
+
+    /// Whether the keys of each table were found to ascend.
+    pub(crate) fn ascends(&self) -> bool
+        ensures { result ≡ says_ascending self.now }
+    {
+        self.ascends != 0
     }
 
     /// The parts of the file, of which aliases and strings of the older form are read too.

@@ -1,4 +1,5 @@
-//! How a file is opened: it is counted, which checks it as a whole, and its parts are kept.
+//! How a file is opened: it is counted, which checks it as a whole, whether its tables ascend is
+//! found, and its parts are kept.
 //! What stands in them is found in `seen` and `within`.
 ghost use Rattle.std.specs.Prelude.{◌≡◌};
 ghost use Rattle.resb_c.specs.Opening.{OpensFile};
@@ -6,6 +7,8 @@ ghost use Rattle.resb_c.specs.Opening.{OpensFile};
 use crate::fault::Fault;
 use crate::files::{Input, count_file, pool_of};
 use crate::opened::ResbOpened;
+use resb_format::BinaryDeserializerError;
+use resb_opened::all_ascend;
 use resb_pool_bundle::read_with_pool;
 use std::alloc::Global;
 
@@ -15,8 +18,12 @@ pub(crate) fn open_file<'a>(alloc: Global, input: Input<'a>) -> Result<ResbOpene
 {
     let count = count_file(alloc, input)?;
     let pool = pool_of(input.pool)?;
-    match read_with_pool(input.file, pool) {
-        Ok(parts) => Ok(ResbOpened::of(parts, count)),
-        Err(e) => Err(Fault::Reading(e)),
+    let parts = match read_with_pool(input.file, pool) {
+        Ok(parts) => parts,
+        Err(e) => return Err(Fault::Reading(e)),
+    };
+    match all_ascend(alloc, parts.file, parts.root, count, input.file.len()) {
+        Ok(ascends) => Ok(ResbOpened::of(parts, count, ascends)),
+        Err(_) => Err(Fault::Reading(BinaryDeserializerError::out_of_memory())),
     }
 }

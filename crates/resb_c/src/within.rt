@@ -1,12 +1,14 @@
 //! What is inside a resource of an opened file: members by their numbers, entries by their keys,
 //! and what a path leads to. What stands at one resource is found in `seen`.
-ghost use Rattle.std.specs.Prelude.{◌≡◌, option_map, slice_get, MatchResult, map};
-ghost use Rattle.resb_format.specs.Parts.{parts_in};
+ghost use Rattle.std.specs.Prelude.{◌≡◌, option_map, slice_get, MatchResult, map, true};
 ghost use Rattle.resb_path.specs.Finding as finding;
 ghost use Rattle.resb_path.specs.Finding.{found_inside, found_at};
+ghost use Rattle.resb_read.specs.Places.{place_of};
+ghost use Rattle.resb_read.specs.Sequences.{at_entry};
+ghost use Rattle.resb_read.specs.Tables.{keys_ascend, last_named, view_entries};
 ghost use Rattle.resb_walk.specs.Inner.Members.{content_of, member_of, members_of, keyed_members};
 ghost use Rattle.resb_c.specs.Inner.Contents.{IsInside, IsNamed, IsNumbered};
-ghost use Rattle.resb_c.specs.Opened.{Shows};
+ghost use Rattle.resb_c.specs.Opened.{parts_of, says_ascending, Shows};
 ghost use Rattle.resb_c.specs.Shown.{FindsPath, GivesKeyOf, IsFound, LacksKeyOf, MemberOf};
 ghost use Rattle.resb_c.specs.Shown.{ValueAtKey, ValueOf};
 
@@ -17,10 +19,10 @@ use crate::path::names_of;
 use crate::resource::ResbResource;
 use crate::seen::standing;
 use crate::there::entry_key;
+use resb_format::BinaryDeserializerError;
 use resb_format::bytes::{some_unit, some_word};
-use resb_format::{BinaryDeserializerError, FileBlocks};
 use resb_path::number_of;
-use resb_read::TableView;
+use resb_read::{Cursor, TableView};
 use resb_walk::{Leaf, Member, Members, Standing, TableParts};
 use std::alloc::Global;
 
@@ -104,11 +106,31 @@ pub(crate) fn key_seen<'a>(
     }
 }
 
-/// The value of the last of these entries that has a name.
-fn named(file: FileBlocks<'_>, entries: TableParts<'_>, name: &str) -> Result<ResbResource, Fault>
-    ensures { IsNamed (parts_in file.entry) (keyed_members entries.entry) name.now result }
+/// Where the value of the last entry of a name stands: by halving, where the keys ascend.
+fn entry_named<'de>(table: TableView<'de>, ascends: bool, name: &str) -> Option<Cursor<'de>>
+    ensures { (ascends ≡ true → keys_ascend (view_entries table.entry) ≡ true)
+        → option_map place_of result ≡ last_named name.now (view_entries table.entry) }
 {
-    match TableView::of(file, entries).get(name) {
+    if ascends {
+        table.find(name)
+    } else {
+        table.get(name)
+    }
+}
+
+/// The value of the last of these entries that has a name, where they ascend if the file's tables
+/// are said to.
+fn named(
+    opened: &ResbOpened<'_>,
+    entries: TableParts<'_>,
+    name: &str,
+) -> Result<ResbResource, Fault>
+    ensures { (says_ascending opened.now ≡ true
+        → keys_ascend (map (at_entry (parts_of opened.now)) (keyed_members entries.entry)) ≡ true)
+        → IsNamed (parts_of opened.now) (keyed_members entries.entry) name.now result }
+{
+    let table = TableView::of(opened.parts(), entries);
+    match entry_named(table, opened.ascends(), name) {
         Some(found) => Ok(ResbResource::of_spot(found.spot())),
         None => Err(Fault::NotFound),
     }
@@ -127,7 +149,7 @@ pub(crate) fn value_seen(
     let Standing::Table(entries) = there else {
         return Err(Fault::OtherKind);
     };
-    named(opened.parts(), entries, name)
+    named(opened, entries, name)
 }
 
 /// The same of a key as the caller writes it.
@@ -162,7 +184,7 @@ fn step(opened: &ResbOpened<'_>, resource: ResbResource, name: &str) -> Result<R
         → IsFound opened.now (found_inside s name.now) result }
 {
     match standing(opened, resource) {
-        Ok(Standing::Table(entries)) => named(opened.parts(), entries, name),
+        Ok(Standing::Table(entries)) => named(opened, entries, name),
         Ok(Standing::List(members)) => numbered(Standing::List(members), name),
         Ok(Standing::Leaf(leaf)) => numbered(Standing::Leaf(leaf), name),
         Err(_) => Err(Fault::NotFound),

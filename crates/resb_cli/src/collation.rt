@@ -1,10 +1,11 @@
 //! Rules of collation in drafts of ICU's texts. ICU's compiler makes a binary form of them, without
 //! which ICU opens no collator; this program makes none, but takes it from that compiler's files.
 //! How such a draft becomes a file is in `drafted`.
-use crate::say::complain;
+use crate::say::{complain, refuse_memory};
 use resb_draft::{Draft, Piece};
 use resb_filter::CollationForm;
 use resb_opened::{Found, Handle};
+use resb_tree::Resource;
 use resb_words::{Collation, CompileWords};
 use std::alloc::{AllocError, Global};
 use std::fmt;
@@ -13,7 +14,7 @@ use std::fmt;
 const COLLATIONS: &str = "collations";
 
 /// The key of a type's rules.
-pub(crate) const RULES: &str = "Sequence";
+const RULES: &str = "Sequence";
 
 /// The key of the binary form of a type's rules.
 pub(crate) const BINARY: &str = "%%CollationBin";
@@ -97,9 +98,18 @@ fn is_unbuilt(draft: &Draft<'_>, table: u32, key: &str) -> bool {
         && value_at(draft, table, BINARY).is_none()
 }
 
-/// Whether the piece of this number is a string.
+/// Whether the piece of this number is a string, be it lent or put together of several.
 fn is_string(draft: &Draft<'_>, number: u32) -> bool {
-    matches!(draft.pieces.get(number as usize), Some(Piece::String(_)))
+    match draft.pieces.get(number as usize) {
+        Some(Piece::String(_)) => true,
+        Some(Piece::Leaf(leaf)) => is_text(leaf),
+        _ => false,
+    }
+}
+
+/// Whether a resource is a string.
+fn is_text(resource: &Resource<'_>) -> bool {
+    matches!(resource, Resource::String(_))
 }
 
 /// The keys of the table that the piece of this number stands for, if it stands for one, and the
@@ -121,8 +131,16 @@ fn value_at(draft: &Draft<'_>, number: u32, key: &str) -> Option<u32> {
     values.get(place).copied()
 }
 
-/// The binary forms that a file of a name has for types of these keys; or the status, once it is
-/// said of which it has none.
+/// Says that a file of a name has no binary form for the rules of the type of a key, and gives the
+/// status of that.
+pub(crate) fn refuse_lacking(rt: &HostRuntime, name: &str, key: &str) -> u8 {
+    let said = Said::Lacking;
+    complain(rt, name, OfType { key, said });
+    1
+}
+
+/// The binary forms that a file of a name has for types of these keys, but for types that aren't
+/// there at all, as rules leave some out; or the status, once it is said of which it has none.
 pub(crate) fn forms_in<'f>(
     rt: &HostRuntime,
     name: &str,
@@ -132,13 +150,13 @@ pub(crate) fn forms_in<'f>(
     let mut forms = Vec::new(rt.alloc());
     for key in types.iter().copied() {
         let Some(bytes) = form_in(root, key) else {
-            let said = Said::Lacking;
-            complain(rt, name, OfType { key, said });
-            return Err(1);
+            if root.get(&[COLLATIONS, key]).is_none() {
+                continue;
+            }
+            return Err(refuse_lacking(rt, name, key));
         };
         if forms.push(CollationForm { key, bytes }).is_err() {
-            complain(rt, name, "out of memory");
-            return Err(1);
+            return Err(refuse_memory(rt, name));
         }
     }
     Ok(forms)

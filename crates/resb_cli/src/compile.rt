@@ -1,6 +1,5 @@
 //! The command `compile`: each text to a file of its own.
 //! What a text's file is, and why it has none, is in `resb_program`.
-use crate::collation::RULES;
 use crate::drafted::drafted_file;
 use crate::encoding::utf8_of;
 use crate::folders::{Named, TEXTS, named_files};
@@ -8,18 +7,16 @@ use crate::input::lending_pool;
 use crate::place::{Place, place_of};
 use crate::progress::Progress;
 use crate::save::{Bytes, save, saved};
-use crate::say::{complain, fail, fail_input, or_fail, refuse};
+use crate::say::{complain, fail, fail_input, or_fail, refuse, refuse_source};
 use crate::show::settled;
 use crate::streams::{made, read_input};
 use crate::taken::Taken;
+use crate::texts::{SourceText, taken_in};
 use crate::warn::warn;
 use crate::words::{NO_UTF8, is_marked};
-use resb_compile::{compile_icu_with_pool, compile_with_pool};
+use resb_compile::compile_with_pool;
 use resb_pool_bundle::PoolBundle;
-use resb_program::{
-    SourceError, bundle_name, compile_icu_source, compile_icu_source_within, compile_source,
-    compile_source_within, icu_bundle_name, text_of,
-};
+use resb_program::{SourceError, bundle_name, compile_source, compile_source_within, text_of};
 use resb_words::CompileWords;
 use std::alloc::Global;
 use std::path::{Path, PathBuf};
@@ -27,12 +24,26 @@ use std::path::{Path, PathBuf};
 /// What is said of a text whose file has no name.
 const NO_NAME: &str = "this has no name for a file; say one by --output";
 
+/// What is said of a bundle whose name is none of a file.
+pub(crate) const NO_FILE_NAME: &str = "the name of its bundle is no name of a file";
+
 /// Where the bytes of a text's file go.
 #[derive(Drop)]
 struct Target {
     /// The name of the file.
     output: PathBuf,
     place: Place,
+}
+
+/// The file of a text.
+#[derive(Drop)]
+pub(crate) struct BundleFile<'t> {
+    /// What it holds.
+    pub(crate) bytes: Vec<u8>,
+    /// The name of the text's bundle, if the text is in ICU's own form.
+    pub(crate) bundle: Option<&'t str>,
+    /// The status of what is said of the text.
+    pub(crate) status: u8,
 }
 
 /// What is asked of texts, and the pool bundle over which their files are written.
@@ -127,17 +138,23 @@ fn compile_one(
         Some(target_of(rt, name, output_of(rt.alloc(), name, wanted))?)
     };
     let source = source_of(rt, name, wanted.limit)?;
-    let text = text_in(rt, name, source.as_slice())?;
-    let (file, status) = file_of(rt, name, text, work)?;
+    let read = text_in(rt, name, source.as_slice())?;
+    let whole = if wanted.is_icu {
+        taken_in(rt, name, read, wanted.files, wanted.limit)?
+    } else {
+        None
+    };
+    let text = SourceText::new(read, whole.as_ref());
+    let file = file_of(rt, name, text, work)?;
     let target = match known {
         Some(target) => target,
-        None => named_target(rt, name, text, wanted)?,
+        None => named_target(rt, name, text, file.bundle, wanted.folder)?,
     };
     or_fail(rt, name, taken.take(rt, name, &target.place))?;
     if !wanted.is_check {
-        target.write(rt, file.as_slice())?;
+        target.write(rt, file.bytes.as_slice())?;
     }
-    Ok(status)
+    Ok(file.status)
 }
 
 /// Where a text's file goes, or the status, once it is said why that is nowhere.
@@ -152,16 +169,27 @@ fn target_of(
     Ok(Target { output, place })
 }
 
-/// Where the file of a text goes that its bundle names, which is known to be one.
+/// Where the file of a text goes that its bundle names, in the folder that was said or beside the
+/// text. Where the bundle's name isn't known yet, the text is read once more.
 fn named_target(
     rt: &HostRuntime,
     name: &str,
-    text: &str,
-    wanted: &CompileWords<'_>,
+    text: SourceText<'_>,
+    bundle: Option<&str>,
+    folder: Option<&str>,
 ) -> Result<Target, u8> {
-    let bundle = bundle_of(rt, name, text, wanted.is_icu)?;
-    let output = named_by_bundle(rt.alloc(), name, bundle.as_str(), wanted.folder);
-    target_of(rt, name, output)
+    if let Some(bundle) = bundle {
+        return target_of(rt, name, named_by_bundle(rt.alloc(), name, bundle, folder));
+    }
+    let bundle = match bundle_name(rt.alloc(), text.whole()) {
+        Ok(bundle) => bundle,
+        Err(e) => return Err(refuse_source(rt, name, text, &e)),
+    };
+    target_of(
+        rt,
+        name,
+        named_by_bundle(rt.alloc(), name, bundle.as_str(), folder),
+    )
 }
 
 impl Target {
@@ -196,46 +224,47 @@ pub(crate) fn text_in<'s>(rt: &HostRuntime, name: &str, source: &'s [u8]) -> Res
     }
 }
 
-/// The bytes of a text's file, and the status of its warnings; or the status, once it is said why
-/// there is none.
-fn file_of(
+/// A text's file, with its warnings said; or the status, once it is said why there is none.
+fn file_of<'t>(
     rt: &HostRuntime,
     name: &str,
-    text: &str,
+    text: SourceText<'t>,
     work: Work<'_, '_, '_>,
-) -> Result<(Vec<u8>, u8), u8> {
-    let wanted = work.wanted;
-    let (file, status) = file_at_once(rt, name, text, work)?;
-    Ok((file, status.max(warned(rt, name, text, wanted))))
+) -> Result<BundleFile<'t>, u8> {
+    let mut file = file_at_once(rt, name, text, work)?;
+    file.status = file.status.max(warned(rt, name, text, work.wanted));
+    Ok(file)
 }
 
-/// The same, but for warnings. A text that rules filter, or that may hold rules of collation, is
-/// compiled by its draft.
-fn file_at_once(
+/// The same, but for warnings. A text in ICU's own form is compiled by its draft.
+fn file_at_once<'t>(
     rt: &HostRuntime,
     name: &str,
-    text: &str,
+    text: SourceText<'t>,
     work: Work<'_, '_, '_>,
-) -> Result<(Vec<u8>, u8), u8> {
-    let wanted = work.wanted;
-    if wanted.filters.is_some() {
-        return drafted_file(rt, name, text, wanted, work.pool.as_ref());
+) -> Result<BundleFile<'t>, u8> {
+    if work.wanted.is_icu {
+        return drafted_file(rt, name, text, work.wanted, work.pool.as_ref());
     }
-    match compiled(rt.alloc(), text, work) {
-        Ok(_) if wanted.is_icu && text.contains(RULES) => {
-            drafted_file(rt, name, text, wanted, work.pool.as_ref())
-        }
-        Ok(file) => Ok((file, 0)),
-        Err(e) => Err(refuse(rt, name, text.as_bytes(), &e)),
+    match compiled(rt.alloc(), text.whole(), work) {
+        Ok(bytes) => Ok(BundleFile {
+            bytes,
+            bundle: None,
+            status: 0,
+        }),
+        Err(e) => Err(refuse_source(rt, name, text, &e)),
     }
 }
 
 /// The status of a text's warnings, once they are said.
-fn warned(rt: &HostRuntime, name: &str, text: &str, wanted: &CompileWords<'_>) -> u8 {
+fn warned(rt: &HostRuntime, name: &str, text: SourceText<'_>, wanted: &CompileWords<'_>) -> u8 {
+    if let (Some(folder), false) = (wanted.dependencies, wanted.is_quiet) {
+        text.warn_of_missing(rt, name, folder);
+    }
     if wanted.is_quiet && !wanted.is_strict {
         return 0;
     }
-    if may_pass(text.len(), wanted.limit) {
+    if may_pass(text.whole().len(), wanted.limit) {
         if !wanted.is_quiet {
             complain(
                 rt,
@@ -260,22 +289,13 @@ fn may_pass(length: usize, limit: Option<u64>) -> bool {
     }
 }
 
-/// The bytes of a text's file, over the pool bundle, or where reading the text keeps within the
-/// limit, if there is one.
+/// The bytes of the file of a text in the plain form, over the pool bundle, or where reading the
+/// text keeps within the limit, if there is one.
 fn compiled(alloc: Global, text: &str, work: Work<'_, '_, '_>) -> Result<Vec<u8>, SourceError> {
-    let wanted = work.wanted;
-    if let Some(pool) = &work.pool {
-        return if wanted.is_icu {
-            compile_icu_with_pool(alloc, text, pool).map_err(SourceError::IcuRefused)
-        } else {
-            compile_with_pool(alloc, text, pool).map_err(SourceError::Refused)
-        };
-    }
-    match (wanted.is_icu, wanted.limit) {
-        (true, Some(limit)) => compile_icu_source_within(alloc, text, limit),
-        (true, None) => compile_icu_source(alloc, text),
-        (false, Some(limit)) => compile_source_within(alloc, text, limit),
-        (false, None) => compile_source(alloc, text),
+    match (&work.pool, work.wanted.limit) {
+        (Some(pool), _) => compile_with_pool(alloc, text, pool).map_err(SourceError::Refused),
+        (None, Some(limit)) => compile_source_within(alloc, text, limit),
+        (None, None) => compile_source(alloc, text),
     }
 }
 
@@ -314,10 +334,15 @@ fn named_by_bundle(
     bundle: &str,
     folder: Option<&str>,
 ) -> Result<PathBuf, &'static str> {
-    if bundle.is_empty() || bundle.contains('/') || bundle.contains('\0') {
-        return Err("the name of its bundle is no name of a file");
+    if !is_file_name(bundle) {
+        return Err(NO_FILE_NAME);
     }
     file_named(alloc, Path::new(text), bundle, folder)
+}
+
+/// Whether a bundle's name may be that of a file in a folder.
+pub(crate) fn is_file_name(bundle: &str) -> bool {
+    !bundle.is_empty() && !bundle.contains('/') && !bundle.contains('\0')
 }
 
 /// The name of a text's file, in the folder that was said or beside the text.
@@ -332,17 +357,4 @@ fn file_named(
         Some(folder) => Path::new(folder).join(alloc, file.as_str()),
         None => text.with_file_name(alloc, file.as_str()),
     })
-}
-
-/// The name of a text's bundle, or the status, once it is said why it isn't known.
-fn bundle_of(rt: &HostRuntime, name: &str, text: &str, is_icu: bool) -> Result<String, u8> {
-    let bundle = if is_icu {
-        icu_bundle_name(rt.alloc(), text)
-    } else {
-        bundle_name(rt.alloc(), text)
-    };
-    match bundle {
-        Ok(bundle) => Ok(bundle),
-        Err(e) => Err(refuse(rt, name, text.as_bytes(), &e)),
-    }
 }

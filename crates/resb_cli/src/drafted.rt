@@ -1,28 +1,32 @@
-//! The files of texts by their drafts: without what rules leave out, and with the binary forms of
-//! rules of collation. Texts that have neither are compiled at once, in `compile`.
+//! The files of texts in ICU's own form, by their drafts: without what rules leave out, with the
+//! binary forms of rules of collation, and laid out as is asked.
+//! Texts in the plain form are compiled in `compile`.
 ghost use Rattle.std.specs.Prelude.{◌≡◌, true};
 ghost use Rattle.resb_draft.specs.Drafts.{is_ready};
 
-use crate::collation::{BINARY, check_collations, forms_in, unbuilt};
-use crate::filter::{filtered_draft, refuse_text};
+use crate::collation::{BINARY, check_collations, forms_in, refuse_lacking, unbuilt};
+use crate::compile::{BundleFile, NO_FILE_NAME, is_file_name};
+use crate::filter::{draft_of, filtered, refuse_text, without_rules};
 use crate::input::Input;
-use crate::say::refuse_memory;
+use crate::say::{or_fail, refuse_memory};
 use crate::show::opened_of;
+use crate::streams::made;
+use crate::texts::SourceText;
 use resb_compile::IcuCompileError;
-use resb_draft::DraftBundle;
+use resb_draft::{Draft, DraftBundle};
 use resb_filter::with_collation_forms;
 use resb_opened::Handle;
 use resb_pool_bundle::PoolBundle;
 use resb_tree::Key;
 use resb_words::{Collation, CompileWords};
 use resb_write::Serializer;
-use std::alloc::AllocError;
+use std::alloc::{AllocError, Global};
 
 /// A text and its name.
 #[derive(Clone, Copy)]
 struct Source<'n, 's> {
     name: &'n str,
-    text: &'s str,
+    text: SourceText<'s>,
 }
 
 /// A file that has binary forms of rules of collation, and its name.
@@ -32,55 +36,100 @@ struct Built<'f> {
     root: Handle<'f>,
 }
 
-/// The file of a text in ICU's own form, and the status of what is said of its rules of collation;
-/// or the status, once it is said why there is none.
-pub(crate) fn drafted_file(
-    rt: &HostRuntime,
-    name: &str,
-    text: &str,
-    wanted: &CompileWords<'_>,
-    pool: Option<&PoolBundle<'_>>,
-) -> Result<(Vec<u8>, u8), u8> {
-    let (bundle, keys) = filtered_draft(rt, name, text, wanted.filters)?;
-    let Ok(types) = unbuilt(rt.alloc(), &bundle.root) else {
-        return Err(refuse_memory(rt, name));
-    };
-    if let Collation::From(folder) = wanted.collation {
-        if !types.is_empty() {
-            let bundle_name = bundle.name;
-            let Ok(path) = format!(in rt.alloc(); "{folder}/{bundle_name}.res") else {
-                return Err(refuse_memory(rt, name));
-            };
-            return Ok((
-                built_file(rt, Source { name, text }, path.as_str(), wanted, pool)?,
-                0,
-            ));
-        }
-    }
-    let status = check_collations(rt, name, types.as_slice(), wanted)?;
-    Ok((written(rt, name, bundle, keys.as_slice(), pool)?, status))
+/// How a file is laid out.
+#[derive(Clone, Copy)]
+enum Layout<'p, 'b> {
+    /// With all that it has, each key by itself.
+    Whole,
+    /// As ICU's compiler lays it out: keys may lie at the ends of others.
+    Compact,
+    /// Over a pool bundle.
+    Over(&'p PoolBundle<'b>),
 }
 
-/// The same with the binary forms that the file of a name has.
+impl<'p, 'b> Layout<'p, 'b> {
+    /// The layout that is asked for.
+    fn asked(wanted: &CompileWords<'_>, pool: Option<&'p PoolBundle<'b>>) -> Layout<'p, 'b> {
+        match pool {
+            Some(pool) => Layout::Over(pool),
+            None if wanted.is_compact => Layout::Compact,
+            None => Layout::Whole,
+        }
+    }
+}
+
+/// The file of a text in ICU's own form, with the status of what is said of its rules of collation;
+/// or the status, once it is said why there is none.
+pub(crate) fn drafted_file<'t>(
+    rt: &HostRuntime,
+    name: &str,
+    text: SourceText<'t>,
+    wanted: &CompileWords<'_>,
+    pool: Option<&PoolBundle<'_>>,
+) -> Result<BundleFile<'t>, u8> {
+    let layout = Layout::asked(wanted, pool);
+    let (draft, keys) = draft_of(rt, name, text, wanted.limit)?;
+    let bundle_name = draft.name;
+    let bundle = Some(bundle_name);
+    if let Collation::From(folder) = wanted.collation {
+        if !unbuilt_in(rt, name, &draft.root)?.is_empty() {
+            let path = or_fail(rt, name, forms_file(rt.alloc(), folder, bundle_name))?;
+            let bytes = built_file(rt, Source { name, text }, path.as_str(), wanted, layout)?;
+            let status = 0;
+            return Ok(BundleFile {
+                bytes,
+                bundle,
+                status,
+            });
+        }
+    }
+    let draft = filtered(rt, name, draft, wanted.filters)?;
+    let types = unbuilt_in(rt, name, &draft.root)?;
+    let status = check_collations(rt, name, types.as_slice(), wanted)?;
+    let draft = without_rules(rt, name, draft, wanted.omits_rules)?;
+    let bytes = written(rt, name, draft, keys.as_slice(), layout)?;
+    Ok(BundleFile {
+        bytes,
+        bundle,
+        status,
+    })
+}
+
+/// The keys of the types of collation of the text of a name whose rules have no binary form and
+/// need one.
+fn unbuilt_in<'t>(rt: &HostRuntime, name: &str, root: &Draft<'t>) -> Result<Vec<&'t str>, u8> {
+    unbuilt(rt.alloc(), root).map_err(|_| refuse_memory(rt, name))
+}
+
+/// The name of the file in a folder that has the binary forms for the bundle of a name.
+fn forms_file(alloc: Global, folder: &str, bundle: &str) -> Result<String, &'static str> {
+    if !is_file_name(bundle) {
+        return Err(NO_FILE_NAME);
+    }
+    made(format!(in alloc; "{folder}/{bundle}.res"))
+}
+
+/// The bytes of a text's file with the binary forms that the file of a name has.
 fn built_file(
     rt: &HostRuntime,
     source: Source<'_, '_>,
     file: &str,
     wanted: &CompileWords<'_>,
-    pool: Option<&PoolBundle<'_>>,
+    layout: Layout<'_, '_>,
 ) -> Result<Vec<u8>, u8> {
     let input = Input::read(rt, file, wanted.limit)?;
     let opened = input.open(rt, file)?;
     let beside = opened.pool(rt, file, None, wanted.limit)?;
     let built = opened_of(rt, file, opened.bytes, &beside, None)?;
     let root = built.root();
+    // taken apart, so that the text is lent for as long as the forms
     let Source { name, text } = source;
     collated_file(
         rt,
         Source { name, text },
         Built { name: file, root },
         wanted,
-        pool,
+        layout,
     )
 }
 
@@ -95,20 +144,18 @@ fn listed<'k>(mut keys: Vec<Key<'k>>, name: &'k str) -> Result<Vec<Key<'k>>, All
     Ok(keys)
 }
 
-/// The same with the binary forms that a file has. The text is read once more: its draft and the
-/// forms are lent for one time.
+/// The bytes of a text's file with the binary forms that a file has, before rules leave something
+/// out. The text is read once more: its draft and the forms are lent for one time.
 fn collated_file<'s>(
     rt: &HostRuntime,
     source: Source<'_, 's>,
     built: Built<'s>,
     wanted: &CompileWords<'_>,
-    pool: Option<&PoolBundle<'_>>,
+    layout: Layout<'_, '_>,
 ) -> Result<Vec<u8>, u8> {
     let Source { name, text } = source;
-    let (bundle, keys) = filtered_draft(rt, name, text, wanted.filters)?;
-    let Ok(types) = unbuilt(rt.alloc(), &bundle.root) else {
-        return Err(refuse_memory(rt, name));
-    };
+    let (bundle, keys) = draft_of(rt, name, text, wanted.limit)?;
+    let types = unbuilt_in(rt, name, &bundle.root)?;
     let forms = forms_in(rt, built.name, built.root, types.as_slice())?;
     let DraftBundle {
         name: bundle_name,
@@ -126,25 +173,39 @@ fn collated_file<'s>(
         root,
         is_locale_fallback_enabled,
     };
-    written(rt, name, bundle, keys.as_slice(), pool)
+    let bundle = filtered(rt, name, bundle, wanted.filters)?;
+    // of types that rules of the filter leave, each needs its form
+    if let [key, ..] = unbuilt_in(rt, name, &bundle.root)?.as_slice() {
+        return Err(refuse_lacking(rt, built.name, key));
+    }
+    let bundle = without_rules(rt, name, bundle, wanted.omits_rules)?;
+    written(rt, name, bundle, keys.as_slice(), layout)
 }
 
-/// The file of a bundle, over a pool bundle if there is one.
+/// The file of a bundle, laid out like this.
 fn written(
     rt: &HostRuntime,
     name: &str,
     bundle: DraftBundle<'_>,
     keys: &[Key<'_>],
-    pool: Option<&PoolBundle<'_>>,
+    layout: Layout<'_, '_>,
 ) -> Result<Vec<u8>, u8>
     requires { is_ready bundle.root ≡ true }
 {
     let has_fallback = bundle.is_locale_fallback_enabled;
     let (alloc, root) = (rt.alloc(), bundle.root);
-    let file = match pool {
-        Some(pool) => Serializer::draft_to_bytes_with_pool(alloc, root, has_fallback, keys, pool),
-        None => Serializer::draft_to_bytes(alloc, root, has_fallback, keys),
+    let file = match layout {
+        Layout::Whole => Serializer::draft_to_bytes(alloc, root, has_fallback, keys),
+        Layout::Compact => Serializer::draft_to_bytes_compact(alloc, root, has_fallback, keys),
+        Layout::Over(pool) => {
+            Serializer::draft_to_bytes_with_pool(alloc, root, has_fallback, keys, pool)
+        }
     };
     // what the writer refuses has no place in the text
-    file.map_err(|e| refuse_text(rt, name, "", IcuCompileError::Writing(e)))
+    file.map_err(|e| refuse_text(
+        rt,
+        name,
+        SourceText::new("", None),
+        IcuCompileError::Writing(e),
+    ))
 }

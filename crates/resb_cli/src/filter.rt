@@ -1,49 +1,67 @@
-//! The drafts of texts without what rules leave out.
+//! The drafts of texts, and what rules leave of them.
 //! What rules say is in `resb_filter`, and how a draft becomes a file in `drafted`.
 ghost use Rattle.std.specs.Prelude.{◌≡◌, true, IfOk};
 ghost use Rattle.resb_draft.specs.Drafts.{is_ready};
 
 use crate::genrb::PARSE_ERROR;
 use crate::input::bytes_of;
-use crate::say::{complain, fail, refuse, refuse_memory};
-use resb_compile::{IcuCompileError, read_icu_filtered};
-use resb_draft::DraftBundle;
+use crate::say::{complain, fail, refuse_memory, refuse_source};
+use crate::texts::SourceText;
+use resb_compile::IcuCompileError;
+use resb_draft::{Draft, DraftBundle};
 use resb_filter::{RuleError, Rules};
-use resb_icu_text::IcuReader;
+use resb_icu_text::{IcuLimitError, IcuReader};
 use resb_program::{SourceError, text_of};
 use resb_tree::Key;
 use resb_words::Filters;
 use std::alloc::{AllocError, Global};
 use std::path::Path;
 
-/// The bundle of a text in ICU's own form, without what its rules leave out if there are some, and
-/// the text's keys; or the status, once it is said why there is none.
-pub(crate) fn filtered_draft<'t>(
+/// The rules that leave rules of collation out: those of each type below the root's `collations`,
+/// and the root's `UCARules`, which are those of all languages.
+const COLLATION_RULES: &str = "-/collations/*/Sequence\n-/UCARules";
+
+/// The bundle of a text in ICU's own form, and its keys; or the status, once it is said why there
+/// is none.
+pub(crate) fn draft_of<'t>(
     rt: &HostRuntime,
     name: &str,
-    text: &'t str,
-    filters: Option<Filters<'_>>,
+    text: SourceText<'t>,
+    limit: Option<u64>,
 ) -> Result<(DraftBundle<'t>, Vec<Key<'t>>), u8>
     ensures { IfOk result (λ r. is_ready r.0.root ≡ true) }
 {
-    if let Some(filters) = filters {
-        return draft_by_rules(rt, name, text, filters);
-    }
-    match IcuReader::read_draft(rt.alloc(), text) {
+    let Some(limit) = limit else {
+        return match IcuReader::read_draft(rt.alloc(), text.whole()) {
+            Ok(read) => Ok(read),
+            Err(e) => Err(refuse_text(rt, name, text, IcuCompileError::Reading(e))),
+        };
+    };
+    match IcuReader::read_draft_within(rt.alloc(), text.whole(), limit) {
         Ok(read) => Ok(read),
-        Err(e) => Err(refuse_text(rt, name, text, IcuCompileError::Reading(e))),
+        Err(IcuLimitError::Text(e)) => {
+            Err(refuse_text(rt, name, text, IcuCompileError::Reading(e)))
+        }
+        Err(IcuLimitError::Larger) => {
+            Err(refuse_source(rt, name, text, &SourceError::Larger(limit)))
+        }
     }
 }
 
-/// The same without what the rules for the text of a name leave out.
-fn draft_by_rules<'t>(
+/// The bundle of the text of a name without what the rules for it leave out, if there are some; or
+/// the status, once it is said why there are none.
+pub(crate) fn filtered<'t>(
     rt: &HostRuntime,
     text_name: &str,
-    text: &'t str,
-    filters: Filters<'_>,
-) -> Result<(DraftBundle<'t>, Vec<Key<'t>>), u8>
-    ensures { IfOk result (λ r. is_ready r.0.root ≡ true) }
+    bundle: DraftBundle<'t>,
+    filters: Option<Filters<'_>>,
+) -> Result<DraftBundle<'t>, u8>
+    requires { is_ready bundle.root ≡ true }
+    ensures { IfOk result (λ r. is_ready r.root ≡ true) }
 {
+    let Some(filters) = filters else {
+        return Ok(bundle);
+    };
     let Ok(name) = rules_name(rt.alloc(), text_name, filters) else {
         return Err(refuse_memory(rt, text_name));
     };
@@ -52,14 +70,55 @@ fn draft_by_rules<'t>(
     let Ok(lines) = text_of(bytes.as_slice()) else {
         return Err(fail(rt, name, "this is no UTF-8"));
     };
-    let rules = match Rules::read(rt.alloc(), lines) {
-        Ok(rules) => rules,
-        Err(e) => return Err(refuse_rules(rt, name, e)),
-    };
-    match read_icu_filtered(rt.alloc(), text, &rules) {
-        Ok(read) => Ok(read),
-        Err(e) => Err(refuse_text(rt, text_name, text, e)),
+    match Rules::read(rt.alloc(), lines) {
+        Ok(rules) => left_by_rules(rt, text_name, bundle, &rules),
+        Err(e) => Err(refuse_rules(rt, name, e)),
     }
+}
+
+/// The bundle of the text of a name without rules of collation, if these are left out.
+pub(crate) fn without_rules<'t>(
+    rt: &HostRuntime,
+    text_name: &str,
+    bundle: DraftBundle<'t>,
+    omits_rules: bool,
+) -> Result<DraftBundle<'t>, u8>
+    requires { is_ready bundle.root ≡ true }
+    ensures { IfOk result (λ r. is_ready r.root ≡ true) }
+{
+    if !omits_rules {
+        return Ok(bundle);
+    }
+    match Rules::read(rt.alloc(), COLLATION_RULES) {
+        Ok(rules) => left_by_rules(rt, text_name, bundle, &rules),
+        // its lines are rules
+        Err(_) => Err(refuse_memory(rt, text_name)),
+    }
+}
+
+/// What rules leave of the bundle of the text of a name.
+fn left_by_rules<'t>(
+    rt: &HostRuntime,
+    text_name: &str,
+    bundle: DraftBundle<'t>,
+    rules: &Rules<'_>,
+) -> Result<DraftBundle<'t>, u8>
+    requires { is_ready bundle.root ≡ true }
+    ensures { IfOk result (λ r. is_ready r.root ≡ true) }
+{
+    let DraftBundle {
+        name,
+        root,
+        is_locale_fallback_enabled,
+    } = bundle;
+    let Ok(root) = rules.filtered(rt.alloc(), root) else {
+        return Err(refuse_memory(rt, text_name));
+    };
+    Ok(DraftBundle {
+        name,
+        root,
+        is_locale_fallback_enabled,
+    })
 }
 
 /// Says why a text is no rules, and gives the status of that.
@@ -72,8 +131,13 @@ fn refuse_rules(rt: &HostRuntime, name: &str, e: RuleError) -> u8 {
 }
 
 /// Says why a text has no file, and gives the status of that.
-pub(crate) fn refuse_text(rt: &HostRuntime, name: &str, text: &str, e: IcuCompileError) -> u8 {
-    refuse(rt, name, text.as_bytes(), &SourceError::IcuRefused(e))
+pub(crate) fn refuse_text(
+    rt: &HostRuntime,
+    name: &str,
+    text: SourceText<'_>,
+    e: IcuCompileError,
+) -> u8 {
+    refuse_source(rt, name, text, &SourceError::IcuRefused(e))
 }
 
 /// The name of the file of a text's rules: what leads from the texts' folder to the text leads from

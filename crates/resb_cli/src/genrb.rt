@@ -3,15 +3,16 @@
 //! How a text is compiled is in `compile`, and which words are taken in `resb_words`.
 use crate::below::{as_names, below};
 use crate::compile::{compile, source_of, text_in};
-use crate::filter::filtered_draft;
+use crate::filter::{draft_of, filtered, without_rules};
 use crate::input::pool_in;
 use crate::place::place_of;
 use crate::save::{Bytes, save, saved};
 use crate::say::{complain, fail, or_fail};
 use crate::show::settled;
 use crate::streams::{NO_MEMORY, made};
+use crate::texts::{SourceText, taken_in};
 use resb_pool_maker::{PoolMaker, PoolMakerError};
-use resb_words::{CompileWords, Filters, GenrbWords};
+use resb_words::{CompileWords, GenrbWords};
 use std::alloc::{AllocError, Global};
 use std::path::PathBuf;
 
@@ -77,6 +78,10 @@ fn compile_texts(rt: &HostRuntime, wanted: &GenrbWords<'_>, texts: &[PathBuf]) -
             pool: wanted.used_pool,
             filters: wanted.filters,
             collation: wanted.collation,
+            omits_rules: wanted.omits_rules,
+            is_compact: wanted.is_compact,
+            files: wanted.files,
+            dependencies: Some(wanted.destination),
             is_check: false,
             is_quiet: wanted.is_quiet,
             is_strict: false,
@@ -96,7 +101,7 @@ fn write_pool(
     let place = or_fail(rt, name, place_of(rt, name))?;
     let mut maker = PoolMaker::new(rt.alloc());
     for text in texts {
-        add_text(rt, &mut maker, text.as_path().as_str(), wanted.filters)?;
+        add_text(rt, &mut maker, text.as_path().as_str(), wanted)?;
     }
     let pool = maker
         .finish(rt.alloc())
@@ -106,16 +111,21 @@ fn write_pool(
     Ok(0)
 }
 
-/// Adds the bundle of the text of a name to those of which a pool bundle is made.
+/// Adds the bundle of the text of a name, read once more, to those of which a pool bundle is made.
+/// Binary forms of rules of collation lend nothing to it.
 fn add_text(
     rt: &HostRuntime,
     maker: &mut PoolMaker,
     name: &str,
-    filters: Option<Filters<'_>>,
+    wanted: &GenrbWords<'_>,
 ) -> Result<(), u8> {
     let source = source_of(rt, name, None)?;
-    let text = text_in(rt, name, source.as_slice())?;
-    let (bundle, keys) = filtered_draft(rt, name, text, filters)?;
+    let read = text_in(rt, name, source.as_slice())?;
+    let taken = taken_in(rt, name, read, wanted.files, None)?;
+    let text = SourceText::new(read, taken.as_ref());
+    let (bundle, keys) = draft_of(rt, name, text, None)?;
+    let bundle = filtered(rt, name, bundle, wanted.filters)?;
+    let bundle = without_rules(rt, name, bundle, wanted.omits_rules)?;
     maker
         .add_draft(rt.alloc(), &bundle.root, keys.as_slice())
         .map_err(|e| refuse_pool(rt, name, e))

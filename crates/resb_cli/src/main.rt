@@ -31,6 +31,7 @@ mod show;
 mod shown;
 mod streams;
 mod taken;
+mod texts;
 mod unread;
 mod warn;
 mod words;

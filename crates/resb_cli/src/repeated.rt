@@ -2,7 +2,8 @@
 //! Which keys those are is told by `resb_diagnostics`.
 use crate::shown::Shown;
 use resb_compile::IcuCompileError;
-use resb_diagnostics::{Location, Reason, Warning, repeated_icu_keys};
+use resb_diagnostics::{Location, Reason, Warning, first_icu_word, repeated_icu_keys};
+use resb_grammar::is_word;
 use resb_icu_grammar::IcuExpected;
 use resb_program::SourceError;
 use std::alloc::{AllocError, Global};
@@ -91,7 +92,8 @@ pub(crate) fn key_at(text: &[u8], place: usize, is_icu: bool) -> &str {
     };
     let key = match bytes.strip_prefix(b"\"") {
         Some(inside) => up_to_quote(inside, is_icu),
-        None => word_in(bytes, is_icu),
+        None if is_icu => first_icu_word(bytes),
+        None => word_in(bytes),
     };
     str::from_utf8(key).unwrap_or("")
 }
@@ -108,15 +110,10 @@ fn up_to_quote(bytes: &[u8], is_icu: bool) -> &[u8] {
     bytes
 }
 
-/// The word with which bytes begin.
-fn word_in(bytes: &[u8], is_icu: bool) -> &[u8] {
+/// The word with which bytes begin that aren't of ICU's form.
+fn word_in(bytes: &[u8]) -> &[u8] {
     for at in 0..bytes.len() {
-        let is_word = if is_icu {
-            resb_icu_grammar::is_word(bytes[at])
-        } else {
-            resb_grammar::is_word(bytes[at])
-        };
-        if !is_word {
+        if !is_word(bytes[at]) {
             return &bytes[..at];
         }
     }

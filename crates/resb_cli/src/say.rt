@@ -6,6 +6,7 @@ use crate::repeated::repeated_key;
 use crate::show::Form;
 use crate::shown::Shown;
 use crate::streams::{InputError, NO_MEMORY};
+use crate::texts::SourceText;
 use resb_compile::{CompileError, IcuCompileError};
 use resb_diagnostics::{
     Location, first_icu_outdent, first_outdent, location_of, long_icu_string_before,
@@ -132,7 +133,34 @@ pub(crate) fn refuse<R: Eprint + AllocGlobal>(
     source: &[u8],
     error: &SourceError,
 ) -> u8 {
-    match where_to_look(source, error) {
+    tell(rt, name, source, where_to_look(source, error), error)
+}
+
+/// Says why a text is refused that may have taken other files in, and where in its own file, and
+/// gives the status of that.
+pub(crate) fn refuse_source<R: Eprint + AllocGlobal>(
+    rt: &R,
+    name: &str,
+    text: SourceText<'_>,
+    error: &SourceError,
+) -> u8 {
+    let blame = match where_to_look(text.whole().as_bytes(), error) {
+        Blame::Nowhere => Blame::Nowhere,
+        Blame::At(place) => Blame::At(text.place_in_file(place)),
+        Blame::Open(place) => Blame::Open(text.place_in_file(place)),
+    };
+    tell(rt, name, text.read().as_bytes(), blame, error)
+}
+
+/// Says why a text is refused, and what is to blame in it, and gives the status of that.
+fn tell<R: Eprint + AllocGlobal>(
+    rt: &R,
+    name: &str,
+    source: &[u8],
+    blame: Blame,
+    error: &SourceError,
+) -> u8 {
+    match blame {
         Blame::Nowhere if wants_memory(error) => complain(rt, name, NO_MEMORY),
         Blame::Nowhere => complain(rt, name, error),
         Blame::At(place) => refuse_at(rt, name, source, place, error),

@@ -53,17 +53,21 @@ impl fmt::Display for InputError {
     }
 }
 
-/// The bytes of a file or of standard input. A limit says how many there may be, but never less
-/// than 1 MiB.
+/// The most bytes that an input may have: what a limit says, but never less than 1 MiB.
+pub(crate) fn most_bytes(limit: Option<u64>) -> u64 {
+    match limit {
+        Some(limit) => limit.max(LEAST_LIMIT),
+        None => MOST_BYTES,
+    }
+}
+
+/// The bytes of a file or of standard input, of which there may be so many.
 pub(crate) fn read_input(
     rt: &HostRuntime,
     name: &str,
     limit: Option<u64>,
 ) -> Result<Vec<u8>, InputError> {
-    let most = match limit {
-        Some(limit) => limit.max(LEAST_LIMIT),
-        None => MOST_BYTES,
-    };
+    let most = most_bytes(limit);
     if name == "-" {
         return read_from(rt.alloc(), &mut rt.stdin(), most);
     }

@@ -4,6 +4,7 @@
 use crate::repeated::{Repeated, key_at};
 use crate::say::{fail, say_at};
 use crate::shown::Shown;
+use crate::texts::SourceText;
 use resb_diagnostics::{Location, Locations, Reason, Warning, icu_warnings, warnings};
 use std::fmt;
 
@@ -16,29 +17,33 @@ const MOST_WARNINGS: usize = 20;
 pub(crate) fn warn<R: Eprint + AllocGlobal>(
     rt: &R,
     name: &str,
-    text: &str,
+    text: SourceText<'_>,
     is_icu: bool,
     is_quiet: bool,
 ) -> Result<bool, u8> {
     let found = if is_icu {
-        icu_warnings(rt.alloc(), text)
+        icu_warnings(rt.alloc(), text.whole())
     } else {
-        warnings(rt.alloc(), text)
+        warnings(rt.alloc(), text.whole())
     };
     let Ok(found) = found else {
         return Err(fail(rt, name, "its warnings are not known: out of memory"));
     };
     if !is_quiet {
-        say_warnings(rt, name, text.as_bytes(), found.as_slice());
+        say_warnings(rt, name, text, found.as_slice());
     }
     Ok(!found.is_empty())
 }
 
 /// Says the first of the warnings of a text, and how many more there are.
-fn say_warnings<R: Eprint>(rt: &R, name: &str, source: &[u8], found: &[Warning]) {
+fn say_warnings<R: Eprint>(rt: &R, name: &str, text: SourceText<'_>, found: &[Warning]) {
+    let source = text.read().as_bytes();
     let (mut places, mut firsts) = (Locations::new(source), Locations::new(source));
     for warning in found.iter().take(MOST_WARNINGS) {
-        let (reason, at) = (warning.reason, places.find(warning.place));
+        let (reason, at) = (
+            warning.reason,
+            places.find(text.place_in_file(warning.place)),
+        );
         let (key, first) = match reason {
             // a text of ICU's form with such a key is refused
             Reason::RepeatedKey(first) => (

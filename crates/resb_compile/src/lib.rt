@@ -1,15 +1,18 @@
 //! From a text to its file, in either form: `compile` and `compile_icu`, each also within a limit;
-//! over a pool bundle, or without what rules leave out; and the keys with which a tree is written.
+//! compact, over a pool bundle, or without what rules leave out; and the keys with which a tree is
+//! written.
 //! Texts are read, and files written, in the crates below; nothing here reads a file.
 #![tactic(auto)]
 
 mod compiling;
+mod compiling_compact;
 mod compiling_filtered;
 mod compiling_icu;
 mod compiling_with_pool;
 mod keys;
 
 pub use compiling::{CompileError, CompileWithinError, compile, compile_within};
+pub use compiling_compact::compile_icu_compact;
 pub use compiling_filtered::{
     compile_icu_filtered, compile_icu_filtered_with_pool, read_icu_filtered,
 };

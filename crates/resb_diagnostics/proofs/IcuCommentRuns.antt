@@ -1,108 +1,120 @@
--- Comments of a text of ICU's form, and slashes that begin none.
-use Rattle.std.proofs.Common.{◌≡◌, ◌∙◌, ℕ, suc, ◌+◌, ◌-◌, ◌<◌, ◌≤◌, Bool, true, false, ◌||◌}
-use Rattle.std.proofs.Common.{◌==◌, List, length, refl, sym, ap, subst, arith, eqb-true}
-use Rattle.std.proofs.Common.{None, inl, inr}
-use Rattle.std.specs.Prelude.{slice_index, if◌then◌else◌, ◌⊎◌}
+-- Comments of a text of ICU's form.
+use Rattle.std.proofs.Common.{◌≡◌, ◌∙◌, ℕ, suc, ◌+◌, ◌-◌, ◌<◌, ◌≤◌, Bool, true, false, ◌&&◌}
+use Rattle.std.proofs.Common.{◌||◌, ◌==◌, List, length, refl, sym, ap, subst, arith, eqb-true}
+use Rattle.std.proofs.Common.{Some, None, inl, inr}
+use Rattle.std.specs.Prelude.{slice_index, not, if◌then◌else◌, ◌⊎◌}
 use Rattle.std.proofs.lemmas.Bool.{cases_lt, false≢true}
 use Rattle.resb_grammar.specs.Ascii.{slash, star, line_feed, carriage_return}
 use Rattle.resb_grammar.specs.ByteRuns.{is_line_end}
 use Rattle.resb_grammar.specs.Lexical.{Closer}
-use Rattle.resb_icu_grammar.specs.Bytes.{is_word}
-use Rattle.resb_diagnostics.specs.Braces.{mode_behind, behind_token, behind_block, icu_mode_behind}
+use Rattle.resb_icu_grammar.specs.Unquoted.{begins_comment}
+use Rattle.resb_diagnostics.specs.Braces.{behind_token, behind_block, icu_mode_behind}
 use Rattle.resb_diagnostics.specs.Braces.{has_icu_tokens}
-use Rattle.resb_diagnostics.specs.IcuWarnings.{is_icu_quoted, icu_word_start, icu_token_of}
-use Rattle.resb_diagnostics.specs.Inner.IcuTokens.{icu_mode_at, IsIcuBetween, IcuPasses, IsUnquoted}
-use Rattle.resb_diagnostics.specs.Inner.IcuTokens.{IsIcuQuiet, IsIcuLineRest}
+use Rattle.resb_diagnostics.specs.IcuWarnings.{is_icu_quoted, is_in_word, icu_word_start}
+use Rattle.resb_diagnostics.specs.IcuWarnings.{icu_token_of}
+use Rattle.resb_diagnostics.specs.Inner.IcuTokens.{icu_mode_at, IsIcuBetween, IcuPasses}
+use Rattle.resb_diagnostics.specs.Inner.IcuTokens.{IsIcuQuiet, IsIcuLineRest, IsStringless}
 use Rattle.resb_diagnostics.specs.Inner.Tokens.{IsBlockRest}
 use Rattle.resb_diagnostics.specs.declared.braces.IcuMode.{IcuMode}
 use Rattle.resb_diagnostics.specs.declared.braces.IcuMode.TheVariants.{As, BlockStart}
 use Rattle.resb_diagnostics.specs.declared.braces.Mode.TheVariants as modes
+use Rattle.resb_diagnostics.specs.declared.icu_tokens.IcuToken.TheVariants as token
 use Rattle.resb_diagnostics.proofs.Passing.{up}
 use Rattle.resb_diagnostics.proofs.IcuPassing.{one_token, one_silent, then_quiet, open_mode}
-use Rattle.resb_diagnostics.proofs.IcuPassing.{unquoted_more, between_behind}
+use Rattle.resb_diagnostics.proofs.IcuPassing.{stringless_more, between_behind, silent_word}
+use Rattle.resb_diagnostics.proofs.IcuPassing.{last_word, no_word, not_comment, no_string}
+
+-- a comment begins with a slash, and goes on with another one or with a star
+pub begins_slash : (text : List ℕ) (at : ℕ) → begins_comment text at ≡ true
+    → slice_index text at ≡ slash
+begins_slash text at h = by (slice_index text at == slash) refl h
+  where
+    second : Bool
+    second = slice_index text (at + 1) == slash || slice_index text (at + 1) == star
+
+    by : (b : Bool) → (slice_index text at == slash) ≡ b → (b && second) ≡ true
+        → slice_index text at ≡ slash
+    by true e _ = eqb-true (slice_index text at) slash e
+    by false _ i = absurd (false≢true i)
+
+pub begins_star : (text : List ℕ) (at : ℕ) → begins_comment text at ≡ true
+    → (slice_index text (at + 1) == slash) ≡ false → slice_index text (at + 1) ≡ star
+begins_star text at h other =
+    by (slice_index text at == slash) (slice_index text (at + 1) == slash) other
+    (slice_index text (at + 1) == star) refl h
+  where
+    by : (a b : Bool) → b ≡ false → (c : Bool) → (slice_index text (at + 1) == star) ≡ c
+        → (a && (b || c)) ≡ true → slice_index text (at + 1) ≡ star
+    by a true e _ _ _ = absurd (false≢true (sym e))
+    by a false _ true f _ = eqb-true (slice_index text (at + 1)) star f
+    by true false _ false _ i = absurd (false≢true i)
+    by false false _ false _ i = absurd (false≢true i)
+
+-- a slash or a star that is none of a word is no token
+slash_token : (text : List ℕ) (n : ℕ) → is_in_word text n ≡ false
+    → icu_token_of text n slash ≡ None
+slash_token text n h =
+    ap (λ w. if w && not (is_in_word text (suc n))
+    then Some (token.Word (icu_word_start text n) (n + 1)) else None) h
+
+star_token : (text : List ℕ) (n : ℕ) → is_in_word text n ≡ false
+    → icu_token_of text n star ≡ None
+star_token text n h =
+    ap (λ w. if w && not (is_in_word text (suc n))
+    then Some (token.Word (icu_word_start text n) (n + 1)) else None) h
 
 -- the way from a comment's first byte on, up to a place where the byte stands in this
 record InComment (text : List ℕ) (at k : ℕ) (m : IcuMode) : Type 0 where
   pub mode : icu_mode_at text k ≡ m
   pub passes : IcuPasses text at k None
-  pub unquoted : IsUnquoted text at k
+  pub stringless : IsStringless text at k
 
 -- a byte more, that is no token
 silent_more : (text : List ℕ) (at k : ℕ) (m n : IcuMode) → k < length text
     → has_icu_tokens m ≡ false → is_icu_quoted m ≡ false
     → icu_mode_behind m (slice_index text k) ≡ n → InComment text at k m
     → InComment text at (suc k) n
-silent_more text at k m n fits no_tokens plain behind so_far = record {
-  mode = ap (λ i. icu_mode_behind i (slice_index text k)) so_far.mode ∙ behind;
-  passes = then_quiet text at k (suc k) None so_far.passes
-      (one_silent text k fits (ap has_icu_tokens so_far.mode ∙ no_tokens));
-  unquoted = unquoted_more text at k so_far.unquoted (ap is_icu_quoted so_far.mode ∙ plain);
-}
+silent_more text at k m n fits no_tokens plain behind so_far =
+    let silent = ap has_icu_tokens so_far.mode ∙ no_tokens in record {
+      mode = ap (λ i. icu_mode_behind i (slice_index text k)) so_far.mode ∙ behind;
+      passes = then_quiet text at k (suc k) None so_far.passes (one_silent text k fits silent);
+      stringless = stringless_more text at k so_far.stringless
+          (no_string text k (ap is_icu_quoted so_far.mode ∙ plain) (silent_word text k silent));
+    }
 
--- behind a slash among tokens
+-- behind the slash with which a comment begins
 behind_slash : (text : List ℕ) (at : ℕ) → at < length text → IsIcuBetween text at
-    → slice_index text at ≡ slash → InComment text at (suc at) (As modes.Slash)
-behind_slash text at fits between e = record {
-  mode = between.next ∙ ap (λ b. As (behind_token b)) e;
-  passes = one_token text at None fits between.tokens (ap (icu_token_of text at) e);
-  unquoted = unquoted_more text at at (λ k low high. absurd (omega (arith, low, high)))
-      (open_mode (icu_mode_at text at) between.tokens);
-}
-
-pub last_slash : (text : List ℕ) (at : ℕ) → at + 1 ≡ length text → IsIcuBetween text at
-    → slice_index text at ≡ slash → IsIcuQuiet text at (at + 1)
-last_slash text at last between e =
-    let behind = behind_slash text at (omega arith) between e in
-    let next : suc at ≡ at + 1 = omega arith in
-    subst (λ n. IsIcuQuiet text at n) next
-    (record {
-      more = omega arith;
-      passes = behind.passes;
-      unquoted = behind.unquoted;
-      between = λ lt. absurd (omega (arith, lt));
-    })
-
--- a slash with no comment
-pub lone_slash : (text : List ℕ) (at : ℕ) → at < length text → IsIcuBetween text at
-    → slice_index text at ≡ slash → (slice_index text (at + 1) == slash) ≡ false
-    → (slice_index text (at + 1) == star) ≡ false → IsIcuQuiet text at (at + 1)
-lone_slash text at fits between e f g =
-    let behind = behind_slash text at fits between e in
-    let next : suc at ≡ at + 1 = omega arith in
-    let b = slice_index text (suc at) in
-    let f' : (b == slash) ≡ false = ap (λ n. slice_index text n == slash) next ∙ f in
-    let g' : (b == star) ≡ false = ap (λ n. slice_index text n == star) next ∙ g in
-    subst (λ n. IsIcuQuiet text at n) next
-    (record {
-      more = omega arith;
-      passes = behind.passes;
-      unquoted = behind.unquoted;
-      between = λ _. record {
-        tokens = ap has_icu_tokens behind.mode;
-        next = ap (λ m. icu_mode_behind m b) behind.mode
-            ∙ ap (λ s. if s then BlockStart else As (mode_behind modes.Slash b)) g'
-            ∙ ap (λ s. As (if s then modes.LineComment
-            else (if b == star then modes.BlockComment else behind_token b))) f'
-            ∙ ap (λ s. As (if s then modes.BlockComment else behind_token b)) g';
-        word = λ _. ap (λ c. if is_word c then icu_word_start text at else suc at) e;
-      };
-    })
+    → begins_comment text at ≡ true → InComment text at (suc at) (As modes.Slash)
+behind_slash text at fits between begins =
+    let e = begins_slash text at begins in
+    let other = no_word text at (not_comment text at begins) in record {
+      mode = between.next ∙ ap (λ b. As (behind_token b)) e;
+      passes = one_token text at None fits between.tokens
+          (ap (icu_token_of text at) e ∙ slash_token text at other);
+      stringless = stringless_more text at at (λ k low high. absurd (omega (arith, low, high)))
+          (no_string text at (open_mode (icu_mode_at text at) between.tokens) other);
+    }
 
 -- a comment begins with two bytes
 comment_opens : (text : List ℕ) (at c : ℕ) (m : IcuMode) → at + 1 < length text
-    → IsIcuBetween text at → slice_index text at ≡ slash → slice_index text (at + 1) ≡ c
-    → icu_mode_behind (As modes.Slash) c ≡ m → icu_token_of text (suc at) c ≡ None
+    → IsIcuBetween text at → begins_comment text at ≡ true → slice_index text (at + 1) ≡ c
+    → icu_mode_behind (As modes.Slash) c ≡ m → has_icu_tokens m ≡ false
+    → (is_in_word text (suc at) ≡ false → icu_token_of text (suc at) c ≡ None)
     → InComment text at (suc (suc at)) m
-comment_opens text at c m fits between e f behind not_so =
-    let so_far = behind_slash text at (omega arith) between e in
+comment_opens text at c m fits between begins f behind silent not_so =
+    let so_far = behind_slash text at (omega arith) between begins in
     let next : suc at ≡ at + 1 = omega arith in
-    let f' : slice_index text (suc at) ≡ c = ap (slice_index text) next ∙ f in record {
-      mode = ap (λ k. icu_mode_behind k (slice_index text (suc at))) so_far.mode
-          ∙ ap (icu_mode_behind (As modes.Slash)) f' ∙ behind;
+    let f' : slice_index text (suc at) ≡ c = ap (slice_index text) next ∙ f in
+    let mode : icu_mode_at text (suc (suc at)) ≡ m =
+    ap (λ k. icu_mode_behind k (slice_index text (suc at))) so_far.mode
+    ∙ ap (icu_mode_behind (As modes.Slash)) f' ∙ behind in
+    let other = last_word text (suc at) (ap has_icu_tokens mode ∙ silent) in record {
+      mode = mode;
       passes = then_quiet text at (suc at) (suc (suc at)) None so_far.passes
           (one_token text (suc at) None (omega arith) (ap has_icu_tokens so_far.mode)
-          (ap (icu_token_of text (suc at)) f' ∙ not_so));
-      unquoted = unquoted_more text at (suc at) so_far.unquoted (ap is_icu_quoted so_far.mode);
+          (ap (icu_token_of text (suc at)) f' ∙ not_so other));
+      stringless = stringless_more text at (suc at) so_far.stringless
+          (no_string text (suc at) (ap is_icu_quoted so_far.mode) other);
     }
 
 -- a byte that ends no line keeps the comment going, and one that does ends it
@@ -134,19 +146,20 @@ end_cases P feed return b h = by (b == line_feed) refl (b == carriage_return) re
     by false _ false _ i = absurd (false≢true i)
 
 pub line_comment : (text : List ℕ) (at to : ℕ) → at + 1 < length text → IsIcuBetween text at
-    → slice_index text at ≡ slash → slice_index text (at + 1) ≡ slash
+    → begins_comment text at ≡ true → slice_index text (at + 1) ≡ slash
     → IsIcuLineRest text (at + 2) to → IsIcuQuiet text at to
-line_comment text at to fits between e f rest = by (cases_lt (suc (suc at)) to)
+line_comment text at to fits between begins f rest = by (cases_lt (suc (suc at)) to)
   where
     start : InComment text at (suc (suc at)) (As modes.LineComment)
-    start = comment_opens text at slash (As modes.LineComment) fits between e f refl refl
+    start = comment_opens text at slash (As modes.LineComment) fits between begins f refl refl
+        (slash_token text (suc at))
 
     by : (suc (suc at) < to) ⊎ (to ≤ suc (suc at)) → IsIcuQuiet text at to
     by (inr le) =
         let is : suc (suc at) ≡ to = omega (arith, rest.order) in record {
           more = omega (arith, rest.order);
           passes = subst (λ n. IcuPasses text at n None) is start.passes;
-          unquoted = subst (IsUnquoted text at) is start.unquoted;
+          stringless = subst (IsStringless text at) is start.stringless;
           between = λ lt. absurd (omega (arith, (rest.ends lt).0));
         }
     by (inl lt) =
@@ -164,14 +177,14 @@ line_comment text at to fits between e f rest = by (cases_lt (suc (suc at)) to)
         (ap (λ m. icu_mode_behind m (slice_index text k)) (sym last.mode)) last in record {
           more = omega arith;
           passes = subst (λ n. IcuPasses text at n None) is whole.passes;
-          unquoted = subst (IsUnquoted text at) is whole.unquoted;
+          stringless = subst (IsStringless text at) is whole.stringless;
           between = λ more.
               let ends = (rest.ends more).1 in
               subst (IsIcuBetween text) is (between_behind text k
               (ap (λ m. icu_mode_behind m (slice_index text k)) last.mode
               ∙ end_cases (λ b. icu_mode_behind (As modes.LineComment) b ≡ As modes.Tokens) refl
               refl (slice_index text k) ends)
-              (end_cases (λ b. is_word b ≡ false) refl refl (slice_index text k) ends));
+              (silent_word text k (ap has_icu_tokens last.mode)));
         }
 
 -- in a comment of stars, that may end from a place on: behind a star or not
@@ -239,29 +252,31 @@ star_behind text at from k s (starred so_far j low is t) =
 
 -- a comment of which no more than its first two bytes stands there
 pub bare_block : (text : List ℕ) (at : ℕ) → at + 2 ≡ length text → IsIcuBetween text at
-    → slice_index text at ≡ slash → slice_index text (at + 1) ≡ star
+    → begins_comment text at ≡ true → slice_index text (at + 1) ≡ star
     → IsIcuQuiet text at (at + 2)
-bare_block text at last between e f =
-    let start = comment_opens text at star BlockStart (omega arith) between e f refl refl in
+bare_block text at last between begins f =
+    let start = comment_opens text at star BlockStart (omega arith) between begins f refl refl
+    (star_token text (suc at)) in
     let next : suc (suc at) ≡ at + 2 = omega arith in
     subst (IsIcuQuiet text at) next
     (record {
       more = omega arith;
       passes = start.passes;
-      unquoted = start.unquoted;
+      stringless = start.stringless;
       between = λ lt. absurd (omega (arith, lt));
     })
 
 pub block_comment : (text : List ℕ) (at to : ℕ) → at + 2 < length text → IsIcuBetween text at
-    → slice_index text at ≡ slash → slice_index text (at + 1) ≡ star
+    → begins_comment text at ≡ true → slice_index text (at + 1) ≡ star
     → IsBlockRest text (at + 3) to → IsIcuQuiet text at to
-block_comment text at to fits between e f rest = by (cases_lt (suc (suc (suc at))) to)
+block_comment text at to fits between begins f rest = by (cases_lt (suc (suc (suc at))) to)
   where
     start : InComment text at (suc (suc (suc at))) (As modes.BlockComment)
     start =
         silent_more text at (suc (suc at)) BlockStart (As modes.BlockComment) (omega arith) refl
         refl refl
-        (comment_opens text at star BlockStart (omega arith) between e f refl refl)
+        (comment_opens text at star BlockStart (omega arith) between begins f refl refl
+        (star_token text (suc at)))
 
     inside : (k : ℕ) → at + 3 ≤ k → k < to → InStars text at (at + 3) k
     inside k low high =
@@ -275,7 +290,7 @@ block_comment text at to fits between e f rest = by (cases_lt (suc (suc (suc at)
         let is : suc (suc (suc at)) ≡ to = omega (arith, rest.order) in record {
           more = omega (arith, rest.order);
           passes = subst (λ n. IcuPasses text at n None) is start.passes;
-          unquoted = subst (IsUnquoted text at) is start.unquoted;
+          stringless = subst (IsStringless text at) is start.stringless;
           between = λ lt. absurd (omega (arith, (rest.ends lt).0));
         }
     by (inl lt) =
@@ -286,7 +301,7 @@ block_comment text at to fits between e f rest = by (cases_lt (suc (suc (suc at)
         (inside k (omega arith) (omega arith)) in record {
           more = omega arith;
           passes = subst (λ n. IcuPasses text at n None) is whole.passes;
-          unquoted = subst (IsUnquoted text at) is whole.unquoted;
+          stringless = subst (IsStringless text at) is whole.stringless;
           between = λ more.
               let (low, closer) = rest.ends more in
               let j = to - 2 in
@@ -299,5 +314,6 @@ block_comment text at to fits between e f rest = by (cases_lt (suc (suc (suc at)
               ap (slice_index text) (omega arith) ∙ closer.slash in
               subst (IsIcuBetween text) is (between_behind text k
               (ap (λ m. icu_mode_behind m (slice_index text k)) mode
-              ∙ ap (icu_mode_behind (As modes.Star)) is_slash) (ap is_word is_slash));
+              ∙ ap (icu_mode_behind (As modes.Star)) is_slash)
+              (silent_word text k (ap has_icu_tokens mode)));
         }

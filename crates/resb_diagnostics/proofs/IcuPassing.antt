@@ -5,16 +5,18 @@ use Rattle.std.proofs.Common.{inl, inr}
 use Rattle.std.specs.Prelude.{slice_index, not, if◌then◌else◌, ◌⊎◌}
 use Rattle.std.proofs.lemmas.Bool.{cases_lt, false≢true}
 use Rattle.resb_grammar.specs.ByteRuns.{is_line_end}
-use Rattle.resb_icu_grammar.specs.Bytes.{is_word}
+use Rattle.resb_icu_grammar.specs.Bytes.{is_unquoted}
+use Rattle.resb_icu_grammar.specs.Unquoted.{begins_comment}
 use Rattle.resb_diagnostics.specs.Braces.{icu_mode_behind, has_icu_tokens}
 use Rattle.resb_diagnostics.specs.IcuWarnings.{is_icu_quoted, line_ended, icu_word_start}
-use Rattle.resb_diagnostics.specs.IcuWarnings.{icu_last_at}
+use Rattle.resb_diagnostics.specs.IcuWarnings.{word_goes_on, is_in_word, is_in_string, icu_last_at}
 use Rattle.resb_diagnostics.specs.IcuWarnings.{icu_warned, icu_token_of, icu_token_at}
 use Rattle.resb_diagnostics.specs.IcuWarnings.{of_some_token}
 use Rattle.resb_diagnostics.specs.IcuWarnings.{and_one, behind_icu_word}
 use Rattle.resb_diagnostics.specs.IcuKeys.{icu_word_piece}
 use Rattle.resb_diagnostics.specs.Groups.{behind_piece}
-use Rattle.resb_diagnostics.specs.Inner.IcuTokens.{icu_mode_at, IsIcuBetween, IcuPasses, IsUnquoted}
+use Rattle.resb_diagnostics.specs.Inner.IcuTokens.{icu_mode_at, IsIcuBetween, IcuPasses}
+use Rattle.resb_diagnostics.specs.Inner.IcuTokens.{IsStringless}
 use Rattle.resb_diagnostics.specs.declared.braces.IcuMode.{IcuMode}
 use Rattle.resb_diagnostics.specs.declared.braces.IcuMode.TheVariants.{As, Escape, BlockStart}
 use Rattle.resb_diagnostics.specs.declared.braces.Mode.TheVariants as modes
@@ -109,48 +111,95 @@ quoted_mode (As modes.Star) h = absurd (false≢true h)
 quoted_mode Escape h = refl
 quoted_mode BlockStart h = refl
 
--- one byte more that isn't in quotes
-pub unquoted_more : (text : List ℕ) (from k : ℕ) → IsUnquoted text from k
-    → is_icu_quoted (icu_mode_at text k) ≡ false → IsUnquoted text from (suc k)
-unquoted_more text from k h here j low high = by (cases_lt j k)
+never : (b : Bool) → (b && false) ≡ false
+never true = refl
+never false = refl
+
+-- a byte in quotes or in a comment is none of a word
+pub silent_word : (text : List ℕ) (k : ℕ) → has_icu_tokens (icu_mode_at text k) ≡ false
+    → is_in_word text k ≡ false
+silent_word text k h =
+    ap (λ b. (b && has_icu_tokens (icu_mode_at text (suc k))) && word_goes_on text k) h
+
+-- nor is one behind which tokens don't stand
+pub last_word : (text : List ℕ) (k : ℕ) → has_icu_tokens (icu_mode_at text (suc k)) ≡ false
+    → is_in_word text k ≡ false
+last_word text k h =
+    ap (λ b. (has_icu_tokens (icu_mode_at text k) && b) && word_goes_on text k) h
+    ∙ ap (λ b. b && word_goes_on text k) (never (has_icu_tokens (icu_mode_at text k)))
+
+-- nor one with which no word goes on
+pub no_word : (text : List ℕ) (k : ℕ) → word_goes_on text k ≡ false → is_in_word text k ≡ false
+no_word text k h =
+    let open_there = has_icu_tokens (icu_mode_at text k)
+    && has_icu_tokens (icu_mode_at text (suc k)) in
+    ap (λ b. open_there && b) h ∙ never open_there
+
+-- with a byte that may not stand in an unquoted string none goes on
+pub not_unquoted : (text : List ℕ) (k : ℕ) → is_unquoted (slice_index text k) ≡ false
+    → word_goes_on text k ≡ false
+not_unquoted text k h = ap (λ b. b && not (begins_comment text k)) h
+
+-- nor with the first byte of a comment
+pub not_comment : (text : List ℕ) (k : ℕ) → begins_comment text k ≡ true
+    → word_goes_on text k ≡ false
+not_comment text k h =
+    ap (λ b. is_unquoted (slice_index text k) && not b) h
+    ∙ never (is_unquoted (slice_index text k))
+
+-- a byte of no word that isn't in quotes
+pub no_string : (text : List ℕ) (k : ℕ) → is_icu_quoted (icu_mode_at text k) ≡ false
+    → is_in_word text k ≡ false → is_in_string text k ≡ false
+no_string text k plain other = ap (λ q. q || is_in_word text k) plain ∙ other
+
+-- behind a byte of a word or in quotes no line has ended
+pub ends_none : (text : List ℕ) (k : ℕ) → is_in_string text k ≡ true
+    → line_ended text (suc k) ≡ false
+ends_none text k h =
+    ap (λ i. not i && (is_line_end (slice_index text k) || line_ended text k)) h
+
+-- one byte more of no word that isn't in quotes
+pub stringless_more : (text : List ℕ) (from k : ℕ) → IsStringless text from k
+    → is_in_string text k ≡ false → IsStringless text from (suc k)
+stringless_more text from k h here j low high = by (cases_lt j k)
   where
-    by : (j < k) ⊎ (k ≤ j) → is_icu_quoted (icu_mode_at text j) ≡ false
+    by : (j < k) ⊎ (k ≤ j) → is_in_string text j ≡ false
     by (inl lt) = h j low lt
     by (inr le) =
         let same : k ≡ j = omega arith in
-        subst (λ i. is_icu_quoted (icu_mode_at text i) ≡ false) same here
+        subst (λ i. is_in_string text i ≡ false) same here
 
--- a byte that isn't in quotes and ends no line
-pub ended_same : (text : List ℕ) (k : ℕ) → is_icu_quoted (icu_mode_at text k) ≡ false
+-- such a byte that ends no line
+pub ended_same : (text : List ℕ) (k : ℕ) → is_in_string text k ≡ false
     → is_line_end (slice_index text k) ≡ false → line_ended text (suc k) ≡ line_ended text k
 ended_same text k plain none =
     ap (λ q. not q && (is_line_end (slice_index text k) || line_ended text k)) plain
     ∙ ap (λ e. e || line_ended text k) none
 
--- a byte that isn't in quotes and ends a line
-pub ended_here : (text : List ℕ) (k : ℕ) → is_icu_quoted (icu_mode_at text k) ≡ false
+-- and one that ends a line
+pub ended_here : (text : List ℕ) (k : ℕ) → is_in_string text k ≡ false
     → is_line_end (slice_index text k) ≡ true → line_ended text (suc k) ≡ true
 ended_here text k plain ends =
     ap (λ q. not q && (is_line_end (slice_index text k) || line_ended text k)) plain
     ∙ ap (λ e. e || line_ended text k) ends
 
--- behind a byte that is no word character, and behind which tokens stand
+-- behind a byte that is none of a word, and behind which tokens stand
 pub between_behind : (text : List ℕ) (k : ℕ) → icu_mode_at text (suc k) ≡ As modes.Tokens
-    → is_word (slice_index text k) ≡ false → IsIcuBetween text (suc k)
+    → is_in_word text k ≡ false → IsIcuBetween text (suc k)
 between_behind text k e other = record {
   tokens = ap has_icu_tokens e;
   next = ap (λ m. icu_mode_behind m (slice_index text (suc k))) e;
   word = λ w. ap (λ b. if b then icu_word_start text k else suc k) other;
 }
 
--- where a line ended, as long as nothing stands in quotes
-pub ended_stays : (text : List ℕ) (from to : ℕ) → from ≤ to → IsUnquoted text from to
+-- where a line ended, as long as no byte of a word or in quotes stands
+pub ended_stays : (text : List ℕ) (from to : ℕ) → from ≤ to → IsStringless text from to
     → line_ended text from ≡ true → line_ended text to ≡ true
-ended_stays text from to order unquoted e =
+ended_stays text from to order stringless e =
     up (λ k. line_ended text k ≡ true) from to e order
     (λ k low high so_far.
     ap (λ q. not q && (is_line_end (slice_index text k) || line_ended text k))
-    (unquoted k low high)
+    (stringless k low high)
     ∙ ap (λ l. is_line_end (slice_index text k) || l) so_far
     ∙ either_way (is_line_end (slice_index text k)))
   where

@@ -1,13 +1,14 @@
--- The warnings of a text of ICU's form: of pieces that are joined over a line's end to one member
+-- The warnings of a text of ICU's form: of strings that are joined over a line's end to one member
 -- of an array, of integers that lose bits, and of `{0}` where a group begins, and where it is all
 -- of a group but a word before it.
 --     icu_warned text n   those of the first n bytes
--- A key is one piece alone. So in a text that is a bundle pieces in a row are a member of an array,
--- but where they are all that stands in a group that is not `:array`.
+-- In a text that is a bundle the words are its unquoted strings, its numbers and the names of its
+-- types. A key is one piece or one word alone. So pieces in a row, or words, are a member of an
+-- array, but where they are all that stands in a group that is not `:array`.
 use Rattle.std.specs.Prelude.{ℕ, zero, suc, Bool, true, false, ◌&&◌, ◌||◌, not, ◌==◌, List}
-use Rattle.std.specs.Prelude.{◌+◌, nat_lt, ℤ, [], ◌∷◌, ◌++◌, length}
+use Rattle.std.specs.Prelude.{◌+◌, nat_lt, ℤ, [], ◌∷◌, ◌++◌}
 use Rattle.std.specs.Prelude.{slice_index, slice_range, if◌then◌else◌, Option, Some, None}
-use Rattle.resb_diagnostics.specs.Braces.{mode_in, icu_form}
+use Rattle.resb_diagnostics.specs.Braces.{mode_in, icu_form, has_icu_tokens}
 use Rattle.resb_diagnostics.specs.Groups.{named_by}
 use Rattle.resb_diagnostics.specs.Warnings.{warning_at, is_quoted, is_negative, number_of, cut}
 use Rattle.resb_diagnostics.specs.declared.braces.IcuMode.{IcuMode}
@@ -23,7 +24,8 @@ use Rattle.resb_diagnostics.specs.declared.warning.Warning.{Warning}
 use Rattle.resb_grammar.specs.Ascii.{quote, dash, digit_0, digit_9, left_brace, right_brace, comma}
 use Rattle.resb_grammar.specs.Ascii.{colon, plus}
 use Rattle.resb_grammar.specs.ByteRuns.{is_line_end}
-use Rattle.resb_icu_grammar.specs.Bytes.{is_word}
+use Rattle.resb_icu_grammar.specs.Bytes.{is_unquoted}
+use Rattle.resb_icu_grammar.specs.Unquoted.{begins_comment}
 
 -- what is in quotes, escapes included
 abbrev pub is_icu_quoted : IcuMode → Bool
@@ -31,32 +33,42 @@ is_icu_quoted (As m) = is_quoted m
 is_icu_quoted Escape = true
 is_icu_quoted BlockStart = false
 
--- a line ended before this place, behind the last byte that stands in quotes
+-- a word goes on with the byte at a place: that may stand in an unquoted string, and begins no
+-- comment, though it may be a slash
+abbrev pub word_goes_on : List ℕ → ℕ → Bool
+word_goes_on text n = is_unquoted (slice_index text n) && not (begins_comment text n)
+
+-- the byte at a place is one of a word: a word goes on with it, among tokens, and tokens may follow
+-- it, so that it isn't the second byte of a comment
+abbrev pub is_in_word : List ℕ → ℕ → Bool
+is_in_word text n =
+    (has_icu_tokens (mode_in icu_form text n) && has_icu_tokens (mode_in icu_form text (suc n)))
+    && word_goes_on text n
+
+-- the byte at a place is one of a word, or stands in quotes
+abbrev pub is_in_string : List ℕ → ℕ → Bool
+is_in_string text n = is_icu_quoted (mode_in icu_form text n) || is_in_word text n
+
+-- a line ended before this place, behind the last byte of a word or in quotes
 abbrev pub line_ended : List ℕ → ℕ → Bool
 line_ended text zero = false
 line_ended text (suc n) =
-    not (is_icu_quoted (mode_in icu_form text n))
-    && (is_line_end (slice_index text n) || line_ended text n)
+    not (is_in_string text n) && (is_line_end (slice_index text n) || line_ended text n)
 
--- where the run of word characters before a place begins: at the place itself if there is none
+-- where the word begins whose bytes stand right before a place: at the place itself if none do
 abbrev pub icu_word_start : List ℕ → ℕ → ℕ
 icu_word_start text zero = 0
-icu_word_start text (suc n) =
-    if is_word (slice_index text n) then icu_word_start text n else suc n
+icu_word_start text (suc n) = if is_in_word text n then icu_word_start text n else suc n
 
--- a word character follows a place
-abbrev pub goes_on : List ℕ → ℕ → Bool
-goes_on text n = nat_lt (n + 1) (length text) && is_word (slice_index text (n + 1))
-
--- among tokens: a piece stands at its first quote, a word at its last character, from its start up
--- to behind that
+-- among tokens: a piece stands at its first quote, a word at its last byte, from its start up to
+-- behind that
 abbrev pub icu_token_of : List ℕ → ℕ → ℕ → Option IcuToken
 icu_token_of text n b =
     if b == quote then Some (token.Piece n)
     else (if b == left_brace then Some (token.Open n)
     else (if b == right_brace then Some token.Close
     else (if b == comma then Some token.Comma
-    else (if is_word b && not (goes_on text n)
+    else (if is_in_word text n && not (is_in_word text (suc n))
     then Some (token.Word (icu_word_start text n) (n + 1)) else None))))
 
 -- the token at a place, if the byte there isn't in quotes or in a comment
@@ -82,23 +94,44 @@ abbrev pub is_digit : List ℕ → Bool
 is_digit (b ∷ []) = not (nat_lt b digit_0) && not (nat_lt digit_9 b)
 is_digit _ = false
 
--- behind a word that is no type, one digit or not: before the root's `{`; a digit that stands first
--- in a group with which another begins, or in the value of the first key of another; or any other
--- word that stands first in a group without a type, which is a key where a `{` follows
-abbrev pub behind_plain_word : Bool → IcuLast → IcuLast
-behind_plain_word _ last.Start = last.Start
-behind_plain_word true (last.Inner n) = last.Digit n
-behind_plain_word true (last.Value n) = last.ValueDigit n
-behind_plain_word false (last.Inner n) = last.Key
-behind_plain_word false (last.Value n) = last.Key
-behind_plain_word _ last.Open = last.Key
-behind_plain_word _ _ = last.Other
+-- the first piece or word of a string before which a line ended: that one, or the one at this place
+abbrev pub first_joined : Option ℕ → Bool → ℕ → Option ℕ
+first_joined (Some m) _ n = Some m
+first_joined None true n = Some n
+first_joined None false n = None
+
+-- behind a piece or a word at a place, where a line ended before it or not: it is the bundle's
+-- name, or goes on with the string before, or begins one, first in a group or elsewhere
+abbrev pub behind_string : ℕ → Bool → IcuLast → IcuLast
+behind_string n ended last.Start = last.Start
+behind_string n ended (last.First joined) = last.First (first_joined joined ended n)
+behind_string n ended (last.Member joined) = last.Member (first_joined joined ended n)
+behind_string n ended last.Key = last.First (first_joined None ended n)
+behind_string n ended (last.Digit m) = last.First (first_joined None ended n)
+behind_string n ended (last.ValueDigit m) = last.First (first_joined None ended n)
+behind_string n ended last.Open = last.First None
+behind_string n ended last.Typed = last.First None
+behind_string n ended (last.Inner m) = last.First None
+behind_string n ended (last.Value m) = last.First None
+behind_string n ended _ = last.Member None
+
+-- behind a word at a place, where a line ended before it or not, that is no type, one digit or not:
+-- a digit that stands first in a group with which another begins, or in the value of the first key
+-- of another; any other word that stands first in a group without a type, which is a key where a
+-- `{` follows; or what it is behind a piece
+abbrev pub behind_plain_word : ℕ → Bool → Bool → IcuLast → IcuLast
+behind_plain_word n ended true (last.Inner m) = last.Digit m
+behind_plain_word n ended true (last.Value m) = last.ValueDigit m
+behind_plain_word n ended false (last.Inner m) = last.Key
+behind_plain_word n ended false (last.Value m) = last.Key
+behind_plain_word n ended _ last.Open = last.Key
+behind_plain_word n ended _ l = behind_string n ended l
 
 -- behind a word: it is the name of a type right behind a `:`
 abbrev pub behind_icu_word : List ℕ → ℕ → ℕ → IcuLast → IcuLast
 behind_icu_word text from to l =
     if is_behind_colon text from then last_named (named_by (slice_range text from to)) l
-    else behind_plain_word (is_digit (slice_range text from to)) l
+    else behind_plain_word from (line_ended text from) (is_digit (slice_range text from to)) l
 
 -- behind a `{` at a place: what group it begins, be that the root or another one
 abbrev pub behind_open : ℕ → IcuLast → IcuLast
@@ -118,41 +151,23 @@ abbrev pub behind_close : IcuLast → IcuLast
 behind_close (last.ValueDigit n) = last.Valued n
 behind_close _ = last.Other
 
--- the first piece of a string before which a line ended: that one, or the one at this place
-abbrev pub first_joined : Option ℕ → Bool → ℕ → Option ℕ
-first_joined (Some m) _ n = Some m
-first_joined None true n = Some n
-first_joined None false n = None
-
--- behind a piece at a place, where a line ended before it or not: it goes on with the string of the
--- piece before, or begins one, first in a group or elsewhere
-abbrev pub behind_icu_piece : ℕ → Bool → IcuLast → IcuLast
-behind_icu_piece n ended (last.First joined) = last.First (first_joined joined ended n)
-behind_icu_piece n ended (last.Member joined) = last.Member (first_joined joined ended n)
-behind_icu_piece n ended last.Open = last.First None
-behind_icu_piece n ended last.Typed = last.First None
-behind_icu_piece n ended (last.Inner m) = last.First None
-behind_icu_piece n ended (last.Value m) = last.First None
-behind_icu_piece n ended _ = last.Member None
-
 -- the last token behind one more
-abbrev pub behind_icu_token : List ℕ → IcuToken → Bool → IcuLast → IcuLast
-behind_icu_token text (token.Piece n) ended l = behind_icu_piece n ended l
-behind_icu_token text (token.Word from to) ended l = behind_icu_word text from to l
-behind_icu_token text (token.Open n) ended l = behind_open n l
-behind_icu_token text token.Close ended l = behind_close l
-behind_icu_token text token.Comma ended l = last.Other
+abbrev pub behind_icu_token : List ℕ → IcuToken → IcuLast → IcuLast
+behind_icu_token text (token.Piece n) l = behind_string n (line_ended text n) l
+behind_icu_token text (token.Word from to) l = behind_icu_word text from to l
+behind_icu_token text (token.Open n) l = behind_open n l
+behind_icu_token text token.Close l = behind_close l
+behind_icu_token text token.Comma l = last.Other
 
 -- the same behind a place where a token may stand
-abbrev pub behind_some : List ℕ → Option IcuToken → Bool → IcuLast → IcuLast
-behind_some text None ended l = l
-behind_some text (Some t) ended l = behind_icu_token text t ended l
+abbrev pub behind_some : List ℕ → Option IcuToken → IcuLast → IcuLast
+behind_some text None l = l
+behind_some text (Some t) l = behind_icu_token text t l
 
 -- the last token of so many bytes
 abbrev pub icu_last_at : List ℕ → ℕ → IcuLast
 icu_last_at text zero = last.Start
-icu_last_at text (suc n) =
-    behind_some text (icu_token_at text n) (line_ended text n) (icu_last_at text n)
+icu_last_at text (suc n) = behind_some text (icu_token_at text n) (icu_last_at text n)
 
 -- a number's bytes without its sign
 abbrev pub without_sign : List ℕ → List ℕ
@@ -168,22 +183,27 @@ kept_at n (Some z) = Some (warning_at (reason.CutNumber z) n)
 abbrev pub of_integer : ℕ → List ℕ → Option Warning
 of_integer n bytes = kept_at n (cut (is_negative bytes) (number_of (without_sign bytes)))
 
--- the warning of a string whose pieces are joined over a line's end, at the first behind one
+-- the warning of a string that is joined over a line's end, at the first piece or word behind one
 abbrev pub of_joined : Option ℕ → Option Warning
 of_joined None = None
 of_joined (Some n) = Some (warning_at reason.JoinedOverLine n)
 
+-- a string in a row may go on with this token: a piece, or a word that is no type
+abbrev pub is_string : List ℕ → IcuToken → Bool
+is_string text (token.Piece n) = true
+is_string text (token.Word from to) = not (is_behind_colon text from)
+is_string text _ = false
+
 -- the warning that a token brings out: of an integer; of `{0}` with which a group begins, at its
 -- `}`; of `{0}` behind a word, where both are all that stands in a group without a type which isn't
--- the root, at that one's `}`; of a string among the members of an array, behind its last piece;
--- and of one that is first in a group, where a comma follows it
+-- the root, at that one's `}`; of a string among the members of an array, behind its last piece or
+-- word; and of one that is first in a group, where a comma follows it
 abbrev pub of_icu_token : List ℕ → IcuToken → IcuLast → Option Warning
 of_icu_token text (token.Word from to) last.Integer = of_integer from (slice_range text from to)
 of_icu_token text token.Close (last.Digit n) = Some (warning_at reason.UnquotedGroup n)
 of_icu_token text token.Close (last.Valued n) = Some (warning_at reason.UnquotedGroup n)
 of_icu_token text token.Comma (last.First joined) = of_joined joined
-of_icu_token text (token.Piece n) (last.Member joined) = None
-of_icu_token text _ (last.Member joined) = of_joined joined
+of_icu_token text t (last.Member joined) = if is_string text t then None else of_joined joined
 of_icu_token text _ _ = None
 
 -- the same of a place where a token may stand

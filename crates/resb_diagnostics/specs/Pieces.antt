@@ -1,7 +1,7 @@
 -- The pieces of a text that a person sees: strings, types, braces and commas.
 --     piece_at text n   the piece whose last byte stands at a place
--- In a text that is a bundle these are its tokens. Of a sign before a number, of the `:` before a
--- type and of the parentheses of `(nofallback)` no piece is made.
+-- In a text that is a bundle these are its tokens. Of the `:` before a type and of the parentheses
+-- of `(nofallback)` no piece is made.
 use Rattle.std.specs.Prelude.{ℕ, zero, suc, ◌+◌, Bool, false, ◌||◌, ◌==◌, List}
 use Rattle.std.specs.Prelude.{slice_index, slice_range, if◌then◌else◌, Option, Some, None}
 use Rattle.resb_grammar.specs.ByteRuns.{is_word}

@@ -4,11 +4,12 @@ ghost use Rattle.std.specs.Prelude.{◌≡◌, ◌+◌, ◌<◌, ◌≤◌, fals
 ghost use Rattle.std.specs.Prelude.{option_map};
 ghost use Rattle.resb_diagnostics.specs.Groups.{Nesting, groups_behind};
 ghost use Rattle.resb_diagnostics.specs.IcuKeys as spec;
-ghost use Rattle.resb_diagnostics.specs.IcuKeys.{icu_piece, icu_repeated};
+ghost use Rattle.resb_diagnostics.specs.IcuKeys.{icu_piece, icu_repeated, IsFirstWord};
 ghost use Rattle.resb_diagnostics.specs.Inner.IcuTokens.{HasListed, Fits, IsIn};
 ghost use Rattle.resb_diagnostics.specs.Inner.Looks.{text_piece_of, ShowsNesting};
 
 use crate::groups::Groups;
+use crate::icu_runs::icu_word_end;
 use crate::icu_tokens::{IcuToken, is_behind_colon};
 use crate::icu_walk::IcuWalk;
 use crate::text_pieces::{Piece, StringAt};
@@ -28,6 +29,14 @@ pub fn repeated_icu_keys(alloc: Global, text: &[u8]) -> Result<Vec<Warning>, All
     let mut found = Vec::new(alloc);
     keys.groups.tell_keys(&mut found)?;
     Ok(found)
+}
+
+/// The word with which bytes of a text of ICU's form begin, as a key that isn't in quotes: nothing
+/// if they begin with none.
+pub fn first_icu_word(bytes: &[u8]) -> &[u8]
+    ensures { IsFirstWord bytes.now result.now }
+{
+    &bytes[..icu_word_end(bytes, 0)]
 }
 
 /// How far a text was looked at, and the groups that are open there.

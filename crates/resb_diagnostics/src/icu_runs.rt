@@ -1,17 +1,17 @@
 //! Where a word, a string in quotes or a comment of a text of ICU's form ends, and whether a line
 //! ended on the way.
 //! Blanks are passed in `resb_grammar`; what stands at a place is found in `icu_steps`.
-ghost use Rattle.std.specs.Prelude.{◌≡◌, ◌<◌, ◌≤◌, length, slice_index};
-ghost use Rattle.resb_grammar.specs.Ascii as ascii;
+ghost use Rattle.std.specs.Prelude.{◌≡◌, ◌+◌, ◌<◌, ◌≤◌, length, slice_index, true};
 ghost use Rattle.resb_grammar.specs.ByteRuns as bytes;
-ghost use Rattle.resb_grammar.specs.ByteRuns.{Run};
 ghost use Rattle.resb_icu_grammar.specs.Bytes as words;
+ghost use Rattle.resb_icu_grammar.specs.Unquoted as unquoted;
+ghost use Rattle.resb_diagnostics.specs.IcuWarnings as spec;
 ghost use Rattle.resb_diagnostics.specs.IcuWarnings.{line_ended};
-ghost use Rattle.resb_diagnostics.specs.Inner.IcuTokens.{IsIcuBetween, IsIcuQuiet, IsUnquoted};
+ghost use Rattle.resb_diagnostics.specs.Inner.IcuTokens.{IsIcuBetween, IsIcuQuiet, IsStringless};
 ghost use Rattle.resb_diagnostics.specs.Inner.IcuTokens.{IsInQuotes, IsQuotedRest, IsIcuLineRest};
+ghost use Rattle.resb_diagnostics.specs.Inner.IcuTokens.{IsWordRest};
 
 use crate::runs::{block_end, string_stop};
-use resb_icu_grammar::is_word;
 
 /// Whether this byte ends a line: LF or CR.
 fn is_line_end(byte: u8) -> bool
@@ -20,14 +20,40 @@ fn is_line_end(byte: u8) -> bool
     byte == b'\n' || byte == b'\r'
 }
 
-/// Where the run of word characters ends.
+/// Whether a byte may stand in an unquoted string.
+fn is_unquoted(byte: u8) -> bool
+    ensures { result ≡ words.is_unquoted byte }
+{
+    match byte {
+        0 | b'\t' | b'\n' | b'\r' | b' ' | b'"' | b',' | b':' | b'\\' | b'{' | b'}' => false,
+        _ => true,
+    }
+}
+
+/// Whether a comment begins at a place, or seems to.
+fn begins_comment(text: &[u8], at: usize) -> bool
+    requires { at < length text.now }
+    ensures { result ≡ unquoted.begins_comment text.now at }
+{
+    text[at] == b'/' && at + 1 < text.len() && (text[at + 1] == b'/' || text[at + 1] == b'*')
+}
+
+/// Whether a word goes on with the byte at a place.
+pub(crate) fn word_goes_on(text: &[u8], at: usize) -> bool
+    requires { at < length text.now }
+    ensures { result ≡ spec.word_goes_on text.now at }
+{
+    is_unquoted(text[at]) && !begins_comment(text, at)
+}
+
+/// Where a word ends that goes on from a place.
 pub(crate) fn icu_word_end(text: &[u8], from: usize) -> usize
     requires { from ≤ length text.now }
-    ensures { Run words.is_word text.now from result }
+    ensures { IsWordRest text.now from result }
 {
     let end = text.len();
     for at in from..end {
-        if !is_word(text[at]) {
+        if !word_goes_on(text, at) {
             return at;
         }
     }
@@ -70,31 +96,29 @@ fn icu_line_end(text: &[u8], from: usize) -> usize
     end
 }
 
-/// Behind the comment that begins with the slash at a place, or behind the slash if none does. The
-/// byte right behind a `/*` doesn't end what it begins.
+/// Behind the comment that begins at a place. The byte right behind a `/*` doesn't end what it
+/// begins.
 pub(crate) fn icu_comment_end(text: &[u8], at: usize) -> usize
-    requires fits { at < length text.now }
+    requires fits { at + 1 < length text.now }
     requires between { IsIcuBetween text.now at }
-    requires slash { slice_index text.now at ≡ ascii.slash }
+    requires begins { unquoted.begins_comment text.now at ≡ true }
     ensures { IsIcuQuiet text.now at result }
 {
-    if at + 1 == text.len() {
-        return at + 1;
+    if text[at + 1] == b'/' {
+        return icu_line_end(text, at + 2);
     }
-    match text[at + 1] {
-        b'/' => icu_line_end(text, at + 2),
-        b'*' if at + 2 == text.len() => at + 2,
-        b'*' => block_end(text, at + 3),
-        _ => at + 1,
+    if at + 2 == text.len() {
+        return at + 2;
     }
+    block_end(text, at + 3)
 }
 
-/// Whether a line ended before a place, behind the last byte in quotes. From another place on,
-/// before which one ended or not, nothing stands in quotes.
+/// Whether a line ended before a place, behind the last byte of a word or in quotes. No such byte
+/// stands from another place on, before which a line ended or not.
 pub(crate) fn ended_behind(text: &[u8], from: usize, to: usize, has_ended: bool) -> bool
     requires order { from ≤ to }
     requires fits { to ≤ length text.now }
-    requires unquoted { IsUnquoted text.now from to }
+    requires stringless { IsStringless text.now from to }
     requires ended { has_ended ≡ line_ended text.now from }
     ensures { result ≡ line_ended text.now to }
 {

@@ -1,23 +1,22 @@
 //! What stands from place to place in a text of ICU's form: a token, a comment, or a byte that is
 //! nothing by itself.
 //! Where it ends is found in `icu_runs`; blanks are passed in `icu_walk`.
-ghost use Rattle.std.specs.Prelude.{◌≡◌, ◌<◌, length, slice_index, true, false};
+ghost use Rattle.std.specs.Prelude.{◌≡◌, ◌+◌, ◌<◌, length, slice_index, true, false};
 ghost use Rattle.resb_grammar.specs.Ascii as ascii;
 ghost use Rattle.resb_grammar.specs.ByteRuns as bytes;
-ghost use Rattle.resb_icu_grammar.specs.Bytes as words;
-ghost use Rattle.resb_diagnostics.specs.IcuWarnings.{line_ended};
+ghost use Rattle.resb_icu_grammar.specs.Unquoted as unquoted;
+ghost use Rattle.resb_diagnostics.specs.IcuWarnings.{line_ended, word_goes_on};
 ghost use Rattle.resb_diagnostics.specs.Inner.IcuTokens.{IsIcuBetween, IsIcuStep, icu_sign};
 
-use crate::icu_runs::{ended_behind, icu_comment_end, icu_word_end, quotes_end};
+use crate::icu_runs::{ended_behind, icu_comment_end, icu_word_end, quotes_end, word_goes_on};
 use crate::icu_tokens::IcuToken;
-use resb_icu_grammar::is_word;
 
 /// What stands at a place between tokens.
 #[derive(Clone, Copy)]
 pub(crate) struct IcuStep {
     /// The token that it is, if it is one.
     pub token: Option<IcuToken>,
-    /// Whether a line ended before its end, behind the last byte in quotes.
+    /// Whether a line ended before its end, behind the last byte of a word or in quotes.
     pub has_ended: bool,
     /// Behind it.
     pub end: usize,
@@ -42,8 +41,8 @@ pub(crate) fn next_step(text: &[u8], at: usize, has_ended: bool) -> IcuStep
             end: at + 1,
         };
     }
-    if is_word(byte) {
-        return word(text, at, has_ended);
+    if word_goes_on(text, at) {
+        return word(text, at);
     }
     if byte == b'/' {
         return comment(text, at, has_ended);
@@ -70,27 +69,26 @@ fn piece(text: &[u8], at: usize) -> IcuStep
 }
 
 /// The word that begins at a place.
-fn word(text: &[u8], at: usize, has_ended: bool) -> IcuStep
+fn word(text: &[u8], at: usize) -> IcuStep
     requires fits { at < length text.now }
     requires between { IsIcuBetween text.now at }
-    requires ended { has_ended ≡ line_ended text.now at }
-    requires word { words.is_word (slice_index text.now at) ≡ true }
+    requires word { word_goes_on text.now at ≡ true }
     ensures { IsIcuStep text.now at result }
 {
     let end = icu_word_end(text, at);
     IcuStep {
         token: Some(IcuToken::Word(at, end)),
-        has_ended,
+        has_ended: false,
         end,
     }
 }
 
-/// The comment that begins with the slash at a place, or the slash if none does.
+/// The comment that begins at a place.
 fn comment(text: &[u8], at: usize, has_ended: bool) -> IcuStep
-    requires fits { at < length text.now }
+    requires fits { at + 1 < length text.now }
     requires between { IsIcuBetween text.now at }
     requires ended { has_ended ≡ line_ended text.now at }
-    requires slash { slice_index text.now at ≡ ascii.slash }
+    requires begins { unquoted.begins_comment text.now at ≡ true }
     ensures { IsIcuStep text.now at result }
 {
     let end = icu_comment_end(text, at);

@@ -4,7 +4,8 @@
 //! `icu_keys`.
 ghost use Rattle.std.specs.Prelude.{◌≡◌, ◌≤◌, ◌<◌, length};
 ghost use Rattle.resb_diagnostics.specs.IcuWarnings as spec;
-ghost use Rattle.resb_diagnostics.specs.Inner.IcuTokens.{Fits};
+ghost use Rattle.resb_diagnostics.specs.IcuWarnings.{line_ended};
+ghost use Rattle.resb_diagnostics.specs.Inner.IcuTokens.{Fits, IsEndedBefore};
 
 use crate::named::{Named, named_by};
 
@@ -13,7 +14,7 @@ use crate::named::{Named, named_by};
 pub(crate) enum IcuToken {
     /// A piece in quotes that begins at this place.
     Piece(usize),
-    /// A word from one place up to another.
+    /// A word from one place up to another: an unquoted string, a number or a type.
     Word(usize, usize),
     /// A `{` at this place.
     Open(usize),
@@ -56,10 +57,10 @@ pub(crate) enum IcuLast {
     Inner(usize),
     /// One digit right behind such a `{`, which stands at this place.
     Digit(usize),
-    /// A piece of the string that is first in a group that is not `:array`, and the first piece of
-    /// it that stands behind a line's end, if one does.
+    /// A piece of the string that is first in a group that is not `:array`, or a word of it that
+    /// isn't the first one, and the first of them that stands behind a line's end, if one does.
     First(Option<usize>),
-    /// A piece of another string, and the same.
+    /// A piece or a word of another string, and the same.
     Member(Option<usize>),
 }
 
@@ -82,17 +83,19 @@ fn is_digit(word: &[u8]) -> bool
 }
 
 impl IcuLast {
-    /// The last token behind a word that stands between two places.
-    fn behind_word(self, text: &[u8], from: usize, to: usize) -> IcuLast
+    /// The last token behind a word that stands between two places, where a line ended before it or
+    /// not.
+    fn behind_word(self, text: &[u8], from: usize, to: usize, has_ended: bool) -> IcuLast
         requires order { from < to }
         requires fits { to ≤ length text.now }
+        requires ended { has_ended ≡ line_ended text.now from }
         ensures { result ≡ spec.behind_icu_word text.now from to self }
     {
         let word = &text[from..to];
         if is_behind_colon(text, from) {
             return self.behind_type(named_by(word));
         }
-        self.behind_plain_word(is_digit(word))
+        self.behind_plain_word(from, has_ended, is_digit(word))
     }
 
     /// The last token behind a type of this name.
@@ -107,16 +110,16 @@ impl IcuLast {
         }
     }
 
-    /// The last token behind a word that is no type, where it is one digit or not.
-    fn behind_plain_word(self, is_digit: bool) -> IcuLast
-        ensures { result ≡ spec.behind_plain_word is_digit self }
+    /// The last token behind a word at a place, which is no type, and one digit or not. A line
+    /// ended before it or not.
+    fn behind_plain_word(self, place: usize, has_ended: bool, is_digit: bool) -> IcuLast
+        ensures { result ≡ spec.behind_plain_word place has_ended is_digit self }
     {
         match self {
-            IcuLast::Start => IcuLast::Start,
-            IcuLast::Inner(place) if is_digit => IcuLast::Digit(place),
-            IcuLast::Value(place) if is_digit => IcuLast::ValueDigit(place),
+            IcuLast::Inner(open) if is_digit => IcuLast::Digit(open),
+            IcuLast::Value(open) if is_digit => IcuLast::ValueDigit(open),
             IcuLast::Inner(_) | IcuLast::Value(_) | IcuLast::Open => IcuLast::Key,
-            _ => IcuLast::Other,
+            _ => self.behind_string(place, has_ended),
         }
     }
 
@@ -147,13 +150,17 @@ impl IcuLast {
         }
     }
 
-    /// The last token behind a piece at a place, where a line ended before it or not.
-    fn behind_piece(self, place: usize, has_ended: bool) -> IcuLast
-        ensures { result ≡ spec.behind_icu_piece place has_ended self }
+    /// The last token behind a piece or a word at a place, where a line ended before it or not.
+    fn behind_string(self, place: usize, has_ended: bool) -> IcuLast
+        ensures { result ≡ spec.behind_string place has_ended self }
     {
         match self {
+            IcuLast::Start => IcuLast::Start,
             IcuLast::First(joined) => IcuLast::First(first_joined(joined, has_ended, place)),
             IcuLast::Member(joined) => IcuLast::Member(first_joined(joined, has_ended, place)),
+            IcuLast::Key | IcuLast::Digit(_) | IcuLast::ValueDigit(_) => {
+                IcuLast::First(first_joined(None, has_ended, place))
+            }
             IcuLast::Open | IcuLast::Typed | IcuLast::Inner(_) | IcuLast::Value(_) => {
                 IcuLast::First(None)
             }
@@ -163,12 +170,13 @@ impl IcuLast {
 
     /// The last token behind one more, where a line ended before it or not.
     pub(crate) fn behind(self, text: &[u8], token: IcuToken, has_ended: bool) -> IcuLast
-        requires { Fits text.now token }
-        ensures { result ≡ spec.behind_icu_token text.now token has_ended self }
+        requires inside { Fits text.now token }
+        requires ended { IsEndedBefore text.now token has_ended }
+        ensures { result ≡ spec.behind_icu_token text.now token self }
     {
         match token {
-            IcuToken::Piece(place) => self.behind_piece(place, has_ended),
-            IcuToken::Word(from, to) => self.behind_word(text, from, to),
+            IcuToken::Piece(place) => self.behind_string(place, has_ended),
+            IcuToken::Word(from, to) => self.behind_word(text, from, to, has_ended),
             IcuToken::Open(place) => self.behind_open(place),
             IcuToken::Close => self.behind_close(),
             IcuToken::Comma => IcuLast::Other,
@@ -176,7 +184,7 @@ impl IcuLast {
     }
 }
 
-/// The first piece of a string that stands behind a line's end.
+/// The first piece or word of a string that stands behind a line's end.
 fn first_joined(joined: Option<usize>, has_ended: bool, place: usize) -> Option<usize>
     ensures { result ≡ spec.first_joined joined has_ended place }
 {

@@ -3,7 +3,7 @@
 //! `icu_keys`.
 ghost use Rattle.std.specs.Prelude.{◌≡◌, ◌<◌, length, slice_index, false, None};
 ghost use Rattle.resb_grammar.specs.ByteRuns as bytes;
-ghost use Rattle.resb_diagnostics.specs.Inner.IcuTokens.{IcuPasses, IsIcuWalk, IsIn};
+ghost use Rattle.resb_diagnostics.specs.Inner.IcuTokens.{IcuPasses, IsIcuWalk, IsIn, BeginsAt};
 
 use crate::icu_runs::ended_behind;
 use crate::icu_steps::next_step;
@@ -16,7 +16,7 @@ pub(crate) struct IcuWalk<'a> {
     pub text: &'a [u8],
     /// A place between two tokens, or the text's end.
     pub at: usize,
-    /// Whether a line ended before it, behind the last byte in quotes.
+    /// Whether a line ended before it, behind the last byte of a word or in quotes.
     pub has_ended: bool,
 }
 
@@ -57,6 +57,7 @@ impl<'a> IcuWalk<'a> {
         ensures more { self.old.at < self.new.at }
         ensures passes { IcuPasses self.old.text.now self.old.at self.new.at result }
         ensures inside { IsIn self.old.text.now result }
+        ensures begins { BeginsAt self.old.at result }
     {
         let step = next_step(self.text, self.at, self.has_ended);
         self.has_ended = step.has_ended;

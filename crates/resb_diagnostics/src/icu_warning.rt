@@ -8,9 +8,9 @@ ghost use Rattle.resb_grammar.specs.ByteRuns as bytes;
 ghost use Rattle.resb_diagnostics.specs.IcuWarnings as spec;
 ghost use Rattle.resb_diagnostics.specs.IcuWarnings.{icu_warned};
 ghost use Rattle.resb_diagnostics.specs.declared.icu_tokens.IcuLast.TheVariants as last;
-ghost use Rattle.resb_diagnostics.specs.Inner.IcuTokens.{HasLooked, Fits, IsIn};
+ghost use Rattle.resb_diagnostics.specs.Inner.IcuTokens.{HasLooked, Fits, IsIn, IsEndedAt};
 
-use crate::icu_tokens::{IcuLast, IcuToken};
+use crate::icu_tokens::{IcuLast, IcuToken, is_behind_colon};
 use crate::icu_walk::IcuWalk;
 use crate::numbers::cut_integer;
 use crate::warning::{Reason, Warning};
@@ -71,10 +71,11 @@ impl<'a> Look<'a> {
     /// Adds the warning that a token brings out, if one comes, and goes on behind it. A line ended
     /// before it or not.
     fn take(&mut self, token: Option<IcuToken>, has_ended: bool) -> Result<(), AllocError>
-        requires { IsIn self.old.walk.text.now token }
+        requires inside { IsIn self.old.walk.text.now token }
+        requires ended { IsEndedAt self.old.walk.text.now token has_ended }
         ensures walk { self.new.walk ≡ self.old.walk }
         ensures last { OnOk result (self.new.last
-            ≡ spec.behind_some self.old.walk.text.now token has_ended self.old.last) }
+            ≡ spec.behind_some self.old.walk.text.now token self.old.last) }
         ensures found { OnOk result (self.new.found.items ≡ spec.and_one self.old.found.items
             (spec.of_some_token self.old.walk.text.now token self.old.last)) }
     {
@@ -102,9 +103,20 @@ fn told(text: &[u8], token: IcuToken, last: IcuLast) -> Option<Warning>
             Some(Warning { place, reason })
         }
         IcuLast::First(joined) if matches!(token, IcuToken::Comma) => of_joined(joined),
-        IcuLast::Member(_) if matches!(token, IcuToken::Piece(_)) => None,
-        IcuLast::Member(joined) => of_joined(joined),
+        IcuLast::Member(joined) if !is_string(text, token) => of_joined(joined),
         _ => None,
+    }
+}
+
+/// Whether a string in a row may go on with this token.
+fn is_string(text: &[u8], token: IcuToken) -> bool
+    requires { Fits text.now token }
+    ensures { result ≡ spec.is_string text.now token }
+{
+    match token {
+        IcuToken::Piece(_) => true,
+        IcuToken::Word(from, _) => !is_behind_colon(text, from),
+        _ => false,
     }
 }
 
@@ -125,7 +137,7 @@ fn of_integer(text: &[u8], token: IcuToken) -> Option<Warning>
     }
 }
 
-/// The warning of a string, where a piece of it is joined over a line's end.
+/// The warning of a string, where a piece or a word of it is joined over a line's end.
 fn of_joined(joined: Option<usize>) -> Option<Warning>
     ensures { result ≡ spec.of_joined joined }
 {

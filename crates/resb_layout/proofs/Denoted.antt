@@ -2,11 +2,12 @@
 use Rattle.std.proofs.Common.{zero, suc, ◌≡◌, ℕ, ◌+◌, ◌-◌, ◌*◌, ◌/◌, ◌%◌, ◌^◌, ◌<◌, ◌≤◌, List, []}
 use Rattle.std.proofs.Common.{◌∷◌, ◌++◌, length, map, Some, true, false, cond}
 use Rattle.std.proofs.Common.{◌==◌, option_map, nat_le, refl, sym, ◌∙◌, ap, subst, arith}
-use Rattle.std.proofs.Common.{◌⊎◌, inl, inr, ◌||◌, None}
+use Rattle.std.proofs.Common.{◌⊎◌, inl, inr, ◌||◌, None, Bool}
 use Rattle.std.specs.Prelude.{All}
 use Rattle.std.specs.List.{zip, list_all}
 use Rattle.std.specs.List.Sorted.{IsStrictlySortedBy}
 use Rattle.std.proofs.lemmas.Bool.{and_parts, or_parts, leb-true, ne_eqb}
+use Rattle.std.proofs.lemmas.Option.{none-some}
 use Rattle.std.proofs.lemmas.List.{length-map}
 use Rattle.resb_tree.specs.Aliases.{has_alias, has_alias_in, has_alias_of}
 use Rattle.resb_tree.specs.Tree.{Tree, string, alias, array, table, binary, integer, int_vector}
@@ -32,7 +33,11 @@ use Rattle.resb_layout.specs.Laid.{lays_no_bytes, lays_bytes, lays_no_numbers, l
 use Rattle.resb_layout.specs.Laid.{lays_no_members, lays_members, lays_no_entries, lays_entries}
 use Rattle.resb_layout.specs.Laid.{LaysEachBy, each_none, each_more}
 use Rattle.resb_tree.specs.LayingOrder.{entry_keys}
-use Rattle.resb_layout.specs.Laws.{IsRead, StandsIn, ReadsAliasesOf, LaidIsDenoted}
+use Rattle.resb_layout.specs.Laid.{word_of_string}
+use Rattle.resb_layout.specs.Laws.{IsRead, StandsIn, ReadsAliasesOf, ReadsOlderOf, LaidIsDenoted}
+use Rattle.resb_layout.specs.declared.packing.Packing.{Packing}
+use Rattle.resb_layout.specs.declared.packing.Packing.TheVariants.{Plain, Compact}
+use Rattle.resb_layout.proofs.StringWords.{word_cases, word_below, word_offset}
 use Rattle.resb_layout.proofs.BytesLemmas.{EachBelow}
 use Rattle.resb_layout.proofs.Grows.{grows, grows_each, by_bytes, parts_stood, units_stay}
 use Rattle.resb_layout.proofs.Contents.{array_found, vector_found, wide_found, table_found}
@@ -42,7 +47,6 @@ use Rattle.resb_layout.proofs.Contents.{word_of_array16, word_of_table, word_of_
 use Rattle.resb_layout.proofs.Contents.{word_of_table32, word_of_binary, word_of_vector}
 use Rattle.resb_tree.proofs.MapsLemmas.{map_of-keyed_trees}
 use Rattle.resb_layout.proofs.Forms.{offsets_many, nears_many, offsets_are, nears_are}
-use Rattle.resb_layout.proofs.Numbers.{some_with}
 use Rattle.std.proofs.Common.{Option}
 use Rattle.resb_layout.specs.Laid.{Lends}
 
@@ -74,16 +78,16 @@ array_word (short_array k l) = (omega arith, omega arith)
 array_word (long_array at k e l n) = (omega arith, omega arith)
 
 table_word : {lent : Option Lends} {g : Given} {s : Laid} {ps ws : List ℕ} {e : Laid} {w : ℕ}
-    → ClosesTableBy lent g s ps ws e w → (w < 2 ^ 32) × (w < 0x6000_0000)
-table_word (short_table n k l) = (omega arith, omega arith)
-table_word (long_table at n k e l) = (omega arith, omega arith)
-table_word (wide_table at n e l q r) = (omega arith, omega arith)
+    → ClosesTableBy lent g s ps ws e w → (w < 2 ^ 32) × (w < 0x6000_0000) × (0 < w)
+table_word (short_table n k l) = (omega arith, omega arith, omega arith)
+table_word (long_table at n k e l) = (omega arith, omega arith, omega arith)
+table_word (wide_table at n e l q r) = (omega arith, omega arith, omega arith)
 
 -- a word has 32 bits
 word_small : {lent : Option Lends} {g : Given} {s e : Laid} {t : Tree} {w : ℕ}
     → LaysBy lent g s t e w → w < 2 ^ 32
 word_small (lays_integer h) = omega arith
-word_small (lays_string h l) = omega arith
+word_small {g = g'} (lays_string {k = k'} h l) = omega (arith, l, word_below g'.packing k')
 word_small lays_no_path = omega arith
 word_small (lays_path at some u n e l) = omega arith
 word_small lays_no_bytes = omega arith
@@ -113,40 +117,56 @@ record IsString (g : Given) (t : Tree) (w : ℕ) : Type 0 where
   is : t ≡ string text
   offset : g.offset text ≡ Some (w - 0x6000_0000)
 
--- a word in this range is a string's
+-- a word in this range is a string's, and so is 0
 string_word : {lent : Option Lends} {g : Given} {s e : Laid} {t : Tree} {w : ℕ}
-    → LaysBy lent g s t e w → 0x6000_0000 ≤ w → w ≤ 0x6fff_ffff → IsString g t w
+    → LaysBy lent g s t e w → (0 < w → 0x6000_0000 ≤ w) → w ≤ 0x6fff_ffff → IsString g t w
 string_word (lays_integer h) a b = absurd (omega arith)
 string_word {lent = lent} {g = g} (lays_string {text = text} {k = k} h l) a b =
-    record { text = text; is = refl; offset = some_with (g.offset text) k h }
-string_word lays_no_path a b = absurd (omega arith)
-string_word (lays_path at some u n e l) a b = absurd (omega arith)
-string_word lays_no_bytes a b = absurd (omega arith)
-string_word (lays_bytes at some n e l) a b = absurd (omega arith)
+    record { text = text; is = refl; offset = h ∙ ap Some (sym (word_offset g.packing k)) }
+string_word lays_no_path a b = absurd (omega (arith, a (omega arith)))
+string_word (lays_path at some u n e l) a b = absurd (omega (arith, a (omega arith)))
+string_word lays_no_bytes a b = absurd (omega (arith, a (omega arith)))
+string_word (lays_bytes at some n e l) a b = absurd (omega (arith, a (omega arith)))
 string_word lays_no_numbers a b = absurd (omega arith)
 string_word (lays_numbers at some n c e l) a b = absurd (omega arith)
 string_word lays_no_members a b = absurd (omega arith)
 string_word (lays_members h some c) a b = let far = (array_word c).1 in absurd (omega (arith, far))
-string_word lays_no_entries a b = absurd (omega arith)
-string_word (lays_entries ps p h some c) a b = let far =
-    (table_word c).1 in absurd (omega (arith, far))
+string_word lays_no_entries a b = absurd (omega (arith, a (omega arith)))
+string_word (lays_entries ps p h some c) a b =
+    let r = table_word c in
+    absurd (omega (arith, r.1, a r.2))
 
 pub record IsShortWord (lent : Option Lends) (w : ℕ) : Type 0 where
-  pub low : 0x6000_0000 ≤ w
+  pub low : 0 < w → 0x6000_0000 ≤ w
   pub high : w ≤ 0x6fff_ffff
   pub short : short_by lent (w - 0x6000_0000) ≤ 65535
 
+-- a unit tells index 0
+short_zero : (lent : Option Lends) → short_by lent (0 - 0x6000_0000) ≡ 0
+short_zero None = refl
+short_zero (Some l) = refl
+
+not_zero : (v : ℕ) (b : Bool) → ((suc v == 0) || b) ≡ b
+not_zero v b = ap (λ c. c || b) (ne_eqb (suc v) 0 (λ (q : suc v ≡ 0). omega (arith, q)))
+
 pub short_word : (lent : Option Lends) (w : ℕ) → is_short_by lent w ≡ true → IsShortWord lent w
-short_word None w e =
-    let both = and_parts _ _ e in
+short_word lent zero e = record {
+  low = λ some. absurd (omega (arith, some));
+  high = omega arith;
+  short = omega (arith, short_zero lent);
+}
+short_word None (suc v) e =
+    let w : ℕ = suc v in
+    let both = and_parts _ _ (sym (not_zero v _) ∙ e) in
     let low : 0x6000_0000 ≤ w = leb-true 0x6000_0000 w both.0 in
     let high : w ≤ 0x6000_ffff = leb-true w 0x6000_ffff both.1 in
-    record { low = low; high = omega (arith, high); short = omega (arith, low, high) }
-short_word (Some l) w e =
-    let both = and_parts _ _ e in
+    record { low = λ some. low; high = omega (arith, high); short = omega (arith, low, high) }
+short_word (Some l) (suc v) e =
+    let w : ℕ = suc v in
+    let both = and_parts _ _ (sym (not_zero v _) ∙ e) in
     let rest = and_parts _ _ both.1 in
     record {
-      low = leb-true 0x6000_0000 w both.0;
+      low = λ some. leb-true 0x6000_0000 w both.0;
       high = leb-true w 0x6fff_ffff rest.0;
       short = leb-true (short_in l (w - 0x6000_0000)) 65535 rest.1;
     }
@@ -279,7 +299,8 @@ values_read : (p : Parts) (es : Entries) → ReadsAliasesOf p (table es)
 values_read p es (inl none) = inl (values_alias es ∙ none)
 values_read p es (inr reads) = inr reads
 
-module _ (p : Parts) (lent : Option Lends) (g : Given) (read : IsRead p lent g) where
+module _ (p : Parts) (lent : Option Lends) (g : Given) (read : IsRead p lent g)
+    (compact_reads : g.packing ≡ Compact → g.offset [] ≡ Some 0 → reads_older p ≡ true) where
   some_here : (s : Laid) (at : ℕ) → here g s ≡ 4 * at → 0 < at
   some_here s at e = omega (arith, e, read.base)
 
@@ -345,11 +366,11 @@ module _ (p : Parts) (lent : Option Lends) (g : Given) (read : IsRead p lent g) 
   empty_table_stands = refl
 
   -- the empty text alone stands at unit 0
-  string_leaf : (text : List ℕ) (k : ℕ) → g.offset text ≡ Some k → k < 2 ^ 28
+  string_plain : (text : List ℕ) (k : ℕ) → g.offset text ≡ Some k → k < 2 ^ 28
       → content_at p (0x6000_0000 + k) ≡ Some (leaf (string text))
   unfolding content_at
-  string_leaf text zero h l = ap (λ s. Some (leaf (string s))) (sym (read.empty text h))
-  string_leaf text (suc k) h l =
+  string_plain text zero h l = ap (λ s. Some (leaf (string s))) (sym (read.empty text h))
+  string_plain text (suc k) h l =
       let e : (0x6000_0000 + suc k) / 2 ^ 28 ≡ 6 = omega arith in
       let f : (0x6000_0000 + suc k) % 2 ^ 28 ≡ suc k = omega arith in
       let z : (suc k == 0) ≡ false = ne_eqb (suc k) 0 (λ (q : suc k ≡ 0). omega (arith, q)) in
@@ -357,6 +378,22 @@ module _ (p : Parts) (lent : Option Lends) (g : Given) (read : IsRead p lent g) 
       (cond (f i == 0) (empty p (e i)) (placed p (e i) (f i))))
       ∙ ap (λ c. cond c (empty p 6) (placed p 6 (suc k))) z
       ∙ ap (option_map (λ s. leaf (string s))) (read.texts text (suc k) h)
+
+  -- where aliases are read, word 0 is the empty text's
+  no_text : reads_older p ≡ true → content_at p 0 ≡ Some (leaf (string []))
+  unfolding content_at
+  no_text reads = ap (λ c. cond c (Some (leaf (string []))) None) reads
+
+  string_leaf : (text : List ℕ) (k : ℕ) → g.offset text ≡ Some k → k < 2 ^ 28
+      → content_at p (word_of_string g.packing k) ≡ Some (leaf (string text))
+  string_leaf text k h l = elim (word_cases g.packing k) [
+    | inl e ↦ ap (content_at p) e ∙ string_plain text k h l
+    | inr e ↦
+        let none : text ≡ [] = read.empty text (h ∙ ap Some e.1) in
+        ap (content_at p) e.2
+        ∙ no_text (compact_reads e.0 (ap g.offset (sym none) ∙ h ∙ ap Some e.1))
+        ∙ ap (λ s. Some (leaf (string s))) (sym none)
+  ]
 
   array_denoted : (s : Laid) (ts : Trees) (ws : List ℕ) (e : Laid) (w : ℕ) → 0 < length s.units
       → ClosesArrayBy lent g s ws e w → StandsIn p g e → EachBelow (2 ^ 32) ws
@@ -457,5 +494,14 @@ module _ (p : Parts) (lent : Option Lends) (g : Given) (read : IsRead p lent g) 
 
 -- a tree that is laid is what its word denotes
 pub laid_is_denoted : LaidIsDenoted
-laid_is_denoted lent p g before after t w read aliases u h i =
-    denoted p lent g read aliases u h i
+laid_is_denoted lent p g before after t w read older u h i = by g.packing refl older
+  where
+    by : (q : Packing) → g.packing ≡ q → ReadsOlderOf q (g.offset []) p t → Den p w t (tree_count t)
+    by Plain e aliases = denoted p lent g read (λ c. absurd (apart (sym e ∙ c))) aliases u h i
+      where
+        apart : Plain ≡ Compact → ⊥
+        apart c = cc
+    by Compact e (aliases, reads) = denoted p lent g read (λ c has. elim reads [
+      | inl none ↦ absurd (none-some 0 (sym none ∙ has))
+      | inr r ↦ r
+    ]) aliases u h i

@@ -9,3 +9,4 @@ pub mod Paid
 pub mod InOrderLemmas
 pub mod Numbers
 pub mod Lists
+pub mod StringWords

@@ -3,7 +3,7 @@ use Rattle.std.proofs.Common.{ℕ, List, ◌∷◌, length}
 use Rattle.std.proofs.Common.{◌≡◌, ◌<◌, ◌+◌, refl, sym, ◌∙◌, ap, subst, arith}
 use Rattle.resb_tree.specs.Tree.{Tree, Trees, no_trees}
 use Rattle.resb_layout.specs.Laid.{Given, Laid, here}
-use Rattle.resb_layout.specs.Laid.{to_data}
+use Rattle.resb_layout.specs.Laid.{to_data, word_of_string}
 use Rattle.resb_layout.specs.Laid.{ClosesArrayBy, short_array, long_array}
 use Rattle.resb_layout.specs.Laid.{ClosesTableBy, short_table}
 use Rattle.resb_layout.specs.Laid.{long_table, wide_table, LaysBy}
@@ -51,8 +51,8 @@ mutual
       → LaysBy lent g s t a v → LaysBy lent g s t b w
       → (a ≡ b) × (v ≡ w)
   once (lays_integer h) (lays_integer k) = (refl, refl)
-  once (lays_string {k = m} h l) (lays_string {k = n} k o) = let e : m ≡ n =
-      cc in (refl, ap (λ i. 0x6000_0000 + i) e)
+  once {g = g'} (lays_string {k = m} h l) (lays_string {k = n} k o) = let e : m ≡ n =
+      cc in (refl, ap (word_of_string g'.packing) e)
   once lays_no_path lays_no_path = (refl, refl)
   once lays_no_path (lays_path at some u n e l) = absurd (zero_not_positive some refl)
   once (lays_path at some u n e l) lays_no_path = absurd (zero_not_positive some refl)

@@ -8,7 +8,7 @@
 --                                     of one that uses none
 use Rattle.std.specs.Prelude.{◌≡◌, ℕ, ◌+◌, ◌-◌, ◌*◌, ◌^◌, ◌<◌, ◌%◌, List, [], ◌∷◌, ◌++◌}
 use Rattle.std.specs.Prelude.{length, map, replicate, All, Option, Some, None, Bool, true, false}
-use Rattle.std.specs.Prelude.{◌&&◌, nat_le, nat_lt, nat_eq, if◌then◌else◌}
+use Rattle.std.specs.Prelude.{◌&&◌, ◌||◌, nat_le, nat_lt, nat_eq, if◌then◌else◌}
 use Rattle.std.specs.List.{flat_map, list_all}
 use Rattle.std.specs.List.Sorted.{IsStrictlySortedBy}
 use Rattle.std.specs.Int.{to_le_bytes, w16, w32}
@@ -19,13 +19,16 @@ use Rattle.resb_tree.specs.Maps.{text_cmp}
 use Rattle.resb_tree.specs.LayingOrder.{entry_keys}
 use Rattle.resb_format.specs.Bytes.{units_as_bytes}
 use Rattle.resb_format.specs.Units.{units}
+use Rattle.resb_layout.specs.declared.packing.Packing.{Packing}
+use Rattle.resb_layout.specs.declared.packing.Packing.TheVariants.{Plain, Compact}
 
--- where keys and strings stand, and where the tail begins: positions of keys and that place are in
--- bytes of the body, offsets of strings in units of the 16-bit block
+-- where keys and strings stand, where the tail begins, and how the file is packed: positions of
+-- keys and that place are in bytes of the body, offsets of strings in units of the 16-bit block
 pub record Given : Type 0 where
   pub position : List ℕ → Option ℕ
   pub offset : List ℕ → Option ℕ
   pub base : ℕ
+  pub packing : Packing
 
 -- what a pool bundle lends to a file, as a short body of the file tells it: where the file's own
 -- keys end, in bytes of the body, and the first index of a string that is its own, as an index and
@@ -97,9 +100,14 @@ near_table_body ps ws = to_le_bytes w16 (length ps)
 abbrev pub wide_table_body : List ℕ → List ℕ → List ℕ
 wide_table_body ps ws = to_le_bytes w32 (length ps) ++ (words ps ++ words ws)
 
--- the word of a string at an offset that a unit can hold
+-- the word of a string at an offset: of the empty one, at offset 0, the compact packing has 0
+abbrev pub word_of_string : Packing → ℕ → ℕ
+word_of_string Plain k = 0x6000_0000 + k
+word_of_string Compact k = if nat_eq k 0 then 0 else 0x6000_0000 + k
+
+-- the word of a string at an offset that a unit can hold: 0 is an empty one's
 abbrev pub is_short_string : ℕ → Bool
-is_short_string w = nat_le 0x6000_0000 w && nat_le w 0x6000_ffff
+is_short_string w = nat_eq w 0 || (nat_le 0x6000_0000 w && nat_le w 0x6000_ffff)
 
 -- all words are those of strings at offsets that a unit can hold, and a unit can count them
 abbrev pub are_short : List ℕ → Bool
@@ -143,12 +151,12 @@ abbrev pub nears_by : Option Lends → List ℕ → List ℕ
 nears_by None = λ ps. ps
 nears_by (Some l) = map (near_in l)
 
--- the word of a string that a unit can tell
+-- the word of a string that a unit can tell: 0 is an empty one's
 abbrev pub is_short_by : Option Lends → ℕ → Bool
 is_short_by None = is_short_string
 is_short_by (Some l) =
-    λ w. nat_le 0x6000_0000 w
-    && (nat_le w 0x6fff_ffff && nat_le (short_in l (w - 0x6000_0000)) 65535)
+    λ w. nat_eq w 0 || (nat_le 0x6000_0000 w
+    && (nat_le w 0x6fff_ffff && nat_le (short_in l (w - 0x6000_0000)) 65535))
 
 -- all words are those of strings that a unit can tell, and a unit can count them
 abbrev pub are_short_by : Option Lends → List ℕ → Bool
@@ -212,7 +220,7 @@ mutual
   pub data LaysBy (lent : Option Lends) (g : Given) : Laid → Tree → Laid → ℕ → Type 0 where
     lays_integer : {s : Laid} {n : ℕ} → n < 2 ^ 28 → LaysBy lent g s (integer n) s (0x7000_0000 + n)
     lays_string : {s : Laid} {text : List ℕ} {k : ℕ} → g.offset text ≡ Some k → k < 2 ^ 28
-        → LaysBy lent g s (string text) s (0x6000_0000 + k)
+        → LaysBy lent g s (string text) s (word_of_string g.packing k)
     lays_no_path : {s : Laid} → LaysBy lent g s (alias []) s 0x3000_0000
     lays_path : {s : Laid} {path : List ℕ} (at : ℕ) → 0 < length path → IsUtf8 path
         → length (units path) < 2 ^ 32 → here g s ≡ 4 * at → at < 2 ^ 28

@@ -6,7 +6,7 @@
 --                             without a gap
 --     LaidIsPaid              what was laid has two bytes for each resource but the root
 use Rattle.std.specs.Prelude.{◌≡◌, ℕ, ◌+◌, ◌*◌, ◌%◌, ◌<◌, ◌≤◌, List, [], ◌++◌, length, Option, Some}
-use Rattle.std.specs.Prelude.{◌⊎◌, true, false}
+use Rattle.std.specs.Prelude.{◌⊎◌, None, true, false}
 use Rattle.resb_tree.specs.Tree.{Tree, tree_count}
 use Rattle.resb_tree.specs.Aliases.{has_alias}
 use Rattle.resb_format.specs.Lookups.{text_in, key_in, index_in}
@@ -15,6 +15,8 @@ use Rattle.resb_format.specs.Denotes.{Den}
 use Rattle.resb_tree.specs.LayingOrder.{laying_order}
 use Rattle.resb_layout.specs.Laid.{Given, Lends, Laid, LaysBy, near_by, short_by, here}
 use Rattle.resb_layout.specs.InOrder.{FillsTail, FillsBlock}
+use Rattle.resb_layout.specs.declared.packing.Packing.{Packing}
+use Rattle.resb_layout.specs.declared.packing.Packing.TheVariants.{Plain, Compact}
 
 -- from where it begins a tree is laid in one way, with one word
 abbrev pub OneLayout : Type 0
@@ -49,12 +51,19 @@ pub record StandsIn (p : Parts) (g : Given) (s : Laid) : Type 0 where
 abbrev pub ReadsAliasesOf : Parts → Tree → Type 0
 ReadsAliasesOf p t = (has_alias t ≡ false) ⊎ (reads_older p ≡ true)
 
+-- the same of a file that is packed like this, where the empty text has this offset, if it has one:
+-- in a compact file the empty string is of a type that is read where aliases are
+abbrev pub ReadsOlderOf : Packing → Option ℕ → Parts → Tree → Type 0
+ReadsOlderOf Plain empty p t = ReadsAliasesOf p t
+ReadsOlderOf Compact empty p t = ReadsAliasesOf p t × ((empty ≡ None) ⊎ (reads_older p ≡ true))
+
 -- in a file that holds what was laid for a tree, its word denotes the tree, each resource counted
--- once, if the tree has no alias or aliases are read
+-- once, if the tree has no alias or aliases are read; in a compact file they are read also for an
+-- empty string
 abbrev pub LaidIsDenoted : Type 0
 LaidIsDenoted =
     (lent : Option Lends) (p : Parts) (g : Given) (before after : Laid) (t : Tree) (w : ℕ)
-    → IsRead p lent g → ReadsAliasesOf p t → 0 < length before.units
+    → IsRead p lent g → ReadsOlderOf g.packing (g.offset []) p t → 0 < length before.units
     → LaysBy lent g before t after w → StandsIn p g after
     → Den p w t (tree_count t)
 

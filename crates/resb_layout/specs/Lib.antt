@@ -12,9 +12,11 @@ pub use Rattle.resb_pool.specs.Plan
 pub mod Laid
 pub mod InOrder
 pub mod KeyBlock
+pub mod CompactKeys
 pub mod PlainSize
 pub mod WritingFault
 pub mod TreeFaults
 pub mod WrittenHead
 pub mod Written
+pub mod WrittenCompact
 pub mod Laws

@@ -1,5 +1,6 @@
 -- What a written file is.
 --     Blocks t ks             what a file of the tree t and the keys ks is made of
+--     BlocksBy q t ks         the same of a file that is packed like this
 --     Written bytes t f ks    the file of a bundle of t, with locale fallback or not
 use Rattle.std.specs.Prelude.{◌≡◌, ℕ, ◌+◌, ◌*◌, ◌%◌, ◌≤◌, ◌==◌, List, [], ◌∷◌, ◌++◌, length, drop}
 use Rattle.std.specs.Prelude.{Bool, false, Option, None, if◌then◌else◌}
@@ -11,9 +12,12 @@ use Rattle.resb_pool.specs.Plan.{IsPlan}
 use Rattle.resb_layout.specs.Laid.{Laid, Lays}
 use Rattle.resb_format.specs.Bytes.{units_as_bytes}
 use Rattle.resb_tree.specs.LayingOrder.{texts_of}
-use Rattle.resb_layout.specs.KeyBlock.{key_block, key_position, keys_start}
+use Rattle.resb_layout.specs.KeyBlock.{key_block, keys_start}
+use Rattle.resb_layout.specs.CompactKeys.{key_block_by, key_position_by}
 use Rattle.resb_layout.specs.TreeFaults.{tree_fault}
 use Rattle.resb_layout.specs.WrittenHead.{IndexOf}
+use Rattle.resb_layout.specs.declared.packing.Packing.{Packing}
+use Rattle.resb_layout.specs.declared.packing.Packing.TheVariants.{Plain}
 
 -- a unit that fills the last word of the 16-bit block
 abbrev pub even : List ℕ → List ℕ
@@ -23,8 +27,9 @@ even us = if length us % 2 == 1 then us ++ 0xaaaa ∷ [] else us
 abbrev pub tail_start : List ℕ → Laid → ℕ
 tail_start keys laid = keys_start + length keys + 2 * length (even laid.units)
 
--- what a file is made of: the pool of the tree's strings, and its resources laid behind it
-pub record Blocks (t : Tree) (ks : List (List ℕ)) : Type 0 where
+-- what a file is made of that is packed like this: the pool of the tree's strings, and its
+-- resources laid behind it
+pub record BlocksBy (q : Packing) (t : Tree) (ks : List (List ℕ)) : Type 0 where
   -- the pool of the tree's strings, and where each string stands in it
   pub pool : List ℕ
   pub offset : List ℕ → Option ℕ
@@ -34,16 +39,21 @@ pub record Blocks (t : Tree) (ks : List (List ℕ)) : Type 0 where
   pub is_pool : IsPlan (texts_of t) pool offset
   pub lays : Lays
       (record {
-        position = key_position t ks;
+        position = key_position_by q t ks;
         offset = offset;
-        base =
-            tail_start (key_block t ks) laid;
+        base = tail_start (key_block_by q t ks) laid;
+        packing = q;
       })
       (record { units = pool; tail = [] }) t laid root
 
+-- the same of a file in which each key stands by itself
+abbrev pub Blocks : Tree → List (List ℕ) → Type 0
+Blocks = BlocksBy Plain
+
 -- the bytes behind the index
-abbrev pub block_bytes : {t : Tree} {ks : List (List ℕ)} → Blocks t ks → List ℕ
-block_bytes {t} {ks} b = key_block t ks ++ (units_as_bytes (even b.laid.units) ++ b.laid.tail)
+abbrev pub block_bytes : {q : Packing} {t : Tree} {ks : List (List ℕ)} → BlocksBy q t ks → List ℕ
+block_bytes {q} {t} {ks} b =
+    key_block_by q t ks ++ (units_as_bytes (even b.laid.units) ++ b.laid.tail)
 
 -- a file that denotes the tree, with the bundle's index, whose bytes behind the index are just the
 -- blocks

@@ -4,3 +4,6 @@
 #![tactic(auto)]
 
 pub mod laws;
+mod packing;
+
+pub use packing::Packing;

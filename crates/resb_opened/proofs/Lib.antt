@@ -1,9 +1,9 @@
--- Nothing is passed on.
+-- What crates above may cite: what ascends inside a collection, and which member has a name.
 mod AheadLemmas
 mod InsideLemmas
-mod NamedLemmas
+pub mod NamedLemmas
 mod OpeningLemmas
-mod OrderedLemmas
+pub mod OrderedLemmas
 mod StandingLemmas
 mod AsciiLemmas
 mod TextLemmas

@@ -22,3 +22,4 @@ pub use found::Found;
 pub use handle::Handle;
 pub use kind::Kind;
 pub use opened::Opened;
+pub use ordering::all_ascend;

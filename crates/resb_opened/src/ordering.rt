@@ -15,10 +15,10 @@ use resb_tree::NoMemory;
 use resb_walk::{Member, Members, Standing, Walk, standing_at};
 use std::alloc::Global;
 
-/// Whether the keys of each table ascend that stands at a word or inside what stands there. So many
-/// collections are looked at, and of all keys so many times 16 bytes: beyond that, `false` is
-/// answered.
-pub(crate) fn all_ascend(
+/// Whether the keys of each table ascend that stands at a word or inside what stands there. At most
+/// `most` collections are looked at, and of all keys `room` times 16 bytes: beyond that, `false` is
+/// answered, so that it says nothing of them.
+pub fn all_ascend(
     alloc: Global,
     file: FileBlocks<'_>,
     root: u32,

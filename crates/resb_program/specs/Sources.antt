@@ -13,8 +13,6 @@ use Rattle.resb_icu_grammar.specs.declared.expected.IcuExpected.{IcuExpected}
 use Rattle.resb_icu_grammar.specs.declared.expected.IcuExpected.TheVariants as icu_expect
 use Rattle.resb_icu_text.specs.declared.error.IcuTextError.{IcuTextError}
 use Rattle.resb_compile.specs.Compiling.{IsRefused, IsWithinLimit}
-use Rattle.resb_icu_grammar.specs.Limit.{IcuMadeWithin, IcuMakesMore}
-use Rattle.resb_compile.specs.CompilingIcu.{IsIcuRefused, IsIcuWithinLimit}
 use Rattle.resb_compile.specs.declared.compiling_icu.IcuCompileError.TheVariants as icu
 use Rattle.resb_compile.specs.declared.compiling.CompileError.TheVariants.{Reading, Writing}
 use Rattle.resb_program.specs.declared.sources.Blame.{Blame}
@@ -35,13 +33,6 @@ IsNoSource source (Refused e) = IsUtf8 source × IsRefused source e
 IsNoSource source (IcuRefused e) = ⊥
 IsNoSource source (Larger limit) = ⊥
 
--- the same of bytes that have to be a text of ICU's form
-abbrev pub IsNoIcuSource : List ℕ → SourceError → Type 0
-IsNoIcuSource source (NotUtf8 place) = (IsUtf8 source → ⊥) × IsValidUpTo source place
-IsNoIcuSource source (Refused e) = ⊥
-IsNoIcuSource source (IcuRefused e) = IsUtf8 source × IsIcuRefused source e
-IsNoIcuSource source (Larger limit) = ⊥
-
 -- the same, where reading the text may make no more bytes than a limit: a refused text makes no
 -- more, unless memory was wanted; or more are made at some token of a reading, and the whole
 -- reading is not within it
@@ -52,15 +43,6 @@ IsNoSourceWithin source limit (Refused e) =
 IsNoSourceWithin source limit (IcuRefused e) = ⊥
 IsNoSourceWithin source limit (Larger n) =
     (n ≡ limit) × IsUtf8 source × MakesMore source limit × (MadeWithin source limit → ⊥)
-
--- the same of bytes that have to be a text of ICU's form
-abbrev pub IsNoIcuSourceWithin : List ℕ → ℕ → SourceError → Type 0
-IsNoIcuSourceWithin source limit (NotUtf8 place) = IsNoIcuSource source (NotUtf8 place)
-IsNoIcuSourceWithin source limit (Refused e) = ⊥
-IsNoIcuSourceWithin source limit (IcuRefused e) =
-    IsNoIcuSource source (IcuRefused e) × IsIcuWithinLimit source limit e
-IsNoIcuSourceWithin source limit (Larger n) =
-    (n ≡ limit) × IsUtf8 source × IcuMakesMore source limit × (IcuMadeWithin source limit → ⊥)
 
 -- memory was wanted, and nothing of the text
 abbrev pub is_memory : Expected → Bool

@@ -2,13 +2,11 @@
 //! The file of a text is made in `sources`.
 ghost use Rattle.std.specs.Prelude.{IfOk, IfErr, string_bytes};
 ghost use Rattle.resb_compile.specs.Compiling.{IsUnreadable};
-ghost use Rattle.resb_compile.specs.CompilingIcu.{IsIcuUnreadable};
-ghost use Rattle.resb_program.specs.Names.{IsNameOf, IsIcuNameOf};
-ghost use Rattle.resb_program.specs.Sources.{IsNoSource, IsNoIcuSource};
+ghost use Rattle.resb_program.specs.Names.{IsNameOf};
+ghost use Rattle.resb_program.specs.Sources.{IsNoSource};
 
 use crate::errors::SourceError;
-use resb_compile::{CompileError, IcuCompileError};
-use resb_icu_text::{IcuReader, IcuTextError};
+use resb_compile::CompileError;
 use resb_text::{Reader, TextParserError};
 use std::alloc::Global;
 
@@ -23,17 +21,6 @@ pub fn bundle_name(alloc: Global, source: &str) -> Result<String, SourceError>
     }
 }
 
-/// The same of a text in ICU's own form.
-pub fn icu_bundle_name(alloc: Global, source: &str) -> Result<String, SourceError>
-    ensures ok { IfOk result (λ name. IsIcuNameOf source.now (string_bytes name)) }
-    ensures err { IfErr result (IsNoIcuSource source.now) }
-{
-    match icu_name_of(alloc, source) {
-        Ok(name) => Ok(name),
-        Err(e) => Err(SourceError::IcuRefused(IcuCompileError::Reading(e))),
-    }
-}
-
 /// The name of a text's bundle.
 fn name_of(alloc: Global, text: &str) -> Result<String, TextParserError>
     ensures ok { IfOk result (λ name. IsNameOf text.now (string_bytes name)) }
@@ -41,15 +28,5 @@ fn name_of(alloc: Global, text: &str) -> Result<String, TextParserError>
 {
     let (bundle, _keys) = Reader::read_draft(alloc, text)?;
     let name = String::from_str(alloc, bundle.name)?;
-    Ok(name)
-}
-
-/// The name of the bundle of a text in ICU's own form.
-fn icu_name_of(alloc: Global, text: &str) -> Result<String, IcuTextError>
-    ensures ok { IfOk result (λ name. IsIcuNameOf text.now (string_bytes name)) }
-    ensures err { IfErr result (IsIcuUnreadable text.now) }
-{
-    let (bundle, _keys) = IcuReader::read(alloc, text)?;
-    let name = String::from_str(alloc, bundle.name())?;
     Ok(name)
 }

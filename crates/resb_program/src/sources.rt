@@ -2,19 +2,13 @@
 //! What else a person is told of a text is in `resb_diagnostics`.
 ghost use Rattle.std.specs.Prelude.{◌≡◌, IsUtf8, IfOk, IfErr};
 ghost use Rattle.resb_grammar.specs.Limit.{MadeWithin};
-ghost use Rattle.resb_icu_grammar.specs.Limit.{IcuMadeWithin};
 ghost use Rattle.resb_compile.specs.Compiling.{IsCompiled};
-ghost use Rattle.resb_compile.specs.CompilingIcu.{IsIcuCompiled};
 ghost use Rattle.resb_program.specs.Program.{IsNoInput};
 ghost use Rattle.resb_program.specs.Sources as sources;
-ghost use Rattle.resb_program.specs.Sources.{IsNotUtf8, IsNoSource, IsNoIcuSource};
-ghost use Rattle.resb_program.specs.Sources.{IsNoSourceWithin, IsNoIcuSourceWithin, blame_of};
+ghost use Rattle.resb_program.specs.Sources.{IsNotUtf8, IsNoSource, IsNoSourceWithin, blame_of};
 
 use crate::errors::{SourceError, ToolError};
-use resb_compile::{
-    CompileError, CompileWithinError, IcuCompileError, IcuCompileWithinError, compile, compile_icu,
-    compile_icu_within, compile_within,
-};
+use resb_compile::{CompileError, CompileWithinError, IcuCompileError, compile, compile_within};
 use resb_diagnostics::{innermost_icu_open, innermost_open};
 use resb_grammar::Expected;
 use resb_icu_grammar::IcuExpected;
@@ -67,34 +61,6 @@ pub fn compile_source_within(
         Ok(file) => Ok(file),
         Err(CompileWithinError::Text(e)) => Err(SourceError::Refused(e)),
         Err(CompileWithinError::Larger) => Err(SourceError::Larger(limit)),
-    }
-}
-
-/// The bytes of the `.res` file of a bundle's text in ICU's own form.
-pub fn compile_icu_source(alloc: Global, source: &str) -> Result<Vec<u8>, SourceError>
-    ensures ok { IfOk result (λ file. IsIcuCompiled source.now file.items) }
-    ensures err { IfErr result (IsNoIcuSource source.now) }
-{
-    match compile_icu(alloc, source) {
-        Ok(file) => Ok(file),
-        Err(e) => Err(SourceError::IcuRefused(e)),
-    }
-}
-
-/// The same, where reading the text makes no more bytes than the limit.
-pub fn compile_icu_source_within(
-    alloc: Global,
-    source: &str,
-    limit: u64,
-) -> Result<Vec<u8>, SourceError>
-    ensures ok { IfOk result (λ file. IsIcuCompiled source.now file.items) }
-    ensures within { IfOk result (λ file. IcuMadeWithin source.now limit) }
-    ensures err { IfErr result (IsNoIcuSourceWithin source.now limit) }
-{
-    match compile_icu_within(alloc, source, limit) {
-        Ok(file) => Ok(file),
-        Err(IcuCompileWithinError::Text(e)) => Err(SourceError::IcuRefused(e)),
-        Err(IcuCompileWithinError::Larger) => Err(SourceError::Larger(limit)),
     }
 }
 

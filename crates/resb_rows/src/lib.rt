@@ -5,6 +5,8 @@
 #[cfg(test)]
 mod answers;
 #[cfg(test)]
+mod compact_rows;
+#[cfg(test)]
 mod over_pool_rows;
 #[cfg(test)]
 mod pool_rows;

@@ -1,7 +1,7 @@
 //! The tests of the rows that are lines of text: what answers a row of each kind, and one loop,
 //! which is proved once. The rows and what answers them stand in the other modules.
 use crate::answers::{assert_said, parts};
-use crate::{over_pool_rows, pool_rows, write_rows};
+use crate::{compact_rows, over_pool_rows, pool_rows, write_rows};
 use std::alloc::Global;
 use std::process::Abort;
 use std::test::Fail;
@@ -24,6 +24,7 @@ enum Kind {
     Deep,
     OverPool,
     Compiled,
+    Compact,
 }
 
 /// The line of a row of this kind.
@@ -44,6 +45,7 @@ fn answered(alloc: Global, kind: Kind, input: &str) -> Result<String, Fail> {
         Kind::Deep => write_rows::line_of_deep(alloc, input),
         Kind::OverPool => over_pool_rows::line_of_pool(alloc, input),
         Kind::Compiled => over_pool_rows::line_of_compiled(alloc, input),
+        Kind::Compact => compact_rows::line_of_compact(alloc, input),
     }
 }
 
@@ -90,6 +92,11 @@ fn trees_have_their_files(rt: HostRuntime) -> Result<(), Fail> {
 fn trees_over_pools_have_their_files(rt: HostRuntime) -> Result<(), Fail> {
     assert_rows(&rt, rt.alloc(), Kind::OverPool, over_pool_rows::OVER_POOLS)?;
     assert_rows(&rt, rt.alloc(), Kind::Compiled, over_pool_rows::COMPILED)
+}
+
+#[test]
+fn trees_have_their_compact_files(rt: HostRuntime) -> Result<(), Fail> {
+    assert_rows(&rt, rt.alloc(), Kind::Compact, compact_rows::COMPACT)
 }
 
 #[test]

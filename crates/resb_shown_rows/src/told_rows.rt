@@ -1,9 +1,9 @@
 //! What a person is told of texts, counted by hand: places, lines with a mark, what else may be the
 //! cause of a refusal, and warnings.
 use resb_diagnostics::{
-    Location, Locations, Reason, Warning, first_icu_outdent, first_outdent, icu_warnings,
-    innermost_icu_open, innermost_open, is_hidden, location_of, long_icu_string_before,
-    long_string_before, pointed_line, repeated_icu_keys, warnings,
+    Location, Locations, Reason, Warning, first_icu_outdent, first_icu_word, first_outdent,
+    icu_warnings, innermost_icu_open, innermost_open, is_hidden, location_of,
+    long_icu_string_before, long_string_before, pointed_line, repeated_icu_keys, warnings,
 };
 use std::alloc::{AllocError, Global};
 use std::test::Fail;
@@ -70,5 +70,52 @@ fn warnings_have_their_places(rt: HostRuntime) -> Result<(), Fail> {
     assert!(rt; is_told(group, 4, Reason::UnquotedGroup)?);
     let keys = repeated_icu_keys(alloc, b"b{a{x} a{y}");
     assert!(rt; is_told(keys, 7, Reason::RepeatedKey(2))?);
+    Ok(())
+}
+
+/// Texts of ICU's form, each with its only warning, if there is one. ICU's genrb takes each: its
+/// trees say where a string is joined, and which bytes are one.
+const ICU_ROWS: [(&str, Option<(usize, Reason)>); 12] = [
+    // a table with the key "(b)", and an array of "(5)" and "x"
+    ("b{a{(b) {0}}}", Some((8, Reason::UnquotedGroup))),
+    ("b{a{{(5)} x}}", None),
+    ("b{k{5/ {0}}}", Some((7, Reason::UnquotedGroup))),
+    ("b{m{{0/} of}}", None),
+    ("\"b\"{a{0}}", None),
+    // "one two" is one member, and all of a group but a comma
+    (
+        "b{x:array{one\ntwo, three}}",
+        Some((14, Reason::JoinedOverLine)),
+    ),
+    (
+        "b{x{one // c\ntwo, three}}",
+        Some((13, Reason::JoinedOverLine)),
+    ),
+    (
+        "b{x{{a}\none\ntwo :int{5}}}",
+        Some((12, Reason::JoinedOverLine)),
+    ),
+    ("b{k{a {0\n1, 2}}}", Some((9, Reason::JoinedOverLine))),
+    // a line ended before the first word alone, and in a group of one string
+    ("b{x:array{\"a\",\none two}}", None),
+    ("b{x{one\ntwo}}", None),
+    ("b{x:bin{00\nff}}", None),
+];
+
+#[test]
+fn unquoted_strings_have_warnings(rt: HostRuntime) -> Result<(), Fail> {
+    for (text, only) in ICU_ROWS {
+        let found = icu_warnings(rt.alloc(), text);
+        assert!(rt;
+            match only {
+                Some((place, reason)) => is_told(found, place, reason)?,
+                None => found?.is_empty(),
+            }
+        );
+    }
+    let keys = repeated_icu_keys(rt.alloc(), b"b{a/b{x} a/b{y}");
+    assert!(rt; is_told(keys, 9, Reason::RepeatedKey(2))?);
+    assert!(rt; repeated_icu_keys(rt.alloc(), b"b{(a){x} a{y}")?.is_empty());
+    assert!(rt; first_icu_word(b"a/b/*c*/{") == b"a/b".as_slice());
     Ok(())
 }

@@ -3,6 +3,8 @@
 #![tactic(auto)]
 
 #[cfg(test)]
+mod files_rows;
+#[cfg(test)]
 mod icu_rows;
 #[cfg(test)]
 mod print_rows;

@@ -39,6 +39,15 @@ const PACKAGE: Argument<'static> = Argument {
     ..WORD
 };
 
+/// The layout of genrb's files.
+const COMPACT: Argument<'static> = Argument {
+    id: "compact",
+    option: Some("compact"),
+    help: "Lays files of --icu out as genrb does: keys may lie at the ends of others",
+    against: Some("POOL"),
+    ..FLAG
+};
+
 /// The program's commands, in the order in which they are shown.
 const COMMANDS: [Described<'static>; 9] = [
     COMPILE, CHECK, DUMP, GET, DIFF, LIST, EXTRACT, GENRB, DERB,
@@ -97,6 +106,7 @@ const COMPILE: Described<'static> = Described {
             against: Some("BYTES"),
             ..VALUE
         },
+        COMPACT,
         Argument {
             id: "noBinaryCollation",
             option: Some("no-binary-collation"),

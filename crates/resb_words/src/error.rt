@@ -21,6 +21,8 @@ pub enum WordsError {
     SeveralTexts,
     /// The texts of several files are asked for, and no folder for them is named.
     SeveralFiles,
+    /// `--compact` stands without `--icu`.
+    CompactPlain,
     /// The words of ICU's compiler ask for this, which isn't done.
     NotDone(&'static str),
     /// `--encoding` names one that isn't read.
@@ -59,6 +61,10 @@ impl fmt::Display for WordsError {
             WordsError::SeveralFiles => write!(
                 f,
                 "resb: the texts of several files go to a folder, named by --directory"
+            ),
+            WordsError::CompactPlain => write!(
+                f,
+                "resb: --compact is for texts in ICU's own form, which --icu says"
             ),
             WordsError::NotDone(word) => write!(f, "resb: --{word} isn't done here"),
             WordsError::NoEncoding => write!(

@@ -176,7 +176,7 @@ pub(crate) const GENRB: Described<'static> = Described {
             id: "omitCollationRules",
             letter: Some('R'),
             option: Some("omitCollationRules"),
-            help: NOT_LOOKED_AT,
+            help: "Leaves rules of collation out of the files",
             ..FLAG
         },
         Argument {
@@ -187,6 +187,13 @@ pub(crate) const GENRB: Described<'static> = Described {
             ..FLAG
         },
         COLLATION,
+        Argument {
+            id: "compact",
+            option: Some("compact"),
+            help: "Lays files out as ICU's genrb does: keys may lie at the ends of others",
+            against: Some("usePoolBundle"),
+            ..FLAG
+        },
         Argument {
             id: "formatVersion",
             option: Some("formatVersion"),

@@ -25,6 +25,12 @@ pub struct GenrbWords<'w> {
     pub filters: Option<Filters<'w>>,
     /// What becomes of rules of collation.
     pub collation: Collation<'w>,
+    /// Whether rules of collation are left out of the files.
+    pub omits_rules: bool,
+    /// Whether the files are laid out as ICU's compiler lays them out.
+    pub is_compact: bool,
+    /// The folder of the files that texts take in, if it isn't that of each text.
+    pub files: Option<&'w str>,
     /// Whether warnings are left unsaid.
     pub is_quiet: bool,
 }
@@ -100,6 +106,9 @@ fn genrb<'w>(alloc: Global, matches: &ArgMatches<'w>) -> Result<Request<'w>, Wor
         written_pool: pool(matches, "writePoolBundle", destination),
         filters: rules_of(matches, source),
         collation: asked_collation(matches),
+        omits_rules: matches.get_flag("omitCollationRules"),
+        is_compact: matches.get_flag("compact"),
+        files: source_said(matches),
         is_quiet: matches.get_flag("quiet"),
     }))
 }
@@ -130,6 +139,14 @@ fn derb<'w>(alloc: Global, matches: &ArgMatches<'w>) -> Result<Request<'w>, Word
         source: folder(matches, "sourcedir"),
         destination,
     }))
+}
+
+/// The folder of the texts, if the words name it.
+fn source_said<'w>(matches: &ArgMatches<'w>) -> Option<&'w str> {
+    match matches.get_str("sourcedir") {
+        None | Some("") => None,
+        Some(folder) => Some(folder),
+    }
 }
 
 /// The folder that is named, or the current one.

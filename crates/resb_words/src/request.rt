@@ -53,6 +53,14 @@ pub struct CompileWords<'w> {
     pub filters: Option<Filters<'w>>,
     /// What becomes of rules of collation.
     pub collation: Collation<'w>,
+    /// Whether rules of collation are left out of the files.
+    pub omits_rules: bool,
+    /// Whether the files are laid out as ICU's compiler lays them out.
+    pub is_compact: bool,
+    /// The folder of the files that texts take in, if it isn't that of each text.
+    pub files: Option<&'w str>,
+    /// The folder where the files should be that texts depend on, if these are looked for.
+    pub dependencies: Option<&'w str>,
     /// Whether no file is written.
     pub is_check: bool,
     /// Whether warnings and progress are left unsaid.
@@ -168,16 +176,24 @@ fn compile<'w>(alloc: Global, matches: &ArgMatches<'w>) -> Result<Request<'w>, W
     if output.is_some() && texts.len() > 1 {
         return Err(WordsError::SeveralTexts);
     }
+    let (is_icu, is_compact) = (matches.get_flag("ICU"), matches.get_flag("compact"));
+    if is_compact && !is_icu {
+        return Err(WordsError::CompactPlain);
+    }
     Ok(Request::Compile(CompileWords {
         texts,
         output,
         folder,
         is_by_name: matches.get_flag("by-name"),
-        is_icu: matches.get_flag("ICU"),
+        is_icu,
         limit,
         pool: matches.get_str("POOL"),
         filters: None,
         collation: asked_collation(matches),
+        omits_rules: false,
+        is_compact,
+        files: None,
+        dependencies: None,
         is_check: matches.get_flag("check"),
         is_quiet: matches.get_flag("quiet"),
         is_strict: matches.get_flag("strict"),

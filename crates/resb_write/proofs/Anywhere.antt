@@ -9,7 +9,12 @@ use Rattle.resb_layout.specs.Laid.{long_table, wide_table}
 use Rattle.resb_write.specs.Inner.Room.{at_base}
 
 abbrev with_base : Given → ℕ → Given
-with_base g n = record { position = g.position; offset = g.offset; base = n }
+with_base g n = record {
+  position = g.position;
+  offset = g.offset;
+  base = n;
+  packing = g.packing;
+}
 
 module _ (lent : Option Lends) (g : Given) (n : ℕ) where
   array_with : {s : Laid} {ws : List ℕ} {e : Laid} {w : ℕ} → ClosesArrayBy lent (at_base n) s ws e w

@@ -17,7 +17,7 @@ use Rattle.resb_layout.specs.KeyBlock.{key_bytes, last_place}
 use Rattle.resb_layout.specs.TreeFaults.{has_nul}
 use Rattle.resb_layout.specs.Written.{even}
 use Rattle.resb_write.specs.Inner.Gathered.{largest_of}
-use Rattle.resb_write.proofs.Keys.{last_of-stands}
+use Rattle.resb_write.proofs.Keys.{last_of-stands, StandsAt}
 
 pub key_at-found : (front k rest : List ℕ) → IsUtf8 k → has_zero k ≡ false
     → key_at (front ++ (k ++ 0 ∷ rest)) (length front) ≡ Some k
@@ -28,14 +28,12 @@ key_at-found front k rest u z =
     ∙ ap (option_and_then if_utf8) (before_zero-found k rest z)
     ∙ ap (λ b. cond b (Some k) None) (is_utf8-from_IsUtf8 k u)
 
--- a key is read at its position
-pub written_key_read : (start : ℕ) (head pad : List ℕ) (js : List (List ℕ)) → length head ≡ start
-    → (k : List ℕ) (n : ℕ)
-    → last_place k js ≡ Some n → IsUtf8 k → has_nul k ≡ false
-    → key_at (head ++ (key_bytes js ++ pad)) (start + n) ≡ Some k
-written_key_read start head pad js front k n e u z =
-    let s = last_of-stands k js n e in
-    let f : head ++ (key_bytes js ++ pad) ≡ (head ++ s.front) ++ (k ++ 0 ∷ (s.back ++ pad)) =
+-- a key is read where it stands
+pub key_read_at : (start : ℕ) (head pad bytes : List ℕ) → length head ≡ start
+    → (k : List ℕ) (n : ℕ) → StandsAt bytes k n → IsUtf8 k → has_nul k ≡ false
+    → key_at (head ++ (bytes ++ pad)) (start + n) ≡ Some k
+key_read_at start head pad bytes front k n s u z =
+    let f : head ++ (bytes ++ pad) ≡ (head ++ s.front) ++ (k ++ 0 ∷ (s.back ++ pad)) =
     ap (λ l. head ++ (l ++ pad)) s.is
     ∙ ap (λ l. head ++ l) (append_assoc s.front (k ++ 0 ∷ s.back) pad
     ∙ ap (λ l. s.front ++ l) (append_assoc k (0 ∷ s.back) pad))
@@ -43,6 +41,14 @@ written_key_read start head pad js front k n e u z =
     let at : start + n ≡ length (head ++ s.front) =
     omega (arith, front, s.place, length-append head s.front) in
     (λ i. key_at (f i) (at i)) ∙ key_at-found (head ++ s.front) k (s.back ++ pad) u z
+
+-- so is one at its last place
+pub written_key_read : (start : ℕ) (head pad : List ℕ) (js : List (List ℕ)) → length head ≡ start
+    → (k : List ℕ) (n : ℕ)
+    → last_place k js ≡ Some n → IsUtf8 k → has_nul k ≡ false
+    → key_at (head ++ (key_bytes js ++ pad)) (start + n) ≡ Some k
+written_key_read start head pad js front k n e u z =
+    key_read_at start head pad (key_bytes js) front k n (last_of-stands k js n e) u z
 
 -- the even block
 pub even_is : (us : List ℕ) → (pad : List ℕ) × (even us ≡ us ++ pad)

@@ -15,6 +15,11 @@ use Rattle.resb_tree.specs.Tree.{no_entries, entry}
 use Rattle.resb_tree.specs.LayingOrder.{array_members, values_of, laying_order, laying_each}
 use Rattle.resb_tree.specs.LayingOrder.{laying_values}
 use Rattle.resb_tree.specs.LayingOrder.{entry_keys}
+use Rattle.std.proofs.Common.{inl, inr, ◌||◌, ◌==◌}
+use Rattle.std.proofs.lemmas.Bool.{ne_eqb}
+use Rattle.resb_layout.specs.Laid.{word_of_string}
+use Rattle.resb_layout.specs.declared.packing.Packing.{Packing}
+use Rattle.resb_layout.proofs.StringWords.{word_cases}
 use Rattle.resb_layout.specs.Laid.{Given, Lends, Laid, is_short_string, is_short_by, are_short_by}
 use Rattle.resb_layout.specs.Laid.{are_near, nears_by, offsets_by, near_by, short_by, short_in}
 use Rattle.resb_layout.specs.Laid.{ClosesArrayBy, short_array, long_array, ClosesTableBy}
@@ -30,26 +35,46 @@ use Rattle.resb_write.proofs.OneBlock.{below_strings, above_strings, short_is_ea
 use Rattle.resb_write.proofs.KeyViews.{placed_long, keys_values}
 use Rattle.resb_layout.proofs.InOrderLemmas.{laying_each-entry_trees}
 
+some_word : (k : ℕ) (b : Bool) → ((0x6000_0000 + k == 0) || b) ≡ b
+some_word k b = ap (λ c. c || b) (ne_eqb (0x6000_0000 + k) 0
+    (λ (e : 0x6000_0000 + k ≡ 0). omega (arith, e)))
+
 -- the word of a string is short where a unit tells its offset
-short_offset : (lent : Option Lends) (k : ℕ) → k < 2 ^ 28
+plain_offset : (lent : Option Lends) (k : ℕ) → k < 2 ^ 28
     → is_short_by lent (0x6000_0000 + k) ≡ nat_le (short_by lent k) 65535
-short_offset (Some l) k small =
+plain_offset (Some l) k small = some_word k _ ∙
     (λ i. le-leb 0x6000_0000 (0x6000_0000 + k) (omega arith) i
     && (le-leb (0x6000_0000 + k) 0x6fff_ffff (omega (arith, small)) i
     && nat_le (short_in l (back i)) 65535))
   where
     back : 0x6000_0000 + k - 0x6000_0000 ≡ k
     back = omega arith
-short_offset None k small = by (nat_le k 65535) refl
+plain_offset None k small = some_word k _ ∙ by (nat_le k 65535) refl
   where
     low_enough : nat_le 0x6000_0000 (0x6000_0000 + k) ≡ true
     low_enough = le-leb 0x6000_0000 (0x6000_0000 + k) (omega arith)
 
-    by : (b : Bool) → nat_le k 65535 ≡ b → is_short_string (0x6000_0000 + k) ≡ nat_le k 65535
+    by : (b : Bool) → nat_le k 65535 ≡ b
+        → (nat_le 0x6000_0000 (0x6000_0000 + k) && nat_le (0x6000_0000 + k) 0x6000_ffff)
+        ≡ nat_le k 65535
     by true e = (λ i. low_enough i && le-leb (0x6000_0000 + k) 0x6000_ffff
         (omega (arith, leb-true k 65535 e)) i) ∙ sym e
     by false e = (λ i. low_enough i && lt-leb (0x6000_0000 + k) 0x6000_ffff
         (omega (arith, leb-false k 65535 e)) i) ∙ sym e
+
+-- so is word 0, which is the empty string's
+zero_offset : (lent : Option Lends) (w k : ℕ) → w ≡ 0 → k ≡ 0
+    → is_short_by lent w ≡ nat_le (short_by lent k) 65535
+zero_offset None w k e f = ap is_short_string e ∙ sym (ap (λ n. nat_le n 65535) f)
+zero_offset (Some l) w k e f = ap (is_short_by (Some l)) e
+    ∙ sym (ap (λ n. nat_le (short_in l n) 65535) f)
+
+short_offset : (lent : Option Lends) (q : Packing) (k : ℕ) → k < 2 ^ 28
+    → is_short_by lent (word_of_string q k) ≡ nat_le (short_by lent k) 65535
+short_offset lent q k small = elim (word_cases q k) [
+  | inl e ↦ ap (is_short_by lent) e ∙ plain_offset lent k small
+  | inr e ↦ zero_offset lent (word_of_string q k) k e.2 e.1
+]
 
 members_of : (es : Entries) → array_members (entry_trees es) ≡ values_of es
 members_of no_entries = refl
@@ -124,7 +149,7 @@ module _ (lent : Option Lends) (g : Given) where
           short_is (are_near_strings lent g ts && are_near_keys lent g ks) (length ts) 2 both
               (omega (arith, some, n)),
         ),
-        below_strings lent (0x5000_0000 + length s.units) (omega (arith, l)),
+        below_strings lent (0x5000_0000 + length s.units) (omega (arith, l)) (omega arith),
       )
   table_units {s} {ps} {ws} ks ts n m h k some (long_table at r q f p) =
       let same : are_short_by lent ws ≡ are_near_strings lent g ts =
@@ -136,7 +161,7 @@ module _ (lent : Option Lends) (g : Given) where
           long_is (are_near_strings lent g ts && are_near_keys lent g ks)
               (length ts) 2 no,
         ),
-        below_strings lent (0x2000_0000 + at) (omega (arith, p)),
+        below_strings lent (0x2000_0000 + at) (omega (arith, p)) (omega arith),
       )
   table_units {s} {ps} {ws} ks ts n m h k some (wide_table at r f p q z) =
       let no : (are_near_strings lent g ts && are_near_keys lent g ks) ≡ false =
@@ -146,7 +171,7 @@ module _ (lent : Option Lends) (g : Given) where
           long_is (are_near_strings lent g ts && are_near_keys lent g ks)
               (length ts) 2 no,
         ),
-        below_strings lent (0x4000_0000 + at) (omega (arith, p)),
+        below_strings lent (0x4000_0000 + at) (omega (arith, p)) (omega arith),
       )
 
   leaf : (s : Laid) (t : Tree) → own_units lent g t ≡ 0
@@ -181,15 +206,15 @@ module _ (lent : Option Lends) (g : Given) where
     units {s} {e} {t} (lays_integer {n = n} k) =
         (leaf s t refl, above_strings lent (0x7000_0000 + n) (omega arith))
     units {s} {e} {t} (lays_string {text = x} {k = m} k l) =
-        (leaf s t refl, short_offset lent m l ∙ sym (ap (fits_unit (short_by lent)) k))
+        (leaf s t refl, short_offset lent g.packing m l ∙ sym (ap (fits_unit (short_by lent)) k))
     units {s} {e} {t} lays_no_path =
-        (leaf s t refl, below_strings lent 0x3000_0000 (omega arith))
+        (leaf s t refl, below_strings lent 0x3000_0000 (omega arith) (omega arith))
     units {s} {e} {t} (lays_path at some u n f l) =
-        (leaf s t refl, below_strings lent (0x3000_0000 + at) (omega (arith, l)))
+        (leaf s t refl, below_strings lent (0x3000_0000 + at) (omega (arith, l)) (omega arith))
     units {s} {e} {t} lays_no_bytes =
-        (leaf s t refl, below_strings lent 0x1000_0000 (omega arith))
+        (leaf s t refl, below_strings lent 0x1000_0000 (omega arith) (omega arith))
     units {s} {e} {t} (lays_bytes at some n f l) =
-        (leaf s t refl, below_strings lent (0x1000_0000 + at) (omega (arith, l)))
+        (leaf s t refl, below_strings lent (0x1000_0000 + at) (omega (arith, l)) (omega arith))
     units {s} {e} {t} lays_no_numbers =
         (leaf s t refl, above_strings lent 0xe000_0000 (omega arith))
     units {s} {e} {t} (lays_numbers at some n a f l) =
@@ -205,7 +230,7 @@ module _ (lent : Option Lends) (g : Given) where
           o.1,
         )
     units {s} {e} {t} lays_no_entries =
-        (leaf s t refl, below_strings lent 0x2000_0000 (omega arith))
+        (leaf s t refl, below_strings lent 0x2000_0000 (omega arith) (omega arith))
     units {s} {e} {t} (lays_entries {mid = mid} {es = es} {ws = ws} ps p k some c) =
         let r = units_each k in
         let n = r.1 ∙ ap length (members_of es) in

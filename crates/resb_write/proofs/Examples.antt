@@ -1,6 +1,6 @@
 -- The definitions at worked examples: what they accept, and what they refuse.
 use Rattle.std.proofs.Common.{◌≡◌, ℕ, zero, suc, List, [], ◌∷◌, ◌++◌, Some, None, true, refl, sym}
-use Rattle.std.proofs.Common.{inl, inr, length, arith}
+use Rattle.std.proofs.Common.{inl, inr, length, arith, map}
 use Rattle.std.specs.Prelude.{codes, Contains}
 use Rattle.std.specs.Str.{chars}
 use Rattle.std.proofs.Math.Utf8.{encode}
@@ -10,8 +10,10 @@ use Rattle.resb_format.specs.Units.{units, size}
 use Rattle.resb_format.specs.Bytes.{units_of, words_of}
 use Rattle.resb_layout.specs.WritingFault.{unexpected, limit, out_of_memory, message_of}
 use Rattle.resb_pool.specs.Records.{IsRecord, IsHeldBy}
+use Rattle.resb_layout.specs.declared.packing.Packing.TheVariants.{Plain, Compact}
+use Rattle.resb_layout.specs.CompactKeys.{container, kept, end_position}
 use Rattle.resb_layout.specs.Laid.{Lays, lays_integer, lays_members, each_none, each_more}
-use Rattle.resb_layout.specs.Laid.{long_array, lays_path}
+use Rattle.resb_layout.specs.Laid.{long_array, lays_path, word_of_string}
 use Rattle.resb_layout.specs.KeyBlock.{key_block, key_position, key_bytes, padded}
 use Rattle.resb_layout.specs.PlainSize.{plain_size}
 use Rattle.resb_layout.specs.TreeFaults.{tree_fault}
@@ -37,6 +39,37 @@ last_place_counts = refl
 unused_key : key_position two_keys ((97 ∷ []) ∷ (100 ∷ []) ∷ []) (100 ∷ []) ≡ None
 unfolding two_keys
 unused_key = refl
+
+-- The compact key block of keys xab, yab, ab and b: ab lies in yab, the greater of the two that end
+-- with it, and so does b; a key of another end stands by itself, and a key that isn't listed stands
+-- nowhere, also where it would lie inside another.
+
+ends_of_keys : List (List ℕ)
+ends_of_keys = codes "b" ∷ codes "yab" ∷ codes "ab" ∷ codes "xab" ∷ []
+
+in_the_greatest : container ends_of_keys (codes "ab") ≡ codes "yab"
+unfolding ends_of_keys
+in_the_greatest = refl
+
+longest_are_kept : kept ends_of_keys ≡ codes "yab" ∷ codes "xab" ∷ []
+unfolding ends_of_keys
+longest_are_kept = refl
+
+at_the_end : map (end_position ends_of_keys)
+    (codes "yab" ∷ codes "ab" ∷ codes "b" ∷ codes "xab" ∷ [])
+    ≡ Some 32 ∷ Some 33 ∷ Some 34 ∷ Some 36 ∷ []
+unfolding ends_of_keys
+at_the_end = refl
+
+only_listed : end_position ends_of_keys (codes "") ≡ None
+unfolding ends_of_keys
+only_listed = refl
+
+-- An empty string has the word 0 in a compact file, and else that of a string at unit 0.
+
+empty_words : (word_of_string Compact 0 ≡ 0) × (word_of_string Plain 0 ≡ 0x6000_0000)
+    × (word_of_string Compact 5 ≡ 0x6000_0005)
+empty_words = (refl, refl, refl)
 
 -- Faults: a used key that isn't listed, also where it is read inside another; then U+0000 in a key.
 
@@ -64,14 +97,14 @@ plain_size_of_three : plain_size
 plain_size_of_three = refl
 
 -- An array of one integer, from byte 36 of the body.
-array_laid : Lays (record { position = λ k. None; offset = λ s. None; base = 36 })
+array_laid : Lays (record { position = λ k. None; offset = λ s. None; base = 36; packing = Plain })
     (record { units = 0 ∷ []; tail = [] }) (array (more_trees (integer 5) no_trees))
     (record { units = 0 ∷ []; tail = 1 ∷ 0 ∷ 0 ∷ 0 ∷ 5 ∷ 0 ∷ 0 ∷ 0x70 ∷ [] }) 0x8000_0009
 array_laid = lays_members (each_more (lays_integer (omega arith)) each_none) (omega arith)
     (long_array 9 refl refl (omega arith) (omega arith))
 
 -- An alias of the path ab, from byte 36 of the body: two units, a unit 0 and padding.
-alias_laid : Lays (record { position = λ k. None; offset = λ s. None; base = 36 })
+alias_laid : Lays (record { position = λ k. None; offset = λ s. None; base = 36; packing = Plain })
     (record { units = 0 ∷ []; tail = [] }) (alias (97 ∷ 98 ∷ []))
     (record {
       units = 0 ∷ [];

@@ -21,6 +21,7 @@ use Rattle.resb_format.proofs.WordsBack.{written_length}
 use Rattle.resb_head.specs.File.{root_word}
 use Rattle.resb_pool_bundle.specs.Pool.{Pool, parts_with}
 use Rattle.resb_pool_bundle.specs.FileWith.{IsFileWith, DenotesWith}
+use Rattle.resb_layout.specs.declared.packing.Packing.TheVariants.{Plain}
 use Rattle.resb_layout.specs.Laid.{Given, Lends, words, fill, to_word}
 use Rattle.resb_layout.specs.Laws.{IsRead, StandsIn}
 use Rattle.resb_layout.specs.KeyBlock.{used, is_among, key_bytes, padded, last_place}
@@ -132,7 +133,12 @@ module _ (pool : Pool) (t : Tree) (ks : List (List ℕ)) (b : BlocksWith pool t 
     base = tail_start_beside block b.laid
 
     abbrev given : Given
-    given = record { position = position_beside b.place js; offset = b.offset; base = base }
+    given = record {
+      position = position_beside b.place js;
+      offset = b.offset;
+      base = base;
+      packing = Plain;
+    }
 
     abbrev lends : Lends
     lends = record { own_end = own_end_of js; limit = b.limit; short_limit = b.short }

@@ -1,8 +1,10 @@
 -- What is put together is the file of its tree.
 use Rattle.std.proofs.Common.{◌≡◌, ℕ, ◌+◌, ◌-◌, ◌*◌, ◌%◌, ◌^◌, ◌<◌, ◌≤◌, List, [], ◌∷◌, ◌++◌}
-use Rattle.std.proofs.Common.{length, get_or, Option, Some, None, option_map, Bool, true, false}
+use Rattle.std.proofs.Common.{drop, length, get_or, Option, Some, None, Bool, true, false}
 use Rattle.std.proofs.Common.{cond, refl, sym, ◌∙◌, ap, subst, append_assoc, append-nil}
-use Rattle.std.proofs.Common.{length-append, inl, inr, arith}
+use Rattle.std.proofs.Common.{length-append, inl, inr, arith, MatchOption}
+use Rattle.std.specs.List.{Contains}
+use Rattle.resb_pool.specs.Pool.{Off}
 use Rattle.std.specs.List.{All}
 use Rattle.std.specs.Str.{IsUtf8}
 use Rattle.std.proofs.lemmas.List.{take_at}
@@ -11,8 +13,9 @@ use Rattle.std.proofs.lemmas.List.Sums.{sum_by-cons}
 use Rattle.resb_tree.specs.Tree.{Tree, string, alias, array, table, binary, integer, int_vector}
 use Rattle.resb_tree.specs.Tree.{Entries, no_entries, entry, entries_len, tree_count}
 use Rattle.resb_format.specs.Strings.{text_at, key_at}
-use Rattle.resb_format.specs.Parts.{Parts, beside_no_pool}
-use Rattle.resb_head.specs.File.{root_word, parts_of}
+use Rattle.resb_format.specs.Parts.{Parts, beside_no_pool, reads_older}
+use Rattle.resb_head.specs.File.{root_word, parts_of, body_of, keys_end, block_end, budget, Denotes}
+use Rattle.resb_head.specs.File.{DenotesWithAliases}
 use Rattle.resb_format.specs.Denotes.{Den}
 use Rattle.resb_pool.specs.Plan.{IsPlan}
 use Rattle.resb_pool.proofs.IsRead.{pool_is_read}
@@ -20,27 +23,34 @@ use Rattle.resb_pool.proofs.ReadBack.{text_at-zero}
 use Rattle.resb_layout.specs.Laid.{Given, Laid, Lays, fill}
 use Rattle.resb_format.specs.Bytes.{units_as_bytes}
 use Rattle.resb_format.specs.Lookups.{key_place_by, text_place_by, index_by, text_in}
-use Rattle.resb_layout.specs.Laws.{IsRead, StandsIn, ReadsAliasesOf}
+use Rattle.resb_layout.specs.Laws.{IsRead, StandsIn, ReadsOlderOf}
 use Rattle.resb_layout.proofs.BytesLemmas.{EachBelow, halves_len}
 use Rattle.resb_layout.proofs.Grows.{grows}
 use Rattle.resb_layout.proofs.Denoted.{laid_is_denoted}
 use Rattle.resb_layout.proofs.Paid.{laid_is_paid}
 use Rattle.resb_tree.specs.LayingOrder.{laying_order, texts_of, values_of}
 use Rattle.resb_write.specs.Inner.Room.{HasRoomFor}
-use Rattle.resb_layout.specs.KeyBlock.{used, key_bytes, padded, key_block, last_place, position_in}
+use Rattle.resb_layout.specs.KeyBlock.{used, key_bytes, padded, keys_start}
+use Rattle.resb_layout.specs.CompactKeys.{keys_by, key_block_by, key_position_by}
 use Rattle.resb_tree.specs.LayingOrder.{keys_of}
-use Rattle.resb_layout.specs.KeyBlock.{key_position, keys_start}
 use Rattle.resb_layout.specs.PlainSize.{held_size, resources_size, list_size}
 use Rattle.resb_layout.specs.TreeFaults.{key_fault, tree_fault, first_of}
 use Rattle.resb_layout.specs.WrittenHead.{written_header}
-use Rattle.resb_layout.specs.Written.{even, tail_start, Blocks, Written}
+use Rattle.resb_layout.specs.Written.{even, tail_start, BlocksBy, block_bytes, Written}
+use Rattle.resb_layout.specs.WrittenCompact.{WrittenCompact}
+use Rattle.resb_layout.specs.WrittenHead.{IndexOf}
+use Rattle.resb_layout.specs.declared.packing.Packing.{Packing}
+use Rattle.resb_layout.specs.declared.packing.Packing.TheVariants.{Plain, Compact}
+use Rattle.resb_write.specs.Inner.Beside.{IsFileOver}
+use Rattle.resb_write.specs.declared.target.Target.TheVariants.{Alone}
+use Rattle.resb_tree.specs.Aliases.{has_alias}
 use Rattle.resb_write.specs.Inner.Gathered.{entry_count_of, largest_of}
 use Rattle.resb_write.specs.Inner.Files.{file_of, fields_of}
 use Rattle.resb_write.specs.Inner.Sizes.{size_fault}
-use Rattle.resb_write.proofs.Keys.{place_contained}
+use Rattle.resb_write.proofs.PackedKeys.{packed_room, key_placed, used_there}
 use Rattle.resb_write.proofs.Room.{small_sizes, used_room, length-padded}
-use Rattle.resb_write.proofs.Known.{is_used, no_nul}
-use Rattle.resb_write.proofs.Blocks.{written_key_read, even_is, even_long, each_below, below_even}
+use Rattle.resb_write.proofs.Known.{no_nul}
+use Rattle.resb_write.proofs.Blocks.{key_read_at, even_is, even_long, each_below, below_even}
 use Rattle.resb_write.proofs.Blocks.{largest_laid}
 use Rattle.resb_write.proofs.Beside.{read_beside, stands_beside}
 use Rattle.resb_write.proofs.Heads as heads
@@ -70,40 +80,88 @@ largest_room (t ∷ ts) = omega (
     by (int_vector ns) = omega arith
 
 -- what is known when a file is put together
-pub record Made (t : Tree) (ks js : List (List ℕ)) : Type 0 where
+pub record Made (q : Packing) (t : Tree) (ks : List (List ℕ)) : Type 0 where
   pub pool : List ℕ
   pub offset : List ℕ → Option ℕ
   pub laid : Laid
   pub root : ℕ
-  pub js_are : js ≡ used (keys_of t) ks
-  pub utf8 : All IsUtf8 js
-  pub faultless : key_fault (keys_of t) js ≡ None
+  pub utf8 : All IsUtf8 (used (keys_of t) ks)
+  pub faultless : key_fault (keys_of t) (used (keys_of t) ks) ≡ None
   pub small : list_size ks + resources_size (laying_order t) < 2 ^ 28
   pub plan : IsPlan (texts_of t) pool offset
   pub base : ℕ
-  pub base_is : base ≡ 32 + length (padded (key_bytes js)) + 2 *
+  pub base_is : base ≡ 32 + length (key_block_by q t ks) + 2 *
       (length laid.units + length laid.units % 2)
-  pub lays : Lays (record { position = position_in js; offset = offset; base = base })
+  pub lays : Lays
+      (record { position = key_position_by q t ks; offset = offset; base = base; packing = q })
       (record { units = pool; tail = [] }) t laid root
   pub room : HasRoomFor base laid []
   pub units_fit : (k : ℕ) → get_or laid.units k 0 < 2 ^ 16
   pub root_fits : root < 2 ^ 32
 
-module _ (t : Tree) (ks js : List (List ℕ)) (m : Made t ks js) (largest : ℕ) (fallback : Bool)
-    (largest_is : largest ≡ largest_of (laying_order t)) where
+-- the tree has no empty string, or the file isn't compact
+abbrev LacksEmpty : Packing → Tree → Type 0
+LacksEmpty Plain t = Unit {0}
+LacksEmpty Compact t = Contains (texts_of t) [] → ⊥
+
+-- what is said of a file, however it is packed
+pub record Shaped (q : Packing) (bytes : List ℕ) (t : Tree) (fallback : Bool)
+    (ks : List (List ℕ)) : Type 0 where
+  pub faultless : tree_fault t ks ≡ None
+  pub tree : DenotesWithAliases bytes t (tree_count t)
+  pub alone : has_alias t ≡ false → LacksEmpty q t → Denotes bytes t (tree_count t)
+  pub within_budget : tree_count t ≤ budget bytes
+  pub index : IndexOf bytes t fallback
+  pub blocks : BlocksBy q t ks
+  pub root : root_word bytes ≡ blocks.root
+  pub keys_end : 4 * keys_end bytes ≡ keys_start + length (key_block_by q t ks)
+  pub block_end : 4 * block_end bytes ≡ tail_start (key_block_by q t ks) blocks.laid
+  pub body : drop keys_start (body_of bytes) ≡ block_bytes blocks
+
+-- where aliases are read, so is the empty string of a compact file
+older_read : (q : Packing) (empty : Option ℕ) (p : Parts) (t : Tree) → reads_older p ≡ true
+    → ReadsOlderOf q empty p t
+older_read Plain empty p t reads = inr reads
+older_read Compact empty p t reads = (inr reads, inr reads)
+
+-- a text that wasn't given has no offset
+not_given : (S : List (List ℕ)) (us : List ℕ) (offset : List ℕ → Option ℕ) → IsPlan S us offset
+    → (s : List ℕ) → (Contains S s → ⊥) → offset s ≡ None
+not_given S us offset plan s lacks = by (offset s) refl (plan.offsets s)
+  where
+    by : (o : Option ℕ) → offset s ≡ o → MatchOption o (Contains S s → ⊥) (λ k. Contains S s
+        × Off S plan.records s k) → offset s ≡ None
+    by None e h = e
+    by (Some k) e h = absurd (lacks h.0)
+
+alone_read : (q : Packing) (t : Tree) (us : List ℕ) (offset : List ℕ → Option ℕ) (p : Parts)
+    → IsPlan (texts_of t) us offset → has_alias t ≡ false → LacksEmpty q t
+    → ReadsOlderOf q (offset []) p t
+alone_read Plain t us offset p plan none lacks = inl none
+alone_read Compact t us offset p plan none lacks =
+    (inl none, inl (not_given (texts_of t) us offset plan [] lacks))
+
+module _ (q : Packing) (t : Tree) (ks : List (List ℕ)) (m : Made q t ks) (largest : ℕ)
+    (fallback : Bool) (largest_is : largest ≡ largest_of (laying_order t)) where
   abbrev given : Given
-  given = record { position = position_in js; offset = m.offset; base = m.base }
+  given = record {
+    position = key_position_by q t ks;
+    offset = m.offset;
+    base = m.base;
+    packing = q;
+  }
+
+  abbrev js : List (List ℕ)
+  js = used (keys_of t) ks
+
+  abbrev own : List (List ℕ)
+  own = keys_by q js
 
   abbrev block : List ℕ
-  block = padded (key_bytes js)
+  block = padded (key_bytes own)
 
-  keys_small : length (key_bytes js) < 2 ^ 28
-  keys_small = omega (
-    arith,
-    ap (λ l. length (key_bytes l)) m.js_are,
-    used_room (keys_of t) ks,
-    m.small,
-  )
+  keys_small : length (key_bytes own) < 2 ^ 28
+  keys_small = omega (arith, packed_room q js, used_room (keys_of t) ks, m.small)
 
   abbrev us : List ℕ
   us = even m.laid.units
@@ -113,20 +171,20 @@ module _ (t : Tree) (ks js : List (List ℕ)) (m : Made t ks js) (largest : ℕ)
   flag_room false = omega arith
 
   block_whole : length block % 4 ≡ 0
-  block_whole = omega (arith, length-padded (key_bytes js))
+  block_whole = omega (arith, length-padded (key_bytes own))
 
   units_whole : length us % 2 ≡ 0
   units_whole = omega (arith, even_long m.laid.units)
 
   base_whole : m.base % 4 ≡ 0
-  base_whole = omega (arith, m.base_is, length-padded (key_bytes js))
+  base_whole = omega (arith, m.base_is, length-padded (key_bytes own))
 
   tail_whole : length m.laid.tail % 4 ≡ 0
   tail_whole = omega (arith, m.room.aligned, base_whole)
 
   words_fit : EachBelow (2 ^ 32) (m.root ∷ fields_of largest fallback block us m.laid.tail)
   words_fit =
-      let k = length-padded (key_bytes js) in
+      let k = length-padded (key_bytes own) in
       let b = even_long m.laid.units in (
         m.root_fits,
         (
@@ -181,20 +239,15 @@ module _ (t : Tree) (ks js : List (List ℕ)) (m : Made t ks js) (largest : ℕ)
   pool_first : (rest : List ℕ) × (m.pool ≡ 0 ∷ rest)
   pool_first = (_, m.plan.pool.units)
 
-  key_is_read : (k : List ℕ) (at : ℕ) → position_in js k ≡ Some at → key_at parts.keys at ≡ Some k
-  key_is_read k at e = by (last_place k js) refl e
-    where
-      by : (o : Option ℕ) → last_place k js ≡ o → option_map (λ n. keys_start + n) o ≡ Some at
-          → key_at parts.keys at ≡ Some k
-      by None h f = (let n : None ≡ Some at = f in cc)
-      by (Some n) h f =
-          let q : 32 + n ≡ at = (let f' : Some (32 + n) ≡ Some at = f in cc) in
-          ap (key_at parts.keys) (sym q)
-          ∙ written_key_read 32 (heads.head whole) (fill ((4 - length (key_bytes js) % 4) % 4)) js
-          (heads.head_length whole) k n h
-          (All-contains IsUtf8 js k m.utf8 (place_contained k js n h))
-          (no_nul (keys_of t) js m.faultless k (is_used (keys_of t) js m.faultless ks m.js_are k n
-          h))
+  key_is_read : (k : List ℕ) (at : ℕ) → key_position_by q t ks k ≡ Some at
+      → key_at parts.keys at ≡ Some k
+  key_is_read k at e =
+      let h = key_placed q js k at e in
+      ap (key_at parts.keys) (sym h.is)
+      ∙ key_read_at 32 (heads.head whole) (fill ((4 - length (key_bytes own) % 4) % 4))
+      (key_bytes own) (heads.head_length whole) k h.place h.stands
+      (All-contains IsUtf8 js k m.utf8 h.given)
+      (no_nul (keys_of t) js m.faultless k (used_there (keys_of t) ks k h.given))
 
   text_is_read : (s : List ℕ) (k : ℕ) → m.offset s ≡ Some k → text_in parts k ≡ Some s
   unfolding text_place_by
@@ -252,14 +305,15 @@ module _ (t : Tree) (ks js : List (List ℕ)) (m : Made t ks js) (largest : ℕ)
   pool_long : 0 < length m.pool
   pool_long = omega (arith, ap length pool_first.1)
 
-  denoted_in : (p : Parts) → IsRead p None given → StandsIn p given m.laid → ReadsAliasesOf p t
+  denoted_in : (p : Parts) → IsRead p None given → StandsIn p given m.laid
+      → ReadsOlderOf q (m.offset []) p t
       → Den p m.root t (tree_count t)
-  denoted_in p read inside aliases =
+  denoted_in p read inside older =
       laid_is_denoted None p given (record {
         units = m.pool;
         tail =
             [];
-      }) m.laid t m.root read aliases
+      }) m.laid t m.root read older
       pool_long m.lays inside
 
   -- what the root denotes in these parts, the file's root word does in those that are the same
@@ -276,26 +330,23 @@ module _ (t : Tree) (ks js : List (List ℕ)) (m : Made t ks js) (largest : ℕ)
     pool_long,
   )
 
-  same_block : padded (key_bytes js) ≡ key_block t ks
-  same_block = ap (λ l. padded (key_bytes l)) m.js_are
-
-  start : tail_start (key_block t ks) m.laid ≡ m.base
-  start = omega (arith, ap length same_block, even_long m.laid.units, m.base_is)
+  start : tail_start block m.laid ≡ m.base
+  start = omega (arith, even_long m.laid.units, m.base_is)
 
   given_is : ◌≡◌ {A = Given} given (record {
-    position = key_position t ks;
+    position = key_position_by q t ks;
     offset = m.offset;
-    base =
-        tail_start (key_block t ks) m.laid;
+    base = tail_start (key_block_by q t ks) m.laid;
+    packing = q;
   })
   given_is = λ i. record {
-    position = position_in (m.js_are i);
+    position = key_position_by q t ks;
     offset = m.offset;
-    base =
-        sym start i;
+    base = sym start i;
+    packing = q;
   }
 
-  blocks : Blocks t ks
+  blocks : BlocksBy q t ks
   blocks = record {
     pool = m.pool;
     offset = m.offset;
@@ -308,13 +359,12 @@ module _ (t : Tree) (ks js : List (List ℕ)) (m : Made t ks js) (largest : ℕ)
 
   no_fault : tree_fault t ks ≡ None
   no_fault =
-      ap (λ o. first_of o (size_fault (laying_order t))) (ap (key_fault (keys_of t)) (sym m.js_are)
-      ∙ m.faultless)
+      ap (λ o. first_of o (size_fault (laying_order t))) m.faultless
       ∙ small_sizes (laying_order t) (omega (arith, m.small))
 
-  pub written : Written file t fallback ks
+  pub shaped : Shaped q file t fallback ks
   unfolding blocks
-  written = record {
+  shaped = record {
     faultless = no_fault;
     tree = record {
       head = heads.is_bundle_file whole;
@@ -322,12 +372,14 @@ module _ (t : Tree) (ks js : List (List ℕ)) (m : Made t ks js) (largest : ℕ)
           (ap beside_no_pool (heads.parts_are whole))
           (denoted_in (beside_no_pool parts)
           (read_beside parts.body parts.keys parts.block given is_read)
-          (stands_beside parts.body parts.keys parts.block given stands) (inr refl));
+          (stands_beside parts.body parts.keys parts.block given stands)
+          (older_read q (m.offset []) (beside_no_pool parts) t refl));
     };
-    alone = λ none. record {
+    alone = λ none lacks. record {
       head = heads.is_bundle_file whole;
       root = at_root (parts_of file) parts (heads.parts_are whole)
-          (denoted_in parts is_read stands (inl none));
+          (denoted_in parts is_read stands
+          (alone_read q t m.pool m.offset parts m.plan none lacks));
     };
     within_budget = omega (
       arith,
@@ -347,13 +399,70 @@ module _ (t : Tree) (ks js : List (List ℕ)) (m : Made t ks js) (largest : ℕ)
     };
     blocks = blocks;
     root = heads.root_is whole;
-    keys_end = omega (arith, heads.keys_end_is whole, block_whole, ap length same_block);
+    keys_end = omega (arith, heads.keys_end_is whole, block_whole);
     block_end = omega (
       arith,
       heads.block_end_is whole,
       block_whole,
       units_whole,
-      ap length same_block,
     );
-    body = heads.behind_head whole ∙ ap (λ l. l ++ (units_as_bytes us ++ m.laid.tail)) same_block;
+    body = heads.behind_head whole;
   }
+
+-- a file is shaped by its packing, and no more is said of it
+pub plain_shaped : (bytes : List ℕ) (t : Tree) (fallback : Bool) (ks : List (List ℕ))
+    → Written bytes t fallback ks → Shaped Plain bytes t fallback ks
+plain_shaped bytes t fallback ks w = record {
+  faultless = w.faultless;
+  tree = w.tree;
+  alone = λ none lacks. w.alone none;
+  within_budget = w.within_budget;
+  index = w.index;
+  blocks = w.blocks;
+  root = w.root;
+  keys_end = w.keys_end;
+  block_end = w.block_end;
+  body = w.body;
+}
+
+pub compact_shaped : (bytes : List ℕ) (t : Tree) (fallback : Bool) (ks : List (List ℕ))
+    → WrittenCompact bytes t fallback ks → Shaped Compact bytes t fallback ks
+compact_shaped bytes t fallback ks w = record {
+  faultless = w.faultless;
+  tree = w.tree;
+  alone = w.alone;
+  within_budget = w.within_budget;
+  index = w.index;
+  blocks = w.blocks;
+  root = w.root;
+  keys_end = w.keys_end;
+  block_end = w.block_end;
+  body = w.body;
+}
+
+pub shaped_written : (q : Packing) (bytes : List ℕ) (t : Tree) (fallback : Bool)
+    (ks : List (List ℕ)) → Shaped q bytes t fallback ks → IsFileOver (Alone q) bytes t fallback ks
+shaped_written Plain bytes t fallback ks w = record {
+  faultless = w.faultless;
+  tree = w.tree;
+  alone = λ none. w.alone none tt;
+  within_budget = w.within_budget;
+  index = w.index;
+  blocks = w.blocks;
+  root = w.root;
+  keys_end = w.keys_end;
+  block_end = w.block_end;
+  body = w.body;
+}
+shaped_written Compact bytes t fallback ks w = record {
+  faultless = w.faultless;
+  tree = w.tree;
+  alone = w.alone;
+  within_budget = w.within_budget;
+  index = w.index;
+  blocks = w.blocks;
+  root = w.root;
+  keys_end = w.keys_end;
+  block_end = w.block_end;
+  body = w.body;
+}

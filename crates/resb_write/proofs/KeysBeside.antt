@@ -55,7 +55,7 @@ place_inside k js n e =
     )
 
 -- what is known of each text is known in turn
-told_each : (f : List ℕ → Option ℕ) (g : List ℕ → ℕ) (ks : List (List ℕ))
+pub told_each : (f : List ℕ → Option ℕ) (g : List ℕ → ℕ) (ks : List (List ℕ))
     → ((k : List ℕ) → Contains ks k → f k ≡ Some (g k)) → map f ks ≡ map Some (map g ks)
 told_each f g [] h = refl
 told_each f g (k ∷ ks) h =

@@ -13,6 +13,10 @@ mod NodesLemmas
 mod Rows
 mod OneBlock
 mod Keys
+mod ByteOrder
+mod KeyEndsLemmas
+mod EndPlaces
+mod PackedKeys
 mod Distinct
 mod FaultsLemmas
 mod Gathering

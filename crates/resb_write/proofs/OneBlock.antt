@@ -3,7 +3,9 @@ use Rattle.std.proofs.Common.{ℕ, suc, List, [], ◌∷◌, ◌++◌, map, Opti
 use Rattle.std.proofs.Common.{◌&&◌}
 use Rattle.std.proofs.Common.{length, ◌≡◌, ◌<◌, ◌+◌, refl, sym, ◌∙◌, ap, subst, arith, nat_le}
 use Rattle.std.specs.List.{list_all}
-use Rattle.std.proofs.lemmas.Bool.{lt-leb, and_left, and_right, and_parts}
+use Rattle.std.proofs.lemmas.Bool.{lt-leb, and_left, and_right, and_parts, ne_eqb}
+use Rattle.std.proofs.Common.{Bool, ◌||◌, ◌==◌}
+use Rattle.resb_layout.specs.Laid.{word_of_string}
 use Rattle.resb_tree.specs.Tree.{Tree, Trees}
 use Rattle.resb_layout.specs.Laid.{Given, Lends, Laid, is_short_by, are_short_by, are_near}
 use Rattle.resb_layout.specs.Laid.{nears_by}
@@ -31,15 +33,22 @@ pub data AlikeEach (lent : Option Lends) : List ℕ → List ℕ → Type 0 wher
   alike_more : {v w : ℕ} {vs ws : List ℕ} → Alike lent v w → AlikeEach lent vs ws
       → AlikeEach lent (v ∷ vs) (w ∷ ws)
 
-pub below_strings : (lent : Option Lends) (w : ℕ) → w < 0x6000_0000 → is_short_by lent w ≡ false
-below_strings None w h = and_left (nat_le 0x6000_0000 w) (nat_le w 0x6000_ffff)
-    (lt-leb 0x6000_0000 w h)
-below_strings (Some l) w h = and_left (nat_le 0x6000_0000 w) _ (lt-leb 0x6000_0000 w h)
+-- a word that isn't 0 is short where it is a short string's
+not_zero : (w : ℕ) (b : Bool) → 0 < w → ((w == 0) || b) ≡ b
+not_zero w b h = ap (λ c. c || b) (ne_eqb w 0 (λ (e : w ≡ 0). omega (arith, h, e)))
+
+pub below_strings : (lent : Option Lends) (w : ℕ) → w < 0x6000_0000 → 0 < w
+    → is_short_by lent w ≡ false
+below_strings None w h some = not_zero w _ some
+    ∙ and_left (nat_le 0x6000_0000 w) (nat_le w 0x6000_ffff) (lt-leb 0x6000_0000 w h)
+below_strings (Some l) w h some = not_zero w _ some
+    ∙ and_left (nat_le 0x6000_0000 w) _ (lt-leb 0x6000_0000 w h)
 
 pub above_strings : (lent : Option Lends) (w : ℕ) → 0x6fff_ffff < w → is_short_by lent w ≡ false
-above_strings None w h = and_right (nat_le 0x6000_0000 w) (nat_le w 0x6000_ffff)
+above_strings None w h = not_zero w _ (omega (arith, h))
+    ∙ and_right (nat_le 0x6000_0000 w) (nat_le w 0x6000_ffff)
     (lt-leb w 0x6000_ffff (omega (arith, h)))
-above_strings (Some l) w h = and_right (nat_le 0x6000_0000 w) _
+above_strings (Some l) w h = not_zero w _ (omega (arith, h)) ∙ and_right (nat_le 0x6000_0000 w) _
     (and_left (nat_le w 0x6fff_ffff) _ (lt-leb w 0x6fff_ffff h))
 
 -- words are short where each is, and a unit can count them
@@ -117,8 +126,8 @@ module _ (lent : Option Lends) where
       not_both (are_short_by lent vs) (as_short vs ws k ∙ m) n
   table_block e k (long_table at r n f p) (long_table at2 t n2 f2 p2) = (
     e,
-    apart (below_strings lent (0x2000_0000 + at) (omega (arith, p)))
-        (below_strings lent (0x2000_0000 + at2) (omega (arith, p2))),
+    apart (below_strings lent (0x2000_0000 + at) (omega (arith, p)) (omega arith))
+        (below_strings lent (0x2000_0000 + at2) (omega (arith, p2)) (omega arith)),
   )
   table_block {ps = ps} e k (long_table at r n f p) (wide_table at2 t f2 p2 q z) =
       not_both (are_near (nears_by lent ps)) r t
@@ -128,12 +137,12 @@ module _ (lent : Option Lends) where
       not_both (are_near (nears_by lent ps)) r t
   table_block e k (wide_table at t f p q z) (wide_table at2 t2 f2 p2 q2 z2) = (
     e,
-    apart (below_strings lent (0x4000_0000 + at) (omega (arith, p)))
-        (below_strings lent (0x4000_0000 + at2) (omega (arith, p2))),
+    apart (below_strings lent (0x4000_0000 + at) (omega (arith, p)) (omega arith))
+        (below_strings lent (0x4000_0000 + at2) (omega (arith, p2)) (omega arith)),
   )
 
 module _ (lent : Option Lends) (g h : Given) (positions : g.position ≡ h.position)
-    (offsets : g.offset ≡ h.offset) where
+    (offsets : g.offset ≡ h.offset) (packings : g.packing ≡ h.packing) where
   same_positions : (ks : List (List ℕ)) (ps qs : List ℕ) → ArePlaced g ks ps → ArePlaced h ks qs
       → qs ≡ ps
   same_positions ks ps qs p q = same_somes qs ps (sym q.positions
@@ -150,22 +159,22 @@ module _ (lent : Option Lends) (g h : Given) (positions : g.position ≡ h.posit
         → LaysBy lent h u t b w → (a.units ≡ b.units) × Alike lent v w
     block e (lays_integer k) (lays_integer l) = (e, same refl)
     block e (lays_string {text = x} {k = m} k l) (lays_string {k = n} o p) =
-        (e, same (ap (λ i. 0x6000_0000 + i) (same_offset x m n k o)))
+        (e, same (λ i. word_of_string (packings i) (same_offset x m n k o i)))
     block e lays_no_path lays_no_path = (e, same refl)
     block e lays_no_path (lays_path at some t n f l) = absurd (zero_not_positive some refl)
     block e (lays_path at some t n f l) lays_no_path = absurd (zero_not_positive some refl)
     block e (lays_path at some t n f l) (lays_path at2 some2 t2 n2 f2 l2) = (
       e,
-      apart (below_strings lent (0x3000_0000 + at) (omega (arith, l)))
-          (below_strings lent (0x3000_0000 + at2) (omega (arith, l2))),
+      apart (below_strings lent (0x3000_0000 + at) (omega (arith, l)) (omega arith))
+          (below_strings lent (0x3000_0000 + at2) (omega (arith, l2)) (omega arith)),
     )
     block e lays_no_bytes lays_no_bytes = (e, same refl)
     block e lays_no_bytes (lays_bytes at some n f l) = absurd (zero_not_positive some refl)
     block e (lays_bytes at some n f l) lays_no_bytes = absurd (zero_not_positive some refl)
     block e (lays_bytes at some n f l) (lays_bytes at2 some2 n2 f2 l2) = (
       e,
-      apart (below_strings lent (0x1000_0000 + at) (omega (arith, l)))
-          (below_strings lent (0x1000_0000 + at2) (omega (arith, l2))),
+      apart (below_strings lent (0x1000_0000 + at) (omega (arith, l)) (omega arith))
+          (below_strings lent (0x1000_0000 + at2) (omega (arith, l2)) (omega arith)),
     )
     block e lays_no_numbers lays_no_numbers = (e, same refl)
     block e lays_no_numbers (lays_numbers at some n a f l) = absurd (zero_not_positive some refl)
@@ -201,4 +210,4 @@ module _ (lent : Option Lends) (g h : Given) (positions : g.position ≡ h.posit
 
 -- two layings of one tree from one place end with one block
 pub one_block : OneBlock
-one_block lent g h s u a b t v w p o e k l = (block lent g h p o e k l).0
+one_block lent g h s u a b t v w q p o e k l = (block lent g h p o q e k l).0

@@ -7,6 +7,7 @@ use Rattle.resb_tree.specs.Tree.{Tree, largest_table}
 use Rattle.resb_tree.specs.LayingOrder.{texts_of}
 use Rattle.resb_format.specs.Bytes.{units_as_bytes}
 use Rattle.resb_pool_bundle.specs.Pool.{Pool}
+use Rattle.resb_layout.specs.declared.packing.Packing.TheVariants.{Plain}
 use Rattle.resb_layout.specs.Laid.{Given, Lends, Laid, LaysBy}
 use Rattle.resb_layout.specs.Written.{even}
 use Rattle.resb_layout.proofs.Once.{one_layout}
@@ -73,6 +74,7 @@ module _ (pool : Pool) (t : Tree) (ks : List (List ℕ)) (x y : BlocksWith pool 
     position = position_beside b.place (own_keys_of b.place t ks);
     offset = b.offset;
     base = tail_start_beside (key_block_beside b.place t ks) b.laid;
+    packing = Plain;
   }
 
   abbrev start : BlocksWith pool t ks → Laid
@@ -93,14 +95,19 @@ module _ (pool : Pool) (t : Tree) (ks : List (List ℕ)) (x y : BlocksWith pool 
 
   units_are : x.laid.units ≡ y.laid.units
   units_are = one_block (Some (lends y)) (given x) (given y) (start x) (start y) x.laid y.laid t
-      x.root y.root position_is offset_is plans.0 by_lends y.lays
+      x.root y.root refl position_is offset_is plans.0 by_lends y.lays
 
   base_is : (given x).base ≡ (given y).base
   base_is = λ i. 36 + length (key_block_beside (place_is i) t ks)
       + 2 * length (even (units_are i))
 
   given_is : ◌≡◌ {A = Given} (given x) (given y)
-  given_is = λ i. record { position = position_is i; offset = offset_is i; base = base_is i }
+  given_is = λ i. record {
+    position = position_is i;
+    offset = offset_is i;
+    base = base_is i;
+    packing = Plain;
+  }
 
   start_is : ◌≡◌ {A = Laid} (start x) (start y)
   start_is = λ i. record { units = plans.0 i; tail = [] }

@@ -5,6 +5,7 @@ use Rattle.std.specs.List.{flat_map}
 use Rattle.std.proofs.lemmas.List.Elements.{All-head, All-tail}
 use Rattle.resb_tree.specs.Tree.{Tree, Entries, string, table}
 use Rattle.resb_tree.specs.LayingOrder.{entry_keys, own_keys, text_in}
+use Rattle.resb_layout.specs.declared.packing.Packing.{Packing}
 use Rattle.resb_layout.specs.Laid.{Given}
 use Rattle.resb_write.specs.Inner.Room.{GivesInTurn}
 
@@ -100,11 +101,11 @@ table_left g ps os es rest n e qs rs f k h =
     (subst (λ l. GivesInTurn g (drop n ps) l rest) (sym k)
     (behind_table g ps os es rest n e h).left)
 
--- the same places, where the tail begins at byte n
-abbrev pub based : Given → ℕ → Given
-based g n = record { position = g.position; offset = g.offset; base = n }
+-- the same places, where the tail begins at byte n of a file that is packed like this
+abbrev pub based : Given → ℕ → Packing → Given
+based g n q = record { position = g.position; offset = g.offset; base = n; packing = q }
 
 -- what gives places in turn does so wherever the tail begins
-pub same_places_based : {g : Given} {ps os : List ℕ} {ts : List Tree} {n : ℕ}
-    → GivesInTurn g ps os ts → GivesInTurn (based g n) ps os ts
+pub same_places_based : {g : Given} {ps os : List ℕ} {ts : List Tree} {n : ℕ} {q : Packing}
+    → GivesInTurn g ps os ts → GivesInTurn (based g n q) ps os ts
 same_places_based h = record { keys = h.keys; texts = h.texts; near = h.near }

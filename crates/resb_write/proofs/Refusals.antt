@@ -1,6 +1,6 @@
 -- Why a tree is refused, by the step that found it.
 use Rattle.std.proofs.Common.{◌≡◌, ℕ, ◌+◌, ◌^◌, ◌<◌, List, Some, None, ◌⊎◌, inl, inr, sym, ◌∙◌, ap}
-use Rattle.std.proofs.Common.{length, Option, option_map}
+use Rattle.std.proofs.Common.{length, Option}
 use Rattle.std.proofs.Common.{subst, arith}
 use Rattle.std.specs.List.{flat_map}
 use Rattle.resb_tree.specs.Tree.{Tree}
@@ -16,14 +16,15 @@ use Rattle.resb_layout.specs.PlainSize.{list_size, resources_size}
 use Rattle.resb_layout.specs.TreeFaults.{key_fault, tree_fault, first_of, RefusesWriting, no_memory}
 use Rattle.resb_layout.specs.TreeFaults.{at_the_first}
 use Rattle.resb_layout.specs.TreeFaults.{too_large}
+use Rattle.resb_write.specs.declared.target.Target.{Target}
+use Rattle.resb_write.specs.declared.target.Target.TheVariants.{Alone, OverPool}
 use Rattle.resb_write.specs.FaultOf.{plan_fault}
 use Rattle.resb_write.specs.Inner.Sizes.{size_fault, IsTooMuch, at_fault}
 use Rattle.resb_write.specs.Inner.Sizes.{too_large as too_large_sizes}
 use Rattle.resb_write.proofs.Room.{small_texts_fit, texts_within, small_sizes, pool_room}
 use Rattle.resb_write.proofs.Room.{units_room}
 use Rattle.resb_write.proofs.Blocks.{laying_order_long}
-use Rattle.resb_pool_bundle.specs.Pool.{Pool, pool_in}
-use Rattle.resb_pool_bundle.specs.declared.pool_bundle.PoolBundle.{PoolBundle}
+use Rattle.resb_pool_bundle.specs.Pool.{Pool}
 use Rattle.resb_lent.specs.PlanWithPool.{lacking, NotPlannedWith, own_fault}
 use Rattle.resb_lent.specs.PlanWithPool.{no_memory as no_memory_beside, too_far as too_far_beside}
 use Rattle.resb_lent.proofs.PlanRoom.{lacking_sum, limit_within, own_within}
@@ -117,12 +118,8 @@ module _ (t : Tree) (ks : List (List ℕ)) (pool : Pool)
       subst (RefusesWritingWith pool t ks) (sym u.answered) (not_planned u.error
       (subst (λ T. NotPlannedWith pool.block T u.error) is u.refused))
 
--- the pool that is given, if one is
-abbrev pub over : Option PoolBundle → Option Pool
-over o = option_map pool_in o
-
--- want of memory is answered over each pool, and over none
-pub no_memory_over : (o : Option Pool) (t : Tree) (ks : List (List ℕ))
+-- want of memory is answered, whatever a file stands on
+pub no_memory_over : (o : Target) (t : Tree) (ks : List (List ℕ))
     → RefusesOver o t ks out_of_memory
-no_memory_over None t ks = no_memory
-no_memory_over (Some pool) t ks = as_alone no_memory
+no_memory_over (Alone q) t ks = no_memory
+no_memory_over (OverPool pool) t ks = as_alone no_memory

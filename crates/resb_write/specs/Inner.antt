@@ -5,6 +5,7 @@ pub mod Lending
 pub mod Nodes
 pub mod Gathered
 pub mod NearPositions
+pub mod KeyEnds
 pub mod Sizes
 pub mod Pooled
 pub mod Room

@@ -3,6 +3,7 @@
 --     OneFile                 a bundle and a list of keys leave one file
 --     WrittenIsDenoted        it denotes the tree, each resource once
 --     WrittenInOrder          its tail is the bodies of the tree's resources, without a gap
+--     OneCompactFile, CompactInOrder      the same of compact files
 --     OneFileWithPool         a bundle, a list of keys and a pool bundle leave one file
 --     WrittenWithPoolIsRead   beside the pool it denotes the tree, each resource once
 use Rattle.std.specs.Prelude.{◌≡◌, ℕ, ◌*◌, List, ◌++◌, drop, Bool, false, Option, Some}
@@ -14,6 +15,7 @@ use Rattle.resb_layout.specs.InOrder.{FillsTail, FillsBlock}
 use Rattle.resb_layout.specs.Laid.{Given, Lends, Laid, LaysBy}
 use Rattle.resb_format.specs.Laws.{EachFits}
 use Rattle.resb_layout.specs.Written.{Written}
+use Rattle.resb_layout.specs.WrittenCompact.{WrittenCompact}
 use Rattle.resb_pool_bundle.specs.Pool.{Pool}
 use Rattle.resb_pool_bundle.specs.FileWith.{DenotesWith}
 use Rattle.resb_write.specs.WrittenWith.{WrittenWith}
@@ -22,8 +24,8 @@ use Rattle.resb_write.specs.WrittenWith.{WrittenWith}
 abbrev pub OneBlock : Type 0
 OneBlock =
     (lent : Option Lends) (g h : Given) (s u a b : Laid) (t : Tree) (v w : ℕ)
-    → g.position ≡ h.position → g.offset ≡ h.offset → s.units ≡ u.units → LaysBy lent g s t a v
-    → LaysBy lent h u t b w → a.units ≡ b.units
+    → g.packing ≡ h.packing → g.position ≡ h.position → g.offset ≡ h.offset
+    → s.units ≡ u.units → LaysBy lent g s t a v → LaysBy lent h u t b w → a.units ≡ b.units
 
 -- a written file denotes its tree where aliases are read too, and, if the tree has none, also where
 -- they are refused
@@ -51,11 +53,32 @@ WrittenInOrder =
     (bytes : List ℕ) (t : Tree) (fallback : Bool) (ks : List (List ℕ))
     (w : Written bytes t fallback ks) → IsInOrder w
 
+-- the same of a compact file
+pub record IsCompactInOrder {bytes : List ℕ} {t : Tree} {fallback : Bool} {ks : List (List ℕ)}
+    (w : WrittenCompact bytes t fallback ks) : Type 0 where
+  pub tail : FillsTail (4 * block_end bytes) (laying_order t) (drop (4 * block_end bytes) (body_of
+      bytes))
+  pub short : List ℕ
+  pub units : w.blocks.laid.units ≡ w.blocks.pool ++ short
+  pub block : FillsBlock (laying_order t) short
+
+-- in each compact file the bodies stand in order
+abbrev pub CompactInOrder : Type 0
+CompactInOrder =
+    (bytes : List ℕ) (t : Tree) (fallback : Bool) (ks : List (List ℕ))
+    (w : WrittenCompact bytes t fallback ks) → IsCompactInOrder w
+
 -- two written files of a bundle and a list of keys are the same bytes
 abbrev pub OneFile : Type 0
 OneFile =
     (a b : List ℕ) (t : Tree) (fallback : Bool) (ks : List (List ℕ)) → EachFits 8 a → EachFits 8 b
     → Written a t fallback ks → Written b t fallback ks → a ≡ b
+
+-- two compact files of a bundle and a list of keys are the same bytes
+abbrev pub OneCompactFile : Type 0
+OneCompactFile =
+    (a b : List ℕ) (t : Tree) (fallback : Bool) (ks : List (List ℕ)) → EachFits 8 a → EachFits 8 b
+    → WrittenCompact a t fallback ks → WrittenCompact b t fallback ks → a ≡ b
 
 -- two files of a bundle and a list of keys that are written over one pool are the same bytes
 abbrev pub OneFileWithPool : Type 0

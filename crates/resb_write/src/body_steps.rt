@@ -12,9 +12,12 @@ ghost use Rattle.resb_write.specs.Inner.Room.{laid_of};
 ghost use Rattle.resb_write.specs.Inner.Seen.{Anywhere, HasRoom, TakesNoMore};
 ghost use Rattle.resb_write.specs.Inner.Lending.{lent_of};
 
-use crate::resource_bodies::{close_array, close_table, lay_bytes, lay_numbers, lay_path, word};
+use crate::resource_bodies::{
+    close_array, close_table, lay_bytes, lay_numbers, lay_path, string_word, word,
+};
 use crate::sites::{Bodies, Ground};
 use resb_format::ResourceReprType;
+use resb_layout::Packing;
 use std::alloc::AllocError;
 
 /// Puts a word in the place of the last words of a stack.
@@ -152,13 +155,17 @@ pub(crate) fn step_numbers(
 }
 
 /// Puts the word of a string at an offset, which has no body of its own.
-pub(crate) fn step_string(words: &mut Vec<u32>, offset: u32) -> Result<(), AllocError>
+pub(crate) fn step_string(
+    packing: Packing,
+    words: &mut Vec<u32>,
+    offset: u32,
+) -> Result<(), AllocError>
     requires { offset < 2 ^ 28 }
     ensures { OnOk result ((lent : Option Lends) (g : Given) (s : Laid) (text : List ℕ)
-        → g.offset text ≡ Some offset → LaysNext lent g s words.old.items
+        → g.packing ≡ packing → g.offset text ≡ Some offset → LaysNext lent g s words.old.items
         (string text) s words.new.items) }
 {
-    words.push(word(ResourceReprType::StringV2, offset))?;
+    words.push(string_word(packing, offset))?;
     Ok(())
 }
 

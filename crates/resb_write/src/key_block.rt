@@ -218,10 +218,7 @@ fn has_far_key(keys: &[&str], positions: &IndexMap<&str, u32>) -> bool
 
 /// Refuses the first fault of used keys, whose last positions are given: a key that isn't in the
 /// list, one with U+0000, one past the greatest position.
-pub(crate) fn check_keys(
-    keys: &[&str],
-    positions: &IndexMap<&str, u32>,
-) -> Result<(), BinarySerializerError>
+fn check_keys(keys: &[&str], positions: &IndexMap<&str, u32>) -> Result<(), BinarySerializerError>
     ensures ok { OnOk result ((js : List (List ℕ))
         → ((q : List ℕ) → at_text positions.now q ≡ near_position_in js q)
         → key_fault (nows keys.now) js ≡ None) }
@@ -239,4 +236,18 @@ pub(crate) fn check_keys(
         return Err(BinarySerializerError::limit("key position over 2147483647"));
     }
     Ok(())
+}
+
+/// Refuses the first fault of the tables' keys, of which these are listed.
+pub(crate) fn check_used(
+    alloc: Global,
+    names: &[&str],
+    used: &[&str],
+) -> Result<(), BinarySerializerError>
+    ensures ok { OnOk result (key_fault (nows names.now) (nows used.now) ≡ None) }
+    ensures err { IfErr result (λ e. (fault_of e ≡ out_of_memory)
+        ⊎ (key_fault (nows names.now) (nows used.now) ≡ Some (fault_of e))) }
+{
+    let last = last_positions(alloc, used)?;
+    check_keys(names, &last)
 }

@@ -14,7 +14,7 @@ ghost use Rattle.resb_write.specs.Inner.Numbered.{NumbersKeys};
 ghost use Rattle.resb_write.specs.Inner.Beside.{told_beside, IsKeyBlockBeside};
 
 use crate::error::BinarySerializerError;
-use crate::key_block::{KeyBlock, check_keys, last_positions, used_keys, values_at};
+use crate::key_block::{KeyBlock, check_used, last_positions, used_keys, values_at};
 use crate::numbered_keys::NumberedKeys;
 use indexmap::IndexMap;
 use resb_lent::LentKeys;
@@ -49,16 +49,6 @@ pub(crate) fn key_block_beside<'k>(
     let places = places_beside(alloc, distinct.keys().as_slice(), &keys, lent)?;
     let positions = values_at(&places, numbers);
     Ok(KeyBlock { keys, positions })
-}
-
-/// Refuses the first fault of the tables' keys, of which these are listed.
-fn check_used(alloc: Global, names: &[&str], used: &[&str]) -> Result<(), BinarySerializerError>
-    ensures ok { OnOk result (key_fault (nows names.now) (nows used.now) ≡ None) }
-    ensures err { IfErr result (λ e. (fault_of e ≡ out_of_memory)
-        ⊎ (key_fault (nows names.now) (nows used.now) ≡ Some (fault_of e))) }
-{
-    let last = last_positions(alloc, used)?;
-    check_keys(names, &last)
 }
 
 /// The keys that the pool lacks, in their order.

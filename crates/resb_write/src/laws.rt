@@ -2,6 +2,7 @@
 //! nothing.
 //! Their statements are in `specs/Laws.antt`.
 ghost use Rattle.resb_write.specs.Laws.{OneBlock, OneFile, WrittenIsDenoted, WrittenInOrder};
+ghost use Rattle.resb_write.specs.Laws.{OneCompactFile, CompactInOrder};
 ghost use Rattle.resb_write.specs.Laws.{OneFileWithPool, WrittenWithPoolIsRead};
 
 /// The units that a tree takes in the 16-bit block don't depend on where the tail begins.
@@ -14,6 +15,11 @@ pub fn one_file()
     ensures { OneFile }
 {}
 
+/// A bundle and a list of keys leave one compact file.
+pub fn one_compact_file()
+    ensures { OneCompactFile }
+{}
+
 /// A written file denotes its tree for a reader of aliases, and a tree without aliases for each
 /// reader.
 pub fn written_is_denoted()
@@ -23,6 +29,11 @@ pub fn written_is_denoted()
 /// In a written file no byte is left between two bodies, and each filling is of bytes 0xaa.
 pub fn written_in_order()
     ensures { WrittenInOrder }
+{}
+
+/// In a compact file no byte is left between two bodies, and each filling is of bytes 0xaa.
+pub fn compact_in_order()
+    ensures { CompactInOrder }
 {}
 
 /// A bundle, a list of keys and a pool bundle leave one file.

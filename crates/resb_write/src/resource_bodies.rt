@@ -7,6 +7,7 @@ ghost use Rattle.resb_format.specs.Units.{units};
 ghost use Rattle.resb_format.specs.Descriptor.{type_number};
 ghost use Rattle.resb_layout.specs.Laid.{LaysBy, ClosesArrayBy, ClosesTableBy, are_near};
 ghost use Rattle.resb_layout.specs.Laid.{is_short_by, are_short_by, nears_by, offsets_by};
+ghost use Rattle.resb_layout.specs.Laid.{word_of_string};
 ghost use Rattle.resb_write.specs.Inner.Lending.{lent_of};
 ghost use Rattle.resb_write.specs.Inner.Room.{at_base, laid_of};
 ghost use Rattle.resb_write.specs.Inner.Seen.{HasRoom, TakesNoMore};
@@ -17,6 +18,7 @@ use crate::tail_bytes::{
     put_counted, put_fill, put_path, put_short_table, put_wide_table, put_word,
 };
 use resb_format::{ResDescriptor, ResourceReprType};
+use resb_layout::Packing;
 use std::alloc::AllocError;
 
 /// The greatest number that a 16-bit unit holds.
@@ -31,6 +33,17 @@ pub(crate) fn word(resource_type: ResourceReprType, value: u32) -> u32
     ensures { result ≡ type_number resource_type * 2 ^ 28 + value }
 {
     u32::from(ResDescriptor::new(resource_type, value))
+}
+
+/// The word of a string at an offset: of the empty one, at offset 0, the compact packing has 0.
+pub(crate) fn string_word(packing: Packing, offset: u32) -> u32
+    requires { offset < 2 ^ 28 }
+    ensures { result ≡ word_of_string packing offset }
+{
+    match packing {
+        Packing::Compact if offset == 0 => 0,
+        _ => word(ResourceReprType::StringV2, offset),
+    }
 }
 
 /// The word of a string at unit 0.
@@ -50,11 +63,14 @@ fn tail_value(base: usize, tail: &[u8], skipped: usize) -> u32
     ((base + tail.len() + skipped) / 4) as u32
 }
 
-/// Whether this is the word of a string that a unit can tell.
+/// Whether this is the word of a string that a unit can tell: 0 is an empty one's.
 #[inline(always)]
 fn is_short_string(lent: Option<Lends>, word: u32) -> bool
     ensures { result ≡ is_short_by (lent_of lent) word }
 {
+    if word == 0 {
+        return true;
+    }
     let first = first_string_word();
     if word < first || word > LAST_STRING_WORD {
         return false;
@@ -100,7 +116,7 @@ fn put_offsets(lent: Option<Lends>, units: &mut Vec<u16>, words: &[u32]) -> Resu
 {
     let first = first_string_word();
     for word in words {
-        units.push(short(lent, *word - first) as u16)?;
+        units.push(short(lent, word.saturating_sub(first)) as u16)?;
     }
     Ok(())
 }

@@ -1,7 +1,7 @@
 //! Writes a bundle, or a draft of one: its faults in their order, and then the parts of the file,
 //! one after another.
 //! Each part is made in a module or crate of its own.
-ghost use Rattle.std.specs.Prelude.{◌≡◌, ◌+◌, ◌<◌, ◌^◌, true, map, IfOk, IfErr, option_map};
+ghost use Rattle.std.specs.Prelude.{◌≡◌, ◌+◌, ◌<◌, ◌^◌, true, map, IfOk, IfErr};
 ghost use Rattle.resb_tree.specs.Borrowing.{all_true};
 ghost use Rattle.resb_tree.specs.Tree.{Tree};
 ghost use Rattle.resb_tree.specs.Bundle.{root_of};
@@ -12,11 +12,13 @@ ghost use Rattle.resb_write.specs.FaultOf.{fault_of};
 ghost use Rattle.resb_pool.specs.Plan.{nows};
 ghost use Rattle.resb_write.specs.Inner.Beside.{IsFileOver, RefusesOver};
 ghost use Rattle.resb_write.specs.Inner.Gathered.{Gathered};
-ghost use Rattle.resb_write.specs.Inner.NearPositions.{IsKeyBlock};
+ghost use Rattle.resb_write.specs.Inner.NearPositions.{IsKeyBlockBy};
 ghost use Rattle.resb_write.specs.Inner.Numbered.{NumbersKeys};
 ghost use Rattle.resb_layout.specs.PlainSize.{list_size, resources_size};
 ghost use Rattle.resb_layout.specs.TreeFaults.{RefusesWriting};
 ghost use Rattle.resb_layout.specs.Written.{Written};
+ghost use Rattle.resb_layout.specs.WrittenCompact.{WrittenCompact};
+ghost use Rattle.resb_write.specs.declared.target.Target.TheVariants.{Alone};
 ghost use Rattle.resb_pool_bundle.specs.Pool.{pool_in};
 ghost use Rattle.resb_write.specs.WrittenWith.{WrittenWith, RefusesWritingWith};
 
@@ -28,11 +30,14 @@ use crate::key_block::{KEYS_START, KeyBlock, block_length};
 use crate::limits::check_sizes;
 use crate::nodes::{Nodes, nodes_of, table_keys};
 use crate::numbered_keys::NumberedKeys;
+use crate::packed_keys::packed_keys;
 use crate::sites::Sites;
 use crate::strings::Strings;
+use crate::target::{Target, Wanted};
 use crate::tree_bodies::lay_bodies;
-use crate::with_pool::{Wanted, write_order_with_pool};
+use crate::with_pool::write_order_with_pool;
 use resb_draft::Draft;
+use resb_layout::Packing;
 use resb_pool_bundle::PoolBundle;
 use resb_tree::{Key, ResourceBundle, in_laying_order};
 use std::alloc::Global;
@@ -61,7 +66,37 @@ impl Serializer {
         ensures err { IfErr result (λ e. RefusesWriting (root_of bundle.now)
             keys_in_discovery_order.now (fault_of e)) }
     {
-        write_bundle(alloc, bundle, keys_in_discovery_order, None)
+        write_bundle(
+            alloc,
+            bundle,
+            keys_in_discovery_order,
+            Target::Alone(Packing::Plain),
+        )
+    }
+
+    /// The compact `.res` file of a bundle: what `to_bytes` gives, but that a key that other keys
+    /// end with lies at the end of the greatest of them, by their bytes from the last to the first,
+    /// and that an empty string has the word 0. So ICU's `genrb` writes files without a pool
+    /// bundle, byte by byte, but where a string with a marker is the end of another one. A file
+    /// with word 0 is for readers of aliases.
+    ///
+    /// Refused is what `to_bytes` refuses.
+    pub fn to_bytes_compact(
+        alloc: Global,
+        bundle: &ResourceBundle<'_>,
+        keys_in_discovery_order: &[Key<'_>],
+    ) -> Result<Vec<u8>, BinarySerializerError>
+        ensures ok { IfOk result (λ v. WrittenCompact v.items (root_of bundle.now)
+            bundle.now.is_locale_fallback_enabled keys_in_discovery_order.now) }
+        ensures err { IfErr result (λ e. RefusesWriting (root_of bundle.now)
+            keys_in_discovery_order.now (fault_of e)) }
+    {
+        write_bundle(
+            alloc,
+            bundle,
+            keys_in_discovery_order,
+            Target::Alone(Packing::Compact),
+        )
     }
 
     /// The `.res` file of a bundle over a pool bundle: its keys and strings that the pool has stay
@@ -83,7 +118,12 @@ impl Serializer {
         ensures err { IfErr result (λ e. RefusesWritingWith (pool_in pool.now)
             (root_of bundle.now) keys_in_discovery_order.now (fault_of e)) }
     {
-        write_bundle(alloc, bundle, keys_in_discovery_order, Some(*pool))
+        write_bundle(
+            alloc,
+            bundle,
+            keys_in_discovery_order,
+            Target::OverPool(*pool),
+        )
     }
 
     /// The `.res` file of a bundle whose root is given as a draft: what `to_bytes` gives, and what
@@ -104,7 +144,28 @@ impl Serializer {
             is_locale_fallback_enabled,
             list: keys_in_discovery_order,
         };
-        write_draft(alloc, root, &wanted, None)
+        write_draft(alloc, root, &wanted, Target::Alone(Packing::Plain))
+    }
+
+    /// The compact `.res` file of a bundle whose root is given as a draft: what `to_bytes_compact`
+    /// gives, and what it refuses, for the tree for which the draft stands.
+    pub fn draft_to_bytes_compact(
+        alloc: Global,
+        root: Draft<'_>,
+        is_locale_fallback_enabled: bool,
+        keys_in_discovery_order: &[Key<'_>],
+    ) -> Result<Vec<u8>, BinarySerializerError>
+        requires { is_ready root ≡ true }
+        ensures ok { IfOk result (λ v. WrittenCompact v.items (draft_tree root.entry)
+            is_locale_fallback_enabled keys_in_discovery_order.now) }
+        ensures err { IfErr result (λ e. RefusesWriting (draft_tree root.entry)
+            keys_in_discovery_order.now (fault_of e)) }
+    {
+        let wanted = Wanted {
+            is_locale_fallback_enabled,
+            list: keys_in_discovery_order,
+        };
+        write_draft(alloc, root, &wanted, Target::Alone(Packing::Compact))
     }
 
     /// The `.res` file of a bundle over a pool bundle, whose root is given as a draft: what
@@ -126,20 +187,20 @@ impl Serializer {
             is_locale_fallback_enabled,
             list: keys_in_discovery_order,
         };
-        write_draft(alloc, root, &wanted, Some(*pool))
+        write_draft(alloc, root, &wanted, Target::OverPool(*pool))
     }
 }
 
-/// The file of a bundle, over a pool bundle if one is given.
+/// The file of a bundle, which stands on this.
 fn write_bundle(
     alloc: Global,
     bundle: &ResourceBundle<'_>,
     list: &[Key<'_>],
-    pool: Option<PoolBundle<'_>>,
+    target: Target<'_>,
 ) -> Result<Vec<u8>, BinarySerializerError>
-    ensures ok { IfOk result (λ v. IsFileOver (option_map pool_in pool.entry) v.items
+    ensures ok { IfOk result (λ v. IsFileOver target.entry v.items
         (root_of bundle.now) bundle.now.is_locale_fallback_enabled list.now) }
-    ensures err { IfErr result (λ e. RefusesOver (option_map pool_in pool.entry)
+    ensures err { IfErr result (λ e. RefusesOver target.entry
         (root_of bundle.now) list.now (fault_of e)) }
 {
     let order = in_laying_order(alloc, bundle.root())?;
@@ -150,27 +211,27 @@ fn write_bundle(
         is_locale_fallback_enabled: bundle.is_locale_fallback_enabled,
         list,
     };
-    write_nodes(alloc, &nodes, keys, &wanted, pool)
+    write_nodes(alloc, &nodes, keys, &wanted, target)
 }
 
-/// The file of a draft, over a pool bundle if one is given.
+/// The file of a draft, which stands on this.
 fn write_draft(
     alloc: Global,
     root: Draft<'_>,
     wanted: &Wanted<'_>,
-    pool: Option<PoolBundle<'_>>,
+    target: Target<'_>,
 ) -> Result<Vec<u8>, BinarySerializerError>
     requires { is_ready root ≡ true }
-    ensures ok { IfOk result (λ v. IsFileOver (option_map pool_in pool.entry) v.items
+    ensures ok { IfOk result (λ v. IsFileOver target.entry v.items
         (draft_tree root.entry) wanted.now.is_locale_fallback_enabled wanted.now.list.now) }
-    ensures err { IfErr result (λ e. RefusesOver (option_map pool_in pool.entry)
+    ensures err { IfErr result (λ e. RefusesOver target.entry
         (draft_tree root.entry) wanted.now.list.now (fault_of e)) }
 {
     if root.stands_in_order(alloc)? {
-        return write_standing(alloc, root, wanted, pool);
+        return write_standing(alloc, root, wanted, target);
     }
     let order = root.in_laying_order(alloc)?;
-    write_by_number(alloc, root, order, wanted, pool)
+    write_by_number(alloc, root, order, wanted, target)
 }
 
 /// The file of a draft whose pieces and keys stand in laying order. Its other lists go first.
@@ -178,13 +239,13 @@ fn write_standing(
     alloc: Global,
     draft: Draft<'_>,
     wanted: &Wanted<'_>,
-    pool: Option<PoolBundle<'_>>,
+    target: Target<'_>,
 ) -> Result<Vec<u8>, BinarySerializerError>
     requires pieces { are_pieces draft.pieces.items (laying_order (draft_tree draft)) ≡ true }
     requires keys { texts draft.keys.items ≡ keys_of (draft_tree draft) }
-    ensures ok { IfOk result (λ v. IsFileOver (option_map pool_in pool.entry) v.items
+    ensures ok { IfOk result (λ v. IsFileOver target.entry v.items
         (draft_tree draft.entry) wanted.now.is_locale_fallback_enabled wanted.now.list.now) }
-    ensures err { IfErr result (λ e. RefusesOver (option_map pool_in pool.entry)
+    ensures err { IfErr result (λ e. RefusesOver target.entry
         (draft_tree draft.entry) wanted.now.list.now (fault_of e)) }
 {
     let Draft {
@@ -196,7 +257,7 @@ fn write_standing(
     drop(members);
     let numbered = NumberedKeys::of_list(alloc, &keys)?;
     drop(keys);
-    write_nodes(alloc, &pieces, numbered, wanted, pool)
+    write_nodes(alloc, &pieces, numbered, wanted, target)
 }
 
 /// The file of a draft, whose pieces have these numbers in laying order. Its other lists go first.
@@ -205,13 +266,13 @@ fn write_by_number(
     draft: Draft<'_>,
     order: Vec<u32>,
     wanted: &Wanted<'_>,
-    pool: Option<PoolBundle<'_>>,
+    target: Target<'_>,
 ) -> Result<Vec<u8>, BinarySerializerError>
     requires trees { map (tree_at draft) order.items ≡ laying_order (draft_tree draft) }
     requires whole { all_true (map (is_whole draft) order.items) ≡ true }
-    ensures ok { IfOk result (λ v. IsFileOver (option_map pool_in pool.entry) v.items
+    ensures ok { IfOk result (λ v. IsFileOver target.entry v.items
         (draft_tree draft.entry) wanted.now.is_locale_fallback_enabled wanted.now.list.now) }
-    ensures err { IfErr result (λ e. RefusesOver (option_map pool_in pool.entry)
+    ensures err { IfErr result (λ e. RefusesOver target.entry
         (draft_tree draft.entry) wanted.now.list.now (fault_of e)) }
 {
     let keys = draft_keys(alloc, &draft, &order)?;
@@ -227,36 +288,30 @@ fn write_by_number(
         pieces,
         numbers: order,
     };
-    write_nodes(alloc, &numbered, keys, wanted, pool)
+    write_nodes(alloc, &numbered, keys, wanted, target)
 }
 
-/// The file of a tree, over a pool bundle if one is given. The tree's resources are given in laying
+/// The file of a tree, which stands on this. The tree's resources are given in laying
 /// order, and beside them the keys of its tables.
 fn write_nodes<N: Nodes>(
     alloc: Global,
     order: &N,
     tree_keys: NumberedKeys<'_>,
     wanted: &Wanted<'_>,
-    pool: Option<PoolBundle<'_>>,
+    target: Target<'_>,
 ) -> Result<Vec<u8>, BinarySerializerError>
     requires { (t : Tree) × N.fit order.now (laying_order t) × NumbersKeys tree_keys (keys_of t) }
     ensures ok { IfOk result (λ v. (t : Tree) → N.fit order.now (laying_order t)
         → NumbersKeys tree_keys.entry (keys_of t)
-        → IsFileOver (option_map pool_in pool.entry) v.items t wanted.now.is_locale_fallback_enabled
+        → IsFileOver target.entry v.items t wanted.now.is_locale_fallback_enabled
         wanted.now.list.now) }
     ensures err { IfErr result (λ e. (t : Tree) → N.fit order.now (laying_order t)
         → NumbersKeys tree_keys.entry (keys_of t)
-        → RefusesOver (option_map pool_in pool.entry) t wanted.now.list.now (fault_of e)) }
+        → RefusesOver target.entry t wanted.now.list.now (fault_of e)) }
 {
-    match pool {
-        Some(pool) => write_order_with_pool(alloc, order, tree_keys, wanted, &pool),
-        None => write_order(
-            alloc,
-            order,
-            tree_keys,
-            wanted.is_locale_fallback_enabled,
-            wanted.list,
-        ),
+    match target {
+        Target::OverPool(pool) => write_order_with_pool(alloc, order, tree_keys, wanted, &pool),
+        Target::Alone(packing) => write_order(alloc, order, tree_keys, wanted, packing),
     }
 }
 
@@ -268,17 +323,18 @@ fn checked<'t, 'k, N: Nodes>(
     order: &'t N,
     tree_keys: NumberedKeys<'_>,
     list: &'k [Key<'_>],
+    packing: Packing,
 ) -> Result<(Contents<'t>, KeyBlock<'k>), BinarySerializerError>
     requires { (t : Tree) × N.fit order.now (laying_order t) × NumbersKeys tree_keys (keys_of t) }
     ensures ok { IfOk result (λ r. (t : Tree) → N.fit order.now (laying_order t)
         → NumbersKeys tree_keys.entry (keys_of t) → Gathered (laying_order t) r.0
-        × IsKeyBlock (keys_of t) list.now (nows r.1.keys.items) r.1.positions.items
+        × IsKeyBlockBy packing (keys_of t) list.now (nows r.1.keys.items) r.1.positions.items
         × (list_size list.now + resources_size (laying_order t) < 2 ^ 28)) }
     ensures err { IfErr result (λ e. (t : Tree) → N.fit order.now (laying_order t)
         → NumbersKeys tree_keys.entry (keys_of t) → RefusesWriting t list.now (fault_of e)) }
 {
     let contents = Contents::gather(alloc, order)?;
-    let block = KeyBlock::new(alloc, tree_keys, list)?;
+    let block = packed_keys(alloc, packing, tree_keys, list)?;
     check_sizes(&contents, list)?;
     Ok((contents, block))
 }
@@ -289,18 +345,20 @@ pub(crate) fn write_order<N: Nodes>(
     alloc: Global,
     order: &N,
     tree_keys: NumberedKeys<'_>,
-    is_locale_fallback_enabled: bool,
-    list: &[Key<'_>],
+    wanted: &Wanted<'_>,
+    packing: Packing,
 ) -> Result<Vec<u8>, BinarySerializerError>
     requires { (t : Tree) × N.fit order.now (laying_order t)
         × NumbersKeys tree_keys (keys_of t) }
     ensures ok { IfOk result (λ v. (t : Tree) → N.fit order.now (laying_order t)
         → NumbersKeys tree_keys.entry (keys_of t)
-        → Written v.items t is_locale_fallback_enabled list.now) }
+        → IsFileOver (Alone packing) v.items t wanted.now.is_locale_fallback_enabled
+        wanted.now.list.now) }
     ensures err { IfErr result (λ e. (t : Tree) → N.fit order.now (laying_order t)
-        → NumbersKeys tree_keys.entry (keys_of t) → RefusesWriting t list.now (fault_of e)) }
+        → NumbersKeys tree_keys.entry (keys_of t)
+        → RefusesWriting t wanted.now.list.now (fault_of e)) }
 {
-    let (contents, block) = checked(alloc, order, tree_keys, list)?;
+    let (contents, block) = checked(alloc, order, tree_keys, wanted.list, packing)?;
     let KeyBlock { keys, positions } = block;
     let largest_table = contents.largest_table as u32;
     let Strings { pool, offsets } = Strings::plan(alloc, contents.texts)?;
@@ -309,6 +367,7 @@ pub(crate) fn write_order<N: Nodes>(
         positions: &positions,
         offsets: &offsets,
         lent: None,
+        packing,
     };
     let (bodies, word) = lay_bodies(alloc, &sites, pool, keys_end, order)?;
     drop(positions);
@@ -316,7 +375,7 @@ pub(crate) fn write_order<N: Nodes>(
     let parts = FileParts {
         root: word,
         largest_table,
-        is_locale_fallback_enabled,
+        is_locale_fallback_enabled: wanted.is_locale_fallback_enabled,
         keys: &keys,
         bodies: &bodies,
     };

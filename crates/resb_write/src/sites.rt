@@ -3,6 +3,7 @@
 ghost use Rattle.std.specs.Prelude.{◌≡◌, ◌∷◌, ◌<◌, ◌≤◌, length, take, drop};
 
 use crate::lends::Lends;
+use resb_layout::Packing;
 
 /// Where the keys and the strings of a tree stand, one for each in laying order.
 #[derive(Drop)]
@@ -13,6 +14,8 @@ pub(crate) struct Sites<'s> {
     pub(crate) offsets: &'s [u32],
     /// What a pool bundle lends to the file, if it uses one.
     pub(crate) lent: Option<Lends>,
+    /// How the file is packed.
+    pub(crate) packing: Packing,
 }
 
 impl<'s> Sites<'s> {
@@ -67,6 +70,8 @@ pub(crate) struct Ground {
     pub(crate) base: usize,
     /// What a pool bundle lends to the file, if it uses one.
     pub(crate) lent: Option<Lends>,
+    /// How the file is packed.
+    pub(crate) packing: Packing,
 }
 
 /// The units of the 16-bit block and the bytes of the tail.

@@ -33,7 +33,7 @@ fn step(
         × (length (children t) ≤ length words.old.items) × (g : Given) × (rest : List Tree)
         × GivesInTurn g coming.old.positions.now coming.old.offsets.now (t ∷ rest) }
     ensures step { OnOk result (Anywhere ground.now.base (λ g. (t : Tree) (rest : List Tree)
-        → IsNode node.entry t
+        → g.packing ≡ ground.now.packing → IsNode node.entry t
         → GivesInTurn g coming.old.positions.now coming.old.offsets.now (t ∷ rest)
         → LaysNext (lent_of ground.now.lent) g (laid_of bodies.old) words.old.items t
         (laid_of bodies.new)
@@ -45,7 +45,7 @@ fn step(
         → TakesNoMore ground.now.base bodies.old bodies.new (own_size t)) }
 {
     match node {
-        Node::String(_) => step_string(words, coming.take_offset()),
+        Node::String(_) => step_string(ground.packing, words, coming.take_offset()),
         Node::Alias(path) => step_path(ground, bodies, words, path),
         Node::Array(count) => step_array(ground, bodies, words, count),
         Node::Table(count) => {
@@ -69,7 +69,8 @@ fn steps<N: Nodes>(
     requires { (ts : List Tree) × N.fit order.now ts
         × CanLay ground.now.base bodies.old (length words.old.items) ts
         × (g : Given) × GivesInTurn g sites.now.positions.now sites.now.offsets.now ts }
-    ensures lays { OnOk result (Anywhere ground.now.base (λ g. (ts : List Tree) → N.fit order.now ts
+    ensures lays { OnOk result (Anywhere ground.now.base (λ g. (ts : List Tree)
+        → g.packing ≡ ground.now.packing → N.fit order.now ts
         → GivesInTurn g sites.now.positions.now sites.now.offsets.now ts
         → LaysRow (lent_of ground.now.lent) g (laid_of bodies.old) words.old.items ts
         (laid_of bodies.new)
@@ -98,7 +99,7 @@ fn lay_order<N: Nodes>(
         × (g : Given) × GivesInTurn g sites.now.positions.now sites.now.offsets.now
         (laying_order t) }
     ensures lays { IfOk result (λ word. Anywhere ground.now.base (λ g. (t : Tree)
-        → N.fit order.now (laying_order t)
+        → g.packing ≡ ground.now.packing → N.fit order.now (laying_order t)
         → GivesInTurn g sites.now.positions.now sites.now.offsets.now (laying_order t)
         → LaysBy (lent_of ground.now.lent) g (laid_of bodies.old) t (laid_of bodies.new) word)) }
     ensures fits { OnOk result (HasRoomFor ground.now.base (laid_of bodies.new) []) }
@@ -129,7 +130,7 @@ pub(crate) fn lay_bodies<N: Nodes>(
     ensures lays { IfOk result (λ laid. (g : Given) (t : Tree)
         → N.fit order.now (laying_order t)
         → GivesInTurn g sites.now.positions.now sites.now.offsets.now (laying_order t)
-        → g.base ≡ tail_base keys_end laid.0
+        → g.base ≡ tail_base keys_end laid.0 → g.packing ≡ sites.now.packing
         → LaysBy (lent_of sites.now.lent) g (record { units = pool.items; tail = [] }) t
         (laid_of laid.0) laid.1) }
     ensures fits { IfOk result (λ laid. HasRoomFor (tail_base keys_end laid.0)
@@ -139,6 +140,7 @@ pub(crate) fn lay_bodies<N: Nodes>(
     let ground = Ground {
         base: keys_end + 2 * (count + count % 2),
         lent: sites.lent,
+        packing: sites.packing,
     };
     let mut bodies = Bodies {
         units: pool,

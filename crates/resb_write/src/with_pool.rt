@@ -33,7 +33,9 @@ use crate::limits::check_sizes;
 use crate::nodes::Nodes;
 use crate::numbered_keys::NumberedKeys;
 use crate::sites::Sites;
+use crate::target::Wanted;
 use crate::tree_bodies::lay_bodies;
+use resb_layout::Packing;
 use resb_lent::{HeadWithPool, LentKeys, LentTexts, PlanWithPool};
 use resb_pool_bundle::PoolBundle;
 use resb_tree::{Key, NoMemory};
@@ -42,14 +44,6 @@ use std::alloc::Global;
 /// Where the file's own keys begin, in bytes of the body: behind the root's word and 8 words of the
 /// index.
 const OWN_KEYS_START: usize = 36;
-
-/// What is wanted of a file, beside its tree.
-#[derive(Clone, Copy)]
-pub(crate) struct Wanted<'w> {
-    pub(crate) is_locale_fallback_enabled: bool,
-    /// The keys in the order in which the file's own stand.
-    pub(crate) list: &'w [Key<'w>],
-}
 
 /// The refusals in their order, and then the file over a pool bundle of a tree, whose resources are
 /// given in laying order, and beside them the keys of its tables.
@@ -87,6 +81,7 @@ pub(crate) fn write_order_with_pool<N: Nodes>(
         positions: &positions,
         offsets: &indexes,
         lent: Some(lends),
+        packing: Packing::Plain,
     };
     let keys_end = OWN_KEYS_START + block_length(&keys);
     let (bodies, word) = lay_bodies(alloc, &sites, units, keys_end, order)?;

@@ -16,6 +16,7 @@ pub mod Names
 pub mod Leading
 pub mod Info
 pub mod Reading
+pub mod ZoneKeys
 pub use Rattle.resb.specs.Leaves
 pub use Rattle.resb.specs.Spots
 pub use Rattle.resb.specs.Places

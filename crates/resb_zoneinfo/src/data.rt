@@ -1,6 +1,6 @@
 //! The records of the file: what a zone's table and the whole file hold, as they stand there.
 //! How a zone's record is checked is said in `checking`.
-ghost use Rattle.std.specs.Prelude.{codes, ◌∷◌, []};
+ghost use Rattle.resb_zoneinfo.specs.ZoneKeys.{zone_keys};
 
 use crate::linked::Linked;
 use crate::transitions::Transitions;
@@ -39,8 +39,7 @@ pub type ZoneFields<'de> = (
 );
 
 impl<'de> Record<'de, ZoneFields<'de>> for ZoneData<'de> {
-    ghost names = { codes "transPre32" ∷ codes "trans" ∷ codes "transPost32" ∷ codes "typeMap"
-        ∷ codes "typeOffsets" ∷ codes "finalRule" ∷ codes "finalRaw" ∷ codes "finalYear" ∷ [] };
+    ghost names = { zone_keys };
 
     ghost made = { λ f. record {
       transitions = record { before32 = f.0.0; within32 = f.1.0; after32 = f.2.0 };

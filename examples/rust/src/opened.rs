@@ -27,6 +27,7 @@ struct Parts {
     parts: [Bytes; 5],
     limit: u32,
     short_limit: u16,
+    ascends: u16,
 }
 
 /// The status where a buffer is too short.
@@ -119,6 +120,7 @@ impl<'a> Opened<'a> {
             parts: [NO_BYTES; 5],
             limit: 0,
             short_limit: 0,
+            ascends: 0,
         };
         let status = unsafe {
             resb_open(

@@ -1,13 +1,12 @@
 -- What the code finds between one place of a text of ICU's form and another.
-use Rattle.std.specs.Prelude.{◌≡◌, ℕ, ◌+◌, ◌-◌, ◌<◌, ◌≤◌, true, false, List, length}
+use Rattle.std.specs.Prelude.{◌≡◌, ℕ, ◌+◌, ◌-◌, ◌<◌, ◌≤◌, Bool, true, false, List, length}
 use Rattle.std.specs.Prelude.{slice_index, ◌==◌, if◌then◌else◌, ⊤, Option, Some, None}
 use Rattle.resb_grammar.specs.Ascii.{quote, left_brace, right_brace, comma}
 use Rattle.resb_grammar.specs.ByteRuns.{is_line_end}
-use Rattle.resb_icu_grammar.specs.Bytes.{is_word}
 use Rattle.resb_diagnostics.specs.Braces.{mode_in, icu_form, icu_mode_behind, has_icu_tokens}
 use Rattle.resb_diagnostics.specs.Braces.{behind_token}
-use Rattle.resb_diagnostics.specs.IcuWarnings.{is_icu_quoted, line_ended, icu_word_start}
-use Rattle.resb_diagnostics.specs.IcuWarnings.{icu_last_at}
+use Rattle.resb_diagnostics.specs.IcuWarnings.{is_icu_quoted, word_goes_on, is_in_string}
+use Rattle.resb_diagnostics.specs.IcuWarnings.{line_ended, icu_word_start, icu_last_at}
 use Rattle.resb_diagnostics.specs.IcuWarnings.{icu_warned, behind_some, of_some_token, and_one}
 use Rattle.resb_diagnostics.specs.declared.braces.IcuMode.{IcuMode}
 use Rattle.resb_diagnostics.specs.declared.braces.IcuMode.TheVariants.{As}
@@ -34,6 +33,23 @@ abbrev pub IsIn : List ℕ → Option IcuToken → Type 0
 IsIn text None = ⊤
 IsIn text (Some t) = Fits text t
 
+-- where a piece or a word was found, it begins at this place
+abbrev pub BeginsAt : ℕ → Option IcuToken → Type 0
+BeginsAt at (Some (token.Piece n)) = n ≡ at
+BeginsAt at (Some (token.Word from to)) = from ≡ at
+BeginsAt at _ = ⊤
+
+-- where the token is a piece or a word, this says whether a line ended before it
+abbrev pub IsEndedBefore : List ℕ → IcuToken → Bool → Type 0
+IsEndedBefore text (token.Piece n) ended = ended ≡ line_ended text n
+IsEndedBefore text (token.Word from to) ended = ended ≡ line_ended text from
+IsEndedBefore text _ ended = ⊤
+
+-- the same where a token was found
+abbrev pub IsEndedAt : List ℕ → Option IcuToken → Bool → Type 0
+IsEndedAt text None ended = ⊤
+IsEndedAt text (Some t) ended = IsEndedBefore text t ended
+
 -- the token that is this byte at a place, if it is one
 abbrev pub icu_sign : ℕ → ℕ → Option IcuToken
 icu_sign n b =
@@ -55,29 +71,36 @@ pub record IsIcuBetween (text : List ℕ) (at : ℕ) : Type 0 where
   pub tokens : has_icu_tokens (icu_mode_at text at) ≡ true
   pub next : icu_mode_behind (icu_mode_at text at) (slice_index text at)
       ≡ As (behind_token (slice_index text at))
-  pub word : is_word (slice_index text at) ≡ true → icu_word_start text at ≡ at
+  pub word : word_goes_on text at ≡ true → icu_word_start text at ≡ at
 
 -- from one place to another this token stands, if one does, and nothing else
 pub record IcuPasses (text : List ℕ) (from to : ℕ) (token : Option IcuToken) : Type 0 where
   pub order : from ≤ to
   pub fits : to ≤ length text
   pub last : icu_last_at text to
-      ≡ behind_some text token (line_ended text from) (icu_last_at text from)
+      ≡ behind_some text token (icu_last_at text from)
   pub found : icu_warned text to
       ≡ and_one (icu_warned text from) (of_some_token text token (icu_last_at text from))
   pub groups : icu_groups_at text to
       ≡ groups_behind (option_map (icu_piece text) token) (icu_groups_at text from)
 
--- nothing stands in quotes from one place on and before another
-abbrev pub IsUnquoted : List ℕ → ℕ → ℕ → Type 0
-IsUnquoted text from to =
-    (k : ℕ) → from ≤ k → k < to → is_icu_quoted (icu_mode_at text k) ≡ false
+-- no byte of a word or in quotes stands from one place on and before another
+abbrev pub IsStringless : List ℕ → ℕ → ℕ → Type 0
+IsStringless text from to =
+    (k : ℕ) → from ≤ k → k < to → is_in_string text k ≡ false
+
+-- a word goes on from one place up to another, and there no more
+pub record IsWordRest (text : List ℕ) (from to : ℕ) : Type 0 where
+  pub order : from ≤ to
+  pub fits : to ≤ length text
+  pub each : (k : ℕ) → from ≤ k → k < to → word_goes_on text k ≡ true
+  pub longest : word_goes_on text to ≡ false
 
 -- no token stands between two places, nothing in quotes, and the code can go on from the second
 pub record IsIcuQuiet (text : List ℕ) (from to : ℕ) : Type 0 where
   pub more : from < to
   pub passes : IcuPasses text from to None
-  pub unquoted : IsUnquoted text from to
+  pub stringless : IsStringless text from to
   pub between : to < length text → IsIcuBetween text to
 
 -- what the step tells stands between a place and its end, and the code can go on from there
@@ -85,6 +108,7 @@ pub record IsIcuStep (text : List ℕ) (from : ℕ) (s : IcuStep) : Type 0 where
   pub more : from < s.end
   pub passes : IcuPasses text from s.end s.token
   pub inside : IsIn text s.token
+  pub begins : BeginsAt from s.token
   pub ended : s.end < length text → s.has_ended ≡ line_ended text s.end
   pub between : s.end < length text → IsIcuBetween text s.end
 

@@ -5,8 +5,8 @@
 --     IsKeyBlockBeside place us ks js ps   of used keys us and a list ks: those that the pool
 --                             lacks, and where the used ones stand
 --     IsUnplanned block S f   the fault f may be answered where the strings S have no plan
---     IsFileOver o bytes t f ks, RefusesOver o t ks e     a file over the pool o or over none, and
---                             why there is none
+--     IsFileOver o bytes t f ks, RefusesOver o t ks e     a file that stands on this, and why there
+--                             is none
 --     head_with c l n         the head of a file of these parts, to which so much is lent by a
 --                             pool of the checksum n
 use Rattle.std.specs.Prelude.{◌≡◌, ℕ, ◌+◌, ◌-◌, ◌/◌, ◌<◌, ◌≤◌, ◌^◌, min, List, length, map, filter}
@@ -18,8 +18,10 @@ use Rattle.resb_layout.specs.KeyBlock.{used, key_bytes}
 use Rattle.resb_layout.specs.TreeFaults.{key_fault, RefusesWriting}
 use Rattle.resb_layout.specs.WritingFault.{WritingFault}
 use Rattle.resb_layout.specs.Written.{Written}
+use Rattle.resb_layout.specs.WrittenCompact.{WrittenCompact}
+use Rattle.resb_layout.specs.declared.packing.Packing.TheVariants.{Plain, Compact}
 use Rattle.resb_tree.specs.Tree.{Tree}
-use Rattle.resb_pool_bundle.specs.Pool.{Pool}
+use Rattle.resb_pool_bundle.specs.Pool.{pool_in}
 use Rattle.resb_lent.specs.PlanWithPool.{NotPlannedWith}
 use Rattle.resb_lent.specs.declared.head_with_pool.HeadWithPool.{HeadWithPool}
 use Rattle.resb_write.specs.FaultOf.{plan_fault}
@@ -27,6 +29,8 @@ use Rattle.resb_write.specs.WrittenWith.{position_beside, WrittenWith, RefusesWr
 use Rattle.resb_write.specs.Inner.Files.{keys_in_file, units_in_file}
 use Rattle.resb_write.specs.declared.file.FileParts.{FileParts}
 use Rattle.resb_write.specs.declared.lends.Lends.{Lends}
+use Rattle.resb_write.specs.declared.target.Target.{Target}
+use Rattle.resb_write.specs.declared.target.Target.TheVariants.{Alone, OverPool}
 
 abbrev pub told_beside : Option ℕ → Option ℕ → ℕ
 told_beside (Some n) own = n + 2 ^ 31
@@ -63,10 +67,11 @@ pub record FitsLimits (l : Lends) : Type 0 where
   pub short : l.short_limit ≤ 65535
   pub none : l.limit ≡ 0 → l.short_limit ≡ 0
 
-abbrev pub IsFileOver : Option Pool → List ℕ → Tree → Bool → List (List ℕ) → Type 0
-IsFileOver None bytes t fallback ks = Written bytes t fallback ks
-IsFileOver (Some pool) bytes t fallback ks = WrittenWith pool bytes t fallback ks
+abbrev pub IsFileOver : Target → List ℕ → Tree → Bool → List (List ℕ) → Type 0
+IsFileOver (Alone Plain) bytes t fallback ks = Written bytes t fallback ks
+IsFileOver (Alone Compact) bytes t fallback ks = WrittenCompact bytes t fallback ks
+IsFileOver (OverPool pool) bytes t fallback ks = WrittenWith (pool_in pool) bytes t fallback ks
 
-abbrev pub RefusesOver : Option Pool → Tree → List (List ℕ) → WritingFault → Type 0
-RefusesOver None t ks f = RefusesWriting t ks f
-RefusesOver (Some pool) t ks f = RefusesWritingWith pool t ks f
+abbrev pub RefusesOver : Target → Tree → List (List ℕ) → WritingFault → Type 0
+RefusesOver (Alone q) t ks f = RefusesWriting t ks f
+RefusesOver (OverPool pool) t ks f = RefusesWritingWith (pool_in pool) t ks f

@@ -11,6 +11,7 @@ use Rattle.std.specs.List.{sum_by, flat_map}
 use Rattle.resb_tree.specs.Tree.{Tree, string, alias, array, table, binary, integer, int_vector}
 use Rattle.resb_format.specs.Units.{units as units_of}
 use Rattle.resb_layout.specs.Laid.{Given, Laid}
+use Rattle.resb_layout.specs.declared.packing.Packing.TheVariants.{Plain}
 use Rattle.resb_tree.specs.LayingOrder.{array_members, values_of, own_keys, text_in}
 use Rattle.resb_write.specs.declared.sites.Bodies.{Bodies}
 
@@ -20,7 +21,12 @@ laid_of b = record { units = b.units.items; tail = b.tail.items }
 
 -- no key and no string stands anywhere, and the tail begins so many bytes into the body
 abbrev pub at_base : ℕ → Given
-at_base n = record { position = λ k. None; offset = λ s. None; base = n }
+at_base n = record {
+  position = λ k. None;
+  offset = λ s. None;
+  base = n;
+  packing = Plain;
+}
 
 -- ps are the positions of the keys of these resources, in their order, and os the offsets of their
 -- strings

@@ -1,6 +1,5 @@
-use Rattle.std.proofs.Common.{ap, subst, ◌∙◌, Some}
+use Rattle.std.proofs.Common.{ap, ◌∙◌, Some}
 use Rattle.resb_walk.specs.Inner.Members.{content_of, keyed_members, leaf_tree, members_of}
-use Rattle.resb_c.specs.Inner.Contents.{IsNamed}
 use Rattle.resb_c.proofs.NamedLemmas.{step_leaf, step_list, step_named}
 use Rattle.resb_c.proofs.within.step.Goals as goal
 
@@ -9,8 +8,7 @@ returns-in-Ok-Table c = λ s shows.
     let es = keyed_members c.in-Ok-Table.entries in
     step_named c.args.opened.now c.args.resource c.args.name.now es c.named.result
     (c.in-Ok-Table.ensures.ok ∙ ap (λ x. Some (content_of x)) c.in-Ok-Table.field-0-is)
-    (subst (λ p. IsNamed p es c.args.name.now c.named.result) c.parts.ensures c.named.ensures)
-    s shows
+    c.named.ensures s shows
 
 pub returns-in-Ok-List : goal.returns-in-Ok-List
 returns-in-Ok-List c = λ s shows.

@@ -1,6 +1,5 @@
-use Rattle.std.proofs.Common.{ap, subst, ◌∙◌, Some}
+use Rattle.std.proofs.Common.{ap, ◌∙◌, Some}
 use Rattle.resb_walk.specs.Inner.Members.{content_of, keyed_members}
-use Rattle.resb_c.specs.Inner.Contents.{IsNamed}
 use Rattle.resb_c.proofs.NamedLemmas.{no_table_value, value_told}
 use Rattle.resb_c.proofs.within.value_seen.Goals as goal
 
@@ -9,8 +8,7 @@ returns c = λ s shows.
     let es = keyed_members c.in-Table.entries in
     value_told c.args.opened.now c.args.resource c.args.name.now es c.named.result
     (c.in_ok-there.ensures.ok ∙ ap (λ x. Some (content_of x)) c.in-Table.is)
-    (subst (λ p. IsNamed p es c.args.name.now c.named.result) c.parts.ensures c.named.ensures)
-    s shows
+    c.named.ensures s shows
 
 pub returns-in_default : goal.returns-in_default
 returns-in_default c = λ s shows.

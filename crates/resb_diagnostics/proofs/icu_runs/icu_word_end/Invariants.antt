@@ -1,7 +1,9 @@
--- All bytes so far are word characters.
-use Rattle.resb_grammar.specs.ByteRuns.{Each}
-use Rattle.resb_icu_grammar.specs.Bytes.{is_word}
+-- The word goes on with all bytes so far.
+use Rattle.std.proofs.Common.{◌≡◌, ℕ, ◌<◌, ◌≤◌, true}
+use Rattle.resb_diagnostics.specs.IcuWarnings.{word_goes_on}
 use Rattle.resb_diagnostics.proofs.icu_runs.icu_word_end.Given as goal
 
 abbrev pub invariant-loop-at : goal.invariant-loop-at
-invariant-loop-at l = record { each : Each is_word l.text l.from l.at }
+invariant-loop-at l = record {
+  each : (k : ℕ) → l.from ≤ k → k < l.at → word_goes_on l.text k ≡ true;
+}

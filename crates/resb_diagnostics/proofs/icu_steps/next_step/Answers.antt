@@ -4,6 +4,7 @@ use Rattle.std.specs.Prelude.{slice_index}
 use Rattle.std.proofs.lemmas.Bool.{ne_eqb}
 use Rattle.resb_grammar.specs.Ascii.{quote, slash}
 use Rattle.resb_diagnostics.proofs.IcuTokenRuns.{IsIcuSign, piece_sign, lone_sign, sign_step}
+use Rattle.resb_diagnostics.proofs.IcuTokenRuns.{no_slash_alone}
 use Rattle.resb_diagnostics.proofs.icu_steps.next_step.Goals as goal
 
 pub returns-in-Some : goal.returns-in-Some
@@ -23,6 +24,8 @@ returns c =
     let is = sym c.in_default.is ∙ c.sign.ensures in
     sign_step text at None c.args.has_ended c.requires.fits c.requires.between c.requires.dark
     (subst (IsIcuSign text at b) (sym is)
-    (lone_sign text at b (sym c.is_word.ensures ∙ c.if-is_word.false)
+    (lone_sign text at b
+    (no_slash_alone text at (ne_eqb b slash c.if-byte-eq47.false)
+    (sym c.word_goes_on.ensures ∙ c.if-word_goes_on.false))
     (ne_eqb b quote c.if-byte-eq34.false) (ne_eqb b slash c.if-byte-eq47.false)))
     is c.requires.ended

@@ -3,5 +3,5 @@ use Rattle.resb_diagnostics.proofs.icu_steps.word.Goals as goal
 
 pub returns : goal.returns
 returns c =
-    word_step c.args.text.now c.args.at c.icu_word_end-end.result c.args.has_ended c.requires.fits
-    c.requires.between c.requires.word c.icu_word_end-end.ensures c.requires.ended
+    word_step c.args.text.now c.args.at c.icu_word_end-end.result c.requires.fits
+    c.requires.between c.requires.word c.icu_word_end-end.ensures

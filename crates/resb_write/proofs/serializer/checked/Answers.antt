@@ -25,7 +25,7 @@ returns-in_err-check_sizes-clause-err g c =
     rw (p.1, p.2) (λ t f k.
     let b = c.in_ok-block.ensures.ok (keys_of t) k in
     let gathered = c.in_ok-contents.ensures (laying_order t) f in
-    size_refused t c.args.list.now (keys_of t) _ refl b.keys b.faultless _
+    size_refused t c.args.list.now (keys_of t) _ refl refl b.faultless _
     (c.in_err-check_sizes.ensures.err (laying_order t) gathered))
 
 pub returns-clause-ok : goal.returns-clause-ok

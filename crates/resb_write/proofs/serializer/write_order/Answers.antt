@@ -9,14 +9,16 @@ use Rattle.resb_tree.specs.Tree.{Tree}
 use Rattle.resb_tree.specs.LayingOrder.{laying_order, keys_of}
 use Rattle.resb_write.specs.Inner.Room.{laid_of, GivesInTurn}
 use Rattle.resb_write.specs.Inner.Numbered.{NumbersKeys}
-use Rattle.resb_layout.specs.KeyBlock.{key_bytes, padded, position_in}
+use Rattle.resb_layout.specs.KeyBlock.{used, key_bytes, padded}
 use Rattle.resb_layout.specs.TreeFaults.{RefusesWriting, no_memory}
-use Rattle.resb_layout.specs.Written.{Written, even}
+use Rattle.resb_layout.specs.Written.{even}
 use Rattle.resb_write.specs.Inner.Files.{file_of}
 use Rattle.resb_write.proofs.Room.{units_room, bytes_room, used_room, length-padded, pool_room}
 use Rattle.resb_write.proofs.Known.{near_offsets}
 use Rattle.resb_write.proofs.Blocks.{laying_order_long}
-use Rattle.resb_write.proofs.FilesLemmas.{largest_room, Made, written}
+use Rattle.resb_write.proofs.FilesLemmas.{largest_room, Made, Shaped, shaped, shaped_written}
+use Rattle.resb_write.proofs.PackedKeys.{packed_room}
+use Rattle.resb_layout.specs.CompactKeys.{key_position_by}
 use Rattle.resb_write.proofs.Refusals.{plan_refused}
 use Rattle.resb_write.proofs.serializer.write_order.Goals as goal
 use Rattle.resb_write.proofs.serializer.write_order.Goals.{After-deref-3}
@@ -34,8 +36,9 @@ returns-in_err-pool-clause-err g c =
     let gathered = (c.in_ok-contents.ensures.ok t f k).0 in
     let texts = gathered.texts_are in
     let small = (c.in_ok-contents.ensures.ok t f k).2 in
-    subst (RefusesWriting t c.args.list.now) (sym p.2)
-    (plan_refused t c.args.list.now (nows c.in_ok-contents.contents.texts.items) _ texts small
+    subst (RefusesWriting t c.args.wanted.now.list.now) (sym p.2)
+    (plan_refused t c.args.wanted.now.list.now (nows c.in_ok-contents.contents.texts.items) _
+    texts small
     c.in_err-pool.ensures.err))
 
 pub block_length-keys_end-requires : goal.block_length-keys_end-requires
@@ -49,8 +52,8 @@ block_length-keys_end-requires g c =
       arith,
       small,
       ap (λ l. length (key_bytes l)) js,
-      used_room (keys_of t)
-          c.args.list.now,
+      used_room (keys_of t) c.args.wanted.now.list.now,
+      packed_room c.args.packing (used (keys_of t) c.args.wanted.now.list.now),
     )
 
 pub overflow_add-keys_end : goal.overflow_add-keys_end
@@ -64,8 +67,8 @@ overflow_add-keys_end g c =
       arith,
       small,
       ap (λ l. length (key_bytes l)) js,
-      used_room (keys_of t)
-          c.args.list.now,
+      used_room (keys_of t) c.args.wanted.now.list.now,
+      packed_room c.args.packing (used (keys_of t) c.args.wanted.now.list.now),
       length-padded (key_bytes (nows c.deref.result.now)),
       c.block_length-keys_end.ensures,
     )
@@ -75,19 +78,22 @@ numbered : (g : _) (c : After-deref-3 g) (base : ℕ) (t : Tree)
     → g.N.Nodes.fit c.args.order.now (laying_order t)
     → NumbersKeys c.args.tree_keys (keys_of t)
     → GivesInTurn (record {
-      position = position_in (nows c.in_ok-contents.block.keys.items);
+      position = key_position_by c.args.packing t c.args.wanted.now.list.now;
       offset = c.in_ok-pool.ensures.ok.offset;
       base = base;
+      packing = c.args.packing;
     }) c.deref-2.result.now c.deref-3.result.now (laying_order t)
 numbered g c base t f us =
     let gathered = (c.in_ok-contents.ensures.ok t f us).0 in
     let pooled = c.in_ok-pool.ensures.ok in
     let b = (c.in_ok-contents.ensures.ok t f us).1 in
-    let js = nows c.in_ok-contents.block.keys.items in
+    let list = c.args.wanted.now.list.now in
+    let small = (c.in_ok-contents.ensures.ok t f us).2 in
     let texts = gathered.texts_are in
     let offsets = pooled.offsets ∙ ap (map Some) (sym c.deref-3.ensures.value) in
     record {
-      keys = b.positions ∙ ap (map Some) (sym c.deref-2.ensures.value);
+      keys = b.positions (omega (arith, used_room (keys_of t) list, small))
+          ∙ ap (map Some) (sym c.deref-2.ensures.value);
       texts = ap (map pooled.offset) (sym texts) ∙ offsets;
       near = near_offsets (nows c.in_ok-contents.contents.texts.items)
           c.in_ok-pool.field-0.pool.items pooled.offset pooled.plan
@@ -119,7 +125,8 @@ lay_bodies-requires-clause-tree g c =
           bytes_room (laying_order t),
           small,
           ap (λ l. length (key_bytes l)) js,
-          used_room (keys_of t) c.args.list.now,
+          used_room (keys_of t) c.args.wanted.now.list.now,
+          packed_room c.args.packing (used (keys_of t) c.args.wanted.now.list.now),
           length-padded (key_bytes (nows c.deref.result.now)),
           c.block_length-keys_end.ensures,
         );
@@ -132,7 +139,7 @@ pub returns-in_err-bodies-clause-err : goal.returns-in_err-bodies-clause-err
 returns-in_err-bodies-clause-err g c =
     let p = err_from_is_err_and c.from_residual-in_err-bodies.result
     c.from_residual-in_err-bodies.ensures.1 in
-    rw p.1 (λ t f k. subst (RefusesWriting t c.args.list.now) (sym p.2) no_memory)
+    rw p.1 (λ t f k. subst (RefusesWriting t c.args.wanted.now.list.now) (sym p.2) no_memory)
 
 pub overflow_cast-largest_table : goal.overflow_cast-largest_table
 overflow_cast-largest_table g c =
@@ -156,7 +163,8 @@ assemble-requires g c =
           arith,
           small,
           ap (λ l. length (key_bytes l)) js,
-          used_room (keys_of t) c.args.list.now,
+          used_room (keys_of t) c.args.wanted.now.list.now,
+          packed_room c.args.packing (used (keys_of t) c.args.wanted.now.list.now),
         );
         units = omega (arith, room.units);
         tail = omega (arith, room.bytes);
@@ -168,28 +176,27 @@ pub returns-in_err-assemble-clause-err : goal.returns-in_err-assemble-clause-err
 returns-in_err-assemble-clause-err g c =
     let p = err_from_is_err_and c.from_residual-in_err-assemble.result
     c.from_residual-in_err-assemble.ensures.1 in
-    rw p.1 (λ t f k. subst (RefusesWriting t c.args.list.now) (sym p.2) no_memory)
+    rw p.1 (λ t f k. subst (RefusesWriting t c.args.wanted.now.list.now) (sym p.2) no_memory)
 
 pub returns-clause-ok : goal.returns-clause-ok
 returns-clause-ok g c = λ t f k.
     let gathered = (c.in_ok-contents.ensures.ok t f k).0 in
-    let ks = c.args.list.now in
+    let ks = c.args.wanted.now.list.now in
     let pooled = c.in_ok-pool.ensures.ok in
     let pool = c.in_ok-pool.field-0.pool.items in
     let b = (c.in_ok-contents.ensures.ok t f k).1 in
-    let js = nows c.in_ok-contents.block.keys.items in
     let laid = laid_of c.in_ok-bodies.bodies in
     let texts = gathered.texts_are in
     let small = (c.in_ok-contents.ensures.ok t f k).2 in
     let end : ℕ = 32 + c.block_length-keys_end.result + 2 *
     (length c.in_ok-bodies.bodies.units.items + length c.in_ok-bodies.bodies.units.items % 2) in
     let room = c.in_ok-bodies.ensures.fits in
-    let made : Made t ks js = record {
+    let q = c.args.packing in
+    let made : Made q t ks = record {
       pool = pool;
       offset = pooled.offset;
       laid = laid;
       root = c.in_ok-bodies.word;
-      js_are = b.keys;
       utf8 = b.utf8;
       faultless = b.faultless;
       small = small;
@@ -199,20 +206,24 @@ returns-clause-ok g c = λ t f k.
         arith,
         c.block_length-keys_end.ensures,
         ap (λ l. length (padded (key_bytes (nows l)))) c.deref.ensures.value,
+        ap (λ l. length (padded (key_bytes l))) b.keys,
       );
       lays = c.in_ok-bodies.ensures.lays (record {
-        position = position_in js;
+        position = key_position_by q t ks;
         offset = pooled.offset;
         base = end;
-      }) t f (numbered g ((goal.at.returns-clause-ok g c).After-deref-3) end t f k) refl;
+        packing = q;
+      }) t f (numbered g ((goal.at.returns-clause-ok g c).After-deref-3) end t f k) refl refl;
       room = record { aligned = room.aligned; units = room.units; bytes = room.bytes };
       units_fit = c.in_ok-assemble.ensures.fits;
       root_fits = c.in_ok-assemble.ensures.words;
     } in
-    let fallback = c.args.is_locale_fallback_enabled in
+    let fallback = c.args.wanted.now.is_locale_fallback_enabled in
     let largest = c.in_ok-contents.contents.largest_table in
     let file = c.in_ok-assemble.ensures.file
     ∙ ap (λ l. file_of c.in_ok-bodies.word largest fallback (padded (key_bytes (nows l)))
-    (even laid.units) laid.tail) c.deref-4.ensures.value in
-    subst (λ bytes. Written bytes t fallback ks) (sym file) (written t ks js made largest fallback
-    gathered.largest_is)
+    (even laid.units) laid.tail) c.deref-4.ensures.value
+    ∙ ap (λ l. file_of c.in_ok-bodies.word largest fallback (padded (key_bytes l))
+    (even laid.units) laid.tail) b.keys in
+    shaped_written q _ t fallback ks (subst (λ bytes. Shaped q bytes t fallback ks) (sym file)
+    (shaped q t ks made largest fallback gathered.largest_is))

@@ -44,8 +44,8 @@ count_is : (g : _) (c : In_ok-word g) (given : Given) (t : Tree)
     → length c.lay_order.new.bodies.units.items ≡ c.in_ok-count.count
 count_is g c given t f n =
     let base = c.args.keys_end + 2 * (c.in_ok-count.count + c.in_ok-count.count % 2) in
-    let h = based given base in
-    let laid = c.in_ok-word.ensures.lays h refl t f (same_places_based n) in
+    let h = based given base c.args.sites.now.packing in
+    let laid = c.in_ok-word.ensures.lays h refl t refl f (same_places_based n) in
     omega (
       arith,
       (units (lent_of c.args.sites.now.lent) h laid).0,
@@ -55,13 +55,13 @@ count_is g c given t f n =
     )
 
 pub returns-clause-lays : goal.returns-clause-lays
-returns-clause-lays g c = λ given t f n at.
+returns-clause-lays g c = λ given t f n at q.
     let from : ℕ → ℕ = (λ k. c.args.keys_end + 2 * (k + k % 2)) in
     let base = at ∙ ap from (count_is g c given t f n) in
     subst (λ tail. LaysBy (lent_of c.args.sites.now.lent) given
     (record { units = c.args.pool.items; tail = tail }) t
     (laid_of c.lay_order.new.bodies) c.in_ok-word.word) c.new.ensures.items
-    (c.in_ok-word.ensures.lays given base t f n)
+    (c.in_ok-word.ensures.lays given base t q f n)
 
 pub returns-clause-fits : goal.returns-clause-fits
 returns-clause-fits g c =

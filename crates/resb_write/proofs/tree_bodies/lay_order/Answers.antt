@@ -29,24 +29,24 @@ pub unreachable-requires : goal.unreachable-requires
 unreachable-requires g c =
     let n = c.requires in
     let t = n.0 in
-    let given = based n.3 c.args.ground.now.base in
+    let given = based n.3 c.args.ground.now.base c.args.ground.now.packing in
     let s = laid_of c.args.bodies.now in
     let e = laid_of c.steps.new.bodies in
     let ws = c.steps.new.words.items in
     let h = subst (λ l. LaysRow (lent_of c.args.ground.now.lent) given s l
     (laying_order t) e ws) c.new-words.ensures.items
-    (c.in_ok-steps.ensures.lays given refl (laying_order t) n.1 (same_places_based n.4)) in
+    (c.in_ok-steps.ensures.lays given refl (laying_order t) refl n.1 (same_places_based n.4)) in
     let r = steps_lay_trees (lent_of c.args.ground.now.lent) given s e t ws h in
     omega (arith, c.in_default.ensures.cases.0, c.steps.new.words.ok.0, ap length r.1)
 
 pub returns-clause-lays : goal.returns-clause-lays
-returns-clause-lays g c = λ given at t f n.
+returns-clause-lays g c = λ given at t q f n.
     let s = laid_of c.args.bodies.now in
     let e = laid_of c.steps.new.bodies in
     let ws = c.steps.new.words.items in
     let h = subst (λ l. LaysRow (lent_of c.args.ground.now.lent) given s l
     (laying_order t) e ws) c.new-words.ensures.items
-    (c.in_ok-steps.ensures.lays given at (laying_order t) f n) in
+    (c.in_ok-steps.ensures.lays given at (laying_order t) q f n) in
     let r = steps_lay_trees (lent_of c.args.ground.now.lent) given s e t ws h in
     let last = same_from_push c.pop.new.self.items [] c.in-Some.word r.0
     (sym c.in-Some.ensures.items ∙ r.1) in

@@ -39,11 +39,11 @@ returns-in-String-clause-step c =
     let os = c.args.coming.now.offsets.now in
     let s = c.in-String.field-0.now in
     let laid = laid_of c.args.bodies.now in
-    on_ok_weaker c.step_string.result (λ h given at t rest is n.
+    on_ok_weaker c.step_string.result (λ h given at t rest pack is n.
     let e : t ≡ string s = subst (λ m. IsNode m t) c.in-String.is is in
     subst (λ u. LaysNext (lent_of c.args.ground.now.lent) given laid c.args.words.now.items u laid
     c.step_string.new.words.items)
-    (sym e) (h (lent_of c.args.ground.now.lent) given laid s (string_known given ps os s rest
+    (sym e) (h (lent_of c.args.ground.now.lent) given laid s pack (string_known given ps os s rest
     c.take_offset.result
     c.take_offset.new.self.offsets.now c.take_offset.ensures.taken
     (subst (λ u. GivesInTurn given ps os (u ∷ rest)) e n)).0)) c.step_string.ensures
@@ -76,7 +76,7 @@ step_path-requires c =
 
 pub returns-in-Alias-clause-step : goal.returns-in-Alias-clause-step
 returns-in-Alias-clause-step c =
-    on_ok_weaker c.step_path.result (λ h given at t rest is n.
+    on_ok_weaker c.step_path.result (λ h given at t rest pack is n.
     let e : t ≡ alias c.in-Alias.path.now = subst (λ m. IsNode m t) c.in-Alias.is is in
     subst (λ u. LaysNext (lent_of c.args.ground.now.lent) given
     (laid_of c.args.bodies.now) c.args.words.now.items u
@@ -115,7 +115,7 @@ step_array-requires-clause-enough c =
 
 pub returns-in-Array-clause-step : goal.returns-in-Array-clause-step
 returns-in-Array-clause-step c =
-    on_ok_weaker c.step_array.result (λ h given at t rest is n.
+    on_ok_weaker c.step_array.result (λ h given at t rest pack is n.
     let a : IsArrayOf c.in-Array.count t = subst (λ m. IsNode m t) c.in-Array.is is in
     subst (λ u. LaysNext (lent_of c.args.ground.now.lent) given
     (laid_of c.args.bodies.now) c.args.words.now.items u
@@ -197,7 +197,7 @@ returns-in-Table-clause-step c =
       ap length c.take_positions-positions.ensures.taken,
       length-take c.in-Table.count ps,
     ) in
-    on_ok_weaker c.step_table.result (λ h given at t rest is n.
+    on_ok_weaker c.step_table.result (λ h given at t rest pack is n.
     let a : IsTableOf c.in-Table.count t = subst (λ m. IsNode m t) c.in-Table.is is in
     let es = a.entries in
     subst (λ u. LaysNext (lent_of c.args.ground.now.lent) given
@@ -251,7 +251,7 @@ step_bytes-requires c =
 
 pub returns-in-Binary-clause-step : goal.returns-in-Binary-clause-step
 returns-in-Binary-clause-step c =
-    on_ok_weaker c.step_bytes.result (λ h given at t rest is n.
+    on_ok_weaker c.step_bytes.result (λ h given at t rest pack is n.
     let e : t ≡ binary c.in-Binary.bytes.now = subst (λ m. IsNode m t) c.in-Binary.is is in
     subst (λ u. LaysNext (lent_of c.args.ground.now.lent) given
     (laid_of c.args.bodies.now) c.args.words.now.items u
@@ -281,7 +281,7 @@ step_integer-requires c = let r = c.requires in (subst (λ m. IsNode m r.0) c.in
 
 pub returns-in-Integer-clause-step : goal.returns-in-Integer-clause-step
 returns-in-Integer-clause-step c =
-    on_ok_weaker c.step_integer.result (λ h given at t rest is n.
+    on_ok_weaker c.step_integer.result (λ h given at t rest pack is n.
     let e : t ≡ integer c.in-Integer.number = (subst (λ m. IsNode m t) c.in-Integer.is is).0 in
     subst (λ u. LaysNext (lent_of c.args.ground.now.lent) given
     (laid_of c.args.bodies.now) c.args.words.now.items u
@@ -315,7 +315,7 @@ step_numbers-requires c =
 
 pub returns-in-IntVector-clause-step : goal.returns-in-IntVector-clause-step
 returns-in-IntVector-clause-step c =
-    on_ok_weaker c.step_numbers.result (λ h given at t rest is n.
+    on_ok_weaker c.step_numbers.result (λ h given at t rest pack is n.
     let e : t ≡ int_vector c.in-IntVector.numbers.now =
     subst (λ m. IsNode m t) c.in-IntVector.is is in
     subst (λ u. LaysNext (lent_of c.args.ground.now.lent) given

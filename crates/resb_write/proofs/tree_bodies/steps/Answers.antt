@@ -18,7 +18,7 @@ loop-at-init g c = record {
       (sym c.coming-coming.ensures.positions)
       (subst (λ l. GivesInTurn given c.args.sites.now.positions.now l ts)
       (sym c.coming-coming.ensures.offsets) n);
-  done = λ given e ts f n. row_none;
+  done = λ given e ts q f n. row_none;
   can = λ given ts f n can. can;
 }
 
@@ -70,10 +70,10 @@ loop-at-preserved g c =
           c.in_ok-step.ensures.left given t (drop (i + 1) ts) fits
           (subst (GivesInTurn given ps os) (trees-drop ts i (inside ts f))
           (v.left given ts f n));
-      done = λ given e ts f n.
+      done = λ given e ts q f n.
           let t = get_or ts i no_tree in
           let fits = c.node.ensures ts f (inside ts f) in
-          let k = c.in_ok-step.ensures.step given e t (drop (i + 1) ts) fits
+          let k = c.in_ok-step.ensures.step given e t (drop (i + 1) ts) q fits
           (subst (GivesInTurn given ps os) (trees-drop ts i (inside ts f))
           (v.left given ts f n)) in
           subst (λ us. LaysRow (lent_of c.args.ground.now.lent) given
@@ -82,31 +82,31 @@ loop-at-preserved g c =
           (steps_push (lent_of c.args.ground.now.lent) given (laid_of c.args.bodies.now)
           (laid_of c.loop-at.bodies)
           (laid_of c.step.new.bodies) c.args.words.now.items old new (take i ts) t
-          (v.done given e ts f n) k);
+          (v.done given e ts q f n) k);
       can = λ given ts f n can.
           let t = get_or ts i no_tree in
           let rest = drop (i + 1) ts in
           let fits = c.node.ensures ts f (inside ts f) in
           let split = trees-drop ts i (inside ts f) in
-          let own = based given c.args.ground.now.base in
+          let own = based given c.args.ground.now.base c.args.ground.now.packing in
           can_go_on c.args.ground.now.base c.loop-at.bodies (length old) t rest
           (subst (CanLay c.args.ground.now.base c.loop-at.bodies (length old)) split
           (v.can given ts f n can)) c.step.new.bodies (length new)
           (c.in_ok-step.ensures.takes t fits)
           (step_long (lent_of c.args.ground.now.lent) own (laid_of c.loop-at.bodies)
           (laid_of c.step.new.bodies) old new t
-          (c.in_ok-step.ensures.step own refl t rest fits
+          (c.in_ok-step.ensures.step own refl t rest refl fits
           (subst (GivesInTurn own ps os) split (v.left own ts f (same_places_based n)))));
     }
 
 pub returns-clause-lays : goal.returns-clause-lays
-returns-clause-lays g c = λ given e ts f n.
+returns-clause-lays g c = λ given e ts q f n.
     subst (λ us. LaysRow (lent_of c.args.ground.now.lent) given
     (laid_of c.args.bodies.now) c.args.words.now.items us
     (laid_of c.loop-at.bodies) c.loop-at.words.items)
     (take_all c.loop-at.at ts
     (omega (arith, c.loop-at-test.false, c.count-at-end.ensures ts f)))
-    (c.loop-at.invariant.done given e ts f n)
+    (c.loop-at.invariant.done given e ts q f n)
 
 pub returns-clause-fits : goal.returns-clause-fits
 returns-clause-fits g c =

@@ -1,4 +1,4 @@
-use Rattle.std.proofs.Common.{List, length, take, drop}
+use Rattle.std.proofs.Common.{◌≡◌, List, length, take, drop}
 use Rattle.resb_tree.specs.Tree.{Tree}
 use Rattle.resb_layout.specs.Laid.{Given}
 use Rattle.resb_write.specs.Inner.Lending.{lent_of}
@@ -12,7 +12,8 @@ invariant-loop-at g l = record {
   left : (given : Given) (ts : List Tree) → g.N.Nodes.fit l.order ts
       → GivesInTurn given l.sites.positions.now l.sites.offsets.now ts
       → GivesInTurn given l.coming.positions.now l.coming.offsets.now (drop l.at ts);
-  done : Anywhere l.ground.base (λ given. (ts : List Tree) → g.N.Nodes.fit l.order ts
+  done : Anywhere l.ground.base (λ given. (ts : List Tree)
+      → given.packing ≡ l.ground.packing → g.N.Nodes.fit l.order ts
       → GivesInTurn given l.sites.positions.now l.sites.offsets.now ts
       → LaysRow (lent_of l.ground.lent) given (laid_of l.fn.bodies) l.fn.words.items (take l.at ts)
       (laid_of l.bodies) l.words.items);

@@ -1,4 +1,5 @@
 -- The refusals in their order, the room that is left, and the file.
+use Rattle.std.proofs.Common.{refl}
 use Rattle.std.proofs.Common.{ℕ, ◌+◌, ◌*◌, ◌/◌, ◌%◌, ◌^◌, ◌<◌, ◌≤◌, ◌≡◌, length, map, Some, sym}
 use Rattle.std.proofs.Common.{◌∙◌, ap, subst, arith, List, [], Option, ◌++◌}
 use Rattle.std.specs.List.{sum_by, All}
@@ -11,6 +12,7 @@ use Rattle.resb_pool.specs.Plan.{nows}
 use Rattle.resb_tree.specs.Tree.{Tree}
 use Rattle.resb_tree.specs.LayingOrder.{laying_order, keys_of, texts_of}
 use Rattle.resb_pool_bundle.specs.Pool.{pool_in}
+use Rattle.resb_layout.specs.declared.packing.Packing.TheVariants.{Plain}
 use Rattle.resb_layout.specs.Laid.{LaysBy}
 use Rattle.resb_layout.specs.KeyBlock.{key_bytes, padded, used}
 use Rattle.resb_layout.specs.PlainSize.{list_size, resources_size}
@@ -98,6 +100,7 @@ numbered : (g : _) (c : After-deref-3 g) (base : ℕ) (t : Tree)
           (own_keys_of c.in_ok-contents.ensures.ok.0 t c.args.wanted.now.list.now);
       offset = look (texts_of t) c.in_ok-units.field-0.indexes.items;
       base = base;
+      packing = Plain;
     }) c.deref-2.result.now c.deref-3.result.now (laying_order t)
 numbered g c base t f us =
     let known = c.in_ok-contents.ensures.ok.2 t f us in
@@ -226,7 +229,8 @@ returns-clause-ok g c = λ t f k.
       position = position_beside place own;
       offset = look (texts_of t) p.indexes.items;
       base = base;
-    }) t f (numbered g ((goal.at.returns-clause-ok g c).After-deref-3) base t f k) base_is in
+      packing = Plain;
+    }) t f (numbered g ((goal.at.returns-clause-ok g c).After-deref-3) base t f k) base_is refl in
     let b : BlocksWith pool t ks = record {
       place = place;
       places = c.in_ok-contents.ensures.ok.1;
@@ -249,6 +253,7 @@ returns-clause-ok g c = λ t f k.
         position = position_beside place own;
         offset = look (texts_of t) p.indexes.items;
         base = base;
+        packing = Plain;
       }) (record { units = p.units.items; tail = [] }) t laid word) end lays;
     } in
     let keys = ap (λ l. padded (key_bytes (nows l))) c.deref-5.ensures.value

@@ -2,16 +2,16 @@
 use Rattle.resb_diagnostics.proofs.IcuTokenRuns.{behind_blanks}
 use Rattle.resb_diagnostics.proofs.icu_walk.IcuWalk.pass_blanks.Goals as goal
 
-pub ended_behind-self-requires-clause-unquoted : goal.ended_behind-self-requires-clause-unquoted
-ended_behind-self-requires-clause-unquoted c =
-    let (between, passes, unquoted) = behind_blanks c.args.self.now.text.now c.args.self.now.at
+pub ended_behind-self-requires-clause-stringless : goal.ended_behind-self-requires-clause-stringless
+ended_behind-self-requires-clause-stringless c =
+    let (between, passes, stringless) = behind_blanks c.args.self.now.text.now c.args.self.now.at
     c.blanks_end-end.result (c.requires.walk.between c.requires.more) c.blanks_end-end.ensures in
-    unquoted
+    stringless
 
 pub returns-clause-walk : goal.returns-clause-walk
 returns-clause-walk c =
     let old = c.requires.walk in
-    let (between, passes, unquoted) = behind_blanks c.args.self.now.text.now c.args.self.now.at
+    let (between, passes, stringless) = behind_blanks c.args.self.now.text.now c.args.self.now.at
     c.blanks_end-end.result (old.between c.requires.more) c.blanks_end-end.ensures in record {
       text = old.text;
       fits = passes.fits;
@@ -22,6 +22,6 @@ returns-clause-walk c =
 pub returns-clause-passes : goal.returns-clause-passes
 returns-clause-passes c =
     let old = c.requires.walk in
-    let (between, passes, unquoted) = behind_blanks c.args.self.now.text.now c.args.self.now.at
+    let (between, passes, stringless) = behind_blanks c.args.self.now.text.now c.args.self.now.at
     c.blanks_end-end.result (old.between c.requires.more) c.blanks_end-end.ensures in
     passes

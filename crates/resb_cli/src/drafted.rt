@@ -38,24 +38,11 @@ struct Built<'f> {
 
 /// How a file is laid out.
 #[derive(Clone, Copy)]
-enum Layout<'p, 'b> {
-    /// With all that it has, each key by itself.
-    Whole,
+struct Layout<'p, 'b> {
+    /// The pool bundle that it is written over, if it uses one.
+    pool: Option<&'p PoolBundle<'b>>,
     /// As ICU's compiler lays it out: keys may lie at the ends of others.
-    Compact,
-    /// Over a pool bundle.
-    Over(&'p PoolBundle<'b>),
-}
-
-impl<'p, 'b> Layout<'p, 'b> {
-    /// The layout that is asked for.
-    fn asked(wanted: &CompileWords<'_>, pool: Option<&'p PoolBundle<'b>>) -> Layout<'p, 'b> {
-        match pool {
-            Some(pool) => Layout::Over(pool),
-            None if wanted.is_compact => Layout::Compact,
-            None => Layout::Whole,
-        }
-    }
+    is_compact: bool,
 }
 
 /// The file of a text in ICU's own form, with the status of what is said of its rules of collation;
@@ -67,7 +54,10 @@ pub(crate) fn drafted_file<'t>(
     wanted: &CompileWords<'_>,
     pool: Option<&PoolBundle<'_>>,
 ) -> Result<BundleFile<'t>, u8> {
-    let layout = Layout::asked(wanted, pool);
+    let layout = Layout {
+        pool,
+        is_compact: wanted.is_compact,
+    };
     let (draft, keys) = draft_of(rt, name, text, wanted.limit)?;
     let bundle_name = draft.name;
     let bundle = Some(bundle_name);
@@ -194,11 +184,14 @@ fn written(
 {
     let has_fallback = bundle.is_locale_fallback_enabled;
     let (alloc, root) = (rt.alloc(), bundle.root);
-    let file = match layout {
-        Layout::Whole => Serializer::draft_to_bytes(alloc, root, has_fallback, keys),
-        Layout::Compact => Serializer::draft_to_bytes_compact(alloc, root, has_fallback, keys),
-        Layout::Over(pool) => {
+    let file = match (layout.pool, layout.is_compact) {
+        (None, false) => Serializer::draft_to_bytes(alloc, root, has_fallback, keys),
+        (None, true) => Serializer::draft_to_bytes_compact(alloc, root, has_fallback, keys),
+        (Some(pool), false) => {
             Serializer::draft_to_bytes_with_pool(alloc, root, has_fallback, keys, pool)
+        }
+        (Some(pool), true) => {
+            Serializer::draft_to_bytes_compact_with_pool(alloc, root, has_fallback, keys, pool)
         }
     };
     // what the writer refuses has no place in the text

@@ -103,9 +103,12 @@ fn write_pool(
     for text in texts {
         add_text(rt, &mut maker, text.as_path().as_str(), wanted)?;
     }
-    let pool = maker
-        .finish(rt.alloc())
-        .map_err(|e| refuse_pool(rt, name, e))?;
+    let pool = if wanted.is_compact {
+        maker.finish_compact(rt.alloc())
+    } else {
+        maker.finish(rt.alloc())
+    }
+    .map_err(|e| refuse_pool(rt, name, e))?;
     let done = save(rt, &place, &Bytes(pool.as_slice()));
     or_fail(rt, name, saved(&place, done))?;
     Ok(0)

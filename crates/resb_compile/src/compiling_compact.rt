@@ -1,11 +1,15 @@
 //! From a text of ICU's form to the bytes of its compact file.
 //! The way to a file in which each key stands by itself is in `compiling_icu`.
 ghost use Rattle.std.specs.Prelude.{IfOk, IfErr};
+ghost use Rattle.resb_pool_bundle.specs.Pool.{pool_in};
 ghost use Rattle.resb_compile.specs.CompilingIcu.{IsIcuRefused};
+ghost use Rattle.resb_compile.specs.CompilingWithPool.{IsIcuRefusedWithPool};
 ghost use Rattle.resb_compile.specs.CompilingCompact.{IsIcuCompiledCompact};
+ghost use Rattle.resb_compile.specs.CompilingCompact.{IsIcuCompiledCompactWithPool};
 
 use crate::compiling_icu::IcuCompileError;
 use resb_icu_text::IcuReader;
+use resb_pool_bundle::PoolBundle;
 use resb_write::Serializer;
 use std::alloc::Global;
 
@@ -22,5 +26,30 @@ pub fn compile_icu_compact(alloc: Global, text: &str) -> Result<Vec<u8>, IcuComp
     let (bundle, keys) = IcuReader::read_draft(alloc, text)?;
     let fallback = bundle.is_locale_fallback_enabled;
     let file = Serializer::draft_to_bytes_compact(alloc, bundle.root, fallback, keys.as_slice())?;
+    Ok(file)
+}
+
+/// The bytes of the compact `.res` file over a pool bundle of a bundle's text in ICU's own form, as
+/// `Serializer::to_bytes_compact_with_pool` writes it.
+pub fn compile_icu_compact_with_pool(
+    alloc: Global,
+    text: &str,
+    pool: &PoolBundle<'_>,
+) -> Result<Vec<u8>, IcuCompileError>
+    // The text is a bundle in ICU's form, and the compact file denotes its tree beside the pool.
+    ensures ok { IfOk result
+        (λ file. IsIcuCompiledCompactWithPool (pool_in pool.now) text.now file.items) }
+    // The text is refused for what `compile_icu_with_pool` refuses it for.
+    ensures err { IfErr result (IsIcuRefusedWithPool (pool_in pool.now) text.now) }
+{
+    let (bundle, keys) = IcuReader::read_draft(alloc, text)?;
+    let fallback = bundle.is_locale_fallback_enabled;
+    let file = Serializer::draft_to_bytes_compact_with_pool(
+        alloc,
+        bundle.root,
+        fallback,
+        keys.as_slice(),
+        pool,
+    )?;
     Ok(file)
 }

@@ -12,7 +12,7 @@ mod compiling_with_pool;
 mod keys;
 
 pub use compiling::{CompileError, CompileWithinError, compile, compile_within};
-pub use compiling_compact::compile_icu_compact;
+pub use compiling_compact::{compile_icu_compact, compile_icu_compact_with_pool};
 pub use compiling_filtered::{
     compile_icu_filtered, compile_icu_filtered_with_pool, read_icu_filtered,
 };

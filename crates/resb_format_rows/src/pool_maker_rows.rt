@@ -33,6 +33,17 @@ k=012345678 / k=012345678 / j=0123456789 =>
     10000000451f690c6b006a0000003000310032003300340035003600370038000000aaaa;
 ";
 
+/// The same of compact pool bundles, as ICU's `genrb` 72.1 makes them: keys lie at the ends of
+/// others, of their bundle and of another one.
+const COMPACT_ROWS: &str = "xab=one two three,ab=x,b=two three / yab=one two three,b=three,ab=y =>
+    0300000001040000000000000000000000000020080000000b00000013000000130000000000000003000000
+    13000000a216f4a1786162007961620000006f006e0065002000740077006f00200074006800720065006500
+    0000aaaa;
+ab=x,b=y / b=z,xab=x,xb=y =>
+    0300000001040000000000000000000000000020080000000b0000000c0000000c0000000000000003000000
+    0c000000f424ee5d78616200786200aa0000aaaa;
+";
+
 /// Adds the bundle of these entries.
 fn add(alloc: Global, maker: &mut PoolMaker, entries: &str) -> Result<(), Fail> {
     let mut table: Table = BTreeMap::new(alloc);
@@ -46,18 +57,22 @@ fn add(alloc: Global, maker: &mut PoolMaker, entries: &str) -> Result<(), Fail> 
     Ok(())
 }
 
-/// The pool bundle of bundles.
-pub(crate) fn pool_of(alloc: Global, bundles: &str) -> Result<Vec<u8>, Fail> {
+/// A maker to which these bundles were added.
+fn maker_of(alloc: Global, bundles: &str) -> Result<PoolMaker, Fail> {
     let mut maker = PoolMaker::new(alloc);
     for entries in bundles.split(" / ") {
         add(alloc, &mut maker, entries)?;
     }
-    Ok(maker.finish(alloc)?)
+    Ok(maker)
 }
 
-/// The digits of the pool bundle of bundles, from its version on.
-fn digits_of_pool(alloc: Global, bundles: &str) -> Result<String, Fail> {
-    let file = pool_of(alloc, bundles)?;
+/// The pool bundle of bundles.
+pub(crate) fn pool_of(alloc: Global, bundles: &str) -> Result<Vec<u8>, Fail> {
+    Ok(maker_of(alloc, bundles)?.finish(alloc)?)
+}
+
+/// The digits of a pool bundle, from its version on.
+fn digits_of(alloc: Global, file: Vec<u8>) -> Result<String, Fail> {
     let (_, rest) = file.as_slice().split_at_checked(16).ok_or("no header")?;
     Ok(hex::encode(alloc, rest)?)
 }
@@ -71,18 +86,26 @@ fn joined(alloc: Global, lines: &str) -> Result<String, Fail> {
     Ok(all)
 }
 
-/// Whether a row's bundles have the pool bundle that it wants.
-fn holds(alloc: Global, row: &str) -> Result<bool, Fail> {
+/// Whether a row's bundles have the pool bundle that it wants, which may be the compact one.
+fn holds(alloc: Global, row: &str, is_compact: bool) -> Result<bool, Fail> {
     let (bundles, lines) = row.split_once(" =>\n").ok_or("a row without an answer")?;
     let wanted = joined(alloc, lines)?;
-    let found = digits_of_pool(alloc, bundles)?;
-    Ok(found.as_str() == wanted.as_str())
+    let maker = maker_of(alloc, bundles)?;
+    let file = if is_compact {
+        maker.finish_compact(alloc)?
+    } else {
+        maker.finish(alloc)?
+    };
+    Ok(digits_of(alloc, file)?.as_str() == wanted.as_str())
 }
 
 #[test]
 fn bundles_have_these_pools(rt: HostRuntime) -> Result<(), Fail> {
     for row in ROWS.split_terminator(";\n") {
-        assert!(rt; holds(rt.alloc(), row)?, "{row}");
+        assert!(rt; holds(rt.alloc(), row, false)?, "{row}");
+    }
+    for row in COMPACT_ROWS.split_terminator(";\n") {
+        assert!(rt; holds(rt.alloc(), row, true)?, "{row}");
     }
     Ok(())
 }

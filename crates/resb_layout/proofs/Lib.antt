@@ -10,3 +10,5 @@ pub mod InOrderLemmas
 pub mod Numbers
 pub mod Lists
 pub mod StringWords
+pub mod ByteOrder
+pub mod KeyEndsLemmas

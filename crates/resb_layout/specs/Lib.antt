@@ -13,6 +13,7 @@ pub mod Laid
 pub mod InOrder
 pub mod KeyBlock
 pub mod CompactKeys
+pub mod KeyEnds
 pub mod PlainSize
 pub mod WritingFault
 pub mod TreeFaults

@@ -7,7 +7,8 @@ use Rattle.std.specs.List.{flat_map}
 use Rattle.resb_tree.specs.Tree.{string, table, no_entries, entry}
 use Rattle.resb_pool_bundle.specs.Checksum.{bit_step, checksum_of}
 use Rattle.resb_pool_maker.specs.PoolFile.{pool_file}
-use Rattle.resb_pool_maker.specs.PoolOf.{Bundle, pool_keys}
+use Rattle.resb_layout.specs.declared.packing.Packing.TheVariants.{Plain}
+use Rattle.resb_pool_maker.specs.PoolOf.{Bundle, pool_keys_by}
 
 -- 32 bytes of header, of a version whose first number is given
 header : ℕ → List ℕ
@@ -33,13 +34,13 @@ second_bundle = record {
 }
 
 -- each key stands where it first comes
-keys : pool_keys (first_bundle ∷ second_bundle ∷ [])
+keys : pool_keys_by Plain (first_bundle ∷ second_bundle ∷ [])
     ≡ codes "alpha" ∷ codes "beta" ∷ codes "gamma" ∷ []
 unfolding first_bundle second_bundle
 keys = refl
 
 -- `one two three` saves 14 units, and `x` and `three` none
-with_strings : pool_file (codes "alpha" ∷ codes "beta" ∷ codes "gamma" ∷ [])
+with_strings : pool_file Plain (codes "alpha" ∷ codes "beta" ∷ codes "gamma" ∷ [])
     (0 ∷ (codes "one two three" ++ 0 ∷ []))
     ≡ header 3 ++ flat_map (to_le_bytes w32) (
     0x20000000 ∷ 8 ∷ 0xe ∷ 0x16 ∷ 0x16 ∷ 0 ∷ 3 ∷ 0x16 ∷ 0xe31610fa
@@ -50,7 +51,7 @@ unfolding header checksum_of bit_step
 with_strings = refl
 
 -- without strings the version is 2.0, and unit 0 stands alone
-keys_alone : pool_file (codes "alpha" ∷ codes "beta" ∷ codes "gamma" ∷ []) (0 ∷ [])
+keys_alone : pool_file Plain (codes "alpha" ∷ codes "beta" ∷ codes "gamma" ∷ []) (0 ∷ [])
     ≡ header 2 ++ flat_map (to_le_bytes w32) (
     0x20000000 ∷ 8 ∷ 0xe ∷ 0xf ∷ 0xf ∷ 0 ∷ 3 ∷ 0xf ∷ 0x1baba403
     ∷ 0x68706c61 ∷ 0x65620061 ∷ 0x67006174 ∷ 0x616d6d61 ∷ 0xaaaaaa00 ∷ 0xaaaa0000 ∷ [])

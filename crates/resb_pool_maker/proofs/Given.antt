@@ -5,7 +5,11 @@ use Rattle.std.specs.Prelude.{◌||◌}
 use Rattle.std.specs.String.{string_bytes}
 use Rattle.std.specs.declared.alloc.Global.{Global}
 use Rattle.std.specs.declared.string.String.{String}
+use Rattle.std.proofs.Common.{filter, cond, true}
+use Rattle.resb_layout.specs.CompactKeys.{keys_by, kept}
 use Rattle.resb_layout.specs.TreeFaults.{has_nul}
+use Rattle.resb_layout.specs.declared.packing.Packing.{Packing}
+use Rattle.resb_layout.specs.declared.packing.Packing.TheVariants.{Plain, Compact}
 use Rattle.resb_pool_maker.specs.Holding.{bytes_each, IsGift, AreGifts, no_gifts, more_gifts}
 use Rattle.resb_pool_maker.specs.Inner.Given.{gift_keys, gift_records}
 use Rattle.resb_pool_maker.specs.PoolOf.{Bundle, used_keys, GiveRecords, give_none, give_more}
@@ -25,22 +29,42 @@ pub any_string : (ss : List (String Global))
 any_string [] = refl
 any_string (s ∷ ss) = ap (λ b. has_nul (string_bytes s) || b) (any_string ss)
 
-pub keys_given : {bs : List Bundle} {gs : List Gift} → AreGifts bs gs
-    → gift_keys gs ≡ flat_map used_keys bs
-keys_given no_gifts = refl
-keys_given (more_gifts g gs) = λ i. g.keys i ++ keys_given gs i
+pub keys_given : (q : Packing) {bs : List Bundle} {gs : List Gift} → AreGifts bs gs
+    → gift_keys q gs ≡ flat_map (λ b. keys_by q (used_keys b)) bs
+keys_given q no_gifts = refl
+keys_given q (more_gifts g gs) = λ i. keys_by q (g.keys i) ++ keys_given q gs i
 
 pub records_given : {bs : List Bundle} {gs : List Gift} → AreGifts bs gs
     → GiveRecords bs (gift_records gs)
 records_given no_gifts = give_none
 records_given (more_gifts g gs) = give_more g.records (records_given gs)
 
+-- a key that may be left out before others
+none_before : (p : List ℕ → Bool) (k : List ℕ) (ks : List (List ℕ)) (b : Bool) → p k ≡ false
+    → list_any p ks ≡ false → list_any p (cond b (k ∷ ks) ks) ≡ false
+none_before p k ks true h e = ap (λ b. b || list_any p ks) h ∙ e
+none_before p k ks false h e = e
+
+none_filtered : (p f : List ℕ → Bool) (ks : List (List ℕ)) → list_any p ks ≡ false
+    → list_any p (filter f ks) ≡ false
+none_filtered p f [] h = refl
+none_filtered p f (k ∷ ks) h =
+    let both = or_false (p k) (list_any p ks) h in
+    none_before p k (filter f ks) (f k) both.0 (none_filtered p f ks both.1)
+
+-- what none of some keys has, none of those has that the packing keeps
+pub none_kept : (q : Packing) (p : List ℕ → Bool) (ks : List (List ℕ)) → list_any p ks ≡ false
+    → list_any p (keys_by q ks) ≡ false
+none_kept Plain p ks h = h
+none_kept Compact p ks h = none_filtered p _ ks h
+
 -- no key that is given holds U+0000
-pub plain_given : {bs : List Bundle} {gs : List Gift} → AreGifts bs gs
-    → list_any has_nul (flat_map used_keys bs) ≡ false
-plain_given no_gifts = refl
-plain_given (more_gifts {b = b} {bs = bs} g gs) =
-    none_appended has_nul (used_keys b) (flat_map used_keys bs) g.plain (plain_given gs)
+pub plain_given : (q : Packing) {bs : List Bundle} {gs : List Gift} → AreGifts bs gs
+    → list_any has_nul (flat_map (λ b. keys_by q (used_keys b)) bs) ≡ false
+plain_given q no_gifts = refl
+plain_given q (more_gifts {b = b} {bs = bs} g gs) =
+    none_appended has_nul (keys_by q (used_keys b)) (flat_map (λ b. keys_by q (used_keys b)) bs)
+    (none_kept q has_nul (used_keys b) g.plain) (plain_given q gs)
 
 -- a gift more
 pub gift_added : {bs : List Bundle} {gs : List Gift} (b : Bundle) (g : Gift) → AreGifts bs gs

@@ -1,5 +1,5 @@
 -- The pool bundle of bundles is read.
-use Rattle.std.proofs.Common.{◌≡◌, ℕ, ◌+◌, ◌/◌, ◌^◌, ◌<◌, ◌≤◌, List, length, nat_le, sym, ◌∙◌, ap}
+use Rattle.std.proofs.Common.{◌≡◌, ℕ, ◌+◌, ◌/◌, ◌^◌, ◌<◌, ◌≤◌, List, length, sym, ◌∙◌, ap}
 use Rattle.std.proofs.Common.{subst, arith}
 use Rattle.resb_layout.specs.KeyBlock.{key_bytes, padded}
 use Rattle.resb_layout.specs.Written.{even}
@@ -8,14 +8,15 @@ use Rattle.resb_pool_bundle.specs.Checksum.{checksum_of}
 use Rattle.resb_pool_bundle.specs.FileWith.{IsPoolFile}
 use Rattle.resb_pool_bundle.specs.Pool.{pool_of}
 use Rattle.resb_pool_maker.specs.Laws.{MadePoolIsRead, made_pool}
-use Rattle.resb_pool_maker.specs.PoolFile.{head_words}
-use Rattle.resb_pool_maker.specs.PoolOf.{Bundle, IsPoolOf, pool_keys}
+use Rattle.resb_pool_maker.specs.PoolFile.{head_words, is_third}
+use Rattle.resb_layout.specs.declared.packing.Packing.{Packing}
+use Rattle.resb_pool_maker.specs.PoolOf.{Bundle, IsPoolOfBy, pool_keys_by}
 use Rattle.resb_pool_maker.proofs.Blocks.{each_below, below_even, even_long, padded_long}
 use Rattle.resb_pool_maker.proofs.ReadBack.{Whole, passes, lends}
 
-module _ (bytes : List ℕ) (bs : List Bundle) (p : IsPoolOf bytes bs) where
+module _ (q : Packing) (bytes : List ℕ) (bs : List Bundle) (p : IsPoolOfBy q bytes bs) where
   abbrev keys : List ℕ
-  keys = key_bytes (pool_keys bs)
+  keys = key_bytes (pool_keys_by q bs)
 
   head_fits : EachBelow (2 ^ 32) (head_words (padded keys) (even p.units))
   head_fits =
@@ -53,7 +54,7 @@ module _ (bytes : List ℕ) (bs : List Bundle) (p : IsPoolOf bytes bs) where
 
   abbrev whole : Whole
   whole = record {
-    strings = nat_le 2 (length p.units);
+    strings = is_third q p.units;
     keys = padded keys;
     us = even p.units;
     keys_whole = omega (arith, padded_long keys);
@@ -65,12 +66,13 @@ module _ (bytes : List ℕ) (bs : List Bundle) (p : IsPoolOf bytes bs) where
   is_pool_file : IsPoolFile bytes
   is_pool_file = subst IsPoolFile (sym p.file) (passes whole)
 
-  lent : pool_of bytes ≡ made_pool (pool_keys bs) p.units
+  lent : pool_of bytes ≡ made_pool (pool_keys_by q bs) p.units
   lent = ap pool_of p.file ∙ lends whole
 
   has_checksum : checksum_of (pool_of bytes) ≡ (pool_of bytes).checksum
   unfolding checksum_of
-  has_checksum = ap checksum_of lent ∙ sym (ap (λ q. q.checksum) lent)
+  has_checksum = ap checksum_of lent ∙ sym (ap (λ l. l.checksum) lent)
 
 pub made_pool_is_read : MadePoolIsRead
-made_pool_is_read bytes bs p = (is_pool_file bytes bs p, lent bytes bs p, has_checksum bytes bs p)
+made_pool_is_read q bytes bs p =
+    (is_pool_file q bytes bs p, lent q bytes bs p, has_checksum q bytes bs p)

@@ -8,7 +8,8 @@ use Rattle.resb_pool_bundle.specs.Checksum.{checksum_of}
 use Rattle.resb_pool_bundle.specs.FileWith.{IsPoolFile}
 use Rattle.resb_pool_bundle.specs.Pool.{Pool, pool_of}
 use Rattle.resb_pool_maker.specs.PoolFile.{blocks_checksum}
-use Rattle.resb_pool_maker.specs.PoolOf.{Bundle, IsPoolOf, pool_keys}
+use Rattle.resb_layout.specs.declared.packing.Packing.{Packing}
+use Rattle.resb_pool_maker.specs.PoolOf.{Bundle, IsPoolOfBy, pool_keys_by}
 
 -- the keys, each with its zero byte, and the units, both filled to a word, and their checksum
 abbrev pub made_pool : List (List ℕ) → List ℕ → Pool
@@ -22,6 +23,6 @@ made_pool ks us = record {
 -- records that they share, and has the checksum of these
 abbrev pub MadePoolIsRead : Type 0
 MadePoolIsRead =
-    (bytes : List ℕ) (bs : List Bundle) (p : IsPoolOf bytes bs)
-    → IsPoolFile bytes × (pool_of bytes ≡ made_pool (pool_keys bs) p.units)
+    (q : Packing) (bytes : List ℕ) (bs : List Bundle) (p : IsPoolOfBy q bytes bs)
+    → IsPoolFile bytes × (pool_of bytes ≡ made_pool (pool_keys_by q bs) p.units)
     × (checksum_of (pool_of bytes) ≡ (pool_of bytes).checksum)

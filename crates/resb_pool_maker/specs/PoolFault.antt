@@ -1,7 +1,7 @@
 -- Why no pool bundle is made.
 --     plan_fault p            the answer where strings have no plan, for the reason p
 --     RefusesBundle b e       e may be the answer where the bundle b is added
---     RefusesPool bs e        e may be the answer where the pool bundle of bs is made
+--     RefusesPoolBy q bs e    e may be the answer where the pool bundle of bs is made
 --     message_of e            the text that it prints as
 use Rattle.std.specs.Prelude.{◌≡◌, ℕ, ◌<◌, ◌^◌, List, ◌++◌, length, codes, true}
 use Rattle.std.specs.List.{list_any}
@@ -12,7 +12,9 @@ use Rattle.resb_layout.specs.TreeFaults.{has_nul}
 use Rattle.resb_pool.specs.Plan.{NotPlanned}
 use Rattle.resb_pool.specs.declared.error.PlanError.{PlanError}
 use Rattle.resb_pool.specs.declared.error.PlanError.TheVariants as planning
-use Rattle.resb_pool_maker.specs.PoolOf.{Bundle, GiveRecords, pool_keys, used_keys}
+use Rattle.resb_layout.specs.declared.packing.Packing.{Packing}
+use Rattle.resb_layout.specs.declared.packing.Packing.TheVariants.{Plain, Compact}
+use Rattle.resb_pool_maker.specs.PoolOf.{Bundle, GiveRecords, pool_keys_by, used_keys}
 use Rattle.resb_pool_maker.specs.declared.error.PoolMakerError.{PoolMakerError}
 use Rattle.resb_pool_maker.specs.declared.error.PoolMakerError.TheVariants.{StringTooLong}
 use Rattle.resb_pool_maker.specs.declared.error.PoolMakerError.TheVariants.{StringsTooLarge}
@@ -35,11 +37,20 @@ pub data RefusesBundle (b : Bundle) : PoolMakerError → Type 0 where
 
 -- want of memory, that the records that the bundles give have no plan, or that some key would stand
 -- where no position of 31 bits reaches
-pub data RefusesPool (bs : List Bundle) : PoolMakerError → Type 0 where
-  pool_memory : RefusesPool bs OutOfMemory
+pub data RefusesPoolBy (packing : Packing) (bs : List Bundle) : PoolMakerError → Type 0 where
+  pool_memory : RefusesPoolBy packing bs OutOfMemory
   pool_strings : {S : List (List ℕ)} {p : PlanError} → GiveRecords bs S → NotPlanned S p
-      → RefusesPool bs (plan_fault p)
-  pool_keys_far : 2 ^ 31 < length (key_bytes (pool_keys bs)) → RefusesPool bs KeysTooLarge
+      → RefusesPoolBy packing bs (plan_fault p)
+  pool_keys_far : 2 ^ 31 < length (key_bytes (pool_keys_by packing bs))
+      → RefusesPoolBy packing bs KeysTooLarge
+
+-- the same of a pool with each key by itself
+abbrev pub RefusesPool : List Bundle → PoolMakerError → Type 0
+RefusesPool = RefusesPoolBy Plain
+
+-- the same of a compact pool
+abbrev pub RefusesCompactPool : List Bundle → PoolMakerError → Type 0
+RefusesCompactPool = RefusesPoolBy Compact
 
 -- what each refusal prints
 abbrev pub message_of : PoolMakerError → List ℕ

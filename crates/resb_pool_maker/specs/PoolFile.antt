@@ -1,16 +1,26 @@
 -- The bytes of a pool bundle. (ICU's `uresdata.h`: `URES_ATT_IS_POOL_BUNDLE`; header: `ucmndata.h`
 -- and `udata.h`.)
---     pool_file ks us         the file that has the keys ks, and the units us in its 16-bit block
+--     pool_file q ks us       the file that has the keys ks, and the units us in its 16-bit block,
+--                             packed like this
 use Rattle.std.specs.Prelude.{ℕ, ◌+◌, ◌/◌, List, [], ◌∷◌, ◌++◌, length, nat_le, if◌then◌else◌}
+use Rattle.std.specs.Prelude.{Bool, true}
 use Rattle.resb_format.specs.Bytes.{units_as_bytes}
 use Rattle.resb_layout.specs.KeyBlock.{key_bytes, padded}
 use Rattle.resb_layout.specs.Laid.{words}
 use Rattle.resb_layout.specs.Written.{even}
+use Rattle.resb_layout.specs.declared.packing.Packing.{Packing}
+use Rattle.resb_layout.specs.declared.packing.Packing.TheVariants.{Plain, Compact}
 use Rattle.resb_pool_bundle.specs.Checksum.{checksum_of}
 
--- the format version's first number: 3 where some string stands behind unit 0, and else 2
-abbrev pub version_of : List ℕ → ℕ
-version_of us = if nat_le 2 (length us) then 3 else 2
+-- whether the file is of version 3.0: where some string stands behind unit 0, and a compact one in
+-- any case, as `genrb` has it
+abbrev pub is_third : Packing → List ℕ → Bool
+is_third Plain us = nat_le 2 (length us)
+is_third Compact us = true
+
+-- the format version's first number
+abbrev pub version_of : Packing → List ℕ → ℕ
+version_of q us = if is_third q us then 3 else 2
 
 -- 32 bytes of header, as every written file has them: of a version whose second number is 0
 abbrev pub header_of : ℕ → List ℕ
@@ -38,5 +48,5 @@ file_of_blocks version keys us =
     header_of version ++ (words (head_words keys us) ++ (keys ++ units_as_bytes us))
 
 -- the file of keys, each with its zero byte, and of units
-abbrev pub pool_file : List (List ℕ) → List ℕ → List ℕ
-pool_file ks us = file_of_blocks (version_of us) (padded (key_bytes ks)) (even us)
+abbrev pub pool_file : Packing → List (List ℕ) → List ℕ → List ℕ
+pool_file q ks us = file_of_blocks (version_of q us) (padded (key_bytes ks)) (even us)

@@ -1,15 +1,19 @@
 -- What the pool bundle of some bundles is. (ICU's `reslist.cpp`, as its compiler does it for
 -- `--writePoolBundle`.)
 --     Bundle                  a bundle that a pool is made of
---     pool_keys bs            the keys that the pool of the bundles bs has
+--     pool_keys_by q bs       the keys that the pool of the bundles bs has, packed like this
 --     GiveRecords bs S        S are the records that the bundles bs give
 --     IsPoolOf bytes bs       the bytes are the pool bundle of the bundles bs
+--     IsCompactPoolOf bytes bs    they are that which ICU's `genrb` makes of them
 use Rattle.std.specs.Prelude.{◌≡◌, ℕ, ◌<◌, ◌≤◌, ◌^◌, List, [], ◌∷◌, ◌++◌, length, slice_index}
 use Rattle.std.specs.Prelude.{if◌then◌else◌, false}
 use Rattle.std.specs.List.{flat_map, fold, list_any}
 use Rattle.resb_tree.specs.Tree.{Tree}
 use Rattle.resb_tree.specs.LayingOrder.{texts_of, keys_of}
 use Rattle.resb_layout.specs.KeyBlock.{is_among, used, key_bytes, padded}
+use Rattle.resb_layout.specs.CompactKeys.{keys_by}
+use Rattle.resb_layout.specs.declared.packing.Packing.{Packing}
+use Rattle.resb_layout.specs.declared.packing.Packing.TheVariants.{Plain, Compact}
 use Rattle.resb_layout.specs.Written.{even}
 use Rattle.resb_layout.specs.TreeFaults.{has_nul}
 use Rattle.resb_pool.specs.Records.{IsRecords}
@@ -33,9 +37,10 @@ join_key ks k = if is_among ks k then ks else ks ++ k ∷ []
 abbrev pub each_once : List (List ℕ) → List (List ℕ)
 each_once ks = fold join_key [] ks
 
--- the used keys of the first bundle, and then of each other one those that are new
-abbrev pub pool_keys : List Bundle → List (List ℕ)
-pool_keys bs = each_once (flat_map used_keys bs)
+-- the used keys of the first bundle, and then of each other one those that are new; where the pool
+-- is compact, of each bundle those that lie in themselves, and of all that are given those that do
+abbrev pub pool_keys_by : Packing → List Bundle → List (List ℕ)
+pool_keys_by q bs = keys_by q (each_once (flat_map (λ b. keys_by q (used_keys b)) bs))
 
 -- each bundle gives the texts that get a record among its own strings, each of them once, so that
 -- what is repeated inside one bundle counts once
@@ -50,14 +55,23 @@ least_saved = 10
 
 -- the file of the bundles' keys, of which none holds U+0000, and of those records that save enough
 -- over all that are given
-pub record IsPoolOf (bytes : List ℕ) (bs : List Bundle) : Type 0 where
+pub record IsPoolOfBy (packing : Packing) (bytes : List ℕ) (bs : List Bundle) : Type 0 where
   pub given : List (List ℕ)
   pub gives : GiveRecords bs given
   pub units : List ℕ
   pub shared : IsSharedPool given least_saved units
-  pub plain : list_any has_nul (pool_keys bs) ≡ false
+  pub plain : list_any has_nul (pool_keys_by packing bs) ≡ false
   -- each key has a position below 2^31, each unit 16 bits, and the checksum 32
-  pub near : length (key_bytes (pool_keys bs)) ≤ 2 ^ 31
+  pub near : length (key_bytes (pool_keys_by packing bs)) ≤ 2 ^ 31
   pub units_fit : (k : ℕ) → slice_index units k < 2 ^ 16
-  pub checksum_fits : blocks_checksum (padded (key_bytes (pool_keys bs))) (even units) < 2 ^ 32
-  pub file : bytes ≡ pool_file (pool_keys bs) units
+  pub checksum_fits :
+      blocks_checksum (padded (key_bytes (pool_keys_by packing bs))) (even units) < 2 ^ 32
+  pub file : bytes ≡ pool_file packing (pool_keys_by packing bs) units
+
+-- the pool bundle with each key by itself
+abbrev pub IsPoolOf : List ℕ → List Bundle → Type 0
+IsPoolOf = IsPoolOfBy Plain
+
+-- the pool bundle in which keys lie at the ends of others, as `genrb` makes it
+abbrev pub IsCompactPoolOf : List ℕ → List Bundle → Type 0
+IsCompactPoolOf = IsPoolOfBy Compact

@@ -21,7 +21,7 @@ use resb_tree::Key;
 use std::alloc::{AllocError, Global};
 
 /// Joins keys.
-fn join_all<'k>(set: &mut KeySet<'k>, keys: &[&'k str]) -> Result<(), AllocError>
+pub(crate) fn join_all<'k>(set: &mut KeySet<'k>, keys: &[&'k str]) -> Result<(), AllocError>
     ensures { OnOk result (nows set.new.keys
         ≡ fold join_key (nows set.old.keys) (texts keys.now)) }
 {

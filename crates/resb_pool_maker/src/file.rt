@@ -8,8 +8,10 @@ ghost use Rattle.resb_layout.specs.KeyBlock.{key_bytes, padded};
 ghost use Rattle.resb_layout.specs.Written.{even};
 ghost use Rattle.resb_pool.specs.Plan.{nows};
 ghost use Rattle.resb_pool_maker.specs.PoolFile.{header_of, head_words, pool_file, blocks_checksum};
+ghost use Rattle.resb_pool_maker.specs.PoolFile.{is_third as has_version_3};
 
 use resb_head::{BinHeader, BinIndex, BinReprInfo, CharsetFamily, Endianness, FormatVersion};
+use resb_layout::Packing;
 use resb_pool_bundle::pool_checksum;
 use resb_tree::NoMemory;
 use std::alloc::{AllocError, Global};
@@ -82,13 +84,12 @@ fn unit_block(alloc: Global, units: &[u16]) -> Result<Vec<u8>, AllocError>
     Ok(block)
 }
 
-/// Appends the header, padded to 32 bytes: that of version 3.0 where strings stand in the pool, and
-/// else of 2.0.
-fn append_header(file: &mut Vec<u8>, has_strings: bool) -> Result<(), NoMemory>
+/// Appends the header, padded to 32 bytes: that of version 3.0, or of 2.0.
+fn append_header(file: &mut Vec<u8>, is_third: bool) -> Result<(), NoMemory>
     ensures { OnOk result (file.new.items
-        ≡ file.old.items ++ header_of (if has_strings then 3 else 2)) }
+        ≡ file.old.items ++ header_of (if is_third then 3 else 2)) }
 {
-    let format_version = if has_strings {
+    let format_version = if is_third {
         FormatVersion::V3_0
     } else {
         FormatVersion::V2_0
@@ -133,11 +134,26 @@ fn index_of(keys: &[u8], block: &[u8]) -> BinIndex
     }
 }
 
-/// The pool bundle that has these keys, and these units in its 16-bit block.
-pub(crate) fn assemble(alloc: Global, keys: &[&str], units: &[u16]) -> Result<Vec<u8>, NoMemory>
+/// Whether a pool bundle with these units is of version 3.0.
+fn is_third(packing: Packing, units: &[u16]) -> bool
+    ensures { result ≡ has_version_3 packing units.now }
+{
+    match packing {
+        Packing::Plain => units.len() > 1,
+        Packing::Compact => true,
+    }
+}
+
+/// The pool bundle that has these keys, and these units in its 16-bit block, packed like this.
+pub(crate) fn assemble(
+    alloc: Global,
+    packing: Packing,
+    keys: &[&str],
+    units: &[u16],
+) -> Result<Vec<u8>, NoMemory>
     requires near { length (key_bytes (nows keys.now)) ≤ 2 ^ 31 }
     requires room { length units.now ≤ 2 ^ 28 }
-    ensures file { IfOk result (λ v. v.items ≡ pool_file (nows keys.now) units.now) }
+    ensures file { IfOk result (λ v. v.items ≡ pool_file packing (nows keys.now) units.now) }
     ensures units_fit { OnOk result ((k : ℕ) → slice_index units.now k < 2 ^ 16) }
     ensures checksum_fits { OnOk result
         (blocks_checksum (padded (key_bytes (nows keys.now))) (even units.now) < 2 ^ 32) }
@@ -146,7 +162,7 @@ pub(crate) fn assemble(alloc: Global, keys: &[&str], units: &[u16]) -> Result<Ve
     let unit_bytes = unit_block(alloc, units)?;
     let index = index_of(&key_bytes, &unit_bytes);
     let mut file = Vec::with_capacity(alloc, 4 * index.bundle_end as usize + 32)?;
-    append_header(&mut file, units.len() > 1)?;
+    append_header(&mut file, is_third(packing, units))?;
     file.extend_from_slice(&EMPTY_TABLE.to_le_bytes())?;
     index.append_to(&mut file)?;
     file.extend_from_slice(&key_bytes)?;

@@ -3,6 +3,7 @@
 ghost use Rattle.std.specs.Prelude.{◌≡◌, ◌++◌, ◌<◌, ◌≤◌, ◌^◌, List, IfOk, IfErr, OnOk, length};
 ghost use Rattle.std.specs.Prelude.{fold};
 ghost use Rattle.std.specs.List.{flat_map};
+ghost use Rattle.resb_layout.specs.CompactKeys.{keys_by};
 ghost use Rattle.resb_layout.specs.KeyBlock.{key_bytes};
 ghost use Rattle.resb_pool.specs.Plan.{nows, NotPlanned};
 ghost use Rattle.resb_pool.specs.Shared.{IsSharedPool};
@@ -11,12 +12,14 @@ ghost use Rattle.resb_pool_maker.specs.Inner.Given.{gift_keys, gift_records};
 ghost use Rattle.resb_pool_maker.specs.PoolOf.{each_once, join_key, least_saved};
 ghost use Rattle.resb_pool_maker.specs.declared.error.PoolMakerError.TheVariants.{KeysTooLarge};
 
-use crate::drafts::draft_gift_of;
+use crate::drafts::{draft_gift_of, join_all};
 use crate::error::PoolMakerError;
 use crate::file::assemble;
-use crate::gathering::{Gift, KeySet, gift_of, has_nul_key, join};
+use crate::gathering::{Gift, KeySet, gift_of, has_nul_key};
 use indexmap::IndexSet;
 use resb_draft::Draft;
+use resb_layout::Packing;
+use resb_layout::key_ends::{in_end_order, kept_keys};
 use resb_pool::{PlanError, shared_pool};
 use resb_tree::{Key, Resource};
 use std::alloc::{AllocError, Global};
@@ -42,7 +45,8 @@ impl PoolMaker {
     ghost use Rattle.resb_pool_maker.specs.Holding.{Holds};
     ghost use Rattle.resb_pool_maker.specs.Inner.Given.{Gives};
     ghost use Rattle.resb_pool_maker.specs.PoolFault.{RefusesBundle, RefusesPool};
-    ghost use Rattle.resb_pool_maker.specs.PoolOf.{Bundle, IsPoolOf};
+    ghost use Rattle.resb_pool_maker.specs.PoolFault.{RefusesPoolBy, RefusesCompactPool};
+    ghost use Rattle.resb_pool_maker.specs.PoolOf.{Bundle, IsPoolOf, IsCompactPoolOf, IsPoolOfBy};
 
     /// A maker to which no bundle was added.
     pub fn new(alloc: Global) -> PoolMaker
@@ -132,33 +136,86 @@ impl PoolMaker {
         ensures err { IfErr result (λ e. (bs : List Bundle) → Holds self.now bs
             → RefusesPool bs e) }
     {
-        let keys = joined_keys(alloc, &self.gifts)?;
+        self.finish_by(alloc, Packing::Plain)
+    }
+
+    /// The compact pool bundle of the bundles that were added, as ICU's `genrb` makes it: what
+    /// `finish` gives, but that a key that other keys end with, of its bundle or of the pool, lies
+    /// at the end of the greatest of them, by their bytes from the last to the first, and that the
+    /// version is 3.0 in any case.
+    ///
+    /// Refused is what `finish` refuses.
+    pub fn finish_compact(&self, alloc: Global) -> Result<Vec<u8>, PoolMakerError>
+        ensures ok { IfOk result (λ v. (bs : List Bundle) → Holds self.now bs
+            → IsCompactPoolOf v.items bs) }
+        ensures err { IfErr result (λ e. (bs : List Bundle) → Holds self.now bs
+            → RefusesCompactPool bs e) }
+    {
+        self.finish_by(alloc, Packing::Compact)
+    }
+
+    /// The pool bundle of the bundles that were added, packed like this.
+    fn finish_by(&self, alloc: Global, packing: Packing) -> Result<Vec<u8>, PoolMakerError>
+        ensures ok { IfOk result (λ v. (bs : List Bundle) → Holds self.now bs
+            → IsPoolOfBy packing v.items bs) }
+        ensures err { IfErr result (λ e. (bs : List Bundle) → Holds self.now bs
+            → RefusesPoolBy packing bs e) }
+    {
+        let keys = joined_keys(alloc, packing, &self.gifts)?;
         check_near(&keys)?;
         let units = shared_units(alloc, &self.gifts)?;
-        Ok(assemble(alloc, &keys, &units)?)
+        Ok(assemble(alloc, packing, &keys, &units)?)
     }
 }
 
-/// Joins keys, each once.
-fn join_keys<'g>(set: &mut KeySet<'g>, keys: &'g [String]) -> Result<(), AllocError>
-    ensures { OnOk result (nows set.new.keys
-        ≡ fold join_key (nows set.old.keys) (bytes_each keys.now)) }
+/// Those of keys that stand in a key block that is packed like this.
+fn standing_keys<'k>(
+    alloc: Global,
+    packing: Packing,
+    keys: &[&'k str],
+) -> Result<Vec<&'k str>, AllocError>
+    ensures { IfOk result (λ v. nows v.items ≡ keys_by packing (nows keys.now)) }
 {
-    for key in keys {
-        join(set, key.as_str())?;
+    match packing {
+        Packing::Plain => Vec::from_slice(alloc, keys),
+        Packing::Compact => {
+            let sorted = in_end_order(alloc, keys)?;
+            kept_keys(alloc, keys, &sorted)
+        }
     }
-    Ok(())
 }
 
-/// The keys of gifts, each once, in the order in which they first come.
-fn joined_keys<'g>(alloc: Global, gifts: &'g [Gift]) -> Result<Vec<&'g str>, AllocError>
-    ensures { IfOk result (λ v. nows v.items ≡ each_once (gift_keys gifts.now)) }
+/// Joins those keys of a gift that its packed bundle has.
+fn join_gift<'g>(
+    alloc: Global,
+    packing: Packing,
+    set: &mut KeySet<'g>,
+    gift: &'g Gift,
+) -> Result<(), AllocError>
+    ensures { OnOk result (nows set.new.keys
+        ≡ fold join_key (nows set.old.keys) (keys_by packing (bytes_each gift.now.keys.items))) }
+{
+    let mut keys = Vec::with_capacity(alloc, gift.keys.len())?;
+    add_texts(&mut keys, &gift.keys)?;
+    let keys = standing_keys(alloc, packing, &keys)?;
+    join_all(set, &keys)
+}
+
+/// The keys of gifts, each once, in the order in which they first come, and of these the ones that
+/// stand in the pool.
+fn joined_keys<'g>(
+    alloc: Global,
+    packing: Packing,
+    gifts: &'g [Gift],
+) -> Result<Vec<&'g str>, AllocError>
+    ensures { IfOk result (λ v.
+        nows v.items ≡ keys_by packing (each_once (gift_keys packing gifts.now))) }
 {
     let mut set = IndexSet::new(alloc);
     for gift in gifts {
-        join_keys(&mut set, &gift.keys)?;
+        join_gift(alloc, packing, &mut set, gift)?;
     }
-    Vec::from_slice(alloc, set.as_slice())
+    standing_keys(alloc, packing, set.as_slice())
 }
 
 /// Appends texts.

@@ -44,7 +44,6 @@ const COMPACT: Argument<'static> = Argument {
     id: "compact",
     option: Some("compact"),
     help: "Lays files of --icu out as genrb does: keys may lie at the ends of others",
-    against: Some("POOL"),
     ..FLAG
 };
 

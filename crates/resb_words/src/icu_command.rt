@@ -191,7 +191,6 @@ pub(crate) const GENRB: Described<'static> = Described {
             id: "compact",
             option: Some("compact"),
             help: "Lays files out as ICU's genrb does: keys may lie at the ends of others",
-            against: Some("usePoolBundle"),
             ..FLAG
         },
         Argument {

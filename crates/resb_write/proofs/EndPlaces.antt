@@ -14,9 +14,9 @@ use Rattle.resb_layout.specs.TreeFaults.{key_fault}
 use Rattle.resb_write.specs.Inner.KeyEnds.{near_end_position}
 use Rattle.resb_write.specs.Inner.NearPositions.{near_position}
 use Rattle.resb_write.proofs.Keys.{last_of-stands, place_contained, no_place, StandsAt}
-use Rattle.resb_write.proofs.KeyEndsLemmas.{container_is, container_ends, container_among}
-use Rattle.resb_write.proofs.KeyEndsLemmas.{container_greatest, ends_itself, ends_extends}
-use Rattle.resb_write.proofs.KeyEndsLemmas.{extends_ends}
+use Rattle.resb_layout.proofs.KeyEndsLemmas.{container_is, container_ends, container_among}
+use Rattle.resb_layout.proofs.KeyEndsLemmas.{container_greatest, ends_itself, ends_extends}
+use Rattle.resb_layout.proofs.KeyEndsLemmas.{extends_ends}
 use Rattle.resb_write.proofs.KeysBeside.{told_each, filter_room}
 use Rattle.resb_write.proofs.Known.{placed}
 use Rattle.resb_write.proofs.Lists.{contained-filter, any_member, member_any}

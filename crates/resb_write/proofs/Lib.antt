@@ -13,8 +13,6 @@ mod NodesLemmas
 mod Rows
 mod OneBlock
 mod Keys
-mod ByteOrder
-mod KeyEndsLemmas
 mod EndPlaces
 mod PackedKeys
 mod Distinct

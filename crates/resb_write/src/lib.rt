@@ -8,7 +8,6 @@ mod drafts;
 mod error;
 mod file;
 mod key_block;
-mod key_ends;
 mod keys_beside;
 pub mod laws;
 mod lends;

@@ -9,16 +9,18 @@ ghost use Rattle.resb_layout.specs.TreeFaults.{key_fault};
 ghost use Rattle.resb_layout.specs.WritingFault.{out_of_memory};
 ghost use Rattle.resb_layout.specs.declared.packing.Packing.TheVariants.{Compact};
 ghost use Rattle.resb_write.specs.FaultOf.{fault_of};
-ghost use Rattle.resb_write.specs.Inner.KeyEnds.{AreByEnd, near_end_position};
+ghost use Rattle.resb_layout.specs.KeyEnds.{AreByEnd};
+ghost use Rattle.resb_write.specs.Inner.KeyEnds.{near_end_position};
 ghost use Rattle.resb_write.specs.Inner.NearPositions.{near_position_in, IsKeyBlockBy};
 ghost use Rattle.resb_write.specs.Inner.Numbered.{NumbersKeys};
 
 use crate::error::BinarySerializerError;
 use crate::key_block::{KeyBlock, check_used, last_positions, used_keys, values_at};
-use crate::key_ends::{container, in_end_order, kept_keys};
+
 use crate::numbered_keys::NumberedKeys;
 use indexmap::IndexMap;
 use resb_layout::Packing;
+use resb_layout::key_ends::{container, in_end_order, kept_keys};
 use resb_tree::Key;
 use std::alloc::{AllocError, Global};
 

@@ -1,17 +1,19 @@
 -- What gifts come to.
---     gift_keys gs            their keys, one gift's behind the other's
+--     gift_keys q gs          their keys that the packing keeps, one gift's behind the other's
 --     gift_records gs         their records, in the same way
 --     Gives b g               the gift g has the keys and the records of the bundle b
 use Rattle.std.specs.Prelude.{◌≡◌, ℕ, List}
 use Rattle.std.specs.List.{flat_map}
 use Rattle.resb_pool.specs.Records.{IsRecords}
 use Rattle.resb_tree.specs.LayingOrder.{texts_of}
+use Rattle.resb_layout.specs.CompactKeys.{keys_by}
+use Rattle.resb_layout.specs.declared.packing.Packing.{Packing}
 use Rattle.resb_pool_maker.specs.Holding.{bytes_each}
 use Rattle.resb_pool_maker.specs.PoolOf.{Bundle, used_keys}
 use Rattle.resb_pool_maker.specs.declared.gathering.Gift.{Gift}
 
-abbrev pub gift_keys : List Gift → List (List ℕ)
-gift_keys gs = flat_map (λ g. bytes_each g.keys.items) gs
+abbrev pub gift_keys : Packing → List Gift → List (List ℕ)
+gift_keys q gs = flat_map (λ g. keys_by q (bytes_each g.keys.items)) gs
 
 abbrev pub gift_records : List Gift → List (List ℕ)
 gift_records gs = flat_map (λ g. bytes_each g.records.items) gs

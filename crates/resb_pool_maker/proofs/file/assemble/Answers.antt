@@ -1,5 +1,5 @@
 -- The parts of the file, one behind the other.
-use Rattle.std.proofs.Common.{◌≡◌, ℕ, ◌<◌, ◌^◌, List, [], ◌++◌, length, get_or, ◌∙◌, ap, subst}
+use Rattle.std.proofs.Common.{◌≡◌, ℕ, ◌<◌, ◌^◌, List, [], ◌++◌, cond, length, get_or, ◌∙◌, ap, subst}
 use Rattle.std.proofs.Common.{append_assoc, arith}
 use Rattle.resb_format.specs.Bytes.{units_of, units_as_bytes}
 use Rattle.resb_head.specs.Head.{index_words}
@@ -50,10 +50,10 @@ returns-clause-file c =
     built _ _ _ _ _ c.in_ok-file.ensures.items c.in_ok-append_header.ensures
     c.in_ok-extend_from_slice.ensures.items c.in_ok-append_to.ensures
     c.in_ok-extend_from_slice-2.ensures.items c.in_ok-extend_from_slice-3.ensures.items
-    ∙ (λ i. header_of (version_of us)
+    ∙ (λ i. header_of (cond (c.is_third.ensures i) 3 2)
     ++ ((c.to_le_bytes.ensures i ++ words (index_words c.index_of-index.result))
     ++ ((c.deref-3.ensures.value ∙ keys) i ++ (c.deref-4.ensures.value ∙ units) i)))
-    ∙ (λ i. header_of (version_of us) ++ (words (index i)
+    ∙ (λ i. header_of (version_of c.args.packing us) ++ (words (index i)
     ++ (padded (key_bytes (nows c.args.keys.now)) ++ units_as_bytes (even us))))
 
 pub returns-clause-checksum_fits : goal.returns-clause-checksum_fits

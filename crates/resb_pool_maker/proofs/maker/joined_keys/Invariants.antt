@@ -6,4 +6,4 @@ use Rattle.resb_pool_maker.proofs.maker.joined_keys.Given as goal
 
 abbrev pub invariant-loop-gift : goal.invariant-loop-gift
 invariant-loop-gift l =
-    nows l.set.keys ≡ each_once (gift_keys (take l.gift-index l.gifts))
+    nows l.set.keys ≡ each_once (gift_keys l.packing (take l.gift-index l.gifts))

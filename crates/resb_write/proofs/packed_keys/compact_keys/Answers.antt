@@ -10,7 +10,8 @@ use Rattle.indexmap.specs.IndexMap.{keys}
 use Rattle.resb_layout.specs.CompactKeys.{kept}
 use Rattle.resb_layout.specs.KeyBlock.{used}
 use Rattle.resb_layout.specs.TreeFaults.{key_fault}
-use Rattle.resb_write.specs.Inner.KeyEnds.{AreByEnd, near_end_position}
+use Rattle.resb_layout.specs.KeyEnds.{AreByEnd}
+use Rattle.resb_write.specs.Inner.KeyEnds.{near_end_position}
 use Rattle.resb_write.proofs.Distinct.{fault_same, same_keys}
 use Rattle.resb_write.proofs.EndPlaces.{all_at_ends}
 use Rattle.resb_write.proofs.NumberedKeys.{by_number}

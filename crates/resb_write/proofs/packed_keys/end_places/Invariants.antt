@@ -1,6 +1,7 @@
 use Rattle.std.proofs.Common.{◌≡◌, map, take, List, ℕ}
 use Rattle.resb_pool.specs.Plan.{nows}
-use Rattle.resb_write.specs.Inner.KeyEnds.{AreByEnd, near_end_position}
+use Rattle.resb_layout.specs.KeyEnds.{AreByEnd}
+use Rattle.resb_write.specs.Inner.KeyEnds.{near_end_position}
 use Rattle.resb_write.proofs.packed_keys.end_places.Given as goal
 
 abbrev pub invariant-loop-name : goal.invariant-loop-name

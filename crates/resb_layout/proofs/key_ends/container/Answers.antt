@@ -1,8 +1,8 @@
 use Rattle.std.proofs.Common.{◌≡◌, ◌+◌, ◌-◌, ℕ, List, Bor, nat_eq, sym, ◌∙◌}
 use Rattle.std.proofs.Common.{arith, []}
 use Rattle.std.specs.List.{ends_with}
-use Rattle.resb_write.proofs.KeyEndsLemmas.{none_counted, last_holds, itself_holds}
-use Rattle.resb_write.proofs.key_ends.container.Goals as goal
+use Rattle.resb_layout.proofs.KeyEndsLemmas.{none_counted, last_holds, itself_holds}
+use Rattle.resb_layout.proofs.key_ends.container.Goals as goal
 
 pub returns-then-count-eq0 : goal.returns-then-count-eq0
 returns-then-count-eq0 c = λ js o. none_counted js c.args.sorted.now o c.args.key.now

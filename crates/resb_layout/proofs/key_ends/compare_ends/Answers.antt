@@ -1,7 +1,7 @@
 use Rattle.std.proofs.Common.{◌≡◌, ◌-◌, length, sym, ◌∙◌, arith, get_or}
 use Rattle.std.proofs.lemmas.Bool.Decides.{nat_tests}
-use Rattle.resb_write.proofs.ByteOrder.{differ_here, same_here, exhausted}
-use Rattle.resb_write.proofs.key_ends.compare_ends.Goals as goal
+use Rattle.resb_layout.proofs.ByteOrder.{differ_here, same_here, exhausted}
+use Rattle.resb_layout.proofs.key_ends.compare_ends.Goals as goal
 
 pub returns-then-mine-other : goal.returns-then-mine-other
 returns-then-mine-other c =

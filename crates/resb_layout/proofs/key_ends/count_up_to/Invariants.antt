@@ -1,7 +1,7 @@
 use Rattle.std.proofs.Common.{◌≡◌, ◌+◌, ◌-◌, ◌<◌, ◌≤◌, ℕ, List, Bor, length, true, false}
 use Rattle.std.specs.Prelude.{slice_index_or}
-use Rattle.resb_write.specs.Inner.KeyEnds.{is_up_to}
-use Rattle.resb_write.proofs.key_ends.count_up_to.Given as goal
+use Rattle.resb_layout.specs.KeyEnds.{is_up_to}
+use Rattle.resb_layout.proofs.key_ends.count_up_to.Given as goal
 
 abbrev pub invariant-halves : goal.invariant-halves
 invariant-halves l = record {

@@ -19,9 +19,9 @@ use Rattle.resb_tree.specs.Keys.{same_text}
 use Rattle.resb_pool.specs.Inner.Extends.{Extends}
 use Rattle.resb_pool.specs.Plan.{nows}
 use Rattle.resb_layout.specs.CompactKeys.{greater_end, container}
-use Rattle.resb_write.specs.Inner.KeyEnds.{is_before, is_up_to, AreByEnd}
-use Rattle.resb_write.proofs.ByteOrder.{before, not_itself, not_both_ways, chained, same_place}
-use Rattle.resb_write.proofs.ByteOrder.{longer_behind, run_between}
+use Rattle.resb_layout.specs.KeyEnds.{is_before, is_up_to, AreByEnd}
+use Rattle.resb_layout.proofs.ByteOrder.{before, not_itself, not_both_ways, chained, same_place}
+use Rattle.resb_layout.proofs.ByteOrder.{longer_behind, run_between}
 
 -- j ends with k where its bytes from the end begin with those of k
 pub ends_extends : (j k : List ℕ) → ends_with nat_eq j k ≡ true → Extends (reverse j) (reverse k)

@@ -6,9 +6,9 @@ use Rattle.std.proofs.lemmas.List.{take_all}
 use Rattle.std.proofs.lemmas.List.Sorted.{IsPermutation-map}
 use Rattle.resb_tree.specs.Maps.{text_cmp}
 use Rattle.resb_pool.specs.Plan.{nows}
-use Rattle.resb_write.specs.Inner.KeyEnds.{is_before}
-use Rattle.resb_write.proofs.KeyEndsLemmas.{end_order}
-use Rattle.resb_write.proofs.key_ends.in_end_order.Goals as goal
+use Rattle.resb_layout.specs.KeyEnds.{is_before}
+use Rattle.resb_layout.proofs.KeyEndsLemmas.{end_order}
+use Rattle.resb_layout.proofs.key_ends.in_end_order.Goals as goal
 
 pub returns : goal.returns
 returns c =

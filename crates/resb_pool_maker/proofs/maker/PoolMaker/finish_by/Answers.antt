@@ -12,18 +12,21 @@ use Rattle.resb_pool_maker.specs.Holding.{Holds}
 use Rattle.resb_pool_maker.specs.Inner.Given.{gift_keys, gift_records}
 use Rattle.resb_pool_maker.specs.PoolFault.{pool_memory, pool_strings, pool_keys_far}
 use Rattle.resb_pool_maker.specs.PoolFile.{pool_file, blocks_checksum}
-use Rattle.resb_pool_maker.specs.PoolOf.{Bundle, used_keys, each_once, pool_keys, least_saved}
+use Rattle.resb_pool_maker.specs.PoolOf.{Bundle, used_keys, each_once, pool_keys_by, least_saved}
 use Rattle.resb_pool_maker.specs.declared.gathering.Gift.{Gift}
-use Rattle.resb_pool_maker.proofs.Given.{keys_given, records_given, plain_given}
+use Rattle.resb_layout.specs.CompactKeys.{keys_by}
+use Rattle.resb_pool_maker.proofs.Given.{keys_given, records_given, plain_given, none_kept}
 use Rattle.resb_pool_maker.proofs.Joining.{none_once}
-use Rattle.resb_pool_maker.proofs.maker.PoolMaker.finish.Goals as goal
-use Rattle.resb_pool_maker.proofs.maker.PoolMaker.finish.Goals.{In_ok-keys}
+use Rattle.resb_pool_maker.proofs.maker.PoolMaker.finish_by.Goals as goal
+use Rattle.resb_pool_maker.proofs.maker.PoolMaker.finish_by.Goals.{In_ok-keys}
 
 keys_are : (c : In_ok-keys) (bs : List Bundle) → Holds c.args.self.now bs
-    → nows c.in_ok-keys.keys.items ≡ pool_keys bs
+    → nows c.in_ok-keys.keys.items ≡ pool_keys_by c.args.packing bs
 keys_are c bs h =
-    c.in_ok-keys.ensures ∙ ap (λ (g : List Gift). each_once (gift_keys g)) c.deref.ensures.value
-    ∙ ap each_once (keys_given h)
+    let q = c.args.packing in
+    c.in_ok-keys.ensures
+    ∙ ap (λ (g : List Gift). keys_by q (each_once (gift_keys q g))) c.deref.ensures.value
+    ∙ ap (λ ks. keys_by q (each_once ks)) (keys_given q h)
 
 pub returns-in_err-keys-clause-err : goal.returns-in_err-keys-clause-err
 returns-in_err-keys-clause-err c =
@@ -61,7 +64,11 @@ returns-clause-ok c = λ bs h.
       given = gift_records c.args.self.now.gifts.items;
       gives = records_given h;
       units = us;
-      plain = none_once has_nul (flat_map used_keys bs) [] refl (plain_given h);
+      plain =
+          let q = c.args.packing in
+          none_kept q has_nul (each_once (flat_map (λ b. keys_by q (used_keys b)) bs))
+          (none_once has_nul (flat_map (λ b. keys_by q (used_keys b)) bs) [] refl
+          (plain_given q h));
       shared = subst (λ (g : List Gift). IsSharedPool (gift_records g) least_saved us)
           c.deref-3.ensures.value c.in_ok-units.ensures.ok;
       near = subst (λ ks. length (key_bytes ks) ≤ 2 ^ 31)
@@ -72,5 +79,5 @@ returns-clause-ok c = λ bs h.
           (λ i. blocks_checksum (padded (key_bytes (keys i))) (even (c.deref-5.ensures.value i)))
           c.in_ok-assemble.ensures.checksum_fits;
       file = c.in_ok-assemble.ensures.file
-          ∙ (λ i. pool_file (keys i) (c.deref-5.ensures.value i));
+          ∙ (λ i. pool_file c.args.packing (keys i) (c.deref-5.ensures.value i));
     }

@@ -1,6 +1,6 @@
 use Rattle.std.proofs.Common.{◌≡◌, reverse, drop}
 use Rattle.resb_tree.specs.Maps.{text_cmp}
-use Rattle.resb_write.proofs.key_ends.compare_ends.Given as goal
+use Rattle.resb_layout.proofs.key_ends.compare_ends.Given as goal
 
 abbrev pub invariant-loop-at : goal.invariant-loop-at
 invariant-loop-at l = text_cmp (reverse l.left) (reverse l.right)

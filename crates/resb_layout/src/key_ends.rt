@@ -1,5 +1,5 @@
 //! In which keys others lie: a key that is the end of others lies in the greatest of them.
-//! Where a key block has its keys is said in `key_block` and `packed_keys`.
+//! Where a key block has its keys is said in `resb_write` and `resb_pool_maker`.
 ghost use Rattle.std.specs.Prelude.{◌≡◌, ◌+◌, ◌<◌, ◌≤◌, ℕ, List, IfOk, length, reverse, true};
 ghost use Rattle.std.specs.Prelude.{false, slice_index_or};
 ghost use Rattle.std.specs.Borrow.{Bor};
@@ -7,7 +7,7 @@ ghost use Rattle.resb_tree.specs.Keys.{same_text};
 ghost use Rattle.resb_tree.specs.Maps.{text_cmp};
 ghost use Rattle.resb_pool.specs.Plan.{nows};
 ghost use Rattle.resb_layout.specs.CompactKeys.{container as container_in, kept};
-ghost use Rattle.resb_write.specs.Inner.KeyEnds.{AreByEnd, is_up_to as is_up_to_end};
+ghost use Rattle.resb_layout.specs.KeyEnds.{AreByEnd, is_up_to as is_up_to_end};
 
 use std::alloc::{AllocError, Global};
 use std::cmp::Ordering;
@@ -36,7 +36,7 @@ fn is_up_to(key: &str, end: &str) -> bool
 }
 
 /// Keys in the order from the end.
-pub(crate) fn in_end_order<'k>(alloc: Global, keys: &[&'k str]) -> Result<Vec<&'k str>, AllocError>
+pub fn in_end_order<'k>(alloc: Global, keys: &[&'k str]) -> Result<Vec<&'k str>, AllocError>
     ensures { IfOk result (λ v. AreByEnd (nows keys.now) v.items) }
 {
     let mut sorted = Vec::with_capacity(alloc, keys.len())?;
@@ -71,7 +71,7 @@ fn count_up_to(sorted: &[&str], key: &str) -> usize
 
 /// In which of the keys, which stand in the order from the end, a key lies: the greatest that ends
 /// with it, or itself.
-pub(crate) fn container<'k>(sorted: &[&'k str], key: &'k str) -> &'k str
+pub fn container<'k>(sorted: &[&'k str], key: &'k str) -> &'k str
     ensures { (js : List (List ℕ)) → AreByEnd js sorted.now
         → result.now ≡ container_in js key.now }
 {
@@ -96,7 +96,7 @@ fn lies_in_itself(sorted: &[&str], key: &str) -> bool
 }
 
 /// The keys that lie in themselves, in their order. They are given in the order from the end too.
-pub(crate) fn kept_keys<'k>(
+pub fn kept_keys<'k>(
     alloc: Global,
     keys: &[&'k str],
     sorted: &[&'k str],

@@ -1,7 +1,7 @@
 #!/usr/bin/env python3
 """Runs the build of ICU's own data twice, by `genrb` and with `resb` in its place.
 
-    icu_build.py SOURCE FOLDER [--resb PROGRAM] [--jobs N] [--filters FILE]
+    icu_build.py SOURCE FOLDER [--resb PROGRAM] [--jobs N] [--filters FILE] [--compact]
 
 SOURCE is ICU's folder `source` with its `data` and `python`, as `icu_sources.py` fetches it. FOLDER
 is a new one for what is built. ICU's `databuilder` writes the rules for `make`, which are run with
@@ -13,7 +13,8 @@ fails stops none that is behind it, by `make -i`: what one of the two can't buil
 FILE says in ICU's own form which data are left out, as ICU's `ICU_DATA_FILTER_FILE` does. The
 databuilder makes of it a file of rules for each text that it is about, and hands their folders to
 `genrb --filterDir`; a first line counts these files. Without a FILE it does so too, for the
-collations of two old character sets.
+collations of two old character sets. With --compact the other program is asked for `genrb`'s bytes,
+and a line counts the pool bundles that have them.
 
 Each `.res` file that both have with other bytes is printed by ICU's `derb`, and the prints are
 compared; where `derb` prints nothing, as on some aliases, those of `resb dump --icu`. A line for
@@ -148,12 +149,20 @@ def print_rows(theirs, ours, wanted, had, same):
     print('all', *(sum(column) for column in zip(*rows.values())), sep=' | ')
 
 
+def count_pools(theirs, ours, names):
+    """Says how many pool bundles of these names have the same bytes."""
+    pools = [it for it in names if is_pool(it)]
+    same = sum((theirs / it).read_bytes() == (ours / it).read_bytes() for it in pools)
+    print(f'{same} of {len(pools)} pool bundles with the same bytes')
+
+
 def compare(resb, theirs, ours, jobs):
     """Prints what differs, and answers how many files are the same, and how many not."""
     wanted, had = files_in(theirs), files_in(ours)
     both = sorted(it for it in wanted & had if not is_pool(it))
     same = judges(resb, theirs, ours, both, jobs)
     print_rows(theirs, ours, wanted, had, same)
+    count_pools(theirs, ours, wanted & had)
     by_resb = [name for name, reader in same.items() if reader == 'resb']
     print(f'{len(by_resb)} the same by resb dump, where derb prints nothing: {" ".join(by_resb)}')
     said = (ours.parent / 'log').read_text(errors='replace').splitlines()
@@ -174,11 +183,12 @@ def main():
     words.add_argument('--resb', type=pathlib.Path, default=RESB)
     words.add_argument('--jobs', type=int, default=2)
     words.add_argument('--filters', type=pathlib.Path)
+    words.add_argument('--compact', action='store_true')
     given = words.parse_args()
     source, folder, resb = (it.resolve() for it in (given.source, given.folder, given.resb))
     rules = rules_of(source, given.filters and given.filters.resolve())
     theirs = build(rules, source, folder / 'genrb', shutil.which('genrb', path=PATH), given.jobs)
-    words = f'{resb} genrb --collation {theirs}/coll'
+    words = f'{resb} genrb --collation {theirs}/coll' + ' --compact' * given.compact
     ours = build(rules, source, folder / 'resb', words, given.jobs)
     filtered = sum(it.is_file() for it in (folder / 'resb/tmp/filters').rglob('*'))
     print(f'{filtered} files of rules')

@@ -205,3 +205,18 @@ same one.res wanted.res
 told 0 '{"ab":"x","b":"y","e":"","t":["",1]}' '' dump --json built/b.res
 told 2 '' "resb: --compact is for texts in ICU's own form, which --icu says" \
   compile --compact source/b.txt
+# over pool bundles too: keys lie at the ends of the pool's, or of the file's own
+printf 'p{xab{"one two three"} ab{"x"} c{"two three"}}' > source/p.txt
+printf 'q{yab{"one two three"} b{"three"} e{""} zz{"abcdefghijklmnopqr"}}' > source/q.txt
+printf 'r{b{"three"} ab{"x"} cab{"e two three"} kcab{"own"} e{""} a{"wn"} zab{"one two three"}}' \
+  > source/r.txt
+told 0 '' '' genrb -q -s source -d shared --compact --writePoolBundle shared p.txt q.txt
+words 3 20000000 8 d 15 15 0 3 15 5440b0b8 626178 61790063 650062 aa007a7a 6f0000 65006e 740020 \
+  6f0077 740020 720068 650065 aaaa0000 > wanted.res
+same shared/pool.res wanted.res
+told 0 '' '' genrb -q -s source -d over --compact --usePoolBundle shared p.txt r.txt
+words 3 50000003 608 9 e e 3 60004 e 5440b0b8 780000 30000 40007 70000 10005 > wanted.res
+same over/p.res wanted.res
+words 3 50000007 a08 c 17 17 7 a0004 17 5440b0b8 6261636b 7a006100 aa006261 780000 6f0000 6e0077 \
+  70000 2c0029 25002d 24003a e002b 9000b 3 1000d > wanted.res
+same over/r.res wanted.res

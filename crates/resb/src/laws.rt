@@ -62,6 +62,8 @@ pub use resb_icu_print::laws::printed_icu_is_a_bundle;
 pub use resb_icu_print::laws::an_icu_text_gives_no_cause;
 // A bundle has a path to what keeps it from having one exactly where something does.
 pub use resb_icu_print::laws::icu_causes_have_paths;
+// What keeps it from having one first stands where that path leads, and nothing does before it.
+pub use resb_icu_print::laws::icu_causes_stand_where_paths_lead;
 // Such a printed text has at most 270 bytes a resource, and so much for each byte and number held.
 pub use resb_icu_print::laws::printed_icu_is_linear;
 
@@ -71,6 +73,8 @@ pub use resb_print::laws::printed_is_a_bundle;
 pub use resb_print::laws::a_bundle_gives_no_cause;
 // A bundle has a path to its first cause exactly where it has a cause.
 pub use resb_print::laws::causes_have_paths;
+// The first cause stands where that path leads, and no cause stands before it.
+pub use resb_print::laws::causes_stand_where_paths_lead;
 // A printed text has at most 270 bytes a resource, and so much for each byte and number held.
 pub use resb_print::laws::printed_is_linear;
 

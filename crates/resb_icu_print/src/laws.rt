@@ -2,6 +2,7 @@
 //! Their statements stand in `specs/Laws`.
 ghost use Rattle.resb_icu_print.specs.Laws.{PrintedIcuIsABundle, AnIcuTextGivesNoCause};
 ghost use Rattle.resb_icu_print.specs.Laws.{PrintedIcuIsLinear, IcuCausesHavePaths};
+ghost use Rattle.resb_icu_print.specs.Laws.{IcuCausesStandFirst, NoIcuCauseStands};
 
 /// A tree in whose way nothing stands has a text of ICU's form.
 pub fn printed_icu_is_a_bundle()
@@ -24,4 +25,11 @@ pub fn printed_icu_is_linear()
 /// does.
 pub fn icu_causes_have_paths()
     ensures { IcuCausesHavePaths }
+{}
+
+/// The first cause of a bundle stands where the path to it leads, and none stands before it; a
+/// bundle without a first cause has none anywhere. Each table of the bundle is a map here.
+pub fn icu_causes_stand_where_paths_lead()
+    ensures first { IcuCausesStandFirst }
+    ensures none { NoIcuCauseStands }
 {}

@@ -4,6 +4,7 @@ pub mod Sizes
 pub mod Held
 pub mod Quotes
 pub mod Paths
+pub mod Standing
 pub mod Laws
 pub mod Message
 pub mod Inner

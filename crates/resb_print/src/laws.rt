@@ -1,7 +1,8 @@
 //! Laws of printed texts, each the contract of a function that does nothing.
 //! Their statements stand in `specs/Laws`.
 ghost use Rattle.resb_print.specs.Laws.{PrintedIsABundle, ABundleGivesNoCause};
-ghost use Rattle.resb_print.specs.Laws.{CausesHavePaths, PrintedIsLinear};
+ghost use Rattle.resb_print.specs.Laws.{CausesHavePaths, PrintedIsLinear, CausesStandFirst};
+ghost use Rattle.resb_print.specs.Laws.{NoCauseStands};
 
 /// A tree in whose way nothing stands has a text.
 pub fn printed_is_a_bundle()
@@ -16,6 +17,13 @@ pub fn a_bundle_gives_no_cause()
 /// A bundle has a path to its first cause exactly where it has a cause.
 pub fn causes_have_paths()
     ensures { CausesHavePaths }
+{}
+
+/// The first cause of a bundle stands where the path to it leads, and none stands before it; a
+/// bundle without a first cause has none anywhere. Each table of the bundle is a map here.
+pub fn causes_stand_where_paths_lead()
+    ensures first { CausesStandFirst }
+    ensures none { NoCauseStands }
 {}
 
 /// The text of a bundle has at most 270 bytes for each resource, the bytes of the name, keys,

@@ -14,7 +14,7 @@ use Rattle.resb_diagnostics.specs.IcuWarnings.{of_joined, of_icu_token, of_some_
 use Rattle.resb_diagnostics.specs.IcuWarnings.{icu_last_at, icu_warned, behind_some}
 use Rattle.resb_diagnostics.specs.IcuCauses.{is_some_string, start_of, IsFirstIn, IsFirstInteger}
 use Rattle.resb_diagnostics.specs.IcuCauses.{IsIcuCut, Row, begins, silent, goes_on, BeginsRow}
-use Rattle.resb_diagnostics.specs.IcuCauses.{IsJoined, type_of, is_list}
+use Rattle.resb_diagnostics.specs.IcuCauses.{IsJoined, type_of, is_integer_or_array}
 use Rattle.resb_diagnostics.specs.declared.icu_tokens.IcuToken.{IcuToken}
 use Rattle.resb_diagnostics.specs.declared.icu_tokens.IcuToken.TheVariants as token
 use Rattle.resb_diagnostics.specs.declared.icu_tokens.IcuLast.{IcuLast}
@@ -80,7 +80,7 @@ told_on text n k t w low e h =
     (of_some_token text (icu_token_at text j) (icu_last_at text j)) w c)
 
 -- for what a token brings a warning out
-data TellsFor (text : List ℕ) (t : IcuToken) (l : IcuLast) (w : Warning) : Type 0 where
+pub data TellsFor (text : List ℕ) (t : IcuToken) (l : IcuLast) (w : Warning) : Type 0 where
   a_cut : (from to : ℕ) → t ≡ token.Word from to → l ≡ last.Integer
       → of_integer from (slice_range text from to) ≡ Some w → TellsFor text t l w
   unquoted : (m : ℕ) → t ≡ token.Close → (l ≡ last.Digit m) ⊎ (l ≡ last.Valued m)
@@ -96,7 +96,7 @@ by_member : (text : List ℕ) (t : IcuToken) (joined : Option ℕ) (w : Warning)
 by_member text t joined w true s e = absurd (none-some w e)
 by_member text t joined w false s e = member_row joined s refl e
 
-tells_for : (text : List ℕ) (t : IcuToken) (l : IcuLast) (w : Warning)
+pub tells_for : (text : List ℕ) (t : IcuToken) (l : IcuLast) (w : Warning)
     → of_icu_token text t l ≡ Some w → TellsFor text t l w
 tells_for text (token.Word from to) last.Integer w e = a_cut from to refl refl e
 tells_for text token.Close (last.Digit n) w e =
@@ -118,12 +118,12 @@ abbrev kept_in : Reason → ℤ
 kept_in (reason.CutNumber z) = z
 kept_in _ = pos 0
 
-joined_is : (joined : Option ℕ) (w : Warning) → of_joined joined ≡ Some w
+pub joined_is : (joined : Option ℕ) (w : Warning) → of_joined joined ≡ Some w
     → (m : ℕ) × (joined ≡ Some m) × (w ≡ warning_at reason.JoinedOverLine m)
 joined_is None w e = absurd (none-some w e)
 joined_is (Some m) w e = (m, refl, sym (same_Some (warning_at reason.JoinedOverLine m) w e))
 
-kept_is : (n : ℕ) (o : Option ℤ) (w : Warning) → kept_at n o ≡ Some w
+pub kept_is : (n : ℕ) (o : Option ℤ) (w : Warning) → kept_at n o ≡ Some w
     → (z : ℤ) × (o ≡ Some z) × (w ≡ warning_at (reason.CutNumber z) n)
 kept_is n None w e = absurd (none-some w e)
 kept_is n (Some z) w e = (z, refl, sym (same_Some (warning_at (reason.CutNumber z) n) w e))
@@ -259,7 +259,7 @@ place_in _ = None
 first_or_integer : (text : List ℕ) (n : ℕ) → IsFirstIn text n → IsFirstInteger text n → ⊥
 first_or_integer text n f i =
     let same = one_opening text n f.last i.last f.opening i.opening in
-    false≢true (sym f.no_list ∙ ap is_list (ap (type_of text) same ∙ i.integer))
+    false≢true (sym f.neither ∙ ap is_integer_or_array (ap (type_of text) same ∙ i.integer))
 
 -- no row begins behind a string
 no_row : (text : List ℕ) (from : ℕ) (joined : Option ℕ) → IsRow text from joined

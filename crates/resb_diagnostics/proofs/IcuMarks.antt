@@ -8,7 +8,7 @@ use Rattle.resb_diagnostics.specs.Groups.{named_by}
 use Rattle.resb_diagnostics.specs.Warnings.{is_nothing}
 use Rattle.resb_diagnostics.specs.IcuWarnings.{behind_string, behind_open, behind_close, last_named}
 use Rattle.resb_diagnostics.specs.IcuWarnings.{behind_plain_word}
-use Rattle.resb_diagnostics.specs.IcuCauses.{is_list}
+use Rattle.resb_diagnostics.specs.IcuCauses.{is_integer_or_array}
 use Rattle.resb_diagnostics.specs.declared.named.Named.{Named}
 use Rattle.resb_diagnostics.specs.declared.named.Named.TheVariants as named
 use Rattle.resb_diagnostics.specs.declared.icu_tokens.IcuLast.{IcuLast}
@@ -440,7 +440,7 @@ type_group named.IntVector elsewhere = refl
 type_group named.Another elsewhere = refl
 
 pub type_list : (t : Named) (s : State)
-    → (begun_in (type_on t s) && is_list t) ≡ list_in (type_on t s)
+    → (begun_in (type_on t s) && is_integer_or_array t) ≡ list_in (type_on t s)
 type_list named.Nothing at_start = refl
 type_list named.Array at_start = refl
 type_list named.Integer at_start = refl

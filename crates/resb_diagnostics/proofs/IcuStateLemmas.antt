@@ -10,7 +10,7 @@ use Rattle.resb_diagnostics.specs.IcuWarnings.{is_behind_colon, is_string, line_
 use Rattle.resb_diagnostics.specs.IcuWarnings.{first_joined, is_digit, behind_string, behind_open}
 use Rattle.resb_diagnostics.specs.IcuWarnings.{behind_plain_word, last_named, behind_icu_token}
 use Rattle.resb_diagnostics.specs.IcuWarnings.{behind_close}
-use Rattle.resb_diagnostics.specs.IcuCauses.{is_sign, start_of, type_of, is_list}
+use Rattle.resb_diagnostics.specs.IcuCauses.{is_sign, start_of, type_of, is_integer_or_array}
 use Rattle.resb_diagnostics.specs.declared.named.Named.{Named}
 use Rattle.resb_diagnostics.specs.declared.named.Named.TheVariants as named
 use Rattle.resb_diagnostics.specs.declared.icu_tokens.IcuToken.{IcuToken}
@@ -290,12 +290,13 @@ sign_kind token.Comma h = omega arith
 
 -- a string is no type
 pub string_no_type : (text : List ℕ) (t : IcuToken) → is_string text t ≡ true
-    → is_list (type_of text (Some t)) ≡ false
+    → is_integer_or_array (type_of text (Some t)) ≡ false
 string_no_type text (token.Piece n) h = refl
 string_no_type text (token.Word from to) h = by (is_behind_colon text from) h
   where
     by : (b : Bool) → not b ≡ true
-        → is_list (if b then named_by (slice_range text from to) else named.Nothing) ≡ false
+        → is_integer_or_array (if b then named_by (slice_range text from to) else named.Nothing)
+        ≡ false
     by true e = absurd (false≢true e)
     by false e = refl
 string_no_type text (token.Open n) h = refl
@@ -401,10 +402,11 @@ abbrev pub type_in : State → Named
 type_in (behind_type t) = t
 type_in _ = named.Integer
 
-pub types_are_lists : (l : IcuLast) (t : Named) → state_of l ≡ behind_type t → is_list t ≡ true
-types_are_lists l t e = sym (ap (λ s. is_list (type_in s)) e) ∙ by l
+pub types_are_either : (l : IcuLast) (t : Named) → state_of l ≡ behind_type t
+    → is_integer_or_array t ≡ true
+types_are_either l t e = sym (ap (λ s. is_integer_or_array (type_in s)) e) ∙ by l
   where
-    by : (k : IcuLast) → is_list (type_in (state_of k)) ≡ true
+    by : (k : IcuLast) → is_integer_or_array (type_in (state_of k)) ≡ true
     by last.Start = refl
     by last.Other = refl
     by last.IntegerType = refl

@@ -11,7 +11,8 @@ use Rattle.resb_diagnostics.specs.IcuWarnings.{icu_token_at, is_behind_colon, is
 use Rattle.resb_diagnostics.specs.IcuWarnings.{is_digit}
 use Rattle.resb_diagnostics.specs.IcuWarnings.{behind_plain_word, last_named, behind_icu_token}
 use Rattle.resb_diagnostics.specs.IcuWarnings.{behind_some, icu_last_at}
-use Rattle.resb_diagnostics.specs.IcuCauses.{is_sign, start_of, type_of, is_list, is_some_string}
+use Rattle.resb_diagnostics.specs.IcuCauses.{is_sign, start_of, type_of, is_integer_or_array}
+use Rattle.resb_diagnostics.specs.IcuCauses.{is_some_string}
 use Rattle.resb_diagnostics.specs.IcuCauses.{HasBegun, IsBehindOpening, IsFirstIn, IsFirstInteger}
 use Rattle.resb_diagnostics.specs.IcuCauses.{Row, begins, silent, goes_on, BeginsRow}
 use Rattle.resb_diagnostics.specs.declared.named.Named.{Named}
@@ -28,7 +29,7 @@ use Rattle.resb_diagnostics.proofs.IcuStateLemmas.{close_state, step_string, kin
 use Rattle.resb_diagnostics.proofs.IcuStateLemmas.{sign_kind, string_no_type, right_on}
 use Rattle.resb_diagnostics.proofs.IcuStateLemmas.{right_off, right_here, is_here, type_same}
 use Rattle.resb_diagnostics.proofs.IcuStateLemmas.{start_stays, state_number, array_is_other}
-use Rattle.resb_diagnostics.proofs.IcuStateLemmas.{types_are_lists}
+use Rattle.resb_diagnostics.proofs.IcuStateLemmas.{types_are_either}
 
 module _ (text : List ℕ) where
   begun_on : (n : ℕ) → HasBegun text n → HasBegun text (suc n)
@@ -103,7 +104,7 @@ module _ (text : List ℕ) where
   first_off : (n : ℕ) → IsFirstIn text (suc n) → icu_token_at text n ≡ None
       → IsFirstIn text n
   first_off n h e =
-      record { last = h.last; opening = opening_off n h.last h.opening e; no_list = h.no_list }
+      record { last = h.last; opening = opening_off n h.last h.opening e; neither = h.neither }
 
   integer_off : (n : ℕ) → IsFirstInteger text (suc n) → icu_token_at text n ≡ None
       → IsFirstInteger text n
@@ -142,7 +143,7 @@ module _ (text : List ℕ) where
     pub last : Option IcuToken
     pub before : IsLastBefore (icu_token_at text) n last
     pub no_string : is_some_string text last ≡ false
-    pub no_list : is_list (type_of text last) ≡ false
+    pub neither : is_integer_or_array (type_of text last) ≡ false
     pub no_first : IsFirstIn text n → ⊥
     pub no_integer : IsFirstInteger text n → ⊥
 
@@ -223,7 +224,7 @@ module _ (text : List ℕ) where
   quiet n in_group e h = record {
     last = h.last;
     opening = opening_on n h.last h.opening e;
-    no_list = h.no_list;
+    neither = h.neither;
   }
   quiet n (in_first joined) e h =
       (record { from = h.0.from; begins = h.0.begins; row = silent n joined h.0.row e }, h.1)
@@ -234,7 +235,7 @@ module _ (text : List ℕ) where
     last = h.last;
     before = last_on (icu_token_at text) n None h.last e h.before;
     no_string = h.no_string;
-    no_list = h.no_list;
+    neither = h.neither;
     no_first = λ f. h.no_first (first_off n f e);
     no_integer = λ f. h.no_integer (integer_off n f e);
   }
@@ -264,8 +265,8 @@ module _ (text : List ℕ) where
     row_here n t (Some (token.Open h.opening.place)) e is (begun_opening n h.last h.opening)
         h.opening.opens refl,
     λ f. let same = one_opening n f.last h.last f.opening h.opening in
-        false≢true (sym f.no_list
-        ∙ ap is_list (ap (type_of text) same ∙ h.integer)),
+        false≢true (sym f.neither
+        ∙ ap is_integer_or_array (ap (type_of text) same ∙ h.integer)),
   )
   string_shows n in_group t e is h = (
     row_here n t (Some (token.Open h.opening.place)) e is (begun_opening n h.last h.opening)
@@ -284,14 +285,15 @@ module _ (text : List ℕ) where
   -- behind a token that is neither a string nor a `{`, and names no list
   elsewhere_here : (n : ℕ) (t : IcuToken) → icu_token_at text n ≡ Some t
       → HasBegun text (suc n) → is_string text t ≡ false
-      → is_list (type_of text (Some t)) ≡ false → (kind (Some t) ≡ 3 → ⊥) → IsElsewhere (suc n)
+      → is_integer_or_array (type_of text (Some t)) ≡ false → (kind (Some t) ≡ 3 → ⊥)
+      → IsElsewhere (suc n)
   elsewhere_here n t e b s l isnt =
       let r = right_here (icu_token_at text) n t e in record {
         begun = b;
         last = Some t;
         before = r;
         no_string = s;
-        no_list = l;
+        neither = l;
         no_first = λ f. not_opening (suc n) (Some t) f.last r isnt f.opening;
         no_integer = λ f. not_opening (suc n) (Some t) f.last r isnt f.opening;
       }
@@ -310,7 +312,7 @@ module _ (text : List ℕ) where
     last = Some (token.Open m);
     before = right_here (icu_token_at text) n (token.Open m) e;
     no_string = refl;
-    no_list = refl;
+    neither = refl;
     no_first = first;
     no_integer = integer;
   }
@@ -318,12 +320,12 @@ module _ (text : List ℕ) where
   -- a `{` that is neither the root's, nor behind a type of a list
   group_opening : (n m : ℕ) → icu_token_at text n ≡ Some (token.Open m) → HasBegun text n
       → (o : Option IcuToken) → IsLastBefore (icu_token_at text) n o
-      → is_list (type_of text o) ≡ false → IsFirstIn text (suc n)
+      → is_integer_or_array (type_of text o) ≡ false → IsFirstIn text (suc n)
   group_opening n m e b o before l =
-      record { last = o; opening = opened_here n m o e b before; no_list = l }
+      record { last = o; opening = opened_here n m o e b before; neither = l }
 
   open_shows : (n m : ℕ) (s : State) → icu_token_at text n ≡ Some (token.Open m) → Shows n s
-      → ((t : Named) → s ≡ behind_type t → is_list t ≡ true)
+      → ((t : Named) → s ≡ behind_type t → is_integer_or_array t ≡ true)
       → Shows (suc n) (open_on s)
   open_shows n m at_start e h k =
       other_opening n m e (λ f. h (begun_here n m f.last e f.opening))
@@ -337,7 +339,7 @@ module _ (text : List ℕ) where
       other_opening n m e
       (λ f. let same = last_one (icu_token_at text) n f.last (Some h.last)
       (before_here n m f.last e f.opening) h.before in
-      false≢true (sym f.no_list ∙ ap is_list (ap (type_of text) same ∙ h.names)))
+      false≢true (sym f.neither ∙ ap is_integer_or_array (ap (type_of text) same ∙ h.names)))
       (λ f. let same = last_one (icu_token_at text) n f.last (Some h.last)
       (before_here n m f.last e f.opening) h.before in
       array_is_other (sym h.names ∙ sym (ap (type_of text) same) ∙ f.integer))
@@ -361,7 +363,7 @@ module _ (text : List ℕ) where
       let l = row_last h.0.from n joined h.0.row in
       group_opening n m e (row_begun n joined h.0) (Some l.string) l.before
       (string_no_type text l.string l.is_one)
-  open_shows n m elsewhere e h k = group_opening n m e h.begun h.last h.before h.no_list
+  open_shows n m elsewhere e h k = group_opening n m e h.begun h.last h.before h.neither
 
   -- behind a type
   type_begun : (n from to : ℕ) (t : Named)
@@ -385,11 +387,11 @@ module _ (text : List ℕ) where
         names = names u w;
       }
 
-      other : (u : Named) → named_by (slice_range text from to) ≡ u → is_list u ≡ false
+      other : (u : Named) → named_by (slice_range text from to) ≡ u → is_integer_or_array u ≡ false
           → IsElsewhere (suc n)
       other u w l =
           elsewhere_here n (token.Word from to) e (begun_on n b) (ap not c)
-          (ap is_list (names u w) ∙ l) (λ o. omega (arith, o))
+          (ap is_integer_or_array (names u w) ∙ l) (λ o. omega (arith, o))
 
       by : (u : Named) → named_by (slice_range text from to) ≡ u
           → Shows (suc n) (type_on u elsewhere)
@@ -463,7 +465,7 @@ module _ (text : List ℕ) where
           (string_shows n (state_of l) (token.Word from to) e (ap not c) h)
   token_shows n (token.Open m) l e h =
       subst (Shows (suc n)) (sym (open_state m l))
-      (open_shows n m (state_of l) e h (types_are_lists l))
+      (open_shows n m (state_of l) e h (types_are_either l))
   token_shows n token.Close l e h =
       subst (Shows (suc n)) (sym (close_state l))
       (elsewhere_here n token.Close e (sign_here n token.Close e refl) refl refl

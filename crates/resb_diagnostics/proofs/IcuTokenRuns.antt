@@ -96,7 +96,7 @@ open_behind b h = by (b == quote) refl (b == slash)
     by false _ false = refl
 
 -- it begins no other token
-word_token : (text : List ℕ) (n b : ℕ) → is_unquoted b ≡ true → is_in_word text n ≡ true
+pub word_token : (text : List ℕ) (n b : ℕ) → is_unquoted b ≡ true → is_in_word text n ≡ true
     → icu_token_of text n b
     ≡ (if not (is_in_word text (suc n))
     then Some (token.Word (icu_word_start text n) (n + 1)) else None)
@@ -125,7 +125,7 @@ word_token text n b h inside =
         then Some (token.Word (icu_word_start text n) (n + 1)) else None) inside
 
 -- a byte with which a word goes on may stand in an unquoted string
-word_byte : (text : List ℕ) (k : ℕ) → word_goes_on text k ≡ true
+pub word_byte : (text : List ℕ) (k : ℕ) → word_goes_on text k ≡ true
     → is_unquoted (slice_index text k) ≡ true
 word_byte text k h = by (is_unquoted (slice_index text k)) h
   where

@@ -9,6 +9,7 @@ mod GroupPartners
 mod IcuCausesLemmas
 mod IcuCommentRuns
 mod IcuMarks
+mod IcuOrder
 mod IcuPassing
 mod IcuQuotes
 mod IcuStateLemmas

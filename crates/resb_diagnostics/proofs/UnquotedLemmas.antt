@@ -9,7 +9,8 @@ use Rattle.resb_diagnostics.specs.IcuWarnings.{icu_token_at, is_behind_colon, is
 use Rattle.resb_diagnostics.specs.IcuWarnings.{is_digit, behind_icu_token, behind_icu_word}
 use Rattle.resb_diagnostics.specs.IcuWarnings.{behind_some, behind_open, behind_close, icu_last_at}
 use Rattle.resb_diagnostics.specs.IcuWarnings.{last_named, behind_plain_word}
-use Rattle.resb_diagnostics.specs.IcuCauses.{type_of, is_list, with_token, tokens_before}
+use Rattle.resb_diagnostics.specs.IcuCauses.{type_of, is_integer_or_array, with_token}
+use Rattle.resb_diagnostics.specs.IcuCauses.{tokens_before}
 use Rattle.resb_diagnostics.specs.IcuCauses.{has_sign, last_type, ends_opening, ends_in_key}
 use Rattle.resb_diagnostics.specs.IcuCauses.{EndsUnquoted, first, behind_key}
 use Rattle.resb_diagnostics.specs.declared.named.Named.TheVariants as named
@@ -152,7 +153,7 @@ module _ (text : List ℕ) where
 
   -- the last token is the type of a list
   lists : (ts : List IcuToken)
-      → (begun_in (state_of (lasts text ts)) && is_list (last_type text ts))
+      → (begun_in (state_of (lasts text ts)) && is_integer_or_array (last_type text ts))
       ≡ list_in (state_of (lasts text ts))
   lists [] = refl
   lists (token.Piece n ∷ ts) =
@@ -164,7 +165,7 @@ module _ (text : List ℕ) where
     where
       by : WordCase text from to (lasts text ts)
           → (begun_in (state_of (behind_icu_word text from to (lasts text ts)))
-          && is_list (type_of text (Some (token.Word from to))))
+          && is_integer_or_array (type_of text (Some (token.Word from to))))
           ≡ list_in (state_of (behind_icu_word text from to (lasts text ts)))
       by (a_type c e) =
           let l = lasts text ts in
@@ -172,13 +173,14 @@ module _ (text : List ℕ) where
           let s : state_of (behind_icu_word text from to l) ≡ type_on t (state_of l) =
           ap state_of e ∙ named_state t l in
           ap (λ b. begun_in (state_of (behind_icu_word text from to l))
-          && is_list (if b then t else named.Nothing)) c
-          ∙ ap (λ k. begun_in k && is_list t) s ∙ type_list t (state_of l)
+          && is_integer_or_array (if b then t else named.Nothing)) c
+          ∙ ap (λ k. begun_in k && is_integer_or_array t) s ∙ type_list t (state_of l)
           ∙ sym (ap list_in s)
       by (plain c e) =
           let l = lasts text ts in
           ap (λ b. begun_in (state_of (behind_icu_word text from to l))
-          && is_list (if b then named_by (slice_range text from to) else named.Nothing)) c
+          && is_integer_or_array (if b then named_by (slice_range text from to)
+          else named.Nothing)) c
           ∙ and_false (begun_in (state_of (behind_icu_word text from to l)))
           ∙ sym (ap (λ k. list_in (state_of k)) e
           ∙ ap list_in (plain_state from (line_ended text from)
@@ -218,8 +220,8 @@ module _ (text : List ℕ) where
           ∙ string_group (state_of l) (line_ended text from) from)
   openings (token.Open n ∷ ts) =
       let l = lasts text ts in
-      ap (λ b. b && not (is_list (last_type text ts))) (signs ts)
-      ∙ open_group (state_of l) (is_list (last_type text ts)) (lists ts)
+      ap (λ b. b && not (is_integer_or_array (last_type text ts))) (signs ts)
+      ∙ open_group (state_of l) (is_integer_or_array (last_type text ts)) (lists ts)
       ∙ sym (ap group_in (open_state n l))
   openings (token.Close ∷ ts) = sym (ap group_in (close_state (lasts text ts)))
   openings (token.Comma ∷ ts) = refl

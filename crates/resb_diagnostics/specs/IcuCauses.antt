@@ -36,10 +36,10 @@ type_of text (Some (token.Word from to)) =
 type_of text _ = named.Nothing
 
 -- one integer, or an array
-abbrev pub is_list : Named → Bool
-is_list named.Integer = true
-is_list named.Array = true
-is_list _ = false
+abbrev pub is_integer_or_array : Named → Bool
+is_integer_or_array named.Integer = true
+is_integer_or_array named.Array = true
+is_integer_or_array _ = false
 
 -- a piece or a word that is no type, if there is a token
 abbrev pub is_some_string : List ℕ → Option IcuToken → Bool
@@ -67,7 +67,7 @@ pub record IsBehindOpening (text : List ℕ) (n : ℕ) (last : Option IcuToken) 
 pub record IsFirstIn (text : List ℕ) (n : ℕ) : Type 0 where
   pub last : Option IcuToken
   pub opening : IsBehindOpening text n last
-  pub no_list : is_list (type_of text last) ≡ false
+  pub neither : is_integer_or_array (type_of text last) ≡ false
 
 -- what stands at a place is the first in a group of one integer
 pub record IsFirstInteger (text : List ℕ) (n : ℕ) : Type 0 where
@@ -141,7 +141,7 @@ last_type text (t ∷ ts) = type_of text (Some t)
 
 -- the last token is the `{` of a group that is neither the root, nor one integer, nor an array
 abbrev pub ends_opening : List ℕ → List IcuToken → Bool
-ends_opening text (token.Open n ∷ ts) = has_sign ts && not (is_list (last_type text ts))
+ends_opening text (token.Open n ∷ ts) = has_sign ts && not (is_integer_or_array (last_type text ts))
 ends_opening text _ = false
 
 -- the last token is a key: a word that is the first in a group which isn't the root and has no

@@ -10,6 +10,7 @@ use Rattle.resb_diagnostics.specs.Pieces.{PlacedText, TextPiece, a_string, a_typ
 use Rattle.resb_diagnostics.specs.Pieces.{a_comma, piece_at}
 use Rattle.resb_diagnostics.specs.Groups.{GroupItem, string_item, group_item, comma_item, OpenGroup}
 use Rattle.resb_diagnostics.specs.Groups.{named_behind}
+use Rattle.resb_diagnostics.specs.IcuKeys.{icu_piece_at}
 use Rattle.resb_diagnostics.specs.declared.named.Named.TheVariants as named
 
 -- no piece, or the name of a type
@@ -65,13 +66,21 @@ pub record IsOutside (piece : ℕ → Option TextPiece) (n : ℕ) (group : OpenG
 abbrev pub IsOpenAt : (ℕ → Option TextPiece) → ℕ → OpenGroup → Type 0
 IsOpenAt piece n g = ((p : ℕ) × IsOpenFrom piece p n g) ⊎ IsOutside piece n g
 
--- a group of a text stands between two places: its `{` at one, its `}` at the other, and items
--- between
-pub record IsGroup (text : List ℕ) (p q : ℕ) : Type 0 where
-  pub opens : piece_at text p ≡ Some opening
+-- a group stands between two places: its `{` at one, its `}`, which is this piece, at the other,
+-- and items between
+pub record IsGroupTo (end : TextPiece) (piece : ℕ → Option TextPiece) (p q : ℕ) : Type 0 where
+  pub opens : piece p ≡ Some opening
   pub items : List GroupItem
-  pub stand : Stand (piece_at text) (suc p) q items
-  pub closes : piece_at text q ≡ Some (closing q)
+  pub stand : Stand piece (suc p) q items
+  pub closes : piece q ≡ Some end
+
+-- a group of a text stands between two places
+abbrev pub IsGroup : List ℕ → ℕ → ℕ → Type 0
+IsGroup text p q = IsGroupTo (closing q) (piece_at text) p q
+
+-- the same of a text of ICU's form, where it is nothing to the groups at which place a `}` stands
+abbrev pub IsIcuGroup : List ℕ → ℕ → ℕ → Type 0
+IsIcuGroup text p q = IsGroupTo (closing 0) (icu_piece_at text) p q
 
 -- each `}` of the first n bytes of a text ends a group
 abbrev pub EndsGroups : List ℕ → ℕ → Type 0

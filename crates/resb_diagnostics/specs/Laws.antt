@@ -1,6 +1,7 @@
 -- Laws of braces, groups and warnings: what the words of the contracts say, apart from the walks by
 -- which they say it.
-use Rattle.std.specs.Prelude.{◌≡◌, ◌≢◌, ◌≤◌, ◌↔◌, ℕ, true, AllPairs, List, Option, Contains, length}
+use Rattle.std.specs.Prelude.{◌≡◌, ◌≢◌, ◌<◌, ◌≤◌, ◌↔◌, ℕ, true, AllPairs, List, Option}
+use Rattle.std.specs.Prelude.{Contains, length}
 use Rattle.resb_diagnostics.specs.Braces.{plain_form, icu_form, innermost_open, innermost_icu_open}
 use Rattle.resb_diagnostics.specs.Partners.{IsInnermost, ArePartners}
 use Rattle.resb_diagnostics.specs.Clues.{long_string_in, outdent_in}
@@ -8,7 +9,7 @@ use Rattle.resb_diagnostics.specs.Hints.{IsLastLong, IsFirstOutdent}
 use Rattle.resb_diagnostics.specs.Pieces.{piece_at}
 use Rattle.resb_diagnostics.specs.Groups.{OpenGroup, groups_at}
 use Rattle.resb_diagnostics.specs.IcuKeys.{icu_piece_at, icu_groups_at, icu_repeated}
-use Rattle.resb_diagnostics.specs.Items.{IsOpenAt, IsGroup, EndsGroups}
+use Rattle.resb_diagnostics.specs.Items.{IsOpenAt, IsGroup, IsIcuGroup, EndsGroups}
 use Rattle.resb_diagnostics.specs.Warnings.{is_first_backslash, warned}
 use Rattle.resb_diagnostics.specs.IcuCauses.{IsIcuDue}
 use Rattle.resb_diagnostics.specs.IcuWarnings.{icu_warned}
@@ -86,6 +87,11 @@ abbrev pub PartnersAreGroups : Type 0
 PartnersAreGroups =
     (text : List ℕ) (p q : ℕ) → ArePartners plain_form text p q ↔ IsGroup text p q
 
+-- the same in a text of ICU's form
+abbrev pub IcuPartnersAreGroups : Type 0
+IcuPartnersAreGroups =
+    (text : List ℕ) (p q : ℕ) → ArePartners icu_form text p q ↔ IsIcuGroup text p q
+
 -- the test of a first backslash holds where one stands, and nowhere else
 abbrev pub FindsFirstBackslash : Type 0
 FindsFirstBackslash =
@@ -101,6 +107,16 @@ TellsWhatIsDue =
 abbrev pub TellsOnce : Type 0
 TellsOnce =
     (text : List ℕ) (n : ℕ) → EndsGroups text n → AllPairs (λ v w. v ≢ w) (warned text n)
+
+-- of two warnings of the first n bytes of a text of ICU's form the one that is told first stands
+-- before the other
+abbrev pub TellsIcuInOrder : Type 0
+TellsIcuInOrder =
+    (text : List ℕ) (n : ℕ) → AllPairs (λ v w. v.place < w.place) (icu_warned text n)
+
+-- no warning is told of them twice
+abbrev pub TellsIcuOnce : Type 0
+TellsIcuOnce = (text : List ℕ) (n : ℕ) → AllPairs (λ v w. v ≢ w) (icu_warned text n)
 
 -- a key is told of the innermost group that is open behind the first n bytes of a text of ICU's
 -- form exactly where one that is spelled the same stands before it there

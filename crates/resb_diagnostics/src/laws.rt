@@ -5,9 +5,11 @@ ghost use Rattle.resb_diagnostics.specs.Laws.{FindsInnermost, FindsIcuInnermost,
 ghost use Rattle.resb_diagnostics.specs.Laws.{OneIcuInnermost, OnePartner, OneIcuPartner};
 ghost use Rattle.resb_diagnostics.specs.Laws.{FindsLongString, FindsIcuLongString, FindsOutdent};
 ghost use Rattle.resb_diagnostics.specs.Laws.{FindsIcuOutdent, KnowsGroups, KnowsIcuGroups};
-ghost use Rattle.resb_diagnostics.specs.Laws.{PartnersAreGroups, FindsFirstBackslash};
+ghost use Rattle.resb_diagnostics.specs.Laws.{PartnersAreGroups, IcuPartnersAreGroups};
+ghost use Rattle.resb_diagnostics.specs.Laws.{FindsFirstBackslash};
 ghost use Rattle.resb_diagnostics.specs.Laws.{TellsWhatIsDue, TellsOnce};
 ghost use Rattle.resb_diagnostics.specs.Laws.{TellsIcuRepeats, TellsWhatIsIcuDue};
+ghost use Rattle.resb_diagnostics.specs.Laws.{TellsIcuOnce, TellsIcuInOrder};
 
 /// The brace that is found is the innermost one without a partner.
 pub fn finds_innermost()
@@ -47,7 +49,8 @@ pub fn knows_groups()
 
 /// Partners are the braces of a group.
 pub fn partners_are_groups()
-    ensures { PartnersAreGroups }
+    ensures plain { PartnersAreGroups }
+    ensures icu { IcuPartnersAreGroups }
 {}
 
 /// The backslash that is found is the first one behind the quote that begins a string.
@@ -73,4 +76,11 @@ pub fn tells_icu_repeats()
 /// A warning of a text of ICU's form is told exactly where it is due.
 pub fn tells_what_is_icu_due()
     ensures { TellsWhatIsIcuDue }
+{}
+
+/// No warning of a text of ICU's form is told twice, and they are told in the order in which they
+/// stand in the text, no two at one place.
+pub fn tells_icu_once()
+    ensures once { TellsIcuOnce }
+    ensures order { TellsIcuInOrder }
 {}

@@ -75,12 +75,12 @@ inside_none text n h k = by (icu_form.has_tokens (mode_in icu_form text n))
     by false = refl
 
 -- where a token begins that stands at a place
-abbrev begin : ℕ → IcuToken → ℕ
+abbrev pub begin : ℕ → IcuToken → ℕ
 begin n (token.Word from to) = from
 begin n _ = n
 
 -- a token at a place
-data TokenAt (text : List ℕ) (n : ℕ) : IcuToken → Type 0 where
+pub data TokenAt (text : List ℕ) (n : ℕ) : IcuToken → Type 0 where
   a_piece : TokenAt text n (token.Piece n)
   a_word : is_in_word text n ≡ true
       → TokenAt text n (token.Word (icu_word_start text n) (n + 1))
@@ -88,7 +88,7 @@ data TokenAt (text : List ℕ) (n : ℕ) : IcuToken → Type 0 where
   a_close : TokenAt text n token.Close
   a_comma : TokenAt text n token.Comma
 
-token_is : (text : List ℕ) (n : ℕ) (t : IcuToken) → icu_token_at text n ≡ Some t
+pub token_is : (text : List ℕ) (n : ℕ) (t : IcuToken) → icu_token_at text n ≡ Some t
     → TokenAt text n t
 token_is text n t = by (icu_form.has_tokens (mode_in icu_form text n))
   where
@@ -120,7 +120,7 @@ token_is text n t = by (icu_form.has_tokens (mode_in icu_form text n))
         (slice_index text n == right_brace) (slice_index text n == comma) (is_in_word text n) refl
         (not (is_in_word text (suc n))) e
 
-begin_low : (text : List ℕ) (n : ℕ) (t : IcuToken) → TokenAt text n t → begin n t ≤ n
+pub begin_low : (text : List ℕ) (n : ℕ) (t : IcuToken) → TokenAt text n t → begin n t ≤ n
 begin_low text n t a_piece = omega arith
 begin_low text n t (a_word h) = start_low text n
 begin_low text n t an_open = omega arith
@@ -304,7 +304,7 @@ tells text n t l w (member_row joined e f o) =
     }
 
 -- a token stands before a place, at this one or behind it
-record IsUpTo (text : List ℕ) (n place : ℕ) : Type 0 where
+pub record IsUpTo (text : List ℕ) (n place : ℕ) : Type 0 where
   pub at : ℕ
   pub before : at < n
   pub one : IcuToken
@@ -318,7 +318,7 @@ record Ordered (text : List ℕ) (n : ℕ) (ws : List Warning) (l : IcuLast) : T
       → (m < n) × ((w : Warning) → Contains ws w → w.place < m)
   pub pairs : AllPairs (λ v w. v.place < w.place) ws
 
-up_to_next : (text : List ℕ) (n place : ℕ) → IsUpTo text n place → IsUpTo text (suc n) place
+pub up_to_next : (text : List ℕ) (n place : ℕ) → IsUpTo text n place → IsUpTo text (suc n) place
 up_to_next text n place h = record {
   at = h.at;
   before = let low = h.before in omega (arith, low);
@@ -328,7 +328,7 @@ up_to_next text n place h = record {
 }
 
 -- what was told is before where a token begins
-before_token : (text : List ℕ) (n place : ℕ) (t : IcuToken) → TokenAt text n t
+pub before_token : (text : List ℕ) (n place : ℕ) (t : IcuToken) → TokenAt text n t
     → IsUpTo text n place → place < begin n t
 before_token text n place t k h =
     let far = begin_behind text n t k h.at h.one h.before h.stands in

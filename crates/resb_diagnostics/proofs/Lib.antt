@@ -12,6 +12,7 @@ mod IcuMarks
 mod IcuOrder
 mod IcuPassing
 mod IcuQuotes
+mod IcuRepeatsOrder
 mod IcuStateLemmas
 mod IcuStates
 mod IcuTokenRuns

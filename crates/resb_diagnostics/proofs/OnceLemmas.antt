@@ -37,7 +37,7 @@ use Rattle.resb_diagnostics.proofs.OnceLists.{once_single, once_if, once_append,
 use Rattle.resb_diagnostics.proofs.OnceLists.{once_prefix, once_apart}
 
 -- the places of the strings that stand right in a group, the last one first
-abbrev strings_of : List GroupItem → List ℕ
+abbrev pub strings_of : List GroupItem → List ℕ
 strings_of [] = []
 strings_of (string_item s ∷ xs) = s.place ∷ strings_of xs
 strings_of (group_item ∷ xs) = strings_of xs
@@ -133,16 +133,16 @@ once_places text (suc n) =
     (once_places text n)
 
 -- the places of keys
-abbrev key_places : List PlacedText → List ℕ
+abbrev pub key_places : List PlacedText → List ℕ
 key_places ks = map (λ k. k.place) ks
 
-snoc_places : (ks : List PlacedText) (s : PlacedText)
+pub snoc_places : (ks : List PlacedText) (s : PlacedText)
     → key_places (ks ++ s ∷ []) ≡ key_places ks ++ s.place ∷ []
 snoc_places [] s = refl
 snoc_places (k ∷ ks) s = ap (λ l. k.place ∷ l) (snoc_places ks s)
 
 -- keys have places of strings of their group, each its own
-record Placed (items : List GroupItem) (keys : List PlacedText) : Type 0 where
+pub record Placed (items : List GroupItem) (keys : List PlacedText) : Type 0 where
   pub stand : (x : ℕ) → Contains (key_places keys) x → Contains (strings_of items) x
   pub differ : Once (strings_of items) → Once (key_places keys)
 
@@ -162,7 +162,7 @@ placed_pair xs s ks p = record {
       (λ x c d. once_apart (s.place ∷ []) (strings_of xs) x h d (p.stand x c)));
 }
 
-placed : (items : List GroupItem) (keys : List PlacedText) → pair_keys items ≡ Some keys
+pub placed : (items : List GroupItem) (keys : List PlacedText) → pair_keys items ≡ Some keys
     → Placed items keys
 placed [] keys e = subst (Placed []) (same_Some [] keys e)
     (record { stand = λ x c. c; differ = λ h. h })
@@ -187,7 +187,7 @@ key_place n None w c = absurd (never w c)
 key_place n (Some first) w c =
     ap (λ v. v.place) (single (warning_at (reason.RepeatedKey first) n) w c)
 
-keys_place : (before ks : List PlacedText) (w : Warning) → Contains (of_keys before ks) w
+pub keys_place : (before ks : List PlacedText) (w : Warning) → Contains (of_keys before ks) w
     → Contains (key_places ks) w.place
 keys_place before [] w c = absurd (never w c)
 keys_place before (k ∷ ks) w c =

@@ -114,7 +114,7 @@ abbrev pub TellsIcuInOrder : Type 0
 TellsIcuInOrder =
     (text : List ℕ) (n : ℕ) → AllPairs (λ v w. v.place < w.place) (icu_warned text n)
 
--- no warning is told of them twice
+-- no warning of the first n bytes of a text of ICU's form is told twice
 abbrev pub TellsIcuOnce : Type 0
 TellsIcuOnce = (text : List ℕ) (n : ℕ) → AllPairs (λ v w. v ≢ w) (icu_warned text n)
 
@@ -124,6 +124,15 @@ abbrev pub TellsIcuRepeats : Type 0
 TellsIcuRepeats =
     (text : List ℕ) (n : ℕ) (w : Warning)
     → Contains (icu_repeated text n) w ↔ RepeatsIcuKey text n w
+
+-- of two keys that are told of such a group the one that is told first stands before the other
+abbrev pub TellsIcuRepeatsInOrder : Type 0
+TellsIcuRepeatsInOrder =
+    (text : List ℕ) (n : ℕ) → AllPairs (λ v w. v.place < w.place) (icu_repeated text n)
+
+-- no key of the innermost group that is open there is told twice
+abbrev pub TellsIcuRepeatsOnce : Type 0
+TellsIcuRepeatsOnce = (text : List ℕ) (n : ℕ) → AllPairs (λ v w. v ≢ w) (icu_repeated text n)
 
 -- a warning is told of the first n bytes of a text of ICU's form exactly where it is due for what
 -- stands in them

@@ -10,6 +10,7 @@ ghost use Rattle.resb_diagnostics.specs.Laws.{FindsFirstBackslash};
 ghost use Rattle.resb_diagnostics.specs.Laws.{TellsWhatIsDue, TellsOnce};
 ghost use Rattle.resb_diagnostics.specs.Laws.{TellsIcuRepeats, TellsWhatIsIcuDue};
 ghost use Rattle.resb_diagnostics.specs.Laws.{TellsIcuOnce, TellsIcuInOrder};
+ghost use Rattle.resb_diagnostics.specs.Laws.{TellsIcuRepeatsOnce, TellsIcuRepeatsInOrder};
 
 /// The brace that is found is the innermost one without a partner.
 pub fn finds_innermost()
@@ -83,4 +84,11 @@ pub fn tells_what_is_icu_due()
 pub fn tells_icu_once()
     ensures once { TellsIcuOnce }
     ensures order { TellsIcuInOrder }
+{}
+
+/// No key of a group of a text of ICU's form is told twice, and they are told in the order in which
+/// they stand in the text.
+pub fn tells_icu_repeats_once()
+    ensures once { TellsIcuRepeatsOnce }
+    ensures order { TellsIcuRepeatsInOrder }
 {}

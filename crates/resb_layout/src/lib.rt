@@ -4,6 +4,5 @@
 #![tactic(auto)]
 
 pub mod laws;
-mod packing;
 
-pub use packing::Packing;
+pub use resb_pool::Packing;

@@ -35,8 +35,8 @@ use Rattle.resb_layout.specs.Laid.{LaysEachBy, each_none, each_more}
 use Rattle.resb_tree.specs.LayingOrder.{entry_keys}
 use Rattle.resb_layout.specs.Laid.{word_of_string}
 use Rattle.resb_layout.specs.Laws.{IsRead, StandsIn, ReadsAliasesOf, ReadsOlderOf, LaidIsDenoted}
-use Rattle.resb_layout.specs.declared.packing.Packing.{Packing}
-use Rattle.resb_layout.specs.declared.packing.Packing.TheVariants.{Plain, Compact}
+use Rattle.resb_pool.specs.declared.packing.Packing.{Packing}
+use Rattle.resb_pool.specs.declared.packing.Packing.TheVariants.{Plain, Compact}
 use Rattle.resb_layout.proofs.StringWords.{word_cases, word_below, word_offset}
 use Rattle.resb_layout.proofs.BytesLemmas.{EachBelow}
 use Rattle.resb_layout.proofs.Grows.{grows, grows_each, by_bytes, parts_stood, units_stay}

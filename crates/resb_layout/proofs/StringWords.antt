@@ -3,8 +3,8 @@ use Rattle.std.proofs.Common.{◌≡◌, ℕ, ◌+◌, ◌-◌, ◌≤◌, zero,
 use Rattle.std.proofs.Common.{◌⊎◌, inl, inr, ◌==◌, false, cond}
 use Rattle.std.proofs.lemmas.Bool.{ne_eqb}
 use Rattle.resb_layout.specs.Laid.{word_of_string}
-use Rattle.resb_layout.specs.declared.packing.Packing.{Packing}
-use Rattle.resb_layout.specs.declared.packing.Packing.TheVariants.{Plain, Compact}
+use Rattle.resb_pool.specs.declared.packing.Packing.{Packing}
+use Rattle.resb_pool.specs.declared.packing.Packing.TheVariants.{Plain, Compact}
 
 -- it is 0 at offset 0 of a compact file, and else tells the offset
 pub word_cases : (q : Packing) (k : ℕ) → (word_of_string q k ≡ 0x6000_0000 + k)

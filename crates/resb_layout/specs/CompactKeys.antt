@@ -14,8 +14,8 @@ use Rattle.resb_tree.specs.LayingOrder.{keys_of}
 use Rattle.resb_tree.specs.Tree.{Tree}
 use Rattle.resb_layout.specs.KeyBlock.{is_among, used, key_bytes, padded, last_place, keys_start}
 use Rattle.resb_layout.specs.KeyBlock.{position_in}
-use Rattle.resb_layout.specs.declared.packing.Packing.{Packing}
-use Rattle.resb_layout.specs.declared.packing.Packing.TheVariants.{Plain, Compact}
+use Rattle.resb_pool.specs.declared.packing.Packing.{Packing}
+use Rattle.resb_pool.specs.declared.packing.Packing.TheVariants.{Plain, Compact}
 
 -- of two keys the greater one, by their bytes from the last to the first
 abbrev pub greater_end : List ℕ → List ℕ → List ℕ

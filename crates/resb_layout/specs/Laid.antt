@@ -19,8 +19,8 @@ use Rattle.resb_tree.specs.Maps.{text_cmp}
 use Rattle.resb_tree.specs.LayingOrder.{entry_keys}
 use Rattle.resb_format.specs.Bytes.{units_as_bytes}
 use Rattle.resb_format.specs.Units.{units}
-use Rattle.resb_layout.specs.declared.packing.Packing.{Packing}
-use Rattle.resb_layout.specs.declared.packing.Packing.TheVariants.{Plain, Compact}
+use Rattle.resb_pool.specs.declared.packing.Packing.{Packing}
+use Rattle.resb_pool.specs.declared.packing.Packing.TheVariants.{Plain, Compact}
 
 -- where keys and strings stand, where the tail begins, and how the file is packed: positions of
 -- keys and that place are in bytes of the body, offsets of strings in units of the 16-bit block

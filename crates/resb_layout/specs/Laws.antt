@@ -15,8 +15,8 @@ use Rattle.resb_format.specs.Denotes.{Den}
 use Rattle.resb_tree.specs.LayingOrder.{laying_order}
 use Rattle.resb_layout.specs.Laid.{Given, Lends, Laid, LaysBy, near_by, short_by, here}
 use Rattle.resb_layout.specs.InOrder.{FillsTail, FillsBlock}
-use Rattle.resb_layout.specs.declared.packing.Packing.{Packing}
-use Rattle.resb_layout.specs.declared.packing.Packing.TheVariants.{Plain, Compact}
+use Rattle.resb_pool.specs.declared.packing.Packing.{Packing}
+use Rattle.resb_pool.specs.declared.packing.Packing.TheVariants.{Plain, Compact}
 
 -- from where it begins a tree is laid in one way, with one word
 abbrev pub OneLayout : Type 0

@@ -8,7 +8,7 @@ use Rattle.resb_tree.specs.Tree.{Tree, tree_count}
 use Rattle.resb_tree.specs.Aliases.{has_alias}
 use Rattle.resb_head.specs.File.{body_of, root_word, keys_end, block_end, Denotes}
 use Rattle.resb_head.specs.File.{DenotesWithAliases, budget}
-use Rattle.resb_pool.specs.Plan.{IsPlan}
+use Rattle.resb_pool.specs.Plan.{IsPlanBy}
 use Rattle.resb_layout.specs.Laid.{Laid, Lays}
 use Rattle.resb_format.specs.Bytes.{units_as_bytes}
 use Rattle.resb_tree.specs.LayingOrder.{texts_of}
@@ -16,8 +16,8 @@ use Rattle.resb_layout.specs.KeyBlock.{key_block, keys_start}
 use Rattle.resb_layout.specs.CompactKeys.{key_block_by, key_position_by}
 use Rattle.resb_layout.specs.TreeFaults.{tree_fault}
 use Rattle.resb_layout.specs.WrittenHead.{IndexOf}
-use Rattle.resb_layout.specs.declared.packing.Packing.{Packing}
-use Rattle.resb_layout.specs.declared.packing.Packing.TheVariants.{Plain}
+use Rattle.resb_pool.specs.declared.packing.Packing.{Packing}
+use Rattle.resb_pool.specs.declared.packing.Packing.TheVariants.{Plain}
 
 -- a unit that fills the last word of the 16-bit block
 abbrev pub even : List ℕ → List ℕ
@@ -30,13 +30,14 @@ tail_start keys laid = keys_start + length keys + 2 * length (even laid.units)
 -- what a file is made of that is packed like this: the pool of the tree's strings, and its
 -- resources laid behind it
 pub record BlocksBy (q : Packing) (t : Tree) (ks : List (List ℕ)) : Type 0 where
-  -- the pool of the tree's strings, and where each string stands in it
+  -- the pool of the tree's strings that a file of this packing has, and where each string stands in
+  -- it
   pub pool : List ℕ
   pub offset : List ℕ → Option ℕ
   -- the units of the 16-bit block and the bytes of the tail, with the bodies of all resources
   pub laid : Laid
   pub root : ℕ
-  pub is_pool : IsPlan (texts_of t) pool offset
+  pub is_pool : IsPlanBy q (texts_of t) pool offset
   pub lays : Lays
       (record {
         position = key_position_by q t ks;

@@ -1,5 +1,6 @@
 -- What a compact file is: what ICU's `genrb` writes without a pool bundle, byte by byte, but where
--- a string with a marker is the end of another one.
+-- some strings have characters beyond U+FFFF and others have some from U+E000 on: the order of
+-- these is ICU's by 16-bit units, and here by characters.
 --     WrittenCompact bytes t f ks     the file of a bundle of t, with locale fallback or not
 use Rattle.std.specs.Prelude.{◌≡◌, ℕ, ◌+◌, ◌*◌, ◌≤◌, List, [], length, drop, Bool, false, None}
 use Rattle.std.specs.Prelude.{Contains}
@@ -13,7 +14,7 @@ use Rattle.resb_layout.specs.CompactKeys.{key_block_by}
 use Rattle.resb_layout.specs.TreeFaults.{tree_fault}
 use Rattle.resb_layout.specs.Written.{tail_start, BlocksBy, block_bytes}
 use Rattle.resb_layout.specs.WrittenHead.{IndexOf}
-use Rattle.resb_layout.specs.declared.packing.Packing.TheVariants.{Compact}
+use Rattle.resb_pool.specs.declared.packing.Packing.TheVariants.{Compact}
 
 -- a file that denotes the tree, with the bundle's index, whose bytes behind the index are just the
 -- blocks

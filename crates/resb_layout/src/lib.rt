@@ -5,6 +5,5 @@
 
 pub mod key_ends;
 pub mod laws;
-mod packing;
 
-pub use packing::Packing;
+pub use resb_pool::Packing;

@@ -12,6 +12,7 @@ use Rattle.resb_format.specs.Strings.{text_at}
 use Rattle.resb_format.specs.Lookups.{text_in, text_place_by}
 use Rattle.resb_format.specs.Parts.{Parts, Lent}
 use Rattle.resb_pool.specs.Plan.{IsPlan}
+use Rattle.resb_pool.specs.declared.packing.Packing.TheVariants.{Plain}
 use Rattle.resb_pool.proofs.IsRead.{pool_is_read}
 use Rattle.resb_pool.proofs.OnePool.{one_pool}
 use Rattle.resb_pool.proofs.ReadBack.{text_at-zero}
@@ -86,7 +87,7 @@ module _ (p : Parts) (l : Lent) (us rest : List ℕ) (lent : p.lent ≡ Some l)
     own_read s k e =
         let f : l.limit + k - l.limit ≡ k = omega arith in
         in_own (l.limit + k) (omega arith) ∙ ap (text_at (us ++ rest)) f
-        ∙ (pool_is_read T us offset plan s k e).1 rest
+        ∙ (pool_is_read Plain T us offset plan s k e).1 rest
 
     each_read : (S : List (List ℕ)) (os : List (Option ℕ)) (ks : List ℕ) → All IsUtf8 S
         → AreLent l.block S os → limit_of (given os) ≤ l.limit
@@ -140,7 +141,7 @@ pub one_plan_with : OnePlanWith
 one_plan_with block S us vs is js limit other short small x y =
     let found = one_found block S x.found y.found x.lent y.lent in
     let moved = subst (λ os. IsPlan (lacking S os) us x.offset) found x.plan in
-    let pool = one_pool (lacking S y.found) us vs x.offset y.offset moved y.plan in
+    let pool = one_pool Plain (lacking S y.found) us vs x.offset y.offset moved y.plan in
     let offsets = same_somes x.offsets y.offsets (sym x.offsets_are
     ∙ (λ k. map (pool.1 k) (lacking S (found k))) ∙ y.offsets_are) in
     let limits = x.limit_is ∙ ap (λ os. limit_of (given os)) found ∙ sym y.limit_is in (

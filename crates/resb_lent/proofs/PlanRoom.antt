@@ -16,6 +16,7 @@ use Rattle.std.proofs.lemmas.List.Elements.{Contains-append_right}
 use Rattle.std.proofs.lemmas.List.Sums.{sum_by-cons}
 use Rattle.resb_format.specs.Units.{units}
 use Rattle.resb_pool.specs.Plan.{IsPlan}
+use Rattle.resb_pool.specs.declared.packing.Packing.TheVariants.{Plain}
 use Rattle.resb_pool.proofs.IsRead.{pool_is_read}
 use Rattle.resb_lent.specs.LentTexts.{LentText, lent_empty, lent_within}
 use Rattle.resb_lent.specs.PlanWithPool.{IsPlanWith, AreLent, lent_none, lent_more, lacking, given}
@@ -132,7 +133,7 @@ own_within T us offset plan (t ∷ ts) (k ∷ ks) e =
     omega (
       arith,
       at_most k,
-      (pool_is_read T us offset plan t k f).0,
+      (pool_is_read Plain T us offset plan t k f).0,
       own_within T us offset plan ts ks g,
     )
 

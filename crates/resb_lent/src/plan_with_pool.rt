@@ -11,8 +11,8 @@ ghost use Rattle.resb_lent.specs.PlanWithPool.{AreLent, lacking as lacking_of, g
 ghost use Rattle.resb_lent.specs.PlanWithPool.{limit_of, short_limit_of, in_turn as in_turn_of};
 
 use crate::texts::LentTexts;
-use resb_pool::PlanError;
 use resb_pool::pool::plan_in_turn;
+use resb_pool::{Packing, PlanError};
 use std::alloc::{AllocError, Global};
 
 /// Indexes of strings have 28 bits.
@@ -212,7 +212,7 @@ impl PlanWithPool {
     {
         let found = answers(alloc, lent, strings)?;
         let own = lacking(alloc, strings, &found)?;
-        let (units, offsets) = plan_in_turn(alloc, own)?;
+        let (units, offsets) = plan_in_turn(alloc, Packing::Plain, own)?;
         let limit = lent_limit(&found);
         let own_limit = own_limit(&offsets);
         if limit + own_limit > INDEX_LIMIT {

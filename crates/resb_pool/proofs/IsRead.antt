@@ -11,26 +11,19 @@ use Rattle.resb_format.specs.Units.{units, marker, size, is_unmarked, length_mar
 use Rattle.resb_pool.specs.Records.{IsRecord}
 use Rattle.resb_pool.specs.Container.{IsContainer}
 use Rattle.resb_pool.specs.Pool.{record_units, ClosesAt, Off, off_empty, off_within}
-use Rattle.resb_pool.specs.Plan.{IsPlan}
-use Rattle.resb_pool.proofs.SuffixOrder.{extends_not_after}
-use Rattle.resb_pool.proofs.Cut.{ends_extends}
+use Rattle.resb_pool.specs.Plan.{IsPlanBy}
+use Rattle.resb_pool.specs.declared.packing.Packing.{Packing}
 use Rattle.resb_pool.proofs.Least.{units_end}
-use Rattle.resb_pool.proofs.Sharing.{one_container}
+use Rattle.resb_pool.proofs.Sharing.{one_container, own_container}
 use Rattle.resb_pool.proofs.InOrder.{length-records, texts_flat}
 use Rattle.resb_pool.proofs.ReadBack.{text_at-zero, text_at-found, text_at-marked}
 use Rattle.resb_pool.proofs.TextLists.{TextList}
 
--- a record is its own container
-own_container : (S : TextList) → All IsUtf8 S → (s r : List ℕ) → IsRecord S s → IsContainer S s r
-    → r ≡ s
-own_container S texts s r own c =
-    one_container S texts s r s c (record {
-      own = own;
-      ends = record { front = []; is = refl };
-      greatest = λ q x y. extends_not_after _ _
-          (ends_extends q s (All-contains IsUtf8 S q texts x.given)
-          (All-contains IsUtf8 S s texts own.given) y);
-    })
+-- a record lies in itself alone
+in_itself : (way : Packing) (S : TextList) → All IsUtf8 S → (s r : List ℕ) → IsRecord S s
+    → IsContainer way S s r → r ≡ s
+in_itself way S texts s r own c =
+    one_container way S texts s r s c (own_container way S texts s own)
 
 -- the units around a record
 around : (us : List ℕ) (Q : TextList) (before after : TextList) (r rest : List ℕ)
@@ -48,7 +41,8 @@ around us Q before after r rest u q =
     ∙ ap (λ l. marker r ++ l) (append_assoc (units r) (0 ∷ [])
     (flat_map record_units after ++ rest)))
 
-module _ (S : TextList) (us : List ℕ) (offset : List ℕ → Option ℕ) (p : IsPlan S us offset) where
+module _ (way : Packing) (S : TextList) (us : List ℕ) (offset : List ℕ → Option ℕ)
+    (p : IsPlanBy way S us offset) where
   inside : (r : List ℕ) (c : ℕ) → ClosesAt p.records r c → c < length us
   inside r c h =
       let n = ap length p.pool.units in
@@ -67,7 +61,7 @@ module _ (S : TextList) (us : List ℕ) (offset : List ℕ → Option ℕ) (p : 
       → length (0 ∷ flat_map record_units h.before) + (length (marker r) + length (units r)) ≡ c
   front_long r c h = omega (arith, length-records h.before, h.place)
 
-  read : (s : List ℕ) (k : ℕ) → Contains S s → Off S p.records s k → (k < length us)
+  read : (s : List ℕ) (k : ℕ) → Contains S s → Off way S p.records s k → (k < length us)
       × ((rest : List ℕ) → text_at (us ++ rest) k ≡ Some s)
   read _ _ c off_empty = (
     omega (arith, ap length p.pool.units),
@@ -85,7 +79,7 @@ module _ (S : TextList) (us : List ℕ) (offset : List ℕ → Option ℕ) (p : 
 
       at_mark : (rest : List ℕ) (b : Bool) → is_unmarked s ≡ b → text_at (us ++ rest) k ≡ Some s
       at_mark rest false m =
-          let same : r ≡ s = own_container S p.texts s r (record {
+          let same : r ≡ s = in_itself way S p.texts s r (record {
             given = c;
             nonempty =
                 l.nonempty;
@@ -138,11 +132,12 @@ module _ (S : TextList) (us : List ℕ) (offset : List ℕ → Option ℕ) (p : 
           ∙ text_at-found first s (behind rest) (All-contains IsUtf8 S s p.texts c) m
 
 -- each text of a pool is read at its offset, whatever follows the pool
-pub pool_is_read : (S : TextList) (us : List ℕ) (offset : List ℕ → Option ℕ) → IsPlan S us offset
+pub pool_is_read : (way : Packing) (S : TextList) (us : List ℕ) (offset : List ℕ → Option ℕ)
+    → IsPlanBy way S us offset
     → (s : List ℕ) (k : ℕ) → offset s ≡ Some k
     → (k < length us) × ((rest : List ℕ) → text_at (us ++ rest) k ≡ Some s)
-pool_is_read S us offset p s k e =
-    let h : Contains S s × Off S p.records s k =
-    subst (λ o. MatchOption o (Contains S s → ⊥) (λ n. Contains S s × Off S p.records s n)) e
+pool_is_read way S us offset p s k e =
+    let h : Contains S s × Off way S p.records s k =
+    subst (λ o. MatchOption o (Contains S s → ⊥) (λ n. Contains S s × Off way S p.records s n)) e
     (p.offsets s) in
-    read S us offset p s k h.0 h.1
+    read way S us offset p s k h.0 h.1

@@ -29,6 +29,7 @@ mod EndDigits
 mod FewDigits
 mod FrontBytes
 mod SuffixRuns
+mod TopRuns
 mod Numbers
 mod Lists
 mod HashRuns

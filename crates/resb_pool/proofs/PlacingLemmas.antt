@@ -10,9 +10,11 @@ use Rattle.std.specs.Str.{bytes_eq}
 use Rattle.std.proofs.lemmas.List.Elements.{Contains-append_left, Contains-push}
 use Rattle.std.proofs.lemmas.List.Elements.{Contains-push_cases}
 use Rattle.resb_pool.specs.Records.{IsRecord, IsRecords}
-use Rattle.resb_pool.specs.Container.{IsContainer}
+use Rattle.resb_pool.specs.Container.{IsContainer, IsTop, MayHold}
+use Rattle.resb_pool.specs.declared.packing.Packing.{Packing}
+use Rattle.resb_pool.specs.declared.packing.Packing.TheVariants.{Plain, Compact}
 use Rattle.resb_pool.specs.Inner.Placing.{indexed_text, LiesAt, AreRecordsAmong}
-use Rattle.resb_pool.specs.Inner.Placing.{AreContainers}
+use Rattle.resb_pool.specs.Inner.Placing.{AreContainers, AreHidden}
 use Rattle.std.proofs.lemmas.Bool.{cases_lt}
 use Rattle.std.proofs.lemmas.List.{get_or_default}
 use Rattle.resb_pool.proofs.Distinct.{distinct_push}
@@ -34,12 +36,35 @@ module _ (T S : TextList) (e : (s : List ℕ) → Contains T s ↔ Contains S s)
     alone = elim h.alone [ inl m ↦ inl m | inr only ↦ inr (λ t c. only t ((e t).0 c)) ];
   }
 
-  pub container_from : (s r : List ℕ) → IsContainer T s r → IsContainer S s r
-  container_from s r h = record {
+  pub top_from : (s : List ℕ) → IsTop T s → IsTop S s
+  top_from s h = record {
+    given = (e s).0 h.given;
+    nonempty = h.nonempty;
+    alone = λ t c. h.alone t ((e t).1 c);
+  }
+
+  pub top_to : (s : List ℕ) → IsTop S s → IsTop T s
+  top_to s h = record {
+    given = (e s).1 h.given;
+    nonempty = h.nonempty;
+    alone = λ t c. h.alone t ((e t).0 c);
+  }
+
+  holds_from : (way : Packing) (s r : List ℕ) → MayHold way T s r → MayHold way S s r
+  holds_from Plain s r h = tt
+  holds_from Compact s r h = elim h [ inl same ↦ inl same | inr top ↦ inr (top_from r top) ]
+
+  holds_to : (way : Packing) (s r : List ℕ) → MayHold way S s r → MayHold way T s r
+  holds_to Plain s r h = tt
+  holds_to Compact s r h = elim h [ inl same ↦ inl same | inr top ↦ inr (top_to r top) ]
+
+  pub container_from : (way : Packing) (s r : List ℕ) → IsContainer way T s r
+      → IsContainer way S s r
+  container_from way s r h = record {
     own = record_from r h.own;
     ends = h.ends;
-    greatest =
-        λ q x. h.greatest q (record_to q x);
+    holds = holds_from way s r h.holds;
+    greatest = λ q x y z. h.greatest q (record_to q x) y (holds_to way s q z);
   }
 
   pub records_from : (rs : TextList) → IsRecords T rs → IsRecords S rs
@@ -102,10 +127,10 @@ pub at_empty : {V H : Type 0} (m : HashMap (Bor (List ℕ)) V H) (q : List ℕ) 
 at_empty m q e = ap (lookup (λ k. bytes_eq q k.now)) e
 
 -- a text that isn't empty and lies in itself is a record
-pub lies_in_itself : (T : TextList) (i r : ℕ) → LiesAt T i r → r ≡ i
+pub lies_in_itself : (way : Packing) (T : TextList) (i r : ℕ) → LiesAt way T i r → r ≡ i
     → (length (indexed_text T i) ≡ 0 → ⊥)
     → IsRecord T (indexed_text T i)
-lies_in_itself T i r at e full =
+lies_in_itself way T i r at e full =
     let pos : 0 < length (indexed_text T i) = elim (cases_lt 0 (length (indexed_text T i))) [
       | inl p ↦ p
       | inr z ↦
@@ -114,9 +139,15 @@ lies_in_itself T i r at e full =
     subst (λ n. IsRecord T (indexed_text T n)) e (at.container pos).own
 
 -- each text lies in one of them
-pub within_texts : (T : TextList) (hs : List ℕ) → AreContainers T hs
+pub within_texts : (way : Packing) (T : TextList) (hs : List ℕ) → AreContainers way T hs
     → All (λ h. h < length hs) hs
-within_texts T hs c i d l =
+within_texts way T hs c i d l =
     let m : i < length T = omega (arith, l, c.len) in
     let w = (c.lies i m).within in
     omega (arith, get_or_default hs i 0 d l, w, c.len)
+
+-- and each hidden one is one of them
+pub hidden_within : (way : Packing) (T : TextList) (hs hidden : List ℕ) → AreContainers way T hs
+    → AreHidden way T hidden → All (λ h. h < length hs) hidden
+hidden_within Plain T hs hidden c e i d l = absurd (omega (arith, l, ap length e))
+hidden_within Compact T hs hidden c all i d l = omega (arith, all.within i d l, c.len)

@@ -21,25 +21,31 @@ use Rattle.resb_pool.specs.Container.{IsContainer}
 use Rattle.resb_pool.specs.Pool.{LiesIn, SizeIn, Saved, Precedes, record_units, ClosesAt, Off}
 use Rattle.resb_pool.specs.Pool.{IsPool}
 use Rattle.resb_pool.specs.Pool.{off_empty, off_within}
-use Rattle.resb_pool.specs.Plan.{nows, texts_size, IsPlan}
+use Rattle.resb_pool.specs.Plan.{nows, texts_size, IsPlanBy}
 use Rattle.resb_pool.specs.Inner.Placing.{indexed_text, copies, AreTexts, AreContainers, AreSums}
-use Rattle.resb_pool.specs.Inner.Placing.{lying_in}
+use Rattle.resb_pool.specs.Inner.Placing.{lying_in, AreHidden}
 use Rattle.resb_pool.specs.Inner.Placing.{IsRecordOf, AreEnds, record_text, record_texts}
 use Rattle.resb_pool.specs.Inner.Placing.{record_cmp, AllClose, AreOffsets}
-use Rattle.resb_pool.specs.Inner.LaidRecords.{AreLyingIn}
+use Rattle.resb_pool.specs.Inner.LaidRecords.{AreCounted}
 use Rattle.resb_pool.specs.declared.measure.Measure.{Measure}
+use Rattle.resb_pool.specs.declared.packing.Packing.{Packing}
+use Rattle.resb_pool.specs.declared.packing.Packing.TheVariants.{Plain, Compact}
 use Rattle.resb_pool.specs.declared.records.Record.{Record}
 use Rattle.resb_pool.proofs.Least.{into_least}
 use Rattle.resb_pool.proofs.Distinct.{has_text, index_of, one_index}
 use Rattle.resb_pool.proofs.Sizes.{sizes_within}
 use Rattle.resb_pool.proofs.Sums.{sized, totals_of, copies_of_all}
 use Rattle.resb_pool.proofs.PlacingLemmas.{record_from, container_from, records_from}
+use Rattle.resb_pool.proofs.PlacingLemmas.{top_from, top_to}
 use Rattle.resb_pool.proofs.Sharing.{own_size, size_within}
 use Rattle.resb_pool.proofs.InOrder.{length-records, neighbours_differ, in_order}
 use Rattle.resb_pool.proofs.TextLists.{TextList}
 
 no_record : Record
 no_record = record { unit_count = 0; saved = 0; front = 0; next = 0; index = 0 }
+
+no_measure : Measure
+no_measure = record { unit_count = 0; size = 0; total = 0 }
 
 size_nil : size [] ≡ 1
 size_nil =
@@ -60,9 +66,9 @@ texts_few S T ms given small =
     (λ q c. (q, (given.same q).0 c, refl, omega arith)) in
     omega (arith, each_sized T, within, sizes_within S, small)
 
-module _ (S T : TextList) (ms : List Measure) (given : AreTexts S T ms)
+module _ (way : Packing) (S T : TextList) (ms : List Measure) (given : AreTexts S T ms)
     (small : texts_size S < 2 ^ 28)
-    (hs : List ℕ) (placed : AreContainers T hs)
+    (hs : List ℕ) (placed : AreContainers way T hs)
   where
     abbrev back : (s : List ℕ) → Contains S s ↔ Contains T s
     back s = ((given.same s).1, (given.same s).0)
@@ -87,32 +93,83 @@ module _ (S T : TextList) (ms : List Measure) (given : AreTexts S T ms)
     )
 
     record_in : (q : ℕ) → q < length T → IsRecord T (indexed_text T q)
-        → SizeIn S (indexed_text T q) S (lying_in hs ms q)
+        → SizeIn way S (indexed_text T q) S (lying_in hs ms q)
     record_in q l r =
-        sized S T given.utf8 given.once given.same hs placed ms given.len total_is q l r
+        sized way S T given.utf8 given.once given.same hs placed ms given.len total_is q l r
 
     -- a record lies in itself
     own_container : (q : ℕ) → q < length T → IsRecord T (indexed_text T q)
-        → IsContainer S (indexed_text T q) (indexed_text T q)
+        → IsContainer way S (indexed_text T q) (indexed_text T q)
     own_container q l r =
         let at = placed.lies q l in
-        container_from T S given.same (indexed_text T q) (indexed_text T q)
-        (subst (λ n. IsContainer T (indexed_text T q) (indexed_text T n)) (at.itself r)
+        container_from T S given.same way (indexed_text T q) (indexed_text T q)
+        (subst (λ n. IsContainer way T (indexed_text T q) (indexed_text T n)) (at.itself r)
         (at.container r.nonempty))
 
-    module _ (sums : List ℕ) (lying : AreLyingIn hs ms sums) where
+    module _ (hidden : List ℕ) (hidden_are : AreHidden way T hidden) (sums : List ℕ)
+        (lying : AreCounted hidden hs ms sums) where
+      in_counted : (q : ℕ) → q < length T → q < length hs
+      in_counted q l = omega (arith, l, placed.len)
+
+      -- a record that is hidden counts its own size
+      counts_itself : (q : ℕ) → q < length T → Contains hidden q
+          → get_or sums q 0 ≡ size (indexed_text T q)
+      counts_itself q l c =
+          lying.hidden q no_measure (in_counted q l) c ∙ size_is q no_measure l
+
+      -- what a record saves, where so much is counted for it
+      saved_by : (n q : ℕ) → q < length T → IsRecord T (indexed_text T q)
+          → n + size (indexed_text T q) ≡ get_or sums q 0
+          → Saved way S (indexed_text T q) n
+      saved_by n q l r e = by way hidden_are (record_in q l r)
+        where
+          by : (w : Packing) → AreHidden w T hidden
+              → SizeIn w S (indexed_text T q) S (lying_in hs ms q)
+              → Saved w S (indexed_text T q) n
+          by Plain none s = subst (SizeIn Plain S (indexed_text T q) S)
+              (sym (lying.each q (in_counted q l)
+              (λ c. omega (arith, c.1, ap length none))) ∙ sym e) s
+          by Compact all s = elim (all.each q l r) [
+            | inl top ↦
+                inl (
+                  top_from T S given.same (indexed_text T q) top.0,
+                  subst (SizeIn Compact S (indexed_text T q) S)
+                      (sym (lying.each q (in_counted q l) top.1) ∙ sym e) s,
+                )
+            | inr h ↦
+                inr (
+                  λ t. h.0 (top_to T S given.same (indexed_text T q) t),
+                  omega (arith, e, counts_itself q l h.1),
+                )
+          ]
+
+      -- the size of a record is counted
+      counts_own : (q : ℕ) → q < length T → IsRecord T (indexed_text T q)
+          → size (indexed_text T q) ≤ get_or sums q 0
+      counts_own q l r = by way hidden_are
+        where
+          shared : (Contains hidden q → ⊥) → size (indexed_text T q) ≤ get_or sums q 0
+          shared none =
+              let c = own_container q l r in
+              let o = own_size way S (indexed_text T q)
+              (record { nonempty = r.nonempty; container = c }) S
+              (lying_in hs ms q) (record_in q l r) c.own.given in
+              omega (arith, o, lying.each q (in_counted q l) none)
+
+          by : (w : Packing) → AreHidden w T hidden → size (indexed_text T q) ≤ get_or sums q 0
+          by Plain none = shared (λ c. omega (arith, c.1, ap length none))
+          by Compact all = elim (all.each q l r) [
+            | inl top ↦ shared top.1
+            | inr h ↦ omega (arith, counts_itself q l h.1)
+          ]
+
       pub sums_are : AreSums T ms sums
       sums_are = record {
         measured = given.len;
         len = lying.len ∙ placed.len;
         units_is = λ i d l. (given.measured i d l).units_is;
         size_is = size_is;
-        own = λ q l r.
-            let c = own_container q l r in
-            let o = own_size S (indexed_text T q)
-            (record { nonempty = r.nonempty; container = c }) S
-            (lying_in hs ms q) (record_in q l r) c.own.given in
-            omega (arith, o, lying.each q (omega (arith, l, placed.len)));
+        own = counts_own;
       }
 
       module _ (v : List Record) (records : IsRecords T (record_texts T v))
@@ -139,17 +196,15 @@ module _ (S T : TextList) (ms : List Measure) (given : AreTexts S T ms)
         )
 
         pub saved_at : (i : ℕ) (d : Record) → i < length v
-            → Saved S (record_text T (get_or v i d)) (get_or v i d).saved
+            → Saved way S (record_text T (get_or v i d)) (get_or v i d).saved
         saved_at i d l =
             let r = get_or v i d in
             let e = each i d l in
-            subst (SizeIn S (record_text T r) S)
-            (sym (lying.each r.index (omega (arith, e.within, placed.len))) ∙ sym e.saved_is)
-            (record_in r.index e.within (is_record i d l))
+            saved_by r.saved r.index e.within (is_record i d l) e.saved_is
 
         -- each record stands before the next
         precedes : IsSorted (record_cmp T) v → (k : ℕ) → k + 1 < length (record_texts T v)
-            → Precedes S (get_or (record_texts T v) k []) (get_or (record_texts T v) (k + 1) [])
+            → Precedes way S (get_or (record_texts T v) k []) (get_or (record_texts T v) (k + 1) [])
         precedes sorted k lt =
             let Q = record_texts T v in
             let n = length-map v (record_text T) in
@@ -163,16 +218,16 @@ module _ (S T : TextList) (ms : List Measure) (given : AreTexts S T ms)
             let ne : record_text T x ≡ record_text T y
             → ⊥ = λ q. neighbours_differ Q k records.once (omega arith) (here ∙ q
             ∙ sym there ∙ ap (λ i. get_or Q i []) (sym next)) in
-            subst (λ z. Precedes S z (get_or Q (k + 1) [])) (sym here)
-            (subst (Precedes S (record_text T x)) (sym there)
-            (in_order S T x y (each k no_record a).units_is
+            subst (λ z. Precedes way S z (get_or Q (k + 1) [])) (sym here)
+            (subst (Precedes way S (record_text T x)) (sym there)
+            (in_order way S T x y (each k no_record a).units_is
             (each (k + 1) no_record b).units_is
             (saved_at k no_record a) (saved_at (k + 1) no_record b)
             (sorted k no_record (omega arith) b) ne))
 
         pub pool_is : IsSorted (record_cmp T) v → (us : List ℕ)
             → us ≡ 0 ∷ flat_map record_units (record_texts T v)
-            → IsPool S (record_texts T v) us
+            → IsPool way S (record_texts T v) us
         pool_is sorted us u = record {
           records = in_given;
           ordered = λ k lt. precedes sorted k lt;
@@ -215,16 +270,16 @@ module _ (S T : TextList) (ms : List Measure) (given : AreTexts S T ms)
 
           -- where the record of a text closes
           record_end : (i : ℕ) → i < length T → 0 < length (indexed_text T i)
-              → LiesIn S (indexed_text T i) (indexed_text T (get_or hs i 0))
+              → LiesIn way S (indexed_text T i) (indexed_text T (get_or hs i 0))
               × ClosesAt (record_texts T v) (indexed_text T (get_or hs i 0))
               (get_or es (get_or hs i 0) 0)
               × (size (indexed_text T i) ≤ size (indexed_text T (get_or hs i 0)))
           record_end i l pos =
               let at = placed.lies i l in
               let c = at.container pos in
-              let own = container_from T S given.same (indexed_text T i)
+              let own = container_from T S given.same way (indexed_text T i)
               (indexed_text T (get_or hs i 0)) c in
-              let w = size_within S given.utf8 (indexed_text T i)
+              let w = size_within way S given.utf8 (indexed_text T i)
               (indexed_text T (get_or hs i 0))
               ((given.same (indexed_text T i)).0 (has_text T i l)) own
               (λ r. ap (indexed_text T) (at.itself
@@ -271,7 +326,7 @@ module _ (S T : TextList) (ms : List Measure) (given : AreTexts S T ms)
 
           module _ (os : List ℕ) (offsets : AreOffsets hs ms es os) where
             stands : (i : ℕ) → i < length T
-                → Off S (record_texts T v) (indexed_text T i) (get_or os i 0)
+                → Off way S (record_texts T v) (indexed_text T i) (get_or os i 0)
             stands i l =
                 let d : Measure = record { unit_count = 0; size = 0; total = 0 } in
                 let o = offsets.each i d (omega (arith, l, placed.len)) in
@@ -285,8 +340,8 @@ module _ (S T : TextList) (ms : List Measure) (given : AreTexts S T ms)
                   | inr z ↦
                       let e = empty_end i l (omega (arith, z)) in
                       let k : get_or os i 0 ≡ 0 = omega (arith, o, size_is i d l, e.0, e.1) in
-                      subst (Off S (record_texts T v) (indexed_text T i)) (sym k)
-                      (subst (λ s. Off S (record_texts T v) s 0)
+                      subst (Off way S (record_texts T v) (indexed_text T i)) (sym k)
+                      (subst (λ s. Off way S (record_texts T v) s 0)
                       (sym (nil_from_length (indexed_text T i) (omega (arith, z)))) off_empty)
                 ]
 
@@ -295,7 +350,7 @@ module _ (S T : TextList) (ms : List Measure) (given : AreTexts S T ms)
                 → us ≡ 0 ∷ flat_map record_units (record_texts T v)
                 → ((s : List ℕ) → MatchOption (offset s) (Contains T s → ⊥) (λ k. (i : ℕ)
                 × (i < length T) × (indexed_text T i ≡ s) × (k ≡ get_or os i 0)))
-                → IsPlan S us offset
+                → IsPlanBy way S us offset
             planned sorted short us offset u f = record {
               texts = given.utf8;
               short = short;
@@ -308,12 +363,13 @@ module _ (S T : TextList) (ms : List Measure) (given : AreTexts S T ms)
                 by : (s : List ℕ) (o : Option ℕ) → MatchOption o (Contains T s → ⊥) (λ k. (i : ℕ)
                     × (i < length T) × (indexed_text T i ≡ s) × (k ≡ get_or os i 0))
                     → MatchOption o (Contains S s → ⊥) (λ k. Contains S s
-                    × Off S (record_texts T v) s k)
+                    × Off way S (record_texts T v) s k)
                 by s None h = λ c. h ((given.same s).1 c)
                 by s (Some k) (i, l, e, q) = (
                   (given.same s).0 (subst (Contains T) e (has_text T i l)),
-                  subst (λ z. Off S (record_texts T v) z k) e
-                      (subst (Off S (record_texts T v) (indexed_text T i)) (sym q) (stands i l)),
+                  subst (λ z. Off way S (record_texts T v) z k) e
+                      (subst (Off way S (record_texts T v) (indexed_text T i)) (sym q)
+                      (stands i l)),
                 )
 
 -- the place of a text among keys

@@ -14,6 +14,7 @@ use Rattle.resb_pool.specs.Shared.{AreWorth, worth_none, worth_kept, worth_left,
 use Rattle.resb_pool.specs.Inner.Placing.{AreTexts, IsRecordOf, record_text, record_texts}
 use Rattle.resb_pool.specs.Inner.Ranked.{AreRanked, saving}
 use Rattle.resb_pool.specs.declared.measure.Measure.{Measure}
+use Rattle.resb_pool.specs.declared.packing.Packing.TheVariants.{Plain}
 use Rattle.resb_pool.specs.declared.records.Record.{Record}
 use Rattle.resb_pool.proofs.InOrder.{length-records}
 use Rattle.resb_pool.proofs.PlanLemmas.{in_given, laid_small, saved_at, pool_is}
@@ -22,7 +23,7 @@ use Rattle.resb_pool.proofs.TextLists.{TextList}
 -- the rows that save enough are the records that do
 worth_of : (S T : TextList) (least : ℕ) (v : List Record)
     → ((k : ℕ) (d : Record) → k < length v
-    → Saved S (record_text T (get_or v k d)) (get_or v k d).saved)
+    → Saved Plain S (record_text T (get_or v k d)) (get_or v k d).saved)
     → AreWorth S least (record_texts T v) (record_texts T (saving least v))
 worth_of S T least [] h = worth_none
 worth_of S T least (r ∷ v) h =
@@ -57,7 +58,8 @@ module _ (S T : TextList) (ms : List Measure) (given : AreTexts S T ms)
     (small : texts_size S < 2 ^ 28) (v : List Record) (ranked : AreRanked T ms v) where
   pub records_of : IsRecords S (record_texts T v)
   records_of =
-      in_given S T ms given small ranked.containers ranked.containers_are ranked.sums ranked.lying v
+      in_given Plain S T ms given small ranked.containers ranked.containers_are ranked.hidden
+      ranked.hidden_are ranked.sums ranked.lying v
       ranked.records ranked.each
 
   module _ (least : ℕ) where
@@ -68,8 +70,8 @@ module _ (S T : TextList) (ms : List Measure) (given : AreTexts S T ms)
     kept_small = omega (
       arith,
       saving_within T least v,
-      laid_small S T ms given small ranked.containers ranked.containers_are ranked.sums
-          ranked.lying v ranked.records ranked.each,
+      laid_small Plain S T ms given small ranked.containers ranked.containers_are ranked.hidden
+          ranked.hidden_are ranked.sums ranked.lying v ranked.records ranked.each,
     )
 
     pub shared_pool : (us : List ℕ)
@@ -79,12 +81,13 @@ module _ (S T : TextList) (ms : List Measure) (given : AreTexts S T ms)
       records = record_texts T v;
       kept = record_texts T (saving least v);
       pool =
-          pool_is S T ms given small ranked.containers ranked.containers_are ranked.sums
-          ranked.lying v ranked.records ranked.each ranked.ascend
+          pool_is Plain S T ms given small ranked.containers ranked.containers_are ranked.hidden
+          ranked.hidden_are ranked.sums ranked.lying v ranked.records ranked.each ranked.ascend
           (0 ∷ flat_map record_units (record_texts T v)) refl;
       worth =
-          worth_of S T least v (saved_at S T ms given small ranked.containers
-          ranked.containers_are ranked.sums ranked.lying v ranked.records ranked.each);
+          worth_of S T least v (saved_at Plain S T ms given small ranked.containers
+          ranked.containers_are ranked.hidden ranked.hidden_are ranked.sums ranked.lying v
+          ranked.records ranked.each);
       units = e;
       room = omega (
         arith,

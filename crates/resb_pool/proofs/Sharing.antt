@@ -9,44 +9,62 @@ use Rattle.std.specs.declared.cmp.Ordering.TheVariants.{Less, Equal, Greater}
 use Rattle.std.proofs.lemmas.List.Elements.{All-contains}
 use Rattle.resb_format.specs.Units.{units, is_unmarked, marker, size, length_marker}
 use Rattle.resb_pool.specs.Order.{suffix_cmp}
-use Rattle.resb_pool.specs.Container.{IsContainer}
+use Rattle.resb_pool.specs.Container.{IsContainer, MayHold}
+use Rattle.resb_pool.specs.declared.packing.Packing.{Packing}
+use Rattle.resb_pool.specs.declared.packing.Packing.TheVariants.{Plain, Compact}
 use Rattle.resb_pool.specs.Pool.{LiesIn, SizeIn, size_none, size_here, size_elsewhere}
 use Rattle.resb_pool.specs.Records.{IsRecord}
-use Rattle.resb_pool.proofs.SuffixOrder.{end_last_total, tied_same}
-use Rattle.resb_pool.proofs.Cut.{key_same}
+use Rattle.resb_pool.proofs.SuffixOrder.{end_last_total, tied_same, extends_not_after}
+use Rattle.resb_pool.proofs.Cut.{key_same, ends_extends}
 use Rattle.resb_pool.proofs.Least.{units_end}
 use Rattle.resb_pool.proofs.TextLists.{TextList}
 use Rattle.resb_pool.proofs.Numbers.{size_le}
 
-module _ (S : TextList) (texts : All IsUtf8 S) where
-  pub one_container : (s r q : List ℕ) → IsContainer S s r → IsContainer S s q → r ≡ q
+module _ (way : Packing) (S : TextList) (texts : All IsUtf8 S) where
+  pub one_container : (s r q : List ℕ) → IsContainer way S s r → IsContainer way S s q → r ≡ q
   one_container s r q a b =
       key_same r q (All-contains IsUtf8 S r texts a.own.given)
       (All-contains IsUtf8 S q texts b.own.given) (by (suffix_cmp r q) refl)
     where
       by : (o : Ordering) → suffix_cmp r q ≡ o → reverse (chars r) ≡ reverse (chars q)
-      by Less e = absurd (a.greatest q b.own b.ends (end_last_total.antisymm (reverse (chars q))
-          (reverse (chars r)) ∙ ap ordering_reverse e))
+      by Less e = absurd (a.greatest q b.own b.ends b.holds
+          (end_last_total.antisymm (reverse (chars q)) (reverse (chars r)) ∙ ap ordering_reverse e))
       by Equal e = tied_same (reverse (chars r)) (reverse (chars q)) e
-      by Greater e = absurd (b.greatest r a.own a.ends e)
+      by Greater e = absurd (b.greatest r a.own a.ends a.holds e)
+
+-- a record is its own container
+pub own_container : (way : Packing) (S : TextList) → All IsUtf8 S → (s : List ℕ) → IsRecord S s
+    → IsContainer way S s s
+own_container way S texts s own = record {
+  own = own;
+  ends = record { front = []; is = refl };
+  holds = by way;
+  greatest = λ q x y z. extends_not_after _ _
+      (ends_extends q s (All-contains IsUtf8 S q texts x.given)
+      (All-contains IsUtf8 S s texts own.given) y);
+}
+  where
+    by : (w : Packing) → MayHold w S s s
+    by Plain = tt
+    by Compact = inl refl
 
 -- a record's own copy counts
-pub own_size : (S : TextList) (q : List ℕ) → LiesIn S q q → (ss : TextList) (n : ℕ)
-    → SizeIn S q ss n
+pub own_size : (way : Packing) (S : TextList) (q : List ℕ) → LiesIn way S q q
+    → (ss : TextList) (n : ℕ) → SizeIn way S q ss n
     → Contains ss q → size q ≤ n
-own_size S q l _ _ size_none c = absurd (omega (arith, c.1))
-own_size S q l _ _ (size_here {s = t} {ss} {n} k h) (zero, lt, is) = omega (arith, ap size is)
-own_size S q l _ _ (size_here {s = t} {ss} {n} k h) (suc j, lt, is) =
-    omega (arith, own_size S q l ss n h (j, omega arith, is))
-own_size S q l _ _ (size_elsewhere {s = t} {ss} {n} k h) (zero, lt, is) =
-    absurd (k (subst (λ z. LiesIn S z q) (sym is) l))
-own_size S q l _ _ (size_elsewhere {s = t} {ss} {n} k h) (suc j, lt, is) =
-    own_size S q l ss n h (j, omega arith, is)
+own_size way S q l _ _ size_none c = absurd (omega (arith, c.1))
+own_size way S q l _ _ (size_here {s = t} {ss} {n} k h) (zero, lt, is) = omega (arith, ap size is)
+own_size way S q l _ _ (size_here {s = t} {ss} {n} k h) (suc j, lt, is) =
+    omega (arith, own_size way S q l ss n h (j, omega arith, is))
+own_size way S q l _ _ (size_elsewhere {s = t} {ss} {n} k h) (zero, lt, is) =
+    absurd (k (subst (λ z. LiesIn way S z q) (sym is) l))
+own_size way S q l _ _ (size_elsewhere {s = t} {ss} {n} k h) (suc j, lt, is) =
+    own_size way S q l ss n h (j, omega arith, is)
 
 -- a text takes no more than the record in which it lies
-pub size_within : (S : TextList) → All IsUtf8 S → (s r : List ℕ) → Contains S s → IsContainer S s r
-    → (IsRecord S s → r ≡ s) → 0 < length s → size s ≤ size r
-size_within S texts s r c k itself pos = by (is_unmarked s) refl
+pub size_within : (way : Packing) (S : TextList) → All IsUtf8 S → (s r : List ℕ) → Contains S s
+    → IsContainer way S s r → (IsRecord S s → r ≡ s) → 0 < length s → size s ≤ size r
+size_within way S texts s r c k itself pos = by (is_unmarked s) refl
   where
     by : (b : Bool) → is_unmarked s ≡ b → size s ≤ size r
     by true e =

@@ -13,7 +13,7 @@ use Rattle.std.proofs.lemmas.List.Elements.{All-contains}
 use Rattle.std.proofs.lemmas.List.MinMax.{ranks_by}
 use Rattle.std.proofs.lemmas.List.Sorted.{Contains-permutation, length_permutation, sorted_far}
 use Rattle.resb_format.specs.Units.{is_unmarked}
-use Rattle.resb_pool.specs.Order.{end_last_cmp}
+use Rattle.resb_pool.specs.Order.{end_last_cmp, suffix_cmp}
 use Rattle.resb_pool.specs.Records.{EachOnce, EndsWith, IsRecord}
 use Rattle.resb_pool.specs.Container.{IsContainer}
 use Rattle.resb_pool.specs.Inner.Cuts.{chars_backwards}
@@ -22,9 +22,12 @@ use Rattle.resb_pool.specs.Inner.Placing.{indexed_text, LiesAt}
 use Rattle.resb_pool.specs.Inner.Suffixes.{AreInOrder, IsSharedEnd, row_text, row_texts}
 use Rattle.resb_pool.specs.Inner.Suffixes.{row_cmp}
 use Rattle.resb_pool.specs.declared.suffix_order.Row.{Row}
+use Rattle.resb_pool.specs.declared.packing.Packing.{Packing}
+use Rattle.resb_pool.specs.declared.packing.Packing.TheVariants.{Plain}
 use Rattle.resb_pool.proofs.Cut.{key_same, ends_extends, extends_ends}
 use Rattle.resb_pool.proofs.Distinct.{has_text, index_of, one_index}
 use Rattle.resb_pool.proofs.InOrder.{distinct_permutation}
+use Rattle.resb_pool.proofs.Sharing.{own_container}
 use Rattle.resb_pool.proofs.SuffixOrder.{end_last_total, tied_same, extends_not_after, between}
 use Rattle.resb_pool.proofs.TextLists.{TextList}
 
@@ -48,7 +51,7 @@ two_texts P t s u v less same more = by (end_last_cmp (chars_backwards t) (chars
     by Equal e = same (key_same t s u v (tied_same (chars_backwards t) (chars_backwards s) e))
     by Greater e = more (turned (chars_backwards t) (chars_backwards s) Greater e)
 
-ends_trans : (t s r : List ℕ) → EndsWith t s → EndsWith s r → EndsWith t r
+pub ends_trans : (t s r : List ℕ) → EndsWith t s → EndsWith s r → EndsWith t r
 ends_trans t s r h k = record {
   front = h.front ++ k.front;
   is = h.is ∙ ap (λ l. h.front ++ l) k.is
@@ -66,10 +69,10 @@ module _ (T : TextList) (utf8 : All IsUtf8 T) (once : EachOnce T) (rows : List R
   text_at : (j : ℕ) (d : Row) → j < length rows → indexed_text (row_texts T rows) j ≡ at j d
   text_at j d l = get_or-map (row_text T) rows j d _ l
 
-  in_texts : (j : ℕ) (d : Row) → j < length rows → Contains T (at j d)
+  pub in_texts : (j : ℕ) (d : Row) → j < length rows → Contains T (at j d)
   in_texts j d l = has_text T (get_or rows j d).index (o.each j d l).within
 
-  is_utf8 : (j : ℕ) (d : Row) → j < length rows → IsUtf8 (at j d)
+  pub is_utf8 : (j : ℕ) (d : Row) → j < length rows → IsUtf8 (at j d)
   is_utf8 j d l = All-contains IsUtf8 T (at j d) utf8 (in_texts j d l)
 
   -- each text has a row
@@ -80,7 +83,7 @@ module _ (T : TextList) (utf8 : All IsUtf8 T) (once : EachOnce T) (rows : List R
       (p.0, l, sym (text_at p.0 d l) ∙ p.2)
 
   -- and one alone
-  one_place : (j k : ℕ) (d : Row) → j < length rows → k < length rows → at j d ≡ at k d → j ≡ k
+  pub one_place : (j k : ℕ) (d : Row) → j < length rows → k < length rows → at j d ≡ at k d → j ≡ k
   one_place j k d l m e =
       let n = length-map rows (row_text T) in
       one_index (row_texts T rows) j k (distinct_permutation T (row_texts T rows) o.all once)
@@ -141,7 +144,7 @@ module _ (T : TextList) (utf8 : All IsUtf8 T) (once : EachOnce T) (rows : List R
       (turned (chars_backwards (at (k + 1) d)) (chars_backwards (at k d)) Less b)))
 
   -- where the text right before it doesn't end with a text, no other one does
-  none_ends : (j : ℕ) (d : Row) → j < length rows
+  pub none_ends : (j : ℕ) (d : Row) → j < length rows
       → ((k : ℕ) → j ≡ k + 1 → EndsWith (at k d) (at j d) → ⊥)
       → (t : List ℕ) → Contains T t → EndsWith t (at j d) → t ≡ at j d
   none_ends j d l none t h e =
@@ -172,18 +175,51 @@ module _ (T : TextList) (utf8 : All IsUtf8 T) (once : EachOnce T) (rows : List R
               (right_before k d n)) x in
               none k f (extends_ends (at k d) (at j d) (is_utf8 k d lk) (is_utf8 j d l) y)
 
+  -- a record lies in itself, and so does the empty text
+  pub lies_itself : (way : Packing) (j : ℕ) (d : Row) → j < length rows
+      → (0 < length (at j d) → IsRecord T (at j d))
+      → LiesAt way T (get_or rows j d).index (get_or rows j d).index
+  lies_itself way j d l own = record {
+    within = (o.each j d l).within;
+    container = λ p. own_container way T utf8 (at j d) (own p);
+    itself = λ h. refl;
+    empty = λ z. refl;
+  }
+
+  -- of some texts, the greatest one that ends with the text right before s is the greatest one that
+  -- ends with s, if s isn't one of them and ends that text
+  pub still_greatest : (k : ℕ) (d : Row) → k + 1 < length rows
+      → (P : List ℕ → Type 0) → ((q : List ℕ) → P q → Contains T q) → (P (at (k + 1) d) → ⊥)
+      → (h : List ℕ) → P h → EndsWith h (at k d)
+      → ((q : List ℕ) → P q → EndsWith q (at k d) → suffix_cmp q h ≡ Greater → ⊥)
+      → (q : List ℕ) → P q → EndsWith q (at (k + 1) d) → suffix_cmp q h ≡ Greater → ⊥
+  still_greatest k d l P given none h ph hp greatest q x y g =
+      let p = at k d in
+      let s = at (k + 1) d in
+      let m : k < length rows = omega (arith, l) in
+      let u = All-contains IsUtf8 T q utf8 (given q x) in
+      let v = All-contains IsUtf8 T h utf8 (given h ph) in
+      let w = is_utf8 k d m in
+      let a : NotAfter (chars_backwards h) (chars_backwards q) =
+      (λ z. cc (turned (chars_backwards q) (chars_backwards h) Greater g, z)) in
+      let e = ends_extends h p v w hp in
+      two_texts ⊥ q s u (is_utf8 (k + 1) d l)
+      (λ b. two_texts ⊥ q p u w
+      (λ f. greatest q x (extends_ends q p u w
+      (between (chars_backwards h) (chars_backwards q) (chars_backwards p) a f e)) g)
+      (λ f. greatest q x (record { front = []; is = f }) g)
+      (λ f. not_after q k d l (given q x) b
+      (turned (chars_backwards p) (chars_backwards q) Less f)))
+      (λ f. none (subst P f x))
+      (λ b. extends_not_after (chars_backwards q) (chars_backwards s)
+      (ends_extends q s u (is_utf8 (k + 1) d l) y)
+      (turned (chars_backwards s) (chars_backwards q) Less b))
+
   -- a text that doesn't lie with the one right before it lies in itself
   pub lies_alone : (j : ℕ) (d : Row) → j < length rows
       → ((k : ℕ) → j ≡ k + 1 → IsSharedEnd (at k d) (at j d) → ⊥)
-      → LiesAt T (get_or rows j d).index (get_or rows j d).index
-  lies_alone j d l none =
-      let r = o.each j d l in
-      record {
-        within = r.within;
-        container = λ p. own_container (own_record p);
-        itself = λ h. refl;
-        empty = λ z. refl;
-      }
+      → LiesAt Plain T (get_or rows j d).index (get_or rows j d).index
+  lies_alone j d l none = lies_itself Plain j d l own_record
     where
       own_record : 0 < length (at j d) → IsRecord T (at j d)
       own_record p = by (is_unmarked (at j d)) refl
@@ -200,14 +236,6 @@ module _ (T : TextList) (utf8 : All IsUtf8 T) (once : EachOnce T) (rows : List R
             })));
           }
 
-      own_container : IsRecord T (at j d) → IsContainer T (at j d) (at j d)
-      own_container w = record {
-        own = w;
-        ends = record { front = []; is = refl };
-        greatest = λ q x y. extends_not_after (chars_backwards q) (chars_backwards (at j d))
-            (ends_extends q (at j d) (All-contains IsUtf8 T q utf8 x.given) (is_utf8 j d l) y);
-      }
-
   module _ (k : ℕ) (d : Row) (l : k + 1 < length rows)
       (shared : IsSharedEnd (at k d) (at (k + 1) d)) where
     abbrev p : List ℕ
@@ -219,37 +247,16 @@ module _ (T : TextList) (utf8 : All IsUtf8 T) (once : EachOnce T) (rows : List R
     abbrev m : k < length rows
     m = omega (arith, l)
 
-    no_record : IsRecord T s → ⊥
+    pub no_record : IsRecord T s → ⊥
     no_record h = elim h.alone [
       | inl e ↦ true≢false (sym shared.unmarked ∙ e)
       | inr only ↦ (let e = only p (in_texts k d m) shared.ends in
           omega (arith, one_place k (k + 1) d m l e))
     ]
 
-    -- a record that ends with s and stands after that of p ends with p
-    with_previous : (q h : List ℕ) → IsRecord T q → EndsWith q s → IsContainer T p h
-        → end_last_cmp (chars_backwards q) (chars_backwards h) ≡ Greater → ⊥
-    with_previous q h x y c g =
-        let u = All-contains IsUtf8 T q utf8 x.given in
-        let v = All-contains IsUtf8 T h utf8 c.own.given in
-        let w = is_utf8 k d m in
-        let a : NotAfter (chars_backwards h) (chars_backwards q) =
-        (λ z. cc (turned (chars_backwards q) (chars_backwards h) Greater g, z)) in
-        let e = ends_extends h p v w c.ends in
-        two_texts ⊥ q s u (is_utf8 (k + 1) d l)
-        (λ b. two_texts ⊥ q p u w
-        (λ f. c.greatest q x (extends_ends q p u w
-        (between (chars_backwards h) (chars_backwards q) (chars_backwards p) a f e)) g)
-        (λ f. c.greatest q x (record { front = []; is = f }) g)
-        (λ f. not_after q k d l x.given b (turned (chars_backwards p) (chars_backwards q) Less f)))
-        (λ f. no_record (subst (IsRecord T) f x))
-        (λ b. extends_not_after (chars_backwards q) (chars_backwards s)
-        (ends_extends q s u (is_utf8 (k + 1) d l) y)
-        (turned (chars_backwards s) (chars_backwards q) Less b))
-
     -- a text lies where the one right before it lies, which it ends
-    pub lies_shared : (h : ℕ) → LiesAt T (get_or rows k d).index h
-        → LiesAt T (get_or rows (k + 1) d).index h
+    pub lies_shared : (h : ℕ) → LiesAt Plain T (get_or rows k d).index h
+        → LiesAt Plain T (get_or rows (k + 1) d).index h
     lies_shared h lies =
         let pos : 0 < length p =
         omega (
@@ -258,13 +265,15 @@ module _ (T : TextList) (utf8 : All IsUtf8 T) (once : EachOnce T) (rows : List R
           ap length shared.ends.is,
           length-append shared.ends.front s,
         ) in
-        let c : IsContainer T p (indexed_text T h) = lies.container pos in
+        let c : IsContainer Plain T p (indexed_text T h) = lies.container pos in
         record {
           within = lies.within;
           container = λ z. record {
             own = c.own;
             ends = ends_trans (indexed_text T h) p s c.ends shared.ends;
-            greatest = λ q x y. with_previous q (indexed_text T h) x y c;
+            holds = tt;
+            greatest = λ q x y z. still_greatest k d l (IsRecord T) (λ t w. w.given) no_record
+                (indexed_text T h) c.own c.ends (λ t w f. c.greatest t w f tt) q x y;
           };
           itself = λ x. absurd (no_record x);
           empty = λ z. absurd (omega (arith, z, shared.nonempty));
@@ -273,16 +282,16 @@ module _ (T : TextList) (utf8 : All IsUtf8 T) (once : EachOnce T) (rows : List R
   -- p is the text right before row i, which lies in h
   pub record IsPrevious (i : ℕ) (d : Row) (p : List ℕ) (h : ℕ) : Type 0 where
     pub first : i ≡ 0 → p ≡ []
-    pub last : (k : ℕ) → i ≡ k + 1 → (p ≡ at k d) × LiesAt T (get_or rows k d).index h
+    pub last : (k : ℕ) → i ≡ k + 1 → (p ≡ at k d) × LiesAt Plain T (get_or rows k d).index h
 
   module _ (i : ℕ) (d : Row) (l : i < length rows) (p : List ℕ) (h : ℕ)
       (before : IsPrevious i d p h) where
     pub step_alone : (IsSharedEnd p (at i d) → ⊥)
-        → LiesAt T (get_or rows i d).index (get_or rows i d).index
+        → LiesAt Plain T (get_or rows i d).index (get_or rows i d).index
     step_alone none = lies_alone i d l (λ k e x. none (subst (λ z. IsSharedEnd z (at i d))
         (sym (before.last k e).0) x))
 
-    pub step_shared : IsSharedEnd p (at i d) → LiesAt T (get_or rows i d).index h
+    pub step_shared : IsSharedEnd p (at i d) → LiesAt Plain T (get_or rows i d).index h
     step_shared x = elim (cases_lt 0 i) [
       | inl m ↦
           let k = i - 1 in
@@ -291,7 +300,7 @@ module _ (T : TextList) (utf8 : All IsUtf8 T) (once : EachOnce T) (rows : List R
           let y : IsSharedEnd (at k d) (at (k + 1) d) =
           subst (λ z. IsSharedEnd (at k d) (at z d)) e
           (subst (λ z. IsSharedEnd z (at i d)) b.0 x) in
-          subst (λ z. LiesAt T (get_or rows z d).index h) (sym e)
+          subst (λ z. LiesAt Plain T (get_or rows z d).index h) (sym e)
           (lies_shared k d (omega (arith, e, l)) y h b.1)
       | inr m ↦
           let e : p ≡ [] = before.first (omega (arith, m)) in

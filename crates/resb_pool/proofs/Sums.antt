@@ -17,6 +17,7 @@ use Rattle.resb_pool.specs.Pool.{SizeIn, size_none, size_here, size_elsewhere}
 use Rattle.resb_pool.specs.Inner.Placing.{indexed_text, copies, AreContainers, LiesAt}
 use Rattle.resb_pool.specs.Inner.Placing.{lying_in}
 use Rattle.resb_pool.specs.declared.measure.Measure.{Measure}
+use Rattle.resb_pool.specs.declared.packing.Packing.{Packing}
 use Rattle.resb_pool.proofs.Distinct.{has_text, index_of, one_index}
 use Rattle.resb_pool.proofs.Sizes.{copy, copy_same, copy_other, copies-cons}
 use Rattle.resb_pool.proofs.PlacingLemmas.{container_from}
@@ -120,15 +121,15 @@ part_at q (h ∷ hs) (t ∷ T) s (suc j) e u l k =
       part_at q hs T s j (omega (arith, e)) u.1 (omega (arith, l)) k,
     )
 
-module _ (S T : TextList) (texts : All IsUtf8 S) (once : EachOnce T) (same : (s : List ℕ)
-    → Contains T s ↔ Contains S s) (hs : List ℕ) (placed : AreContainers T hs)
+module _ (way : Packing) (S T : TextList) (texts : All IsUtf8 S) (once : EachOnce T)
+    (same : (s : List ℕ) → Contains T s ↔ Contains S s) (hs : List ℕ) (placed : AreContainers way T hs)
     (ms : List Measure) (len : length ms ≡ length T)
     (totals : (i : ℕ) (d : Measure) → i < length T
     → (get_or ms i d).total ≡ copies S (indexed_text T i)) where
   module _ (q : ℕ) (l : q < length T) (r : IsRecord T (indexed_text T q)) where
     shares : (ss : TextList) → ((s : List ℕ) → Contains ss s → Contains T s)
-        → SizeIn S (indexed_text T q) ss (share q hs T ss)
-    shares [] h = subst (SizeIn S (indexed_text T q) []) (sym (share_none q hs T)) size_none
+        → SizeIn way S (indexed_text T q) ss (share q hs T ss)
+    shares [] h = subst (SizeIn way S (indexed_text T q) []) (sym (share_none q hs T)) size_none
     shares (s ∷ ss) h =
         let f = index_of T s (h s (0, omega arith, refl)) in
         let j : ℕ = f.0 in
@@ -136,15 +137,15 @@ module _ (S T : TextList) (texts : All IsUtf8 S) (once : EachOnce T) (same : (s 
         let rest = shares ss (λ z c. h z (suc c.0, omega (arith, c.1), c.2)) in
         let e : share q hs T (s ∷ ss) ≡ if_in (get_or hs j 0) q (size s) + share q hs T ss =
         omega (arith, share-cons q hs T s ss, part_at q hs T s j placed.len once f.1 f.2) in
-        subst (SizeIn S (indexed_text T q) (s
+        subst (SizeIn way S (indexed_text T q) (s
         ∷ ss)) (sym e) (by f at rest (nat_eq (get_or hs j 0) q)
         refl)
       where
         by : (f : (i : ℕ) × (i < length T) × (indexed_text T i ≡ s))
-            → LiesAt T f.0 (get_or hs f.0 0)
-            → SizeIn S (indexed_text T q) ss (share q hs T ss)
+            → LiesAt way T f.0 (get_or hs f.0 0)
+            → SizeIn way S (indexed_text T q) ss (share q hs T ss)
             → (b : Bool) → nat_eq (get_or hs f.0 0) q ≡ b
-            → SizeIn S (indexed_text T q) (s ∷ ss) (cond b (size s) 0 + share q hs T ss)
+            → SizeIn way S (indexed_text T q) (s ∷ ss) (cond b (size s) 0 + share q hs T ss)
         by f at rest true g =
             let k : (get_or hs f.0 0) ≡ q = eqb-true (get_or hs f.0 0) q g in
             let full : (length (indexed_text T f.0) ≡ 0
@@ -152,34 +153,34 @@ module _ (S T : TextList) (texts : All IsUtf8 S) (once : EachOnce T) (same : (s 
             ∙ k in omega (arith, r.nonempty, z, ap (λ n. length (indexed_text T n)) i)) in
             let pos : 0 < length (indexed_text T f.0) = more_than_zero
             (length (indexed_text T f.0)) full in
-            let c : IsContainer T s (indexed_text T q) =
-            subst (λ z. IsContainer T z (indexed_text T q)) f.2
-            (subst (λ n. IsContainer T (indexed_text T f.0) (indexed_text T n)) k
+            let c : IsContainer way T s (indexed_text T q) =
+            subst (λ z. IsContainer way T z (indexed_text T q)) f.2
+            (subst (λ n. IsContainer way T (indexed_text T f.0) (indexed_text T n)) k
             (at.container pos)) in
             size_here (record {
               nonempty = subst (λ (z : List ℕ). 0 < length z) f.2 pos;
               container =
-                  container_from T S same s (indexed_text T q) c;
+                  container_from T S same way s (indexed_text T q) c;
             }) rest
-        by f at rest false g = subst (SizeIn S (indexed_text T q) (s
+        by f at rest false g = subst (SizeIn way S (indexed_text T q) (s
             ∷ ss)) (omega arith) (size_elsewhere
             (λ m.
             let pos : 0 < length (indexed_text T f.0) =
             subst (λ (z : List ℕ). 0 < length z) (sym f.2) m.nonempty in
-            let c : IsContainer S s (indexed_text T (get_or hs f.0 0)) =
-            container_from T S same s (indexed_text T (get_or hs f.0 0))
-            (subst (λ z. IsContainer T z (indexed_text T (get_or hs f.0 0))) f.2
+            let c : IsContainer way S s (indexed_text T (get_or hs f.0 0)) =
+            container_from T S same way s (indexed_text T (get_or hs f.0 0))
+            (subst (λ z. IsContainer way T z (indexed_text T (get_or hs f.0 0))) f.2
             (at.container pos)) in
             let k : (get_or hs f.0 0) ≡ q =
             one_index T (get_or hs f.0 0) q once at.within l
-            (one_container S texts s (indexed_text T (get_or hs f.0 0))
+            (one_container way S texts s (indexed_text T (get_or hs f.0 0))
             (indexed_text T q) c
             m.container) in
             true≢false (sym (eq-eqb (get_or hs f.0 0) q k) ∙ g))
             rest)
 
-    pub sized : SizeIn S (indexed_text T q) S (lying_in hs ms q)
-    sized = subst (SizeIn S (indexed_text T q) S)
+    pub sized : SizeIn way S (indexed_text T q) S (lying_in hs ms q)
+    sized = subst (SizeIn way S (indexed_text T q) S)
         (sym (share_all q S hs ms T placed.len len totals))
         (shares S (λ s c. (same s).1 c))
 

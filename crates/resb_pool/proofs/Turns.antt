@@ -17,6 +17,7 @@ use Rattle.resb_pool.specs.Plan.{nows, texts_size}
 use Rattle.resb_pool.specs.Inner.Placing.{indexed_text, AreTurns}
 use Rattle.resb_pool.specs.Inner.LaidRecords.{HaveOffsets}
 use Rattle.resb_pool.specs.declared.measure.Measure.{Measure}
+use Rattle.resb_pool.specs.declared.packing.Packing.{Packing}
 use Rattle.resb_pool.proofs.Distinct.{has_text, one_index}
 use Rattle.resb_pool.proofs.Interning.{same_key}
 use Rattle.resb_pool.proofs.PlanLemmas.{offset_at}
@@ -88,9 +89,9 @@ module _ (D : TextList) (ks new : List Key) (t : Key) (turns : List ℕ)
           (omega (arith, ap length is, length_push (nows ks) t.now))
 
 -- each text has an offset
-pub offsets_fit : (T : TextList) (ms : List Measure) (us os : List ℕ) → HaveOffsets T ms us os
-    → length os ≡ length T
-offsets_fit T ms us os h = omega (
+pub offsets_fit : (way : Packing) (T : TextList) (ms : List Measure) (us os : List ℕ)
+    → HaveOffsets way T ms us os → length os ≡ length T
+offsets_fit way T ms us os h = omega (
   arith,
   h.offsets_are.len,
   h.containers_are.len,

@@ -9,3 +9,4 @@ pub mod ToldApart
 pub mod Firsts
 pub mod Listing
 pub mod Ranked
+pub mod Tops

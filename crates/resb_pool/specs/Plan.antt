@@ -2,7 +2,9 @@
 --     plan_units p            its units: unit 0 and the records
 --     offset_of p s           where the text s stands, if it was given
 --     turn_offsets p          the offset of each string, in the order in which they were given
---     IsPlan S us offset      these are the units and offsets of the strings S
+--     IsPlanBy way S us offset    these are the units and offsets of the strings S, in a file that
+--                             is packed this way
+--     IsPlan S us offset      the same of a plain file
 --     NotPlanned S e          the error e is the answer for the strings S
 use Rattle.std.specs.Prelude.{◌≡◌, ℕ, ◌+◌, ◌^◌, ◌≤◌, List, [], ◌∷◌, length, Option, Some, None}
 use Rattle.std.specs.Prelude.{MatchOption, All, Contains, nat_le, sum_by, map, slice_get}
@@ -15,6 +17,8 @@ use Rattle.indexmap.specs.IndexMap.{IndexMap, get_by}
 use Rattle.indexmap.specs.IndexSet.{index_of_by}
 use Rattle.resb_format.specs.Units.{units}
 use Rattle.resb_pool.specs.Pool.{IsPool, Off}
+use Rattle.resb_pool.specs.declared.packing.Packing.{Packing}
+use Rattle.resb_pool.specs.declared.packing.Packing.TheVariants.{Plain}
 use Rattle.resb_pool.specs.declared.offsets.Plan.{Plan}
 use Rattle.resb_pool.specs.declared.error.PlanError.{PlanError}
 use Rattle.resb_pool.specs.declared.error.PlanError.TheVariants.{StringTooLong, TooLarge}
@@ -43,16 +47,21 @@ turn_offsets p = map (slice_index p.offsets.items) p.order.items
 
 -- the units are the pool of the strings, and just the given texts have offsets: where they stand in
 -- it
-pub record IsPlan (S : List (List ℕ)) (us : List ℕ) (offset : List ℕ → Option ℕ) : Type 0 where
+pub record IsPlanBy (way : Packing) (S : List (List ℕ)) (us : List ℕ) (offset : List ℕ → Option ℕ)
+    : Type 0 where
   pub texts : All IsUtf8 S
   -- no text is too long
   pub short : All (λ s. length (units s) ≤ 4294967295) S
   pub room : length us ≤ 2 ^ 28
   pub records : List (List ℕ)
-  pub pool : IsPool S records us
+  pub pool : IsPool way S records us
   -- a text has an offset exactly where it was given
   pub offsets : (s : List ℕ) → MatchOption (offset s) (Contains S s → ⊥) (λ k. Contains S s
-      × Off S records s k)
+      × Off way S records s k)
+
+-- the same of a file in which each string lies in the greatest record that ends with it
+abbrev pub IsPlan : List (List ℕ) → List ℕ → (List ℕ → Option ℕ) → Type 0
+IsPlan = IsPlanBy Plain
 
 -- the number of units of the first text of more than 4294967295
 abbrev pub first_too_long : List (List ℕ) → Option ℕ

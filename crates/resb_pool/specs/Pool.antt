@@ -1,54 +1,62 @@
 -- How strings S stand at the front of the 16-bit block. (ICU's `reslist.cpp`: shared suffixes.)
 -- S holds a text as often as it stands in the tree. Sizes and offsets count 16-bit units.
---     LiesIn S s r            s lies in the record r
---     Saved S r n             sharing the record r saves n units
---     Precedes S r q          the record r stands before the record q
---     IsPool S Q us           the units us are unit 0 and the records Q of S, in their order
---     Off S Q s k             s stands at unit k
+-- A file is packed one way or the other.
+--     LiesIn way S s r        s lies in the record r
+--     Saved way S r n         sharing the record r saves n units
+--     Precedes way S r q      the record r stands before the record q
+--     IsPool way S Q us       the units us are unit 0 and the records Q of S, in their order
+--     Off way S Q s k         s stands at unit k
 use Rattle.std.specs.Prelude.{◌≡◌, ℕ, ◌+◌, ◌<◌, List, [], ◌∷◌, ◌++◌, length, slice_index_or, sum_by}
+use Rattle.std.specs.Prelude.{◌⊎◌}
 use Rattle.std.specs.List.{flat_map}
 use Rattle.std.specs.Cmp.Lexicographic.{slice_cmp}
 use Rattle.std.specs.Ordering.{nat_cmp}
 use Rattle.std.specs.declared.cmp.Ordering.TheVariants.{Less}
 use Rattle.resb_format.specs.Units.{units, marker, size}
 use Rattle.resb_pool.specs.Records.{IsRecords}
-use Rattle.resb_pool.specs.Container.{IsContainer}
+use Rattle.resb_pool.specs.Container.{IsContainer, IsTop}
+use Rattle.resb_pool.specs.declared.packing.Packing.{Packing}
+use Rattle.resb_pool.specs.declared.packing.Packing.TheVariants.{Plain, Compact}
 
 -- a text that isn't empty lies in its container: a record in itself, a shared suffix in the
--- greatest record that ends with it
-pub record LiesIn (S : List (List ℕ)) (s r : List ℕ) : Type 0 where
+-- greatest record that ends with it and may hold it
+pub record LiesIn (way : Packing) (S : List (List ℕ)) (s r : List ℕ) : Type 0 where
   pub nonempty : 0 < length s
-  pub container : IsContainer S s r
+  pub container : IsContainer way S s r
 
 -- the texts among ss that lie in r would take n units as records of their own
-pub data SizeIn (S : List (List ℕ)) (r : List ℕ) : List (List ℕ) → ℕ → Type 0 where
-  size_none : SizeIn S r [] 0
-  size_here : {s : List ℕ} {ss : List (List ℕ)} {n : ℕ} → LiesIn S s r → SizeIn S r ss n
-      → SizeIn S r (s ∷ ss) (size s + n)
-  size_elsewhere : {s : List ℕ} {ss : List (List ℕ)} {n : ℕ} → (LiesIn S s r → ⊥) → SizeIn S r ss n
-      → SizeIn S r (s ∷ ss) n
+pub data SizeIn (way : Packing) (S : List (List ℕ)) (r : List ℕ) : List (List ℕ) → ℕ
+    → Type 0 where
+  size_none : SizeIn way S r [] 0
+  size_here : {s : List ℕ} {ss : List (List ℕ)} {n : ℕ} → LiesIn way S s r → SizeIn way S r ss n
+      → SizeIn way S r (s ∷ ss) (size s + n)
+  size_elsewhere : {s : List ℕ} {ss : List (List ℕ)} {n : ℕ} → (LiesIn way S s r → ⊥)
+      → SizeIn way S r ss n → SizeIn way S r (s ∷ ss) n
 
--- what the copies and suffixes that lie in r would take, beyond the one record
-abbrev pub Saved : List (List ℕ) → List ℕ → ℕ → Type 0
-Saved S r n = SizeIn S r S (n + size r)
+-- What the copies and suffixes that lie in r would take, beyond the one record; in a compact file
+-- a record that another text ends with saves nothing.
+abbrev pub Saved : Packing → List (List ℕ) → List ℕ → ℕ → Type 0
+Saved Plain S r n = SizeIn Plain S r S (n + size r)
+Saved Compact S r n = (IsTop S r × SizeIn Compact S r S (n + size r))
+    ⊎ ((IsTop S r → ⊥) × (n ≡ 0))
 
 -- by the text's own units, then by what is saved, the most first, then by the bytes
-pub data Precedes (S : List (List ℕ)) (r q : List ℕ) : Type 0 where
-  fewer_units : length (units r) < length (units q) → Precedes S r q
-  saves_more : (m n : ℕ) → length (units r) ≡ length (units q) → Saved S r m → Saved S q n → n < m
-      → Precedes S r q
-  smaller_bytes : (n : ℕ) → length (units r) ≡ length (units q) → Saved S r n → Saved S q n
-      → slice_cmp nat_cmp r q ≡ Less → Precedes S r q
+pub data Precedes (way : Packing) (S : List (List ℕ)) (r q : List ℕ) : Type 0 where
+  fewer_units : length (units r) < length (units q) → Precedes way S r q
+  saves_more : (m n : ℕ) → length (units r) ≡ length (units q) → Saved way S r m
+      → Saved way S q n → n < m → Precedes way S r q
+  smaller_bytes : (n : ℕ) → length (units r) ≡ length (units q) → Saved way S r n
+      → Saved way S q n → slice_cmp nat_cmp r q ≡ Less → Precedes way S r q
 
 -- a record: the text's marker, its units, and 0
 abbrev pub record_units : List ℕ → List ℕ
 record_units r = marker r ++ (units r ++ 0 ∷ [])
 
 -- the units are unit 0 and the records of the strings, each before those that it precedes
-pub record IsPool (S Q : List (List ℕ)) (us : List ℕ) : Type 0 where
+pub record IsPool (way : Packing) (S Q : List (List ℕ)) (us : List ℕ) : Type 0 where
   pub records : IsRecords S Q
   pub ordered : (k : ℕ) → k + 1 < length Q
-      → Precedes S (slice_index_or Q k []) (slice_index_or Q (k + 1) [])
+      → Precedes way S (slice_index_or Q k []) (slice_index_or Q (k + 1) [])
   pub units : us ≡ 0 ∷ flat_map record_units Q
 
 -- the 0 that closes the record r stands at unit k; unit 0 stands before the first record
@@ -60,7 +68,7 @@ pub record ClosesAt (Q : List (List ℕ)) (r : List ℕ) (k : ℕ) : Type 0 wher
 
 -- The empty text stands at unit 0. Any other's marker and units end right before the 0 that closes
 -- its record.
-pub data Off (S Q : List (List ℕ)) : List ℕ → ℕ → Type 0 where
-  off_empty : Off S Q [] 0
-  off_within : {s r : List ℕ} {k c : ℕ} → LiesIn S s r → ClosesAt Q r c
-      → k + (length (marker s) + length (units s)) ≡ c → Off S Q s k
+pub data Off (way : Packing) (S Q : List (List ℕ)) : List ℕ → ℕ → Type 0 where
+  off_empty : Off way S Q [] 0
+  off_within : {s r : List ℕ} {k c : ℕ} → LiesIn way S s r → ClosesAt Q r c
+      → k + (length (marker s) + length (units s)) ≡ c → Off way S Q s k

@@ -4,17 +4,19 @@
 ghost use Rattle.std.specs.Prelude.{◌≡◌, ℕ, ◌<◌, ◌^◌, List, map, Option, Some};
 ghost use Rattle.std.specs.Prelude.{IfOk, IfErr};
 ghost use Rattle.resb_pool.specs.Plan.{nows, plan_units, offset_of, turn_offsets, texts_size};
-ghost use Rattle.resb_pool.specs.Plan.{IsPlan, NotPlanned};
-ghost use Rattle.resb_pool.specs.Inner.Placing.{AreTexts, AreContainers};
+ghost use Rattle.resb_pool.specs.Plan.{IsPlan, IsPlanBy, NotPlanned};
+ghost use Rattle.resb_pool.specs.Inner.Placing.{AreTexts, AreContainers, AreHidden};
 ghost use Rattle.resb_pool.specs.Inner.LaidRecords.{IsBlock, HaveOffsets};
 ghost use Rattle.resb_pool.specs.Inner.ToldApart.{ToldApart};
+ghost use Rattle.resb_pool.specs.declared.packing.Packing.{Packing};
 
-use crate::containers::{find_containers, find_sums};
+use crate::containers::{Containers, find_containers, find_sums};
 use crate::error::PlanError;
 use crate::firsts::find_firsts;
 use crate::listed_texts::{ListedTexts, as_list, by_firsts};
 use crate::measure::{Measure, check_lengths};
 use crate::offsets::{Plan, find_offsets, in_turn};
+use crate::packing::Packing;
 use crate::records::{Block, lay, ordered};
 use crate::texts::{Sample, Texts, gather};
 use std::alloc::{AllocError, Global};
@@ -24,35 +26,41 @@ use std::alloc::{AllocError, Global};
 fn lay_records(
     alloc: Global,
     texts: &[&str],
-    containers: &[u32],
+    containers: &Containers,
     measures: &[Measure],
 ) -> Result<Block, AllocError>
     requires given { (strings : List (List ℕ)) × (texts_size strings < 2 ^ 28)
         × AreTexts strings (nows texts.now) measures.now }
-    requires containers { AreContainers (nows texts.now) containers.now }
-    ensures { IfOk result (λ b.
-        IsBlock (nows texts.now) containers.now measures.now b.units.items b.ends.items) }
+    requires containers { (way : Packing) × AreContainers way (nows texts.now)
+        containers.now.of.items × AreHidden way (nows texts.now) containers.now.hidden.items }
+    ensures { IfOk result (λ b. (way : Packing)
+        → AreContainers way (nows texts.now) containers.now.of.items
+        → AreHidden way (nows texts.now) containers.now.hidden.items
+        → IsBlock way (nows texts.now) containers.now.of.items measures.now b.units.items
+        b.ends.items) }
 {
     let sums = find_sums(alloc, containers, measures)?;
-    let records = ordered(alloc, texts, containers, measures, &sums)?;
+    let records = ordered(alloc, texts, &containers.of, measures, &sums)?;
     drop(sums);
     lay(alloc, texts, &records)
 }
 
-/// Unit 0 and the records of distinct texts, and the unit at which each text stands.
+/// Unit 0 and the records of distinct texts, and the unit at which each text stands in a file that
+/// is packed this way.
 fn place(
     alloc: Global,
+    packing: Packing,
     texts: &[&str],
     measures: &[Measure],
 ) -> Result<(Vec<u16>, Vec<u32>), AllocError>
     requires given { (strings : List (List ℕ)) × (texts_size strings < 2 ^ 28)
         × AreTexts strings (nows texts.now) measures.now }
     ensures { IfOk result (λ p.
-        HaveOffsets (nows texts.now) measures.now p.0.items p.1.items) }
+        HaveOffsets packing (nows texts.now) measures.now p.0.items p.1.items) }
 {
-    let containers = find_containers(alloc, texts)?;
+    let containers = find_containers(alloc, packing, texts)?;
     let block = lay_records(alloc, texts, &containers, measures)?;
-    let offsets = find_offsets(alloc, &containers, measures, &block.ends)?;
+    let offsets = find_offsets(alloc, &containers.of, measures, &block.ends)?;
     Ok((block.units, offsets))
 }
 
@@ -79,7 +87,12 @@ fn plan_texts<'a>(alloc: Global, texts: Texts<'a>) -> Result<Plan<'a>, PlanError
         → map (offset_of p) strings ≡ map Some (turn_offsets p)) }
     ensures err { IfErr result (λ e. (strings : List (List ℕ)) → NotPlanned strings e) }
 {
-    let (units, offsets) = place(alloc, texts.distinct.as_slice(), &texts.measures)?;
+    let (units, offsets) = place(
+        alloc,
+        Packing::Plain,
+        texts.distinct.as_slice(),
+        &texts.measures,
+    )?;
     Ok(Plan {
         units,
         texts: texts.distinct,
@@ -88,11 +101,11 @@ fn plan_texts<'a>(alloc: Global, texts: Texts<'a>) -> Result<Plan<'a>, PlanError
     })
 }
 
-/// Plans strings, each of which may be given more than once. Each non-empty one that is not,
-/// without a marker, the end of another gets a record: marker, units, 0. The empty one stands at
-/// unit 0. Any other stands at the end of a record that ends with it: of these, the greatest in the
-/// order of characters from the end on, where the end of a text is greater than each character.
-/// (ICU's `reslist.cpp`: shared suffixes.)
+/// Plans the strings of a plain file, each of which may be given more than once. Each non-empty one
+/// that is not, without a marker, the end of another gets a record: marker, units, 0. The empty one
+/// stands at unit 0. Any other stands at the end of a record that ends with it: of these, the
+/// greatest in the order of characters from the end on, where the end of a text is greater than
+/// each character. (ICU's `reslist.cpp`: shared suffixes.)
 ///
 /// Refused are a string of more than 4294967295 units, the first of them, and strings whose units
 /// and 16 for each come to 2^28 or more.
@@ -124,19 +137,25 @@ fn list_of<'a>(alloc: Global, strings: Vec<&'a str>) -> Result<ListedTexts<'a>, 
     Ok(as_list(alloc, texts)?)
 }
 
-/// The plan of strings, as `plan` makes it: its units and the offset of each string, in the order
-/// in which they were given. The list of strings is handed over. Once the strings are told apart it
-/// is dropped, or their texts stand in its room.
+/// The plan of the strings of a file that is packed this way: its units and the offset of each
+/// string, in the order in which they were given. For a plain file it is what `plan` makes. In a
+/// compact one a shared string lies in the greatest one that ends with it and that no other one
+/// ends with, and a record at the end of another string saves nothing. (ICU's `reslist.cpp`:
+/// `compactStringsV2`.) Refused is what `plan` refuses.
+///
+/// The list of strings is handed over. Once the strings are told apart it is dropped, or their
+/// texts stand in its room.
 pub fn plan_in_turn<'a>(
     alloc: Global,
+    packing: Packing,
     strings: Vec<&'a str>,
 ) -> Result<(Vec<u16>, Vec<u32>), PlanError>
     ensures ok { IfOk result (λ p. (offset : List ℕ → Option ℕ)
-        × IsPlan (nows strings.entry.items) p.0.items offset
+        × IsPlanBy packing (nows strings.entry.items) p.0.items offset
         × (map offset (nows strings.entry.items) ≡ map Some p.1.items)) }
     ensures err { IfErr result (NotPlanned (nows strings.entry.items)) }
 {
     let list = list_of(alloc, strings)?;
-    let (units, offsets) = place(alloc, &list.texts, &list.measures)?;
+    let (units, offsets) = place(alloc, packing, &list.texts, &list.measures)?;
     Ok((units, in_turn(&offsets, list.order)))
 }

@@ -16,6 +16,7 @@ ghost use Rattle.resb_pool.specs.Inner.Placing.{AreContainers, AreSums, AreEnds}
 ghost use Rattle.resb_pool.specs.Inner.Placing.{IsRecordOf, record_text, record_texts};
 ghost use Rattle.resb_pool.specs.Inner.Placing.{record_cmp, bytes_cmp, fronted_cmp};
 ghost use Rattle.resb_pool.specs.declared.records.Record.{Record};
+ghost use Rattle.resb_pool.specs.declared.packing.Packing.{Packing};
 ghost use Rattle.resb_pool.specs.Inner.Placing.{AreBytes, front_bytes};
 
 use crate::measure::{Measure, is_unmarked};
@@ -102,7 +103,7 @@ fn find_records(
 ) -> Result<Vec<Record>, AllocError>
     requires distinct { EachOnce (nows texts.now) }
     requires few { length texts.now < 2 ^ 32 }
-    requires containers { AreContainers (nows texts.now) containers.now }
+    requires containers { (way : Packing) × AreContainers way (nows texts.now) containers.now }
     requires sums { AreSums (nows texts.now) measures.now sums.now }
     ensures records { IfOk result (λ v. IsRecords (nows texts.now)
         (record_texts (nows texts.now) v.items)) }
@@ -178,7 +179,7 @@ pub(crate) fn ordered(
 ) -> Result<Vec<Record>, AllocError>
     requires distinct { EachOnce (nows texts.now) }
     requires few { length texts.now < 2 ^ 32 }
-    requires containers { AreContainers (nows texts.now) containers.now }
+    requires containers { (way : Packing) × AreContainers way (nows texts.now) containers.now }
     requires sums { AreSums (nows texts.now) measures.now sums.now }
     ensures records { IfOk result (λ v. IsRecords (nows texts.now)
         (record_texts (nows texts.now) v.items)) }

@@ -11,6 +11,7 @@ ghost use Rattle.resb_pool.specs.Inner.Ranked.{AreRanked, saving};
 use crate::containers::{find_containers, find_sums};
 use crate::error::PlanError;
 use crate::measure::Measure;
+use crate::packing::Packing;
 use crate::pool::texts_of;
 use crate::records::{Record, lay, ordered};
 use crate::texts::indexed_text;
@@ -22,9 +23,9 @@ fn rank(alloc: Global, texts: &[&str], measures: &[Measure]) -> Result<Vec<Recor
         × AreTexts strings (nows texts.now) measures.now }
     ensures { IfOk result (λ v. AreRanked (nows texts.now) measures.now v.items) }
 {
-    let containers = find_containers(alloc, texts)?;
+    let containers = find_containers(alloc, Packing::Plain, texts)?;
     let sums = find_sums(alloc, &containers, measures)?;
-    ordered(alloc, texts, &containers, measures, &sums)
+    ordered(alloc, texts, &containers.of, measures, &sums)
 }
 
 /// The texts of records.

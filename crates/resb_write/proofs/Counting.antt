@@ -18,7 +18,7 @@ use Rattle.resb_tree.specs.LayingOrder.{entry_keys}
 use Rattle.std.proofs.Common.{inl, inr, ◌||◌, ◌==◌}
 use Rattle.std.proofs.lemmas.Bool.{ne_eqb}
 use Rattle.resb_layout.specs.Laid.{word_of_string}
-use Rattle.resb_layout.specs.declared.packing.Packing.{Packing}
+use Rattle.resb_pool.specs.declared.packing.Packing.{Packing}
 use Rattle.resb_layout.proofs.StringWords.{word_cases}
 use Rattle.resb_layout.specs.Laid.{Given, Lends, Laid, is_short_string, is_short_by, are_short_by}
 use Rattle.resb_layout.specs.Laid.{are_near, nears_by, offsets_by, near_by, short_by, short_in}

@@ -10,7 +10,7 @@ use Rattle.resb_format.specs.Units.{units, size}
 use Rattle.resb_format.specs.Bytes.{units_of, words_of}
 use Rattle.resb_layout.specs.WritingFault.{unexpected, limit, out_of_memory, message_of}
 use Rattle.resb_pool.specs.Records.{IsRecord, IsHeldBy}
-use Rattle.resb_layout.specs.declared.packing.Packing.TheVariants.{Plain, Compact}
+use Rattle.resb_pool.specs.declared.packing.Packing.TheVariants.{Plain, Compact}
 use Rattle.resb_layout.specs.CompactKeys.{container, kept, end_position}
 use Rattle.resb_layout.specs.Laid.{Lays, lays_integer, lays_members, each_none, each_more}
 use Rattle.resb_layout.specs.Laid.{long_array, lays_path, word_of_string}

@@ -21,7 +21,7 @@ use Rattle.resb_format.proofs.WordsBack.{written_length}
 use Rattle.resb_head.specs.File.{root_word}
 use Rattle.resb_pool_bundle.specs.Pool.{Pool, parts_with}
 use Rattle.resb_pool_bundle.specs.FileWith.{IsFileWith, DenotesWith}
-use Rattle.resb_layout.specs.declared.packing.Packing.TheVariants.{Plain}
+use Rattle.resb_pool.specs.declared.packing.Packing.TheVariants.{Plain}
 use Rattle.resb_layout.specs.Laid.{Given, Lends, words, fill, to_word}
 use Rattle.resb_layout.specs.Laws.{IsRead, StandsIn}
 use Rattle.resb_layout.specs.KeyBlock.{used, is_among, key_bytes, padded, last_place}

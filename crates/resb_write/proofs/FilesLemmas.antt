@@ -17,7 +17,7 @@ use Rattle.resb_format.specs.Parts.{Parts, beside_no_pool, reads_older}
 use Rattle.resb_head.specs.File.{root_word, parts_of, body_of, keys_end, block_end, budget, Denotes}
 use Rattle.resb_head.specs.File.{DenotesWithAliases}
 use Rattle.resb_format.specs.Denotes.{Den}
-use Rattle.resb_pool.specs.Plan.{IsPlan}
+use Rattle.resb_pool.specs.Plan.{IsPlanBy}
 use Rattle.resb_pool.proofs.IsRead.{pool_is_read}
 use Rattle.resb_pool.proofs.ReadBack.{text_at-zero}
 use Rattle.resb_layout.specs.Laid.{Given, Laid, Lays, fill}
@@ -39,8 +39,8 @@ use Rattle.resb_layout.specs.WrittenHead.{written_header}
 use Rattle.resb_layout.specs.Written.{even, tail_start, BlocksBy, block_bytes, Written}
 use Rattle.resb_layout.specs.WrittenCompact.{WrittenCompact}
 use Rattle.resb_layout.specs.WrittenHead.{IndexOf}
-use Rattle.resb_layout.specs.declared.packing.Packing.{Packing}
-use Rattle.resb_layout.specs.declared.packing.Packing.TheVariants.{Plain, Compact}
+use Rattle.resb_pool.specs.declared.packing.Packing.{Packing}
+use Rattle.resb_pool.specs.declared.packing.Packing.TheVariants.{Plain, Compact}
 use Rattle.resb_write.specs.Inner.Beside.{IsFileOver}
 use Rattle.resb_write.specs.declared.target.Target.TheVariants.{Alone}
 use Rattle.resb_tree.specs.Aliases.{has_alias}
@@ -88,7 +88,7 @@ pub record Made (q : Packing) (t : Tree) (ks : List (List ℕ)) : Type 0 where
   pub utf8 : All IsUtf8 (used (keys_of t) ks)
   pub faultless : key_fault (keys_of t) (used (keys_of t) ks) ≡ None
   pub small : list_size ks + resources_size (laying_order t) < 2 ^ 28
-  pub plan : IsPlan (texts_of t) pool offset
+  pub plan : IsPlanBy q (texts_of t) pool offset
   pub base : ℕ
   pub base_is : base ≡ 32 + length (key_block_by q t ks) + 2 *
       (length laid.units + length laid.units % 2)
@@ -125,21 +125,22 @@ older_read Plain empty p t reads = inr reads
 older_read Compact empty p t reads = (inr reads, inr reads)
 
 -- a text that wasn't given has no offset
-not_given : (S : List (List ℕ)) (us : List ℕ) (offset : List ℕ → Option ℕ) → IsPlan S us offset
+not_given : (q : Packing) (S : List (List ℕ)) (us : List ℕ) (offset : List ℕ → Option ℕ)
+    → IsPlanBy q S us offset
     → (s : List ℕ) → (Contains S s → ⊥) → offset s ≡ None
-not_given S us offset plan s lacks = by (offset s) refl (plan.offsets s)
+not_given q S us offset plan s lacks = by (offset s) refl (plan.offsets s)
   where
     by : (o : Option ℕ) → offset s ≡ o → MatchOption o (Contains S s → ⊥) (λ k. Contains S s
-        × Off S plan.records s k) → offset s ≡ None
+        × Off q S plan.records s k) → offset s ≡ None
     by None e h = e
     by (Some k) e h = absurd (lacks h.0)
 
 alone_read : (q : Packing) (t : Tree) (us : List ℕ) (offset : List ℕ → Option ℕ) (p : Parts)
-    → IsPlan (texts_of t) us offset → has_alias t ≡ false → LacksEmpty q t
+    → IsPlanBy q (texts_of t) us offset → has_alias t ≡ false → LacksEmpty q t
     → ReadsOlderOf q (offset []) p t
 alone_read Plain t us offset p plan none lacks = inl none
 alone_read Compact t us offset p plan none lacks =
-    (inl none, inl (not_given (texts_of t) us offset plan [] lacks))
+    (inl none, inl (not_given Compact (texts_of t) us offset plan [] lacks))
 
 module _ (q : Packing) (t : Tree) (ks : List (List ℕ)) (m : Made q t ks) (largest : ℕ)
     (fallback : Bool) (largest_is : largest ≡ largest_of (laying_order t)) where
@@ -252,7 +253,8 @@ module _ (q : Packing) (t : Tree) (ks : List (List ℕ)) (m : Made q t ks) (larg
   text_is_read : (s : List ℕ) (k : ℕ) → m.offset s ≡ Some k → text_in parts k ≡ Some s
   unfolding text_place_by
   text_is_read s k e = ap (λ l. text_at l k) block_begins
-      ∙ (pool_is_read (texts_of t) m.pool m.offset m.plan s k e).1 ((grows m.lays).units ++ more.0)
+      ∙ (pool_is_read q (texts_of t) m.pool m.offset m.plan s k e).1
+      ((grows m.lays).units ++ more.0)
 
   first_is_empty : text_in parts 0 ≡ Some []
   unfolding text_place_by

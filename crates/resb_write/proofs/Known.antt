@@ -12,7 +12,8 @@ use Rattle.std.proofs.lemmas.List.Elements.{Contains-append_right}
 use Rattle.resb_tree.specs.Tree.{Tree}
 use Rattle.resb_tree.specs.Keys.{same_text}
 use Rattle.resb_layout.specs.WritingFault.{WritingFault}
-use Rattle.resb_pool.specs.Plan.{IsPlan}
+use Rattle.resb_pool.specs.Plan.{IsPlanBy}
+use Rattle.resb_pool.specs.declared.packing.Packing.{Packing}
 use Rattle.resb_pool.specs.Pool.{Off}
 use Rattle.resb_pool.proofs.IsRead.{pool_is_read}
 use Rattle.resb_layout.specs.KeyBlock.{used, is_among, last_place, position_in, keys_start}
@@ -88,29 +89,31 @@ module _ (us js : List (List ℕ)) (faultless : key_fault us js ≡ None) where
     exact k = near_is k (last_place k js) refl
 
 -- where the texts S are planned
-module _ (S : List (List ℕ)) (us : List ℕ) (offset : List ℕ → Option ℕ) (plan : IsPlan S us offset)
+module _ (q : Packing) (S : List (List ℕ)) (us : List ℕ) (offset : List ℕ → Option ℕ)
+    (plan : IsPlanBy q S us offset)
   where
     offset_of_text : (s : List ℕ) → Contains S s → (k : ℕ) × (offset s ≡ Some k) × (k < 2 ^ 28)
     offset_of_text s c = by (offset s) refl (plan.offsets s)
       where
         by : (o : Option ℕ) → offset s ≡ o → MatchOption o (Contains S s → ⊥) (λ k. Contains S s
-            × Off S plan.records s k) → (k : ℕ) × (offset s ≡ Some k) × (k < 2 ^ 28)
+            × Off q S plan.records s k) → (k : ℕ) × (offset s ≡ Some k) × (k < 2 ^ 28)
         by None e h = absurd (h c)
-        by (Some k) e h = (k, e, omega (arith, (pool_is_read S us offset plan s k e).0, plan.room))
+        by (Some k) e h =
+            (k, e, omega (arith, (pool_is_read q S us offset plan s k e).0, plan.room))
 
 -- the offsets of planned strings fit a descriptor
-pub near_offsets : (S : List (List ℕ)) (us : List ℕ) (offset : List ℕ → Option ℕ)
-    → IsPlan S us offset → (ss : List (List ℕ)) (os : List ℕ)
+pub near_offsets : (w : Packing) (S : List (List ℕ)) (us : List ℕ) (offset : List ℕ → Option ℕ)
+    → IsPlanBy w S us offset → (ss : List (List ℕ)) (os : List ℕ)
     → ((s : List ℕ) → Contains ss s → Contains S s) → map offset ss ≡ map Some os
     → All (λ k. k < 2 ^ 28) os
-near_offsets S us offset plan [] [] f e = All-nil (λ k. k < 2 ^ 28)
-near_offsets S us offset plan [] (k ∷ os) f e = absurd (omega (arith, ap length e))
-near_offsets S us offset plan (s ∷ ss) [] f e = absurd (omega (arith, ap length e))
-near_offsets S us offset plan (s ∷ ss) (k ∷ os) f e =
+near_offsets w S us offset plan [] [] f e = All-nil (λ k. k < 2 ^ 28)
+near_offsets w S us offset plan [] (k ∷ os) f e = absurd (omega (arith, ap length e))
+near_offsets w S us offset plan (s ∷ ss) [] f e = absurd (omega (arith, ap length e))
+near_offsets w S us offset plan (s ∷ ss) (k ∷ os) f e =
     let h : offset s ≡ Some k = cc in
     let t : map offset ss ≡ map Some os = cc in
-    let r = offset_of_text S us offset plan s (f s (0, omega arith, refl)) in
+    let r = offset_of_text w S us offset plan s (f s (0, omega arith, refl)) in
     let same : k ≡ r.0 = (let i = sym h ∙ r.1 in cc) in
     All-cons (λ k. k < 2 ^ 28) k os (subst (λ n. n < 2 ^ 28) (sym same) r.2)
-    (near_offsets S us offset plan ss os
+    (near_offsets w S us offset plan ss os
     (λ q c. f q (Contains-append_right (s ∷ []) ss q c)) t)

@@ -21,8 +21,8 @@ use Rattle.resb_layout.specs.KeyBlock.{keys_start}
 use Rattle.resb_layout.specs.CompactKeys.{key_block_by, key_position_by}
 use Rattle.resb_layout.specs.WrittenHead.{written_header}
 use Rattle.resb_layout.specs.Written.{even, tail_start, BlocksBy, block_bytes}
-use Rattle.resb_layout.specs.declared.packing.Packing.{Packing}
-use Rattle.resb_layout.specs.declared.packing.Packing.TheVariants.{Plain, Compact}
+use Rattle.resb_pool.specs.declared.packing.Packing.{Packing}
+use Rattle.resb_pool.specs.declared.packing.Packing.TheVariants.{Plain, Compact}
 use Rattle.resb_write.proofs.FilesLemmas.{Shaped, plain_shaped, compact_shaped}
 use Rattle.resb_write.specs.Laws.{OneFile, OneCompactFile}
 use Rattle.resb_write.proofs.Heads.{body_behind}
@@ -30,10 +30,10 @@ use Rattle.resb_write.proofs.Lists.{same_front}
 
 module _ (q : Packing) (t : Tree) (ks : List (List ℕ)) (x y : BlocksBy q t ks) where
   pool_is : x.pool ≡ y.pool
-  pool_is = (one_pool (texts_of t) x.pool y.pool x.offset y.offset x.is_pool y.is_pool).0
+  pool_is = (one_pool q (texts_of t) x.pool y.pool x.offset y.offset x.is_pool y.is_pool).0
 
   offset_is : x.offset ≡ y.offset
-  offset_is = (one_pool (texts_of t) x.pool y.pool x.offset y.offset x.is_pool y.is_pool).1
+  offset_is = (one_pool q (texts_of t) x.pool y.pool x.offset y.offset x.is_pool y.is_pool).1
 
   abbrev given : BlocksBy q t ks → Given
   given b = record {

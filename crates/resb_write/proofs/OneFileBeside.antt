@@ -7,7 +7,7 @@ use Rattle.resb_tree.specs.Tree.{Tree, largest_table}
 use Rattle.resb_tree.specs.LayingOrder.{texts_of}
 use Rattle.resb_format.specs.Bytes.{units_as_bytes}
 use Rattle.resb_pool_bundle.specs.Pool.{Pool}
-use Rattle.resb_layout.specs.declared.packing.Packing.TheVariants.{Plain}
+use Rattle.resb_pool.specs.declared.packing.Packing.TheVariants.{Plain}
 use Rattle.resb_layout.specs.Laid.{Given, Lends, Laid, LaysBy}
 use Rattle.resb_layout.specs.Written.{even}
 use Rattle.resb_layout.proofs.Once.{one_layout}

@@ -6,8 +6,8 @@ use Rattle.std.specs.Cmp.Lexicographic.{bytes_decides}
 use Rattle.resb_tree.specs.Keys.{same_text}
 use Rattle.resb_layout.specs.CompactKeys.{container, keys_by, position_by}
 use Rattle.resb_layout.specs.KeyBlock.{used, is_among, key_bytes, last_place, keys_start}
-use Rattle.resb_layout.specs.declared.packing.Packing.{Packing}
-use Rattle.resb_layout.specs.declared.packing.Packing.TheVariants.{Plain, Compact}
+use Rattle.resb_pool.specs.declared.packing.Packing.{Packing}
+use Rattle.resb_pool.specs.declared.packing.Packing.TheVariants.{Plain, Compact}
 use Rattle.resb_write.proofs.EndPlaces.{end_known, end_stands}
 use Rattle.resb_write.proofs.Keys.{StandsAt, last_of-stands, place_contained}
 use Rattle.resb_write.proofs.KeysBeside.{filter_room}

@@ -5,7 +5,7 @@ use Rattle.std.specs.List.{flat_map}
 use Rattle.std.proofs.lemmas.List.Elements.{All-head, All-tail}
 use Rattle.resb_tree.specs.Tree.{Tree, Entries, string, table}
 use Rattle.resb_tree.specs.LayingOrder.{entry_keys, own_keys, text_in}
-use Rattle.resb_layout.specs.declared.packing.Packing.{Packing}
+use Rattle.resb_pool.specs.declared.packing.Packing.{Packing}
 use Rattle.resb_layout.specs.Laid.{Given}
 use Rattle.resb_write.specs.Inner.Room.{GivesInTurn}
 

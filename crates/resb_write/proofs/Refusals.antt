@@ -18,6 +18,7 @@ use Rattle.resb_layout.specs.TreeFaults.{at_the_first}
 use Rattle.resb_layout.specs.TreeFaults.{too_large}
 use Rattle.resb_write.specs.declared.target.Target.{Target}
 use Rattle.resb_write.specs.declared.target.Target.TheVariants.{Alone, OverPool}
+use Rattle.resb_pool.specs.declared.packing.Packing.TheVariants.{Plain}
 use Rattle.resb_write.specs.FaultOf.{plan_fault}
 use Rattle.resb_write.specs.Inner.Sizes.{size_fault, IsTooMuch, at_fault}
 use Rattle.resb_write.specs.Inner.Sizes.{too_large as too_large_sizes}
@@ -106,7 +107,7 @@ module _ (t : Tree) (ks : List (List ℕ)) (pool : Pool)
         limit_within pool.block (texts_of t) found lent,
         own_within (lacking (texts_of t) found) us offset plan (lacking (texts_of t) found) offsets
             are,
-        pool_room (lacking (texts_of t) found) us offset plan,
+        pool_room Plain (lacking (texts_of t) found) us offset plan,
         lacking_sum size (texts_of t) found,
         units_room (laying_order t),
         laying_order_long t,

@@ -24,7 +24,7 @@ use Rattle.resb_layout.specs.TreeFaults.{tree_fault, RefusesWriting}
 use Rattle.resb_layout.specs.Written.{even}
 use Rattle.resb_layout.specs.WritingFault.{WritingFault, limit as limit_fault}
 use Rattle.resb_layout.specs.PlainSize.{plain_size}
-use Rattle.resb_layout.specs.declared.packing.Packing.TheVariants.{Plain}
+use Rattle.resb_pool.specs.declared.packing.Packing.TheVariants.{Plain}
 
 -- the listed keys that the tree uses and that have no place in the pool
 abbrev pub own_keys_of : (List ℕ → Option ℕ) → Tree → List (List ℕ) → List (List ℕ)

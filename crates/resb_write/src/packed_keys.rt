@@ -7,7 +7,7 @@ ghost use Rattle.resb_layout.specs.CompactKeys.{container as container_in, kept}
 ghost use Rattle.resb_layout.specs.KeyBlock.{used as used_of};
 ghost use Rattle.resb_layout.specs.TreeFaults.{key_fault};
 ghost use Rattle.resb_layout.specs.WritingFault.{out_of_memory};
-ghost use Rattle.resb_layout.specs.declared.packing.Packing.TheVariants.{Compact};
+ghost use Rattle.resb_pool.specs.declared.packing.Packing.TheVariants.{Compact};
 ghost use Rattle.resb_write.specs.FaultOf.{fault_of};
 ghost use Rattle.resb_layout.specs.KeyEnds.{AreByEnd};
 ghost use Rattle.resb_write.specs.Inner.KeyEnds.{near_end_position};

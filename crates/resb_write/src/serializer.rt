@@ -361,7 +361,7 @@ pub(crate) fn write_order<N: Nodes>(
     let (contents, block) = checked(alloc, order, tree_keys, wanted.list, packing)?;
     let KeyBlock { keys, positions } = block;
     let largest_table = contents.largest_table as u32;
-    let Strings { pool, offsets } = Strings::plan(alloc, contents.texts)?;
+    let Strings { pool, offsets } = Strings::plan(alloc, packing, contents.texts)?;
     let keys_end = KEYS_START + block_length(&keys);
     let sites = Sites {
         positions: &positions,

@@ -4,7 +4,7 @@ ghost use Rattle.std.specs.Prelude.{IfOk, IfErr};
 ghost use Rattle.resb_pool.specs.Plan.{nows, NotPlanned};
 ghost use Rattle.resb_write.specs.Inner.Pooled.{Pooled};
 
-use resb_pool::{PlanError, pool};
+use resb_pool::{Packing, PlanError, pool};
 use std::alloc::Global;
 
 /// The units of a pool, and the offset of each string in it, in the order in which they were given.
@@ -15,14 +15,18 @@ pub(crate) struct Strings {
 }
 
 impl Strings {
-    /// The pool of the strings of a tree, which are given in laying order. Refused is a string that
-    /// is too long, and strings that are too large for a pool.
-    pub(crate) fn plan(alloc: Global, texts: Vec<&str>) -> Result<Strings, PlanError>
+    /// The pool of the strings of a tree, which are given in laying order, in a file that is packed
+    /// like this. Refused is a string that is too long, and strings that are too large for a pool.
+    pub(crate) fn plan(
+        alloc: Global,
+        packing: Packing,
+        texts: Vec<&str>,
+    ) -> Result<Strings, PlanError>
         ensures ok { IfOk result
-            (λ s. Pooled (nows texts.entry.items) s.pool.items s.offsets.items) }
+            (λ s. Pooled packing (nows texts.entry.items) s.pool.items s.offsets.items) }
         ensures err { IfErr result (NotPlanned (nows texts.entry.items)) }
     {
-        let (pool, offsets) = pool::plan_in_turn(alloc, texts)?;
+        let (pool, offsets) = pool::plan_in_turn(alloc, packing, texts)?;
         Ok(Strings { pool, offsets })
     }
 }

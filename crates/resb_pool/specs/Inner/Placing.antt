@@ -1,13 +1,14 @@
 -- What is known of texts while they are placed. T are distinct texts; each goes by its index there.
 --     AreTexts S T ms         T are the texts of S, and ms their measures
 --     AreTurns S T is         the strings S are the texts of the indexes is, one by one
---     LiesAt T i r            the text i lies in the text r
---     AreContainers T cs      each text lies in the one that cs has at its index
+--     LiesAt way T i r        the text i lies in the text r, in a file that is packed this way
+--     AreContainers way T cs  each text lies in the one that cs has at its index
+--     AreHidden way T hs      hs are the records that save nothing
 --     lying_in cs ms q        what all copies that lie in the text q would take
 --     AreEnds T rs done es    es says where each record done closes
 use Rattle.std.specs.Prelude.{◌≡◌, ℕ, zero, suc, ◌+◌, ◌-◌, ◌*◌, ◌^◌, ◌<◌, ◌≤◌, List, []}
 use Rattle.std.specs.Prelude.{◌∷◌, length}
-use Rattle.std.specs.Prelude.{map, All, Contains}
+use Rattle.std.specs.Prelude.{map, All, Contains, ◌⊎◌}
 use Rattle.std.specs.Prelude.{◌↔◌, sum_by, nat_eq, slice_index, slice_index_or, if◌then◌else◌}
 use Rattle.std.specs.Cmp.Lexicographic.{slice_cmp}
 use Rattle.std.specs.Ordering.{nat_cmp, ordering_then}
@@ -15,9 +16,11 @@ use Rattle.std.specs.Str.{bytes_eq, IsUtf8}
 use Rattle.std.specs.declared.cmp.Ordering.{Ordering}
 use Rattle.resb_format.specs.Units.{units, size}
 use Rattle.resb_pool.specs.Records.{IsRecord, EachOnce}
-use Rattle.resb_pool.specs.Container.{IsContainer}
+use Rattle.resb_pool.specs.Container.{IsContainer, IsTop}
 use Rattle.resb_pool.specs.Pool.{ClosesAt}
 use Rattle.resb_pool.specs.declared.measure.Measure.{Measure}
+use Rattle.resb_pool.specs.declared.packing.Packing.{Packing}
+use Rattle.resb_pool.specs.declared.packing.Packing.TheVariants.{Plain, Compact}
 use Rattle.resb_pool.specs.declared.records.Record.{Record}
 
 -- the text of index i
@@ -51,17 +54,34 @@ pub record AreTurns (S T : List (List ℕ)) (turns : List ℕ) : Type 0 where
   pub few : length T ≤ length turns
 
 -- in its container; the empty text lies in itself
-pub record LiesAt (T : List (List ℕ)) (i r : ℕ) : Type 0 where
+pub record LiesAt (way : Packing) (T : List (List ℕ)) (i r : ℕ) : Type 0 where
   pub within : r < length T
   pub container : 0 < length (indexed_text T i)
-      → IsContainer T (indexed_text T i) (indexed_text T r)
+      → IsContainer way T (indexed_text T i) (indexed_text T r)
   pub itself : IsRecord T (indexed_text T i) → r ≡ i
   pub empty : length (indexed_text T i) ≡ 0 → r ≡ i
 
 -- cs say, for each text, in which one it lies
-pub record AreContainers (T : List (List ℕ)) (cs : List ℕ) : Type 0 where
+pub record AreContainers (way : Packing) (T : List (List ℕ)) (cs : List ℕ) : Type 0 where
   pub len : length cs ≡ length T
-  pub lies : (i : ℕ) → i < length T → LiesAt T i (slice_index cs i)
+  pub lies : (i : ℕ) → i < length T → LiesAt way T i (slice_index cs i)
+
+-- the text i, if it's a record, is among hs just where another text ends with it
+abbrev pub IsToldHidden : List (List ℕ) → List ℕ → ℕ → Type 0
+IsToldHidden T hs i =
+    IsRecord T (indexed_text T i) → (IsTop T (indexed_text T i) × (Contains hs i → ⊥))
+    ⊎ ((IsTop T (indexed_text T i) → ⊥) × Contains hs i)
+
+-- the texts that hs tells to be such records, and no others
+pub record AreAllHidden (T : List (List ℕ)) (hs : List ℕ) : Type 0 where
+  pub within : All (λ h. h < length T) hs
+  pub each : (i : ℕ) → i < length T → IsToldHidden T hs i
+
+-- hs are the records that save nothing: none in a plain file, and in a compact one those that
+-- another text ends with
+abbrev pub AreHidden : Packing → List (List ℕ) → List ℕ → Type 0
+AreHidden Plain T hs = hs ≡ []
+AreHidden Compact T hs = AreAllHidden T hs
 
 abbrev pub lying_in : List ℕ → List Measure → ℕ → ℕ
 lying_in [] ms q = 0

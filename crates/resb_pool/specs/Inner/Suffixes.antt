@@ -98,3 +98,8 @@ pub record IsSharedEnd (p s : List ℕ) : Type 0 where
   pub nonempty : 0 < length s
   pub ends : EndsWith p s
   pub unmarked : is_unmarked s ≡ true
+
+-- s isn't empty and ends the text p
+pub record IsEnd (p s : List ℕ) : Type 0 where
+  pub nonempty : 0 < length s
+  pub ends : EndsWith p s

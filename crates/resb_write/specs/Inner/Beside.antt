@@ -19,7 +19,7 @@ use Rattle.resb_layout.specs.TreeFaults.{key_fault, RefusesWriting}
 use Rattle.resb_layout.specs.WritingFault.{WritingFault}
 use Rattle.resb_layout.specs.Written.{Written}
 use Rattle.resb_layout.specs.WrittenCompact.{WrittenCompact}
-use Rattle.resb_layout.specs.declared.packing.Packing.TheVariants.{Plain, Compact}
+use Rattle.resb_pool.specs.declared.packing.Packing.TheVariants.{Plain, Compact}
 use Rattle.resb_tree.specs.Tree.{Tree}
 use Rattle.resb_pool_bundle.specs.Pool.{pool_in}
 use Rattle.resb_lent.specs.PlanWithPool.{NotPlannedWith}

@@ -9,7 +9,7 @@ use Rattle.std.specs.Str.{IsUtf8}
 use Rattle.resb_layout.specs.KeyBlock.{used, key_bytes, last_place, position_in, keys_start}
 use Rattle.resb_layout.specs.CompactKeys.{keys_by, position_by}
 use Rattle.resb_layout.specs.TreeFaults.{key_fault}
-use Rattle.resb_layout.specs.declared.packing.Packing.{Packing}
+use Rattle.resb_pool.specs.declared.packing.Packing.{Packing}
 
 abbrev pub near_position : ℕ → ℕ
 near_position n = min (keys_start + n) (2 ^ 32 - 1)

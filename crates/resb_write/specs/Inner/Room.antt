@@ -11,7 +11,7 @@ use Rattle.std.specs.List.{sum_by, flat_map}
 use Rattle.resb_tree.specs.Tree.{Tree, string, alias, array, table, binary, integer, int_vector}
 use Rattle.resb_format.specs.Units.{units as units_of}
 use Rattle.resb_layout.specs.Laid.{Given, Laid}
-use Rattle.resb_layout.specs.declared.packing.Packing.TheVariants.{Plain}
+use Rattle.resb_pool.specs.declared.packing.Packing.TheVariants.{Plain}
 use Rattle.resb_tree.specs.LayingOrder.{array_members, values_of, own_keys, text_in}
 use Rattle.resb_write.specs.declared.sites.Bodies.{Bodies}
 

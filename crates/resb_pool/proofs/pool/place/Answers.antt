@@ -3,8 +3,7 @@ use Rattle.std.specs.Str.{IsUtf8}
 use Rattle.std.proofs.lemmas.List.{get_or_default}
 use Rattle.std.proofs.lemmas.List.Elements.{All-contains}
 use Rattle.resb_pool.specs.Plan.{nows}
-use Rattle.resb_pool.specs.Inner.Placing.{AreContainers, AreOffsets, AllClose}
-use Rattle.resb_pool.specs.Inner.LaidRecords.{IsBlock}
+use Rattle.resb_pool.specs.Inner.Placing.{AreOffsets, AllClose}
 use Rattle.resb_pool.proofs.Interning.{length-nows}
 use Rattle.resb_pool.proofs.PlanLemmas.{all_close, texts_few}
 use Rattle.resb_pool.proofs.pool.place.Goals as goal
@@ -28,37 +27,36 @@ find_containers-requires-clause-few c =
 
 pub lay_records-requires-clause-containers : goal.lay_records-requires-clause-containers
 lay_records-requires-clause-containers c =
-    subst (AreContainers (nows c.args.texts.now)) (sym c.deref.ensures.value)
-    c.in_ok-containers.ensures
+    (c.args.packing, c.in_ok-containers.ensures.containers, c.in_ok-containers.ensures.hidden)
 
 pub find_offsets-requires-clause-close : goal.find_offsets-requires-clause-close
 find_offsets-requires-clause-close c =
     let T = nows c.args.texts.now in
     let ms = c.args.measures.now in
     let g = c.requires.given in
-    let hs = c.in_ok-containers.containers.items in
+    let hs = c.in_ok-containers.containers.of.items in
     let es = c.in_ok-block.block.ends.items in
-    let b = subst (λ (z : List ℕ). IsBlock T z ms c.in_ok-block.block.units.items es)
-    c.deref.ensures.value c.in_ok-block.ensures in
-    subst (λ (z : List ℕ). AllClose z ms c.deref-3.result.now) (sym c.deref-2.ensures.value)
-    (subst (AllClose hs ms) (sym c.deref-3.ensures.value)
-    (all_close g.0 T ms g.2 g.1 hs c.in_ok-containers.ensures b.sums b.lying b.rows b.records b.each
-    es b.len b.ends))
+    let at = c.in_ok-containers.ensures in
+    let b = c.in_ok-block.ensures c.args.packing at.containers at.hidden in
+    subst (λ (z : List ℕ). AllClose z ms c.deref-2.result.now) (sym c.deref.ensures.value)
+    (subst (AllClose hs ms) (sym c.deref-2.ensures.value)
+    (all_close c.args.packing g.0 T ms g.2 g.1 hs at.containers b.hidden b.hidden_are b.sums b.lying
+    b.rows b.records b.each es b.len b.ends))
 
 pub returns : goal.returns
 returns c =
     let T = nows c.args.texts.now in
     let ms = c.args.measures.now in
-    let hs = c.in_ok-containers.containers.items in
+    let hs = c.in_ok-containers.containers.of.items in
     let es = c.in_ok-block.block.ends.items in
     let os = c.in_ok-offsets.offsets.items in
     record {
       containers = hs;
       ends = es;
-      containers_are = c.in_ok-containers.ensures;
-      block = subst (λ (z : List ℕ). IsBlock T z ms c.in_ok-block.block.units.items es)
-          c.deref.ensures.value c.in_ok-block.ensures;
-      offsets_are = subst (λ (z : List ℕ). AreOffsets z ms es os) c.deref-2.ensures.value
-          (subst (λ (z : List ℕ). AreOffsets c.deref-2.result.now ms z os) c.deref-3.ensures.value
+      containers_are = c.in_ok-containers.ensures.containers;
+      block = c.in_ok-block.ensures c.args.packing c.in_ok-containers.ensures.containers
+          c.in_ok-containers.ensures.hidden;
+      offsets_are = subst (λ (z : List ℕ). AreOffsets z ms es os) c.deref.ensures.value
+          (subst (λ (z : List ℕ). AreOffsets c.deref.result.now ms z os) c.deref-2.ensures.value
           c.in_ok-offsets.ensures);
     }

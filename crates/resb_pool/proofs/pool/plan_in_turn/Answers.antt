@@ -36,12 +36,13 @@ returns-clause-ok c =
     let us = c.in_ok-units.units.items in
     let os = c.in_ok-units.offsets.items in
     let told = c.in_ok-list.ensures.ok in
-    let laid = subst (λ z. HaveOffsets (nows keys) z us os) c.deref-2.ensures.value
-    (subst (λ (z : List (Bor (List ℕ))). HaveOffsets (nows z) c.deref-2.result.now us os)
+    let laid = subst (λ z. HaveOffsets c.args.packing (nows keys) z us os) c.deref-2.ensures.value
+    (subst (λ (z : List (Bor (List ℕ))).
+    HaveOffsets c.args.packing (nows z) c.deref-2.result.now us os)
     c.deref.ensures.value c.in_ok-units.ensures) in (
       offset_in keys os,
-      plan_of_keys S keys ms us os told.texts laid told.short told.small,
-      turns_of_keys S keys ms us os told.texts laid turns told.turns
+      plan_of_keys c.args.packing S keys ms us os told.texts laid told.short told.small,
+      turns_of_keys c.args.packing S keys ms us os told.texts laid turns told.turns
           ∙ ap (map Some) (sym (c.in_turn.ensures
           ∙ ap (λ z. map (slice_index z) turns) c.deref-3.ensures.value)),
     )

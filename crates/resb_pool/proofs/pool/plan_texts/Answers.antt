@@ -3,6 +3,7 @@ use Rattle.std.proofs.lemmas.Result.{err_from_is_err_and}
 use Rattle.resb_pool.specs.Plan.{nows, no_memory}
 use Rattle.resb_pool.specs.Inner.Placing.{AreTexts}
 use Rattle.resb_pool.specs.Inner.LaidRecords.{HaveOffsets}
+use Rattle.resb_pool.specs.declared.packing.Packing.TheVariants.{Plain}
 use Rattle.resb_pool.proofs.Planned.{plan_of_keys, turns_of_keys}
 use Rattle.resb_pool.proofs.pool.plan_texts.Goals as goal
 use Rattle.resb_pool.proofs.pool.plan_texts.Goals.{In_ok-units}
@@ -27,22 +28,22 @@ returns-in_err-units-clause-err c =
     rw (p.1, p.2) (λ S. no_memory)
 
 -- the texts as they stand once they are placed
-laid : (c : In_ok-units) → HaveOffsets (nows c.args.texts.distinct.keys)
+laid : (c : In_ok-units) → HaveOffsets Plain (nows c.args.texts.distinct.keys)
     c.args.texts.measures.items c.in_ok-units.units.items c.in_ok-units.offsets.items
 laid c =
     let keys = c.args.texts.distinct.keys in
     let us = c.in_ok-units.units.items in
     let os = c.in_ok-units.offsets.items in
-    subst (λ z. HaveOffsets (nows keys) z us os) c.deref.ensures.value
-    (subst (λ (z : List (Bor (List ℕ))). HaveOffsets (nows z) c.deref.result.now us os)
+    subst (λ z. HaveOffsets Plain (nows keys) z us os) c.deref.ensures.value
+    (subst (λ (z : List (Bor (List ℕ))). HaveOffsets Plain (nows z) c.deref.result.now us os)
     c.as_slice.ensures.keys c.in_ok-units.ensures)
 
 pub returns-clause-ok : goal.returns-clause-ok
-returns-clause-ok c = λ S told. plan_of_keys S c.args.texts.distinct.keys
+returns-clause-ok c = λ S told. plan_of_keys Plain S c.args.texts.distinct.keys
     c.args.texts.measures.items c.in_ok-units.units.items c.in_ok-units.offsets.items told.texts
     (laid (goal.at.returns-clause-ok c).In_ok-units) told.short told.small
 
 pub returns-clause-turns : goal.returns-clause-turns
-returns-clause-turns c = λ S told. turns_of_keys S c.args.texts.distinct.keys
+returns-clause-turns c = λ S told. turns_of_keys Plain S c.args.texts.distinct.keys
     c.args.texts.measures.items c.in_ok-units.units.items c.in_ok-units.offsets.items told.texts
     (laid (goal.at.returns-clause-turns c).In_ok-units) c.args.texts.order.items told.turns

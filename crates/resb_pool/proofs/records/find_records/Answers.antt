@@ -13,6 +13,7 @@ use Rattle.resb_pool.specs.Inner.Placing.{AreBytes, front_bytes}
 use Rattle.resb_pool.specs.Inner.Placing.{record_text, record_texts}
 use Rattle.resb_pool.specs.declared.measure.Measure.{Measure}
 use Rattle.resb_pool.specs.declared.records.Record.{Record}
+use Rattle.resb_pool.specs.declared.packing.Packing.{Packing}
 use Rattle.resb_pool.proofs.TextLoops.{blank}
 use Rattle.resb_pool.proofs.Interning.{length-nows, text_nows}
 use Rattle.resb_pool.proofs.Distinct.{not_before}
@@ -23,15 +24,16 @@ abbrev no_measure : Measure
 no_measure = record { unit_count = 0; size = 0; total = 0 }
 
 -- what the test of a record says
-own_record : (xs : List (Bor (List ℕ))) (hs : List ℕ) (i : ℕ) → AreContainers (nows xs) hs
+own_record : (way : Packing) (xs : List (Bor (List ℕ))) (hs : List ℕ) (i : ℕ)
+    → AreContainers way (nows xs) hs
     → i < length hs → (nat_eq (get_or hs i 0) i
     && not (nat_eq (length (get_or xs i blank).now) 0)) ≡ true
     → IsRecord (nows xs) (indexed_text (nows xs) i)
-own_record xs hs i placed l h =
+own_record way xs hs i placed l h =
     let k : i < length xs = omega (arith, l, placed.len, length-nows xs) in
     let both = and_parts (nat_eq (get_or hs i 0) i)
     (not (nat_eq (length (get_or xs i blank).now) 0)) h in
-    lies_in_itself (nows xs) i (get_or hs i 0)
+    lies_in_itself way (nows xs) i (get_or hs i 0)
     (placed.lies i (omega (arith, l, placed.len))) (eqb-true (get_or hs i 0)
     i both.0)
     (λ z. not_zero (length (get_or xs i blank).now) both.1 (ap length (text_nows xs i k) ∙ z))
@@ -39,11 +41,12 @@ own_record xs hs i placed l h =
     not_zero : (n : ℕ) → not (nat_eq n 0) ≡ true → n ≡ 0 → ⊥
     not_zero n e z = true≢false (sym e ∙ ap not (eq-eqb n 0 z))
 
-no_record : (xs : List (Bor (List ℕ))) (hs : List ℕ) (i : ℕ) → AreContainers (nows xs) hs
+no_record : (way : Packing) (xs : List (Bor (List ℕ))) (hs : List ℕ) (i : ℕ)
+    → AreContainers way (nows xs) hs
     → i < length hs → (nat_eq (get_or hs i 0) i
     && not (nat_eq (length (get_or xs i blank).now) 0)) ≡ false
     → IsRecord (nows xs) (indexed_text (nows xs) i) → ⊥
-no_record xs hs i placed l h r =
+no_record way xs hs i placed l h r =
     let k : i < length xs = omega (arith, l, placed.len, length-nows xs) in
     let at = placed.lies i (omega (arith, l, placed.len)) in
     elim (and_cases (nat_eq (get_or hs i 0) i)
@@ -65,8 +68,9 @@ pub overflow_sub-sums : goal.overflow_sub-sums
 overflow_sub-sums c =
     let i = c.loop-index.index in
     let l : i < length (nows c.args.texts.now) =
-    omega (arith, c.loop-index-test.true, c.requires.containers.len) in
-    let own = own_record c.args.texts.now c.args.containers.now i c.requires.containers
+    omega (arith, c.loop-index-test.true, c.requires.containers.1.len) in
+    let own = own_record c.requires.containers.0 c.args.texts.now c.args.containers.now i
+    c.requires.containers.1
     c.loop-index-test.true (sym c.is_record.ensures ∙ c.if-not-is_record.false) in
     omega (arith, c.requires.sums.size_is i no_measure l, c.requires.sums.own i l own)
 
@@ -74,11 +78,12 @@ pub loop-index-preserved-then-not-is_record : goal.loop-index-preserved-then-not
 loop-index-preserved-then-not-is_record c =
     let T = nows c.args.texts.now in
     let i = c.loop-index.index in
-    let l : i < length T = omega (arith, c.loop-index-test.true, c.requires.containers.len) in
+    let l : i < length T = omega (arith, c.loop-index-test.true, c.requires.containers.1.len) in
     record {
       records = listed_keep T (take i T) (take (i + 1) T) (indexed_text T i) (take_more T i [] l)
           (record_texts T c.loop-index.records.items) c.loop-index.invariant.records
-          (λ r. absurd (no_record c.args.texts.now c.args.containers.now i c.requires.containers
+          (λ r. absurd (no_record c.requires.containers.0 c.args.texts.now c.args.containers.now i
+          c.requires.containers.1
           c.loop-index-test.true (sym c.is_record.ensures ∙ c.if-not-is_record.true) r));
       each = c.loop-index.invariant.each;
     }
@@ -89,8 +94,9 @@ loop-index-preserved c =
     let T = nows xs in
     let i = c.loop-index.index in
     let old = c.loop-index.records.items in
-    let l : i < length T = omega (arith, c.loop-index-test.true, c.requires.containers.len) in
-    let own = own_record xs c.args.containers.now i c.requires.containers c.loop-index-test.true
+    let l : i < length T = omega (arith, c.loop-index-test.true, c.requires.containers.1.len) in
+    let own = own_record c.requires.containers.0 xs c.args.containers.now i c.requires.containers.1
+    c.loop-index-test.true
     (sym c.is_record.ensures ∙ c.if-not-is_record.false) in
     let m = get_or c.args.measures.now i no_measure in
     let r : Record = record {
@@ -131,7 +137,7 @@ returns-clause-records c =
     let T = nows c.args.texts.now in
     let rs = record_texts T c.loop-index.records.items in
     records_all T rs (subst (λ d. AreRecordsAmong T d rs) (take_all c.loop-index.index T
-    (omega (arith, c.loop-index-test.false, c.requires.containers.len)))
+    (omega (arith, c.loop-index-test.false, c.requires.containers.1.len)))
     c.loop-index.invariant.records)
 
 pub loop-index-init : goal.loop-index-init
@@ -153,17 +159,17 @@ pub bounds-texts-index : goal.bounds-texts-index
 bounds-texts-index c = omega (
   arith,
   c.loop-index-test.true,
-  c.requires.containers.len,
+  c.requires.containers.1.len,
   length-nows c.args.texts.now,
 )
 
 pub bounds-measures-index : goal.bounds-measures-index
 bounds-measures-index c =
-    omega (arith, c.loop-index-test.true, c.requires.containers.len, c.requires.sums.measured)
+    omega (arith, c.loop-index-test.true, c.requires.containers.1.len, c.requires.sums.measured)
 
 pub bounds-sums-index : goal.bounds-sums-index
 bounds-sums-index c =
-    omega (arith, c.loop-index-test.true, c.requires.containers.len, c.requires.sums.len)
+    omega (arith, c.loop-index-test.true, c.requires.containers.1.len, c.requires.sums.len)
 
 pub returns-clause-each : goal.returns-clause-each
 returns-clause-each c = c.loop-index.invariant.each

@@ -5,7 +5,7 @@ use Rattle.std.proofs.lemmas.Result.{IfOk-weaker}
 use Rattle.resb_pool.specs.Plan.{nows}
 use Rattle.resb_layout.specs.KeyBlock.{position_in}
 use Rattle.resb_layout.specs.TreeFaults.{key_fault}
-use Rattle.resb_layout.specs.declared.packing.Packing.TheVariants.{Plain}
+use Rattle.resb_pool.specs.declared.packing.Packing.TheVariants.{Plain}
 use Rattle.resb_write.specs.Inner.NearPositions.{IsKeyBlock, IsKeyBlockBy}
 use Rattle.resb_write.proofs.packed_keys.packed_keys.Goals as goal
 

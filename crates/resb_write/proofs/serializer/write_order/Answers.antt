@@ -4,7 +4,7 @@ use Rattle.std.proofs.Common.{subst, arith}
 use Rattle.std.specs.List.{sum_by}
 use Rattle.std.proofs.lemmas.Result.{err_from_is_err_and}
 use Rattle.resb_format.specs.Units.{size}
-use Rattle.resb_pool.specs.Plan.{nows, IsPlan}
+use Rattle.resb_pool.specs.Plan.{nows, IsPlanBy}
 use Rattle.resb_tree.specs.Tree.{Tree}
 use Rattle.resb_tree.specs.LayingOrder.{laying_order, keys_of}
 use Rattle.resb_write.specs.Inner.Room.{laid_of, GivesInTurn}
@@ -95,7 +95,7 @@ numbered g c base t f us =
       keys = b.positions (omega (arith, used_room (keys_of t) list, small))
           ∙ ap (map Some) (sym c.deref-2.ensures.value);
       texts = ap (map pooled.offset) (sym texts) ∙ offsets;
-      near = near_offsets (nows c.in_ok-contents.contents.texts.items)
+      near = near_offsets c.args.packing (nows c.in_ok-contents.contents.texts.items)
           c.in_ok-pool.field-0.pool.items pooled.offset pooled.plan
           (nows c.in_ok-contents.contents.texts.items) c.deref-3.result.now (λ s h. h) offsets;
     }
@@ -111,8 +111,8 @@ lay_bodies-requires-clause-tree g c =
     let js = ap nows c.deref.ensures.value
     ∙ (c.in_ok-contents.ensures.ok t c.requires.1 c.requires.2).1.keys in
     let texts = gathered.texts_are in
-    let pool = pool_room (nows c.in_ok-contents.contents.texts.items) us pooled.offset
-    pooled.plan in
+    let pool = pool_room c.args.packing (nows c.in_ok-contents.contents.texts.items) us
+    pooled.offset pooled.plan in
     let same = ap (sum_by size) texts in (
       t,
       r.1,
@@ -200,7 +200,7 @@ returns-clause-ok g c = λ t f k.
       utf8 = b.utf8;
       faultless = b.faultless;
       small = small;
-      plan = subst (λ S. IsPlan S pool pooled.offset) texts pooled.plan;
+      plan = subst (λ S. IsPlanBy q S pool pooled.offset) texts pooled.plan;
       base = end;
       base_is = omega (
         arith,

@@ -12,7 +12,7 @@ use Rattle.resb_pool.specs.Plan.{nows}
 use Rattle.resb_tree.specs.Tree.{Tree}
 use Rattle.resb_tree.specs.LayingOrder.{laying_order, keys_of, texts_of}
 use Rattle.resb_pool_bundle.specs.Pool.{pool_in}
-use Rattle.resb_layout.specs.declared.packing.Packing.TheVariants.{Plain}
+use Rattle.resb_pool.specs.declared.packing.Packing.TheVariants.{Plain}
 use Rattle.resb_layout.specs.Laid.{LaysBy}
 use Rattle.resb_layout.specs.KeyBlock.{key_bytes, padded, used}
 use Rattle.resb_layout.specs.PlainSize.{list_size, resources_size}
@@ -127,7 +127,7 @@ few_units : (block : List ℕ) (S : List (List ℕ)) (us is : List ℕ) (limit s
     → IsPlanWith block S us is limit short → length us ≤ 1 + sum_by size S
 few_units block S us is limit short w = omega (
   arith,
-  pool_room (lacking S w.found) us w.offset w.plan,
+  pool_room Plain (lacking S w.found) us w.offset w.plan,
   lacking_sum size S w.found,
 )
 

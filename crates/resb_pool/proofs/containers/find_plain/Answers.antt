@@ -8,11 +8,12 @@ use Rattle.resb_pool.specs.Inner.Placing.{LiesAt, indexed_text}
 use Rattle.resb_pool.specs.Inner.Suffixes.{AreInOrder, IsRowOf, IsSharedEnd, row_text}
 use Rattle.resb_pool.specs.Inner.Suffixes.{digits_backwards, key_of_digits}
 use Rattle.resb_pool.specs.declared.suffix_order.Row.{Row}
+use Rattle.resb_pool.specs.declared.packing.Packing.TheVariants.{Plain}
 use Rattle.resb_pool.proofs.Interning.{length-nows}
 use Rattle.resb_pool.proofs.SuffixRuns.{IsPrevious, step_alone, step_shared, one_row, row_of}
-use Rattle.resb_pool.proofs.containers.find_containers.Goals.{then-not-lies_with}
-use Rattle.resb_pool.proofs.containers.find_containers.Goals.{else-not-lies_with}
-use Rattle.resb_pool.proofs.containers.find_containers.Goals as goal
+use Rattle.resb_pool.proofs.containers.find_plain.Goals.{then-not-lies_with}
+use Rattle.resb_pool.proofs.containers.find_plain.Goals.{else-not-lies_with}
+use Rattle.resb_pool.proofs.containers.find_plain.Goals as goal
 use Rattle.resb_pool.proofs.Numbers.{old_or_new}
 
 abbrev no_row : Row
@@ -58,12 +59,12 @@ loop-row-preserved c =
       last = λ k e. v.last k no_row e;
     } in
     let S : Type 0 = IsSharedEnd p (row_text T r) in
-    let lies : LiesAt T r.index c.if-not-lies_with.container =
+    let lies : LiesAt Plain T r.index c.if-not-lies_with.container =
     elim c.if-not-lies_with.branch [
-      | then-not-lies_with w ↦ subst (LiesAt T r.index) (sym w.container-is)
+      | then-not-lies_with w ↦ subst (LiesAt Plain T r.index) (sym w.container-is)
           (step_alone T u once rows o i no_row l p h before
           (MatchBool-at_false S (S → ⊥) w.if-not-lies_with.true c.lies_with.ensures))
-      | else-not-lies_with w ↦ subst (LiesAt T r.index) (sym w.container-is)
+      | else-not-lies_with w ↦ subst (LiesAt Plain T r.index) (sym w.container-is)
           (step_shared T u once rows o i no_row l p h before
           (MatchBool-at_true S (S → ⊥) w.if-not-lies_with.false c.lies_with.ensures))
     ] in
@@ -79,7 +80,7 @@ loop-row-preserved c =
       first = λ e. absurd (omega (arith, e));
       last = λ k d e.
           let q = is_row d ∙ ap (λ z. get_or rows z d) (omega (arith, e)) in
-          (ap (row_text T) q, subst (λ (z : Row). LiesAt T z.index new) q lies);
+          (ap (row_text T) q, subst (λ (z : Row). LiesAt Plain T z.index new) q lies);
       lies = λ j d m. elim (old_or_new i j m) [
         | inl b ↦
             let k = (get_or rows j d).index in
@@ -87,11 +88,12 @@ loop-row-preserved c =
             let f = one_row T u once rows o j i d (omega (arith, b, l)) l
             (e ∙ ap (λ (z : Row). z.index) (is_row d)) in
             omega (arith, b, f)) in
-            subst (LiesAt T k) (sym (get_or-set_other es r.index k new 0 ne)) (v.lies j d b)
+            subst (LiesAt Plain T k) (sym (get_or-set_other es r.index k new 0 ne)) (v.lies j d b)
         | inr e ↦
             let q = is_row d ∙ ap (λ z. get_or rows z d) (sym e) in
-            subst (λ (z : Row). LiesAt T z.index (get_or (slice_set es r.index new) z.index 0)) q
-            (subst (LiesAt T r.index) (sym (get_or-set_same es r.index new 0 within)) lies)
+            subst (λ (z : Row).
+            LiesAt Plain T z.index (get_or (slice_set es r.index new) z.index 0)) q
+            (subst (LiesAt Plain T r.index) (sym (get_or-set_same es r.index new 0 within)) lies)
       ];
     }
 
@@ -107,6 +109,6 @@ returns c =
       len = c.loop-row.invariant.len ∙ sym n;
       lies = λ i l.
           let r = row_of T c.requires.utf8 c.requires.distinct rows o i no_row l in
-          subst (λ z. LiesAt T z (get_or es z 0)) r.2
+          subst (λ z. LiesAt Plain T z (get_or es z 0)) r.2
           (c.loop-row.invariant.lies r.0 no_row (omega (arith, r.1, c.loop-row-test.false)));
     }

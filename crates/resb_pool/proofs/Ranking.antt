@@ -14,24 +14,24 @@ use Rattle.resb_pool.specs.Shared.{AreWorth, worth_none, worth_kept, worth_left,
 use Rattle.resb_pool.specs.Inner.Placing.{AreTexts, IsRecordOf, record_text, record_texts}
 use Rattle.resb_pool.specs.Inner.Ranked.{AreRanked, saving}
 use Rattle.resb_pool.specs.declared.measure.Measure.{Measure}
-use Rattle.resb_pool.specs.declared.packing.Packing.TheVariants.{Plain}
+use Rattle.resb_pool.specs.declared.packing.Packing.{Packing}
 use Rattle.resb_pool.specs.declared.records.Record.{Record}
 use Rattle.resb_pool.proofs.InOrder.{length-records}
 use Rattle.resb_pool.proofs.PlanLemmas.{in_given, laid_small, saved_at, pool_is}
 use Rattle.resb_pool.proofs.TextLists.{TextList}
 
 -- the rows that save enough are the records that do
-worth_of : (S T : TextList) (least : ℕ) (v : List Record)
+worth_of : (way : Packing) (S T : TextList) (least : ℕ) (v : List Record)
     → ((k : ℕ) (d : Record) → k < length v
-    → Saved Plain S (record_text T (get_or v k d)) (get_or v k d).saved)
-    → AreWorth S least (record_texts T v) (record_texts T (saving least v))
-worth_of S T least [] h = worth_none
-worth_of S T least (r ∷ v) h =
-    by (worth_of S T least v (λ k d l. h (suc k) d (omega (arith, l)))) (nat_le least r.saved) refl
+    → Saved way S (record_text T (get_or v k d)) (get_or v k d).saved)
+    → AreWorth way S least (record_texts T v) (record_texts T (saving least v))
+worth_of way S T least [] h = worth_none
+worth_of way S T least (r ∷ v) h =
+    by (worth_of way S T least v (λ k d l. h (suc k) d (omega (arith, l)))) (nat_le least r.saved) refl
   where
-    by : AreWorth S least (record_texts T v) (record_texts T (saving least v))
+    by : AreWorth way S least (record_texts T v) (record_texts T (saving least v))
         → (b : Bool) → nat_le least r.saved ≡ b
-        → AreWorth S least (record_text T r ∷ record_texts T v)
+        → AreWorth way S least (record_text T r ∷ record_texts T v)
         (record_texts T (cond b (r ∷ saving least v) (saving least v)))
     by rest true e = worth_kept (h 0 r (omega arith)) (leb-true least r.saved e) rest
     by rest false e = worth_left (h 0 r (omega arith)) (leb-false least r.saved e) rest
@@ -54,11 +54,11 @@ saving_within T least (r ∷ v) = by (saving_within T least v) (nat_le least r.s
     )
     by rest false = omega (arith, rest, sum_by-cons size (record_text T r) (record_texts T v))
 
-module _ (S T : TextList) (ms : List Measure) (given : AreTexts S T ms)
-    (small : texts_size S < 2 ^ 28) (v : List Record) (ranked : AreRanked T ms v) where
+module _ (way : Packing) (S T : TextList) (ms : List Measure) (given : AreTexts S T ms)
+    (small : texts_size S < 2 ^ 28) (v : List Record) (ranked : AreRanked way T ms v) where
   pub records_of : IsRecords S (record_texts T v)
   records_of =
-      in_given Plain S T ms given small ranked.containers ranked.containers_are ranked.hidden
+      in_given way S T ms given small ranked.containers ranked.containers_are ranked.hidden
       ranked.hidden_are ranked.sums ranked.lying v
       ranked.records ranked.each
 
@@ -70,22 +70,22 @@ module _ (S T : TextList) (ms : List Measure) (given : AreTexts S T ms)
     kept_small = omega (
       arith,
       saving_within T least v,
-      laid_small Plain S T ms given small ranked.containers ranked.containers_are ranked.hidden
+      laid_small way S T ms given small ranked.containers ranked.containers_are ranked.hidden
           ranked.hidden_are ranked.sums ranked.lying v ranked.records ranked.each,
     )
 
     pub shared_pool : (us : List ℕ)
         → us ≡ 0 ∷ flat_map record_units (record_texts T (saving least v))
-        → IsSharedPool S least us
+        → IsSharedPool way S least us
     shared_pool us e = record {
       records = record_texts T v;
       kept = record_texts T (saving least v);
       pool =
-          pool_is Plain S T ms given small ranked.containers ranked.containers_are ranked.hidden
+          pool_is way S T ms given small ranked.containers ranked.containers_are ranked.hidden
           ranked.hidden_are ranked.sums ranked.lying v ranked.records ranked.each ranked.ascend
           (0 ∷ flat_map record_units (record_texts T v)) refl;
       worth =
-          worth_of S T least v (saved_at Plain S T ms given small ranked.containers
+          worth_of way S T least v (saved_at way S T ms given small ranked.containers
           ranked.containers_are ranked.hidden ranked.hidden_are ranked.sums ranked.lying v
           ranked.records ranked.each);
       units = e;

@@ -17,13 +17,18 @@ use crate::records::{Record, lay, ordered};
 use crate::texts::indexed_text;
 use std::alloc::{AllocError, Global};
 
-/// The records of distinct texts, in their order.
-fn rank(alloc: Global, texts: &[&str], measures: &[Measure]) -> Result<Vec<Record>, AllocError>
+/// The records of distinct texts, in their order in a file that is packed like this.
+fn rank(
+    alloc: Global,
+    packing: Packing,
+    texts: &[&str],
+    measures: &[Measure],
+) -> Result<Vec<Record>, AllocError>
     requires given { (strings : List (List ℕ)) × (texts_size strings < 2 ^ 28)
         × AreTexts strings (nows texts.now) measures.now }
-    ensures { IfOk result (λ v. AreRanked (nows texts.now) measures.now v.items) }
+    ensures { IfOk result (λ v. AreRanked packing (nows texts.now) measures.now v.items) }
 {
-    let containers = find_containers(alloc, Packing::Plain, texts)?;
+    let containers = find_containers(alloc, packing, texts)?;
     let sums = find_sums(alloc, &containers, measures)?;
     ordered(alloc, texts, &containers.of, measures, &sums)
 }
@@ -67,13 +72,14 @@ fn ranked_texts<'a>(
     ensures { IfOk result (λ v. (strings : List (List ℕ)) → texts_size strings < 2 ^ 28
         → AreTexts strings (nows texts.now) measures.now → IsRecords strings (nows v.items)) }
 {
-    let rows = rank(alloc, texts, measures)?;
+    let rows = rank(alloc, Packing::Plain, texts, measures)?;
     texts_of_rows(alloc, texts, &rows)
 }
 
 /// Unit 0 and those records of distinct texts that save so many units or more, in their order.
 fn lay_saving(
     alloc: Global,
+    packing: Packing,
     texts: &[&str],
     measures: &[Measure],
     least: u32,
@@ -82,9 +88,9 @@ fn lay_saving(
         × AreTexts strings (nows texts.now) measures.now }
     ensures { IfOk result (λ v. (strings : List (List ℕ)) → texts_size strings < 2 ^ 28
         → AreTexts strings (nows texts.now) measures.now
-        → IsSharedPool strings least v.items) }
+        → IsSharedPool packing strings least v.items) }
 {
-    let rows = rank(alloc, texts, measures)?;
+    let rows = rank(alloc, packing, texts, measures)?;
     let kept = saving_rows(alloc, &rows, least)?;
     let block = lay(alloc, texts, &kept)?;
     Ok(block.units)
@@ -101,12 +107,24 @@ pub fn records<'a>(alloc: Global, strings: &[&'a str]) -> Result<Vec<&'a str>, P
 }
 
 /// Unit 0, and of the records that strings have in their plan (`plan`) those of which sharing each
-/// saves so many units or more, in the same order. Refused is what `plan` refuses.
+/// saves so many units or more, in the same order, as a file would share them that is packed like
+/// this. Refused is what `plan` refuses.
 /// (ICU's `reslist.cpp`: the strings of a pool bundle.)
-pub fn units_saving(alloc: Global, strings: &[&str], least: u32) -> Result<Vec<u16>, PlanError>
-    ensures ok { IfOk result (λ v. IsSharedPool (nows strings.now) least v.items) }
+pub fn units_saving(
+    alloc: Global,
+    packing: Packing,
+    strings: &[&str],
+    least: u32,
+) -> Result<Vec<u16>, PlanError>
+    ensures ok { IfOk result (λ v. IsSharedPool packing (nows strings.now) least v.items) }
     ensures err { IfErr result (NotPlanned (nows strings.now)) }
 {
     let texts = texts_of(alloc, strings)?;
-    Ok(lay_saving(alloc, texts.distinct.as_slice(), &texts.measures, least)?)
+    Ok(lay_saving(
+        alloc,
+        packing,
+        texts.distinct.as_slice(),
+        &texts.measures,
+        least,
+    )?)
 }

@@ -7,7 +7,7 @@ use Rattle.std.specs.List.{flat_map}
 use Rattle.resb_tree.specs.Tree.{string, table, no_entries, entry}
 use Rattle.resb_pool_bundle.specs.Checksum.{bit_step, checksum_of}
 use Rattle.resb_pool_maker.specs.PoolFile.{pool_file}
-use Rattle.resb_layout.specs.declared.packing.Packing.TheVariants.{Plain}
+use Rattle.resb_pool.specs.declared.packing.Packing.TheVariants.{Plain}
 use Rattle.resb_pool_maker.specs.PoolOf.{Bundle, pool_keys_by}
 
 -- 32 bytes of header, of a version whose first number is given

@@ -8,8 +8,8 @@ use Rattle.std.specs.declared.string.String.{String}
 use Rattle.std.proofs.Common.{filter, cond, true}
 use Rattle.resb_layout.specs.CompactKeys.{keys_by, kept}
 use Rattle.resb_layout.specs.TreeFaults.{has_nul}
-use Rattle.resb_layout.specs.declared.packing.Packing.{Packing}
-use Rattle.resb_layout.specs.declared.packing.Packing.TheVariants.{Plain, Compact}
+use Rattle.resb_pool.specs.declared.packing.Packing.{Packing}
+use Rattle.resb_pool.specs.declared.packing.Packing.TheVariants.{Plain, Compact}
 use Rattle.resb_pool_maker.specs.Holding.{bytes_each, IsGift, AreGifts, no_gifts, more_gifts}
 use Rattle.resb_pool_maker.specs.Inner.Given.{gift_keys, gift_records}
 use Rattle.resb_pool_maker.specs.PoolOf.{Bundle, used_keys, GiveRecords, give_none, give_more}

@@ -9,7 +9,7 @@ use Rattle.resb_pool_bundle.specs.FileWith.{IsPoolFile}
 use Rattle.resb_pool_bundle.specs.Pool.{pool_of}
 use Rattle.resb_pool_maker.specs.Laws.{MadePoolIsRead, made_pool}
 use Rattle.resb_pool_maker.specs.PoolFile.{head_words, is_third}
-use Rattle.resb_layout.specs.declared.packing.Packing.{Packing}
+use Rattle.resb_pool.specs.declared.packing.Packing.{Packing}
 use Rattle.resb_pool_maker.specs.PoolOf.{Bundle, IsPoolOfBy, pool_keys_by}
 use Rattle.resb_pool_maker.proofs.Blocks.{each_below, below_even, even_long, padded_long}
 use Rattle.resb_pool_maker.proofs.ReadBack.{Whole, passes, lends}

@@ -8,7 +8,7 @@ use Rattle.resb_pool_bundle.specs.Checksum.{checksum_of}
 use Rattle.resb_pool_bundle.specs.FileWith.{IsPoolFile}
 use Rattle.resb_pool_bundle.specs.Pool.{Pool, pool_of}
 use Rattle.resb_pool_maker.specs.PoolFile.{blocks_checksum}
-use Rattle.resb_layout.specs.declared.packing.Packing.{Packing}
+use Rattle.resb_pool.specs.declared.packing.Packing.{Packing}
 use Rattle.resb_pool_maker.specs.PoolOf.{Bundle, IsPoolOfBy, pool_keys_by}
 
 -- the keys, each with its zero byte, and the units, both filled to a word, and their checksum

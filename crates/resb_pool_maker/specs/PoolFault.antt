@@ -12,8 +12,8 @@ use Rattle.resb_layout.specs.TreeFaults.{has_nul}
 use Rattle.resb_pool.specs.Plan.{NotPlanned}
 use Rattle.resb_pool.specs.declared.error.PlanError.{PlanError}
 use Rattle.resb_pool.specs.declared.error.PlanError.TheVariants as planning
-use Rattle.resb_layout.specs.declared.packing.Packing.{Packing}
-use Rattle.resb_layout.specs.declared.packing.Packing.TheVariants.{Plain, Compact}
+use Rattle.resb_pool.specs.declared.packing.Packing.{Packing}
+use Rattle.resb_pool.specs.declared.packing.Packing.TheVariants.{Plain, Compact}
 use Rattle.resb_pool_maker.specs.PoolOf.{Bundle, GiveRecords, pool_keys_by, used_keys}
 use Rattle.resb_pool_maker.specs.declared.error.PoolMakerError.{PoolMakerError}
 use Rattle.resb_pool_maker.specs.declared.error.PoolMakerError.TheVariants.{StringTooLong}

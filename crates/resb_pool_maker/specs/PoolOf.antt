@@ -12,8 +12,8 @@ use Rattle.resb_tree.specs.Tree.{Tree}
 use Rattle.resb_tree.specs.LayingOrder.{texts_of, keys_of}
 use Rattle.resb_layout.specs.KeyBlock.{is_among, used, key_bytes, padded}
 use Rattle.resb_layout.specs.CompactKeys.{keys_by}
-use Rattle.resb_layout.specs.declared.packing.Packing.{Packing}
-use Rattle.resb_layout.specs.declared.packing.Packing.TheVariants.{Plain, Compact}
+use Rattle.resb_pool.specs.declared.packing.Packing.{Packing}
+use Rattle.resb_pool.specs.declared.packing.Packing.TheVariants.{Plain, Compact}
 use Rattle.resb_layout.specs.Written.{even}
 use Rattle.resb_layout.specs.TreeFaults.{has_nul}
 use Rattle.resb_pool.specs.Records.{IsRecords}
@@ -59,7 +59,7 @@ pub record IsPoolOfBy (packing : Packing) (bytes : List ℕ) (bs : List Bundle) 
   pub given : List (List ℕ)
   pub gives : GiveRecords bs given
   pub units : List ℕ
-  pub shared : IsSharedPool given least_saved units
+  pub shared : IsSharedPool packing given least_saved units
   pub plain : list_any has_nul (pool_keys_by packing bs) ≡ false
   -- each key has a position below 2^31, each unit 16 bits, and the checksum 32
   pub near : length (key_bytes (pool_keys_by packing bs)) ≤ 2 ^ 31

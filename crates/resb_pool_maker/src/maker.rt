@@ -141,8 +141,8 @@ impl PoolMaker {
 
     /// The compact pool bundle of the bundles that were added, as ICU's `genrb` makes it: what
     /// `finish` gives, but that a key that other keys end with, of its bundle or of the pool, lies
-    /// at the end of the greatest of them, by their bytes from the last to the first, and that the
-    /// version is 3.0 in any case.
+    /// at the end of the greatest of them, by their bytes from the last to the first; that a record
+    /// which another string ends with saves nothing; and that the version is 3.0 in any case.
     ///
     /// Refused is what `finish` refuses.
     pub fn finish_compact(&self, alloc: Global) -> Result<Vec<u8>, PoolMakerError>
@@ -163,7 +163,7 @@ impl PoolMaker {
     {
         let keys = joined_keys(alloc, packing, &self.gifts)?;
         check_near(&keys)?;
-        let units = shared_units(alloc, &self.gifts)?;
+        let units = shared_units(alloc, packing, &self.gifts)?;
         Ok(assemble(alloc, packing, &keys, &units)?)
     }
 }
@@ -240,12 +240,12 @@ fn given_records<'g>(alloc: Global, gifts: &'g [Gift]) -> Result<Vec<&'g str>, A
 }
 
 /// Unit 0 and the records of gifts that save enough.
-fn shared_units(alloc: Global, gifts: &[Gift]) -> Result<Vec<u16>, PlanError>
-    ensures ok { IfOk result (λ v. IsSharedPool (gift_records gifts.now) least_saved v.items) }
+fn shared_units(alloc: Global, packing: Packing, gifts: &[Gift]) -> Result<Vec<u16>, PlanError>
+    ensures ok { IfOk result (λ v. IsSharedPool packing (gift_records gifts.now) least_saved v.items) }
     ensures err { IfErr result (NotPlanned (gift_records gifts.now)) }
 {
     let records = given_records(alloc, gifts)?;
-    shared_pool::units_saving(alloc, &records, LEAST_SAVED)
+    shared_pool::units_saving(alloc, packing, &records, LEAST_SAVED)
 }
 
 /// Refuses keys that come to more bytes than positions reach.

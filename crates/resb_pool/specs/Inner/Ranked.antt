@@ -1,5 +1,5 @@
--- The records of distinct texts in a plain file, before they are laid.
---     AreRanked T ms rows     the rows are the records of the texts T, of measures ms, in their
+-- The records of distinct texts in a file that is packed one way, before they are laid.
+--     AreRanked way T ms rows     the rows are the records of the texts T, of measures ms, in their
 --                             order
 --     saving n rows           those that save n units or more
 use Rattle.std.specs.Prelude.{ℕ, List, All, filter, nat_le}
@@ -9,14 +9,15 @@ use Rattle.resb_pool.specs.Inner.LaidRecords.{AreCounted}
 use Rattle.resb_pool.specs.Inner.Placing.{AreContainers, AreHidden, IsRecordOf, record_texts}
 use Rattle.resb_pool.specs.Inner.Placing.{record_cmp}
 use Rattle.resb_pool.specs.declared.measure.Measure.{Measure}
-use Rattle.resb_pool.specs.declared.packing.Packing.TheVariants.{Plain}
+use Rattle.resb_pool.specs.declared.packing.Packing.{Packing}
 use Rattle.resb_pool.specs.declared.records.Record.{Record}
 
-pub record AreRanked (T : List (List ℕ)) (ms : List Measure) (rows : List Record) : Type 0 where
+pub record AreRanked (way : Packing) (T : List (List ℕ)) (ms : List Measure)
+    (rows : List Record) : Type 0 where
   pub containers : List ℕ
-  pub containers_are : AreContainers Plain T containers
+  pub containers_are : AreContainers way T containers
   pub hidden : List ℕ
-  pub hidden_are : AreHidden Plain T hidden
+  pub hidden_are : AreHidden way T hidden
   pub sums : List ℕ
   pub lying : AreCounted hidden containers ms sums
   pub records : IsRecords T (record_texts T rows)

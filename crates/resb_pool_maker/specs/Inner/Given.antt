@@ -7,7 +7,7 @@ use Rattle.std.specs.List.{flat_map}
 use Rattle.resb_pool.specs.Records.{IsRecords}
 use Rattle.resb_tree.specs.LayingOrder.{texts_of}
 use Rattle.resb_layout.specs.CompactKeys.{keys_by}
-use Rattle.resb_layout.specs.declared.packing.Packing.{Packing}
+use Rattle.resb_pool.specs.declared.packing.Packing.{Packing}
 use Rattle.resb_pool_maker.specs.Holding.{bytes_each}
 use Rattle.resb_pool_maker.specs.PoolOf.{Bundle, used_keys}
 use Rattle.resb_pool_maker.specs.declared.gathering.Gift.{Gift}

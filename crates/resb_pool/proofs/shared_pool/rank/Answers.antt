@@ -4,7 +4,6 @@ use Rattle.std.proofs.lemmas.List.{get_or_default}
 use Rattle.std.proofs.lemmas.List.Elements.{All-contains}
 use Rattle.resb_pool.specs.Plan.{nows}
 use Rattle.resb_pool.specs.Inner.Placing.{AreContainers, AreSums}
-use Rattle.resb_pool.specs.declared.packing.Packing.TheVariants.{Plain}
 use Rattle.resb_pool.proofs.PlacingLemmas.{within_texts, hidden_within}
 use Rattle.resb_pool.proofs.Interning.{length-nows}
 use Rattle.resb_pool.proofs.PlanLemmas.{totals_small, sums_are, texts_few}
@@ -30,24 +29,24 @@ find_containers-requires-clause-few c =
 pub find_sums-requires-clause-small : goal.find_sums-requires-clause-small
 find_sums-requires-clause-small c =
     let g = c.requires.given in
-    totals_small Plain g.0 (nows c.args.texts.now) c.args.measures.now g.2 g.1
+    totals_small c.args.packing g.0 (nows c.args.texts.now) c.args.measures.now g.2 g.1
     c.in_ok-containers.containers.of.items c.in_ok-containers.ensures.containers
 
 pub find_sums-requires-clause-hidden : goal.find_sums-requires-clause-hidden
 find_sums-requires-clause-hidden c =
-    hidden_within Plain (nows c.args.texts.now) c.in_ok-containers.containers.of.items
+    hidden_within c.args.packing (nows c.args.texts.now) c.in_ok-containers.containers.of.items
     c.in_ok-containers.containers.hidden.items c.in_ok-containers.ensures.containers
     c.in_ok-containers.ensures.hidden
 
 pub find_sums-requires-clause-within : goal.find_sums-requires-clause-within
 find_sums-requires-clause-within c =
-    within_texts Plain (nows c.args.texts.now) c.in_ok-containers.containers.of.items
+    within_texts c.args.packing (nows c.args.texts.now) c.in_ok-containers.containers.of.items
     c.in_ok-containers.ensures.containers
 
 pub ordered-requires-clause-containers : goal.ordered-requires-clause-containers
 ordered-requires-clause-containers c = (
-  Plain,
-  subst (AreContainers Plain (nows c.args.texts.now)) (sym c.deref.ensures.value)
+  c.args.packing,
+  subst (AreContainers c.args.packing (nows c.args.texts.now)) (sym c.deref.ensures.value)
       c.in_ok-containers.ensures.containers,
 )
 
@@ -68,6 +67,6 @@ ordered-requires-clause-sums c =
     let g = c.requires.given in
     let sums = c.in_ok-sums.sums.items in
     subst (AreSums T ms) (sym c.deref-2.ensures.value)
-    (sums_are Plain g.0 T ms g.2 g.1 c.in_ok-containers.containers.of.items
+    (sums_are c.args.packing g.0 T ms g.2 g.1 c.in_ok-containers.containers.of.items
     c.in_ok-containers.ensures.containers c.in_ok-containers.containers.hidden.items
     c.in_ok-containers.ensures.hidden sums c.in_ok-sums.ensures)

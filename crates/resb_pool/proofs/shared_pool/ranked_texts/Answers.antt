@@ -3,6 +3,7 @@ use Rattle.std.proofs.lemmas.Result.{IfOk-weaker}
 use Rattle.resb_pool.specs.Plan.{nows}
 use Rattle.resb_pool.specs.Records.{IsRecords}
 use Rattle.resb_pool.specs.Inner.Placing.{record_texts}
+use Rattle.resb_pool.specs.declared.packing.Packing.TheVariants.{Plain}
 use Rattle.resb_pool.proofs.Ranking.{records_of}
 use Rattle.resb_pool.proofs.shared_pool.ranked_texts.Goals as goal
 
@@ -14,4 +15,4 @@ returns c =
     IfOk-weaker c.texts_of_rows.result _ _
     (λ v h S small given. subst (IsRecords S)
     (sym (h ∙ ap (record_texts T) c.deref.ensures.value))
-    (records_of S T ms given small rows c.in_ok-rows.ensures)) c.texts_of_rows.ensures
+    (records_of Plain S T ms given small rows c.in_ok-rows.ensures)) c.texts_of_rows.ensures

@@ -1,11 +1,16 @@
 -- Where causes stand in bundles, by the definitions alone.
-use Rattle.std.proofs.Common.{◌≡◌, List, [], ◌∷◌, refl, Some, arith}
+use Rattle.std.proofs.Common.{◌≡◌, ◌∙◌, ℕ, List, [], ◌∷◌, refl, ap, Some, arith}
 use Rattle.std.specs.Prelude.{codes}
+use Rattle.std.proofs.lemmas.Option.{none-some, same_Some}
+use Rattle.resb_tree.specs.Maps.{AreMaps}
 use Rattle.resb_tree.specs.Tree.{Tree, string, array, table, integer}
 use Rattle.resb_tree.specs.Tree.{no_trees, more_trees, no_entries, entry}
+use Rattle.resb_print.specs.declared.cause.Cause.{Cause}
 use Rattle.resb_print.specs.declared.cause.Cause.TheVariants as cause
 use Rattle.resb_print.specs.Paths.{Step, by_key, by_number, plain_tests, cause_path}
-use Rattle.resb_print.specs.Standing.{Stands, IsBefore, goes_on, one_way, parts}
+use Rattle.resb_print.specs.Quotes.{first_cause}
+use Rattle.resb_print.specs.Standing.{at_path, bundle_cause, Stands, IsFirst}
+use Rattle.resb_print.specs.Standing.{IsBefore, goes_on, one_way, parts}
 
 -- a table whose key holds a quote, and its string another one
 abbrev quoted : Tree
@@ -55,3 +60,30 @@ at_root = (
   record { resource = integer 1; leads = refl; is_cause = refl },
   record { resource = bundle; leads = refl; is_cause = refl },
 )
+
+-- a table that is no map: one key has two values
+abbrev twice : Tree
+twice = table (entry (codes "k") (integer 1) (entry (codes "k") (string (codes "\"")) no_entries))
+
+-- there the first cause stands where no path leads, so that the law asks for maps
+needs_maps : ((name : List ℕ) (t : Tree) (path : List Step) (x : Cause)
+    → cause_path name t ≡ Some path → first_cause name t ≡ Some x
+    → IsFirst plain_tests name t path x) → ⊥
+needs_maps law =
+    let h = law (codes "n") twice (by_key (codes "k") ∷ []) cause.QuoteInString refl refl in
+    no h.stands.resource h.stands.leads h.stands.is_cause
+  where
+    no : (t : Tree) → at_path (by_key (codes "k") ∷ []) twice ≡ Some t
+        → bundle_cause plain_tests (codes "n") (by_key (codes "k") ∷ []) t
+        ≡ Some cause.QuoteInString → ⊥
+    no t e f =
+        none-some cause.QuoteInString
+        (ap (bundle_cause plain_tests (codes "n") (by_key (codes "k") ∷ []))
+        (same_Some (integer 1) t e) ∙ f)
+
+-- other causes may stand behind the first: that none does is no law
+needs_before : ((name : List ℕ) (t : Tree) (path p : List Step) (y : Cause) → AreMaps t
+    → cause_path name t ≡ Some path → IsBefore path p → Stands plain_tests name t p y → ⊥) → ⊥
+needs_before law =
+    law (codes "n") bundle to_key (by_key (codes "b") ∷ []) cause.QuoteInString
+    (tt, ((tt, ((tt, (tt, tt)), tt)), (tt, tt))) refl behind.0 behind.1

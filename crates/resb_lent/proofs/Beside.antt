@@ -2,18 +2,19 @@
 use Rattle.std.proofs.Common.{◌≡◌, ℕ, ◌*◌, ◌/◌, ◌<◌, ◌≤◌, List, [], ◌∷◌, ◌++◌}
 use Rattle.std.proofs.Common.{max, Option, Some, None, refl, arith}
 use Rattle.std.proofs.Math.Nat.{div-le_of_le-mul}
-use Rattle.resb_lent.specs.LentTexts.{LendsText}
-use Rattle.resb_lent.specs.PlanWithPool.{AreLent, lent_none, lent_more, lacking, given, limit_of}
+use Rattle.resb_pool.specs.declared.packing.Packing.{Packing}
+use Rattle.resb_lent.specs.LentBeside.{LendsTextBy}
+use Rattle.resb_lent.specs.PlanWithPool.{AreLentBy, lent_none, lent_more, lacking, given, limit_of}
 
 -- one answer more at the end
-pub lent_push : (block : List ℕ) (ss : List (List ℕ)) (os : List (Option ℕ)) (s : List ℕ)
-    (o : Option ℕ) → AreLent block ss os → LendsText block s o
-    → AreLent block (ss ++ s ∷ []) (os ++ o ∷ [])
-lent_push block [] [] s o lent_none h = lent_more h lent_none
-lent_push block [] (p ∷ os) s o x h = elim x [ ]
-lent_push block (t ∷ ss) [] s o x h = elim x [ ]
-lent_push block (t ∷ ss) (p ∷ os) s o (lent_more k more) h =
-    lent_more k (lent_push block ss os s o more h)
+pub lent_push : (way : Packing) (block : List ℕ) (A ss : List (List ℕ)) (os : List (Option ℕ))
+    (s : List ℕ) (o : Option ℕ) → AreLentBy way block A ss os → LendsTextBy way block A s o
+    → AreLentBy way block A (ss ++ s ∷ []) (os ++ o ∷ [])
+lent_push way block A [] [] s o lent_none h = lent_more h lent_none
+lent_push way block A [] (p ∷ os) s o x h = elim x [ ]
+lent_push way block A (t ∷ ss) [] s o x h = elim x [ ]
+lent_push way block A (t ∷ ss) (p ∷ os) s o (lent_more k more) h =
+    lent_more k (lent_push way block A ss os s o more h)
 
 -- the first text apart from the others
 pub lacking_more : (s : List ℕ) (ss : List (List ℕ)) (o : Option ℕ) (os : List (Option ℕ))

@@ -3,6 +3,7 @@ mod Wholes
 pub mod Standing
 mod Listing
 mod Lying
+mod Together
 pub mod Once
 pub mod Beside
 pub mod PlanRead

@@ -1,6 +1,6 @@
 -- In which record a text lies: the last one that doesn't come after it, if one holds it.
 use Rattle.std.proofs.Common.{ℕ, List, [], ◌∷◌, ◌≡◌, ◌+◌, ◌<◌, ◌≤◌, inl, inr, length}
-use Rattle.std.proofs.Common.{get_or, refl, sym, ap, ◌∙◌, arith, true≢false}
+use Rattle.std.proofs.Common.{get_or, refl, sym, ap, subst, ◌∙◌, arith, true≢false}
 use Rattle.std.proofs.Common.{append-nil, Option, Some, None, MatchOption}
 use Rattle.std.specs.Cmp.{IsTotalOrder, IsStrictWeakOrder, nat_cmp_is}
 use Rattle.std.specs.Ordering.{is_lt, nat_cmp, ordering_then, ordering_reverse}
@@ -24,6 +24,7 @@ use Rattle.resb_lent.specs.LentTexts.{IsLentRecord, Holds, LiesAt, LentText, Len
 use Rattle.resb_lent.specs.LentTexts.{lent_empty, lent_within}
 use Rattle.resb_lent.specs.Lending.{LendsTexts}
 use Rattle.resb_lent.specs.Inner.Listed.{HasPlace}
+use Rattle.resb_lent.specs.Inner.Within.{NoneHolds, StandsWithin}
 use Rattle.resb_lent.specs.Entries.{IsLentEntry, pair_of, entry_cmp}
 use Rattle.resb_lent.specs.declared.records.LentRecord.{LentRecord}
 use Rattle.resb_lent.specs.declared.texts.LentTexts.{LentTexts}
@@ -64,7 +65,7 @@ comes_after a b c n g = by (end_last_cmp a b) refl
         (turned a b Greater e))
 
 -- what holds a text doesn't come after it
-holds_not_after : (r s : List ℕ) → IsUtf8 r → IsUtf8 s → Holds r s
+pub holds_not_after : (r s : List ℕ) → IsUtf8 r → IsUtf8 s → Holds r s
     → NotAfter (letters r) (letters s)
 holds_not_after r s u v (inl e) = extends_not_after (letters r) (letters s) (record {
   rest = [];
@@ -206,6 +207,43 @@ module _ (l : LentTexts) (block : List ℕ) (h : LendsTexts l block) where
               | inr more ↦ more
             ]);
       }
+
+      -- if the text has a record of its own, it is that of the last one
+      pub same_last : (at : ℕ) → IsLentRecord block s at → text e ≡ s
+      same_last at x = by (end_last_cmp (letters (text e)) (letters s)) refl
+        where
+          by : (o : Ordering) → end_last_cmp (letters (text e)) (letters s) ≡ o → text e ≡ s
+          by Less f =
+              let (j, m, n, g) = among s at d x (inl refl) in
+              absurd (texts_far j k d (omega (arith, m, is)) in_list
+              (ap (λ p. end_last_cmp (letters (text e)) (letters p.0)) g ∙ f))
+          by Equal f = key_same (text e) s own.own.stands.utf8 u
+              (tied_same (letters (text e)) (letters s) f)
+          by Greater f = absurd (before f)
+
+      -- what lies in it stands there
+      stands_within : text e ≡ s → (t : List ℕ) (i : ℕ) → HasPlace e t i
+          → StandsWithin block s t i
+      stands_within q t i p = record {
+        at = e.at;
+        own = subst (λ r. IsLentRecord block r e.at) q own.own;
+        holds = subst (λ r. Holds r t) q p.holds;
+        first = λ n x. (lies (inl q)).first n (subst (λ r. IsLentRecord block r n) (sym q) x);
+        place = omega (arith, p.ends own.end, own.end, ap size q);
+      }
+
+      none_within : (t : List ℕ) → IsUtf8 t → (Holds (text e) t → size t ≤ e.end → ⊥)
+          → NoneHolds block s t
+      none_within t w none at x y =
+          let q = same_last at x in
+          let holds : Holds (text e) t = subst (λ r. Holds r t) (sym q) y in
+          none holds (omega (arith, own.end, holds_size (text e) t own.own.stands.utf8 w holds))
+
+      pub found_within : text e ≡ s → (t : List ℕ) → IsUtf8 t → (o : Option ℕ)
+          → MatchOption o (Holds (text e) t → size t ≤ e.end → ⊥) (HasPlace e t)
+          → MatchOption o (NoneHolds block s t) (StandsWithin block s t)
+      found_within q t w (Some i) p = stands_within q t i p
+      found_within q t w None p = none_within t w p
 
       pub has_index : (o : Option ℕ) → 0 < length s
           → MatchOption o (Holds (text e) s → size s ≤ e.end → ⊥) (HasPlace e s)

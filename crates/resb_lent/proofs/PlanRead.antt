@@ -11,27 +11,26 @@ use Rattle.std.proofs.lemmas.List.Elements.{All-head, All-tail}
 use Rattle.resb_format.specs.Strings.{text_at}
 use Rattle.resb_format.specs.Lookups.{text_in, text_place_by}
 use Rattle.resb_format.specs.Parts.{Parts, Lent}
-use Rattle.resb_pool.specs.Plan.{IsPlan}
-use Rattle.resb_pool.specs.declared.packing.Packing.TheVariants.{Plain}
+use Rattle.resb_pool.specs.Plan.{IsPlanBy}
+use Rattle.resb_pool.specs.declared.packing.Packing.{Packing}
 use Rattle.resb_pool.proofs.IsRead.{pool_is_read}
 use Rattle.resb_pool.proofs.OnePool.{one_pool}
 use Rattle.resb_pool.proofs.ReadBack.{text_at-zero}
 use Rattle.resb_lent.specs.Laws.{PlannedIsRead, OnePlanWith}
-use Rattle.resb_lent.specs.LentTexts.{LentText, lent_empty, lent_within}
-use Rattle.resb_lent.specs.PlanWithPool.{AreLent, lent_none, lent_more, lacking, given, limit_of}
+use Rattle.resb_lent.specs.PlanWithPool.{AreLentBy, lent_none, lent_more, lacking, given, limit_of}
 use Rattle.resb_lent.specs.PlanWithPool.{in_turn, short_limit_of, behind}
 use Rattle.resb_lent.proofs.Once.{one_answer}
-use Rattle.resb_lent.proofs.Read.{at_zero, lent_text_is_read}
+use Rattle.resb_lent.proofs.Read.{at_zero, Placed, placed_empty, placed_within, placed, placed_read}
 
-begins : (block s : List ℕ) (i : ℕ) → LentText block s i → slice_get block 0 ≡ Some 0
-begins block s i (lent_empty z) = z
-begins block s i (lent_within some lies e) = lies.own.begins
+begins : (block s : List ℕ) (i : ℕ) → Placed block s i → slice_get block 0 ≡ Some 0
+begins block s i (placed_empty z) = z
+begins block s i (placed_within some own holds e) = own.begins
 
 -- the empty text alone has index 0
-only_empty : (block s : List ℕ) (i : ℕ) → IsUtf8 s → LentText block s i → i ≡ 0 → s ≡ []
+only_empty : (block s : List ℕ) (i : ℕ) → IsUtf8 s → Placed block s i → i ≡ 0 → s ≡ []
 only_empty block s i u h z =
     let e : Some [] ≡ Some s = sym (at_zero block (begins block s i h))
-    ∙ ap (text_at block) (sym z) ∙ lent_text_is_read block s i u h in
+    ∙ ap (text_at block) (sym z) ∙ placed_read block s i u h in
     let f : [] ≡ s = cc in
     sym f
 
@@ -46,14 +45,15 @@ index_below i is = elim (cases_lt 0 i) [
 ]
 
 -- a pool that has a string which isn't empty begins with 0
-pub lent_begins : (block : List ℕ) (S : List (List ℕ)) (os : List (Option ℕ)) → AreLent block S os
-    → 0 < limit_of (given os) → slice_get block 0 ≡ Some 0
-lent_begins block [] [] lent_none h = absurd (omega (arith, h))
-lent_begins block [] (o ∷ os) x h = elim x [ ]
-lent_begins block (s ∷ S) [] x h = elim x [ ]
-lent_begins block (s ∷ S) (Some i ∷ os) (lent_more a more) h = begins block s i a
-lent_begins block (s ∷ S) (None ∷ os) (lent_more a more) h =
-    lent_begins block S os more (omega (arith, h))
+pub lent_begins : (way : Packing) (block : List ℕ) (A S : List (List ℕ)) (os : List (Option ℕ))
+    → AreLentBy way block A S os → 0 < limit_of (given os) → slice_get block 0 ≡ Some 0
+lent_begins way block A [] [] lent_none h = absurd (omega (arith, h))
+lent_begins way block A [] (o ∷ os) x h = elim x [ ]
+lent_begins way block A (s ∷ S) [] x h = elim x [ ]
+lent_begins way block A (s ∷ S) (Some i ∷ os) (lent_more a more) h =
+    begins block s i (placed way block A s i a)
+lent_begins way block A (s ∷ S) (None ∷ os) (lent_more a more) h =
+    lent_begins way block A S os more (omega (arith, h))
 
 module _ (p : Parts) (l : Lent) (us rest : List ℕ) (lent : p.lent ≡ Some l)
     (own : p.block ≡ us ++ rest) (first : text_at (us ++ rest) 0 ≡ Some []) where
@@ -71,62 +71,63 @@ module _ (p : Parts) (l : Lent) (us rest : List ℕ) (lent : p.lent ≡ Some l)
       (cond b (l.block, i) (us ++ rest, i - l.limit))) (le-ltb i l.limit h)
 
   -- a string that the pool has
-  lent_read : (s : List ℕ) (i : ℕ) → IsUtf8 s → LentText l.block s i → (i ≡ 0) ⊎ (i < l.limit)
+  lent_read : (s : List ℕ) (i : ℕ) → IsUtf8 s → Placed l.block s i → (i ≡ 0) ⊎ (i < l.limit)
       → text_in p i ≡ Some s
-  lent_read s i u h (inr below) = in_pool i below ∙ lent_text_is_read l.block s i u h
+  lent_read s i u h (inr below) = in_pool i below ∙ placed_read l.block s i u h
   lent_read s i u h (inl none) = elim (cases_lt i l.limit) [
-    | inl below ↦ in_pool i below ∙ lent_text_is_read l.block s i u h
+    | inl below ↦ in_pool i below ∙ placed_read l.block s i u h
     | inr above ↦
         let e : i - l.limit ≡ 0 = omega (arith, none) in
         in_own i above ∙ ap (text_at (us ++ rest)) e ∙ first ∙ ap Some (sym
         (only_empty l.block s i u h none))
   ]
 
-  module _ (T : List (List ℕ)) (offset : List ℕ → Option ℕ) (plan : IsPlan T us offset) where
+  module _ (way : Packing) (T : List (List ℕ)) (offset : List ℕ → Option ℕ)
+      (plan : IsPlanBy way T us offset) where
     own_read : (s : List ℕ) (k : ℕ) → offset s ≡ Some k → text_in p (l.limit + k) ≡ Some s
     own_read s k e =
         let f : l.limit + k - l.limit ≡ k = omega arith in
         in_own (l.limit + k) (omega arith) ∙ ap (text_at (us ++ rest)) f
-        ∙ (pool_is_read Plain T us offset plan s k e).1 rest
+        ∙ (pool_is_read way T us offset plan s k e).1 rest
 
-    each_read : (S : List (List ℕ)) (os : List (Option ℕ)) (ks : List ℕ) → All IsUtf8 S
-        → AreLent l.block S os → limit_of (given os) ≤ l.limit
+    each_read : (A S : List (List ℕ)) (os : List (Option ℕ)) (ks : List ℕ) → All IsUtf8 S
+        → AreLentBy way l.block A S os → limit_of (given os) ≤ l.limit
         → map offset (lacking S os) ≡ map Some ks
         → map (text_in p) (in_turn l.limit os ks) ≡ map Some S
-    each_read [] [] ks u lent_none h e = refl
-    each_read [] (o ∷ os) ks u x h e = elim x [ ]
-    each_read (s ∷ S) [] ks u x h e = elim x [ ]
-    each_read (s ∷ S) (Some i ∷ os) ks u (lent_more a more) h e =
+    each_read A [] [] ks u lent_none h e = refl
+    each_read A [] (o ∷ os) ks u x h e = elim x [ ]
+    each_read A (s ∷ S) [] ks u x h e = elim x [ ]
+    each_read A (s ∷ S) (Some i ∷ os) ks u (lent_more a more) h e =
         let below : (i ≡ 0) ⊎ (i < l.limit) = elim (index_below i (given os)) [
           | inl z ↦ inl z
           | inr n ↦ inr (omega (arith, n, h))
         ] in
-        λ j. lent_read s i (All-head IsUtf8 s S u) a below j
-        ∷ each_read S os ks (All-tail IsUtf8 s S u) more (omega (arith, h)) e j
-    each_read (s ∷ S) (None ∷ os) [] u (lent_more a more) h e = cc
-    each_read (s ∷ S) (None ∷ os) (k ∷ ks) u (lent_more a more) h e =
+        λ j. lent_read s i (All-head IsUtf8 s S u) (placed way l.block A s i a) below j
+        ∷ each_read A S os ks (All-tail IsUtf8 s S u) more (omega (arith, h)) e j
+    each_read A (s ∷ S) (None ∷ os) [] u (lent_more a more) h e = cc
+    each_read A (s ∷ S) (None ∷ os) (k ∷ ks) u (lent_more a more) h e =
         let f : offset s ≡ Some k = cc in
         let g : map offset (lacking S os) ≡ map Some ks = cc in
-        λ j. own_read s k f j ∷ each_read S os ks (All-tail IsUtf8 s S u) more h g j
+        λ j. own_read s k f j ∷ each_read A S os ks (All-tail IsUtf8 s S u) more h g j
 
 pub planned_is_read : PlannedIsRead
-planned_is_read p l S us is rest u w lent own =
+planned_is_read way p l S us is rest u w lent own =
     let first : text_at (us ++ rest) 0 ≡ Some [] =
     ap (λ vs. text_at (vs ++ rest) 0) w.plan.pool.units ∙ text_at-zero _ in
     ap (map (text_in p)) w.indexes_are
-    ∙ each_read p l us rest lent own first (lacking S w.found) w.offset w.plan S w.found w.offsets u
-    w.lent (omega (arith, w.limit_is)) w.offsets_are
+    ∙ each_read p l us rest lent own first way (lacking S w.found) w.offset w.plan S S w.found
+    w.offsets u w.lent (omega (arith, w.limit_is)) w.offsets_are
 
 -- what a pool has of texts is one list of answers
-one_found : (block : List ℕ) (S : List (List ℕ)) (os ps : List (Option ℕ)) → AreLent block S os
-    → AreLent block S ps → os ≡ ps
-one_found block [] [] [] x y = refl
-one_found block [] (o ∷ os) ps x y = elim x [ ]
-one_found block [] [] (q ∷ ps) x y = elim y [ ]
-one_found block (s ∷ S) [] ps x y = elim x [ ]
-one_found block (s ∷ S) (o ∷ os) [] x y = elim y [ ]
-one_found block (s ∷ S) (o ∷ os) (q ∷ ps) (lent_more a more) (lent_more b rest) =
-    λ j. one_answer block s o q a b j ∷ one_found block S os ps more rest j
+one_found : (way : Packing) (block : List ℕ) (A S : List (List ℕ)) (os ps : List (Option ℕ))
+    → AreLentBy way block A S os → AreLentBy way block A S ps → os ≡ ps
+one_found way block A [] [] [] x y = refl
+one_found way block A [] (o ∷ os) ps x y = elim x [ ]
+one_found way block A [] [] (q ∷ ps) x y = elim y [ ]
+one_found way block A (s ∷ S) [] ps x y = elim x [ ]
+one_found way block A (s ∷ S) (o ∷ os) [] x y = elim y [ ]
+one_found way block A (s ∷ S) (o ∷ os) (q ∷ ps) (lent_more a more) (lent_more b rest) =
+    λ j. one_answer way block A s o q a b j ∷ one_found way block A S os ps more rest j
 
 same_somes : (is js : List ℕ) → map Some is ≡ map Some js → is ≡ js
 same_somes [] [] e = refl
@@ -138,10 +139,10 @@ same_somes (i ∷ is) (j ∷ js) e =
     λ k. f k ∷ same_somes is js g k
 
 pub one_plan_with : OnePlanWith
-one_plan_with block S us vs is js limit other short small x y =
-    let found = one_found block S x.found y.found x.lent y.lent in
-    let moved = subst (λ os. IsPlan (lacking S os) us x.offset) found x.plan in
-    let pool = one_pool Plain (lacking S y.found) us vs x.offset y.offset moved y.plan in
+one_plan_with way block S us vs is js limit other short small x y =
+    let found = one_found way block S S x.found y.found x.lent y.lent in
+    let moved = subst (λ os. IsPlanBy way (lacking S os) us x.offset) found x.plan in
+    let pool = one_pool way (lacking S y.found) us vs x.offset y.offset moved y.plan in
     let offsets = same_somes x.offsets y.offsets (sym x.offsets_are
     ∙ (λ k. map (pool.1 k) (lacking S (found k))) ∙ y.offsets_are) in
     let limits = x.limit_is ∙ ap (λ os. limit_of (given os)) found ∙ sym y.limit_is in (

@@ -15,15 +15,17 @@ use Rattle.std.proofs.lemmas.List.Elements.{All-nil, All-cons, All-head, All-tai
 use Rattle.std.proofs.lemmas.List.Elements.{Contains-append_right}
 use Rattle.std.proofs.lemmas.List.Sums.{sum_by-cons}
 use Rattle.resb_format.specs.Units.{units}
-use Rattle.resb_pool.specs.Plan.{IsPlan}
-use Rattle.resb_pool.specs.declared.packing.Packing.TheVariants.{Plain}
+use Rattle.resb_pool.specs.Plan.{IsPlanBy}
+use Rattle.resb_pool.specs.declared.packing.Packing.{Packing}
 use Rattle.resb_pool.proofs.IsRead.{pool_is_read}
-use Rattle.resb_lent.specs.LentTexts.{LentText, lent_empty, lent_within}
-use Rattle.resb_lent.specs.PlanWithPool.{IsPlanWith, AreLent, lent_none, lent_more, lacking, given}
+use Rattle.resb_lent.specs.LentBeside.{LentTextBy}
+use Rattle.resb_lent.specs.PlanWithPool.{IsPlanWithBy, AreLentBy, lent_none, lent_more, lacking}
+use Rattle.resb_lent.specs.PlanWithPool.{given}
 use Rattle.resb_lent.specs.PlanWithPool.{limit_of, short_limit_of, in_turn, behind}
 use Rattle.resb_lent.proofs.Beside.{share_fits}
-use Rattle.resb_lent.proofs.Once.{one_index}
+use Rattle.resb_lent.proofs.Once.{one_index_by}
 use Rattle.resb_lent.proofs.PlanRead.{behind_more}
+use Rattle.resb_lent.proofs.Read.{Placed, placed_empty, placed_within, placed}
 use Rattle.resb_lent.proofs.Standing.{inside}
 
 units_of_char : (c : ℕ) → 0 < length (encode_utf16 c)
@@ -50,44 +52,48 @@ at_least zero = omega arith
 at_least (suc k) = omega (arith, behind_more (suc k) (omega arith))
 
 -- an index of the pool's has 28 bits
-near_index : (block s : List ℕ) (i : ℕ) → IsUtf8 s → LentText block s i → behind i < 2 ^ 28
-near_index block s i u (lent_empty z) = omega arith
-near_index block s i u (lent_within some lies e) = omega (
+near_index : (block s : List ℕ) (i : ℕ) → IsUtf8 s → Placed block s i → behind i < 2 ^ 28
+near_index block s i u (placed_empty z) = omega arith
+near_index block s i u (placed_within some own holds e) = omega (
   arith,
   at_most i,
   some_units s u some,
   e,
-  lies.own.stands.near,
+  own.stands.near,
 )
 
 -- and so has one more than the greatest
-near_limit : (block : List ℕ) (S : List (List ℕ)) (os : List (Option ℕ)) → All IsUtf8 S
-    → AreLent block S os → limit_of (given os) < 2 ^ 28
-near_limit block [] [] u lent_none = omega arith
-near_limit block [] (o ∷ os) u x = elim x [ ]
-near_limit block (s ∷ S) [] u x = elim x [ ]
-near_limit block (s ∷ S) (Some i ∷ os) u (lent_more h more) = omega (
+near_limit : (way : Packing) (block : List ℕ) (A S : List (List ℕ)) (os : List (Option ℕ))
+    → All IsUtf8 S → AreLentBy way block A S os → limit_of (given os) < 2 ^ 28
+near_limit way block A [] [] u lent_none = omega arith
+near_limit way block A [] (o ∷ os) u x = elim x [ ]
+near_limit way block A (s ∷ S) [] u x = elim x [ ]
+near_limit way block A (s ∷ S) (Some i ∷ os) u (lent_more h more) = omega (
   arith,
-  near_index block s i (All-head IsUtf8 s S u) h,
-  near_limit block S os (All-tail IsUtf8 s S u) more,
+  near_index block s i (All-head IsUtf8 s S u) (placed way block A s i h),
+  near_limit way block A S os (All-tail IsUtf8 s S u) more,
 )
-near_limit block (s ∷ S) (None ∷ os) u (lent_more h more) =
-    near_limit block S os (All-tail IsUtf8 s S u) more
+near_limit way block A (s ∷ S) (None ∷ os) u (lent_more h more) =
+    near_limit way block A S os (All-tail IsUtf8 s S u) more
 
-index_inside : (block s : List ℕ) (i : ℕ) → LentText block s i → behind i ≤ length block
-index_inside block s i (lent_empty z) = omega arith
-index_inside block s i (lent_within {r = r} {at = at} some lies e) =
-    omega (arith, at_most i, e, inside block at r lies.own.stands)
+index_inside : (block s : List ℕ) (i : ℕ) → Placed block s i → behind i ≤ length block
+index_inside block s i (placed_empty z) = omega arith
+index_inside block s i (placed_within {r = r} {at = at} some own holds e) =
+    omega (arith, at_most i, e, inside block at r own.stands)
 
 -- what a pool has of texts ends within its block
-pub limit_within : (block : List ℕ) (S : List (List ℕ)) (os : List (Option ℕ)) → AreLent block S os
-    → limit_of (given os) ≤ length block
-limit_within block [] [] lent_none = omega arith
-limit_within block [] (o ∷ os) x = elim x [ ]
-limit_within block (s ∷ S) [] x = elim x [ ]
-limit_within block (s ∷ S) (Some i ∷ os) (lent_more h more) =
-    omega (arith, index_inside block s i h, limit_within block S os more)
-limit_within block (s ∷ S) (None ∷ os) (lent_more h more) = limit_within block S os more
+pub limit_within : (way : Packing) (block : List ℕ) (A S : List (List ℕ)) (os : List (Option ℕ))
+    → AreLentBy way block A S os → limit_of (given os) ≤ length block
+limit_within way block A [] [] lent_none = omega arith
+limit_within way block A [] (o ∷ os) x = elim x [ ]
+limit_within way block A (s ∷ S) [] x = elim x [ ]
+limit_within way block A (s ∷ S) (Some i ∷ os) (lent_more h more) =
+    omega (
+      arith,
+      index_inside block s i (placed way block A s i h),
+      limit_within way block A S os more,
+    )
+limit_within way block A (s ∷ S) (None ∷ os) (lent_more h more) = limit_within way block A S os more
 
 short_fits : (limit own : ℕ) → short_limit_of limit own ≤ 65535
 short_fits limit own = by (nat_le limit 65535) (nat_le (limit + own) 65536) refl
@@ -123,31 +129,34 @@ lacking_sum f (s ∷ S) (None ∷ os) = omega (
 )
 
 -- one more than the greatest own offset is at most the number of units
-pub own_within : (T : List (List ℕ)) (us : List ℕ) (offset : List ℕ → Option ℕ) → IsPlan T us offset
-    → (ts : List (List ℕ)) (ks : List ℕ) → map offset ts ≡ map Some ks → limit_of ks ≤ length us
-own_within T us offset plan ts [] e = omega arith
-own_within T us offset plan [] (k ∷ ks) e = absurd (omega (arith, ap length e))
-own_within T us offset plan (t ∷ ts) (k ∷ ks) e =
+pub own_within : (way : Packing) (T : List (List ℕ)) (us : List ℕ) (offset : List ℕ → Option ℕ)
+    → IsPlanBy way T us offset → (ts : List (List ℕ)) (ks : List ℕ) → map offset ts ≡ map Some ks
+    → limit_of ks ≤ length us
+own_within way T us offset plan ts [] e = omega arith
+own_within way T us offset plan [] (k ∷ ks) e = absurd (omega (arith, ap length e))
+own_within way T us offset plan (t ∷ ts) (k ∷ ks) e =
     let f : offset t ≡ Some k = cc in
     let g : map offset ts ≡ map Some ks = cc in
     omega (
       arith,
       at_most k,
-      (pool_is_read Plain T us offset plan t k f).0,
-      own_within T us offset plan ts ks g,
+      (pool_is_read way T us offset plan t k f).0,
+      own_within way T us offset plan ts ks g,
     )
 
 -- the index of a string is the pool's, or its offset behind the limit
-abbrev IsIndex : List ℕ → (List ℕ → Option ℕ) → ℕ → List ℕ → ℕ → Type 0
-IsIndex block offset limit s i = LentText block s i
-    ⊎ ((k : ℕ) × ((j : ℕ) → LentText block s j → ⊥) × (offset s ≡ Some k) × (i ≡ limit + k))
+abbrev IsIndex : Packing → List ℕ → List (List ℕ) → (List ℕ → Option ℕ) → ℕ → List ℕ → ℕ
+    → Type 0
+IsIndex way block A offset limit s i = LentTextBy way block A s i
+    ⊎ ((k : ℕ) × ((j : ℕ) → LentTextBy way block A s j → ⊥) × (offset s ≡ Some k) × (i ≡ limit + k))
 
-one_of : (block : List ℕ) (offset : List ℕ → Option ℕ) (limit : ℕ) (s : List ℕ) (i j : ℕ)
-    → IsIndex block offset limit s i → IsIndex block offset limit s j → i ≡ j
-one_of block offset limit s i j (inl h) (inl k) = one_index block s i j h k
-one_of block offset limit s i j (inl h) (inr (m, none, f, e)) = absurd (none i h)
-one_of block offset limit s i j (inr (m, none, f, e)) (inl k) = absurd (none j k)
-one_of block offset limit s i j (inr (m, none, f, e)) (inr (n, more, g, d)) =
+one_of : (way : Packing) (block : List ℕ) (A : List (List ℕ)) (offset : List ℕ → Option ℕ)
+    (limit : ℕ) (s : List ℕ) (i j : ℕ) → IsIndex way block A offset limit s i
+    → IsIndex way block A offset limit s j → i ≡ j
+one_of way block A offset limit s i j (inl h) (inl k) = one_index_by way block A s i j h k
+one_of way block A offset limit s i j (inl h) (inr (m, none, f, e)) = absurd (none i h)
+one_of way block A offset limit s i j (inr (m, none, f, e)) (inl k) = absurd (none j k)
+one_of way block A offset limit s i j (inr (m, none, f, e)) (inr (n, more, g, d)) =
     let same : Some m ≡ Some n = sym f ∙ g in
     let is : m ≡ n = cc in
     omega (arith, e, d, is)
@@ -158,20 +167,21 @@ data Paired (P : List ℕ → ℕ → Type 0) : List (List ℕ) → List ℕ →
   pair : {s : List ℕ} {ss : List (List ℕ)} {i : ℕ} {is : List ℕ} → P s i → Paired P ss is
       → Paired P (s ∷ ss) (i ∷ is)
 
-in_pairs : (block : List ℕ) (offset : List ℕ → Option ℕ) (limit : ℕ) (S : List (List ℕ))
-    (os : List (Option ℕ)) (ks : List ℕ) → AreLent block S os
+in_pairs : (way : Packing) (block : List ℕ) (A : List (List ℕ)) (offset : List ℕ → Option ℕ)
+    (limit : ℕ) (S : List (List ℕ)) (os : List (Option ℕ)) (ks : List ℕ)
+    → AreLentBy way block A S os
     → map offset (lacking S os) ≡ map Some ks
-    → Paired (IsIndex block offset limit) S (in_turn limit os ks)
-in_pairs block offset limit [] [] ks lent_none e = no_pair
-in_pairs block offset limit [] (o ∷ os) ks x e = elim x [ ]
-in_pairs block offset limit (s ∷ S) [] ks x e = elim x [ ]
-in_pairs block offset limit (s ∷ S) (Some i ∷ os) ks (lent_more h more) e =
-    pair (inl h) (in_pairs block offset limit S os ks more e)
-in_pairs block offset limit (s ∷ S) (None ∷ os) [] (lent_more h more) e = cc
-in_pairs block offset limit (s ∷ S) (None ∷ os) (k ∷ ks) (lent_more h more) e =
+    → Paired (IsIndex way block A offset limit) S (in_turn limit os ks)
+in_pairs way block A offset limit [] [] ks lent_none e = no_pair
+in_pairs way block A offset limit [] (o ∷ os) ks x e = elim x [ ]
+in_pairs way block A offset limit (s ∷ S) [] ks x e = elim x [ ]
+in_pairs way block A offset limit (s ∷ S) (Some i ∷ os) ks (lent_more h more) e =
+    pair (inl h) (in_pairs way block A offset limit S os ks more e)
+in_pairs way block A offset limit (s ∷ S) (None ∷ os) [] (lent_more h more) e = cc
+in_pairs way block A offset limit (s ∷ S) (None ∷ os) (k ∷ ks) (lent_more h more) e =
     let f : offset s ≡ Some k = cc in
     let g : map offset (lacking S os) ≡ map Some ks = cc in
-    pair (inr (k, h, f, refl)) (in_pairs block offset limit S os ks more g)
+    pair (inr (k, h, f, refl)) (in_pairs way block A offset limit S os ks more g)
 
 -- the index of the first of some strings that is the text
 abbrev pub look : List (List ℕ) → List ℕ → List ℕ → Option ℕ
@@ -237,30 +247,35 @@ module _ (P : List ℕ → ℕ → Type 0) where
       (λ q c. there q (Contains-append_right (s' ∷ []) ss' q c)) in
       λ k. e k ∷ rest k
 
-indexes_fit : (block : List ℕ) (limit : ℕ) (S : List (List ℕ)) (os : List (Option ℕ)) (ks : List ℕ)
-    → All IsUtf8 S → AreLent block S os → limit < 2 ^ 28 → limit + limit_of ks ≤ 2 ^ 28
+indexes_fit : (way : Packing) (block : List ℕ) (A : List (List ℕ)) (limit : ℕ)
+    (S : List (List ℕ)) (os : List (Option ℕ)) (ks : List ℕ)
+    → All IsUtf8 S → AreLentBy way block A S os → limit < 2 ^ 28 → limit + limit_of ks ≤ 2 ^ 28
     → All (λ i. i < 2 ^ 28) (in_turn limit os ks)
-indexes_fit block limit [] [] ks u x h room = All-nil (λ i. i < 2 ^ 28)
-indexes_fit block limit [] (o ∷ os) ks u x h room = elim x [ ]
-indexes_fit block limit (s ∷ S) [] ks u x h room = elim x [ ]
-indexes_fit block limit (s ∷ S) (Some i ∷ os) ks u (lent_more a more) h room =
+indexes_fit way block A limit [] [] ks u x h room = All-nil (λ i. i < 2 ^ 28)
+indexes_fit way block A limit [] (o ∷ os) ks u x h room = elim x [ ]
+indexes_fit way block A limit (s ∷ S) [] ks u x h room = elim x [ ]
+indexes_fit way block A limit (s ∷ S) (Some i ∷ os) ks u (lent_more a more) h room =
     All-cons (λ k. k < 2 ^ 28) i (in_turn limit os ks)
-    (omega (arith, at_least i, near_index block s i (All-head IsUtf8 s S u) a))
-    (indexes_fit block limit S os ks (All-tail IsUtf8 s S u) more h room)
-indexes_fit block limit (s ∷ S) (None ∷ os) [] u x h room = All-nil (λ i. i < 2 ^ 28)
-indexes_fit block limit (s ∷ S) (None ∷ os) (k ∷ ks) u (lent_more a more) h room =
+    (omega (
+      arith,
+      at_least i,
+      near_index block s i (All-head IsUtf8 s S u) (placed way block A s i a),
+    ))
+    (indexes_fit way block A limit S os ks (All-tail IsUtf8 s S u) more h room)
+indexes_fit way block A limit (s ∷ S) (None ∷ os) [] u x h room = All-nil (λ i. i < 2 ^ 28)
+indexes_fit way block A limit (s ∷ S) (None ∷ os) (k ∷ ks) u (lent_more a more) h room =
     All-cons (λ i. i < 2 ^ 28) (limit + k) (in_turn limit os ks) (below k h (omega (arith, room)))
-    (indexes_fit block limit S os ks (All-tail IsUtf8 s S u) more h (omega (arith, room)))
+    (indexes_fit way block A limit S os ks (All-tail IsUtf8 s S u) more h (omega (arith, room)))
   where
     below : (n : ℕ) → limit < 2 ^ 28 → limit + behind n ≤ 2 ^ 28 → limit + n < 2 ^ 28
     below zero small within = omega (arith, small)
     below (suc n) small within = omega (arith, within, behind_more (suc n) (omega arith))
 
-module _ (block : List ℕ) (S : List (List ℕ)) (us is : List ℕ) (limit short : ℕ)
-    (w : IsPlanWith block S us is limit short) where
+module _ (way : Packing) (block : List ℕ) (S : List (List ℕ)) (us is : List ℕ) (limit short : ℕ)
+    (w : IsPlanWithBy way block S us is limit short) where
   -- the limits fit their bits
   pub limit_fits : limit < 2 ^ 28
-  limit_fits = omega (arith, w.limit_is, near_limit block S w.found w.texts w.lent)
+  limit_fits = omega (arith, w.limit_is, near_limit way block S S w.found w.texts w.lent)
 
   pub short_limit_fits : short ≤ 65535
   short_limit_fits = omega (arith, w.short_is, short_fits limit (limit_of w.offsets))
@@ -272,15 +287,16 @@ module _ (block : List ℕ) (S : List (List ℕ)) (us is : List ℕ) (limit shor
   -- so do the indexes
   pub near_indexes : All (λ i. i < 2 ^ 28) is
   near_indexes = subst (All (λ i. i < 2 ^ 28)) (sym w.indexes_are)
-      (indexes_fit block limit S w.found w.offsets w.texts w.lent limit_fits w.room)
+      (indexes_fit way block S limit S w.found w.offsets w.texts w.lent limit_fits w.room)
 
-  pairs : Paired (IsIndex block w.offset limit) S is
-  pairs = subst (Paired (IsIndex block w.offset limit) S) (sym w.indexes_are)
-      (in_pairs block w.offset limit S w.found w.offsets w.lent w.offsets_are)
+  pairs : Paired (IsIndex way block S w.offset limit) S is
+  pairs = subst (Paired (IsIndex way block S w.offset limit) S) (sym w.indexes_are)
+      (in_pairs way block S w.offset limit S w.found w.offsets w.lent w.offsets_are)
 
   -- each string is found with its index
   pub looked_up : map (look S is) S ≡ map Some is
   looked_up =
-      each_looked (IsIndex block w.offset limit) (look S is) (one_of block w.offset limit)
-      (look_is (IsIndex block w.offset limit) pairs) pairs
-      (look_some (IsIndex block w.offset limit) pairs)
+      each_looked (IsIndex way block S w.offset limit) (look S is)
+      (one_of way block S w.offset limit)
+      (look_is (IsIndex way block S w.offset limit) pairs) pairs
+      (look_some (IsIndex way block S w.offset limit) pairs)

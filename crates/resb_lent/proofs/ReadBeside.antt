@@ -16,7 +16,8 @@ use Rattle.resb_layout.specs.Laid.{Given, Lends, near_in, short_in}
 use Rattle.resb_pool.proofs.ReadBack.{text_at-zero}
 use Rattle.resb_lent.specs.Laws.{LentIsRead, KeysStand, lends_to}
 use Rattle.resb_lent.specs.LentKeys.{StandsWhole}
-use Rattle.resb_lent.specs.PlanWithPool.{IsPlanWith, StandAt}
+use Rattle.resb_pool.specs.declared.packing.Packing.{Packing}
+use Rattle.resb_lent.specs.PlanWithPool.{IsPlanWithBy, StandAt}
 use Rattle.resb_lent.proofs.PlanRead.{planned_is_read, in_pool, in_own, lent_begins}
 use Rattle.resb_lent.proofs.Read.{at_zero}
 use Rattle.resb_lent.proofs.Told.{lent_key_is_told}
@@ -88,8 +89,9 @@ module _ (p : Parts) (l : Lent) (g : Given) (lent : p.lent ≡ Some l) (few : le
           ap (key_in p) told
           ∙ (lent_key_is_told p l k n lent few w).1 (omega (arith, told, near))
 
-module _ (p : Parts) (l : Lent) (S : List (List ℕ)) (us is rest : List ℕ) (utf8 : All IsUtf8 S)
-    (plan : IsPlanWith l.block S us is l.limit l.short_limit) (lent : p.lent ≡ Some l)
+module _ (way : Packing) (p : Parts) (l : Lent) (S : List (List ℕ)) (us is rest : List ℕ)
+    (utf8 : All IsUtf8 S) (plan : IsPlanWithBy way l.block S us is l.limit l.short_limit)
+    (lent : p.lent ≡ Some l)
     (own : p.block ≡ us ++ rest) (offset : List ℕ → Option ℕ) (stand : StandAt S is offset) where
   first : text_at (us ++ rest) 0 ≡ Some []
   first = ap (λ vs. text_at (vs ++ rest) 0) plan.plan.pool.units ∙ text_at-zero _
@@ -97,7 +99,7 @@ module _ (p : Parts) (l : Lent) (S : List (List ℕ)) (us is rest : List ℕ) (u
   text_read : (s : List ℕ) (i : ℕ) → offset s ≡ Some i → text_in p i ≡ Some s
   text_read s i e =
       let (n, f, h) = stand s i e in
-      let all = planned_is_read p l S us is rest utf8 plan lent own in
+      let all = planned_is_read way p l S us is rest utf8 plan lent own in
       let both : Some (text_in p i) ≡ Some (Some s) =
       ap (option_map (text_in p)) (sym h) ∙ sym (slice_get-map (text_in p) is n)
       ∙ ap (λ xs. slice_get xs n) all ∙ slice_get-map Some S n ∙ ap (option_map Some) f in
@@ -112,7 +114,7 @@ module _ (p : Parts) (l : Lent) (S : List (List ℕ)) (us is rest : List ℕ) (u
   zero_read : text_in p 0 ≡ Some []
   zero_read = elim (cases_lt 0 l.limit) [
     | inl some ↦ in_pool p l us rest lent own first 0 some
-        ∙ at_zero l.block (lent_begins l.block S plan.found plan.lent
+        ∙ at_zero l.block (lent_begins way l.block S S plan.found plan.lent
         (omega (arith, some, plan.limit_is)))
     | inr none ↦
         let e : 0 ≡ l.limit = omega (arith, none) in
@@ -149,12 +151,12 @@ module _ (p : Parts) (l : Lent) (S : List (List ℕ)) (us is rest : List ℕ) (u
       ]
 
 pub lent_is_read : LentIsRead
-lent_is_read p l g S us is rest lent few keys utf8 plan own stand base aligned = record {
+lent_is_read way p l g S us is rest lent few keys utf8 plan own stand base aligned = record {
   keys = key_read p l g lent few keys;
   near_keys = near_read p l g lent few keys;
-  texts = text_read p l S us is rest utf8 plan lent own g.offset stand;
-  short_texts = short_read p l S us is rest utf8 plan lent own g.offset stand;
-  empty = only_empty p l S us is rest utf8 plan lent own g.offset stand;
+  texts = text_read way p l S us is rest utf8 plan lent own g.offset stand;
+  short_texts = short_read way p l S us is rest utf8 plan lent own g.offset stand;
+  empty = only_empty way p l S us is rest utf8 plan lent own g.offset stand;
   base = base;
   aligned = aligned;
 }

@@ -4,7 +4,7 @@
 --     OnePlace                a pool has a key first at one place
 --     OneIndex                a text has one index in a pool
 --     PlannedIsRead           each string is read at the index that a plan with a pool gives it
---     OnePlanWith             strings have one plan with a pool
+--     OnePlanWith             strings have one plan of each packing with a pool
 --     lends_to p l            what a pool lends to a file of these parts, as short bodies tell it
 --     KeysStand p l at        keys stand among the file's own, or in the pool
 --     HeadWithPoolIsRead      a file behind a written head is one beside its pool
@@ -23,7 +23,8 @@ use Rattle.resb_layout.specs.Laid.{Given, Lends}
 use Rattle.resb_layout.specs.Laws.{IsRead}
 use Rattle.resb_lent.specs.LentKeys.{StandsWhole, StandsFirst}
 use Rattle.resb_lent.specs.LentTexts.{LentText}
-use Rattle.resb_lent.specs.PlanWithPool.{IsPlanWith, StandAt}
+use Rattle.resb_pool.specs.declared.packing.Packing.{Packing}
+use Rattle.resb_lent.specs.PlanWithPool.{IsPlanWithBy, StandAt}
 use Rattle.resb_lent.specs.HeadWithPool.{IsHead, head_bytes, parts_behind}
 use Rattle.resb_lent.specs.declared.head_with_pool.HeadWithPool.{HeadWithPool}
 
@@ -55,15 +56,17 @@ OneIndex = (block s : List ℕ) (i j : ℕ) → LentText block s i → LentText 
 -- of a plan and its limit is the plan's.
 abbrev pub PlannedIsRead : Type 0
 PlannedIsRead =
-    (p : Parts) (l : Lent) (S : List (List ℕ)) (us is rest : List ℕ) → All IsUtf8 S
-    → IsPlanWith l.block S us is l.limit l.short_limit → p.lent ≡ Some l → p.block ≡ us ++ rest
+    (way : Packing) (p : Parts) (l : Lent) (S : List (List ℕ)) (us is rest : List ℕ)
+    → All IsUtf8 S → IsPlanWithBy way l.block S us is l.limit l.short_limit → p.lent ≡ Some l
+    → p.block ≡ us ++ rest
     → map (text_in p) is ≡ map Some S
 
--- two plans of the same strings with a pool are the same
+-- two plans of the same strings and packing with a pool are the same
 abbrev pub OnePlanWith : Type 0
 OnePlanWith =
-    (block : List ℕ) (S : List (List ℕ)) (us vs is js : List ℕ) (limit other short small : ℕ)
-    → IsPlanWith block S us is limit short → IsPlanWith block S vs js other small
+    (way : Packing) (block : List ℕ) (S : List (List ℕ)) (us vs is js : List ℕ)
+    (limit other short small : ℕ)
+    → IsPlanWithBy way block S us is limit short → IsPlanWithBy way block S vs js other small
     → (us ≡ vs) × (is ≡ js) × (limit ≡ other) × (short ≡ small)
 
 -- what a pool lends to a file of these parts, as the file's short bodies tell it: its own keys end
@@ -85,9 +88,9 @@ KeysStand p l position =
 -- bits tell them, where they can.
 abbrev pub LentIsRead : Type 0
 LentIsRead =
-    (p : Parts) (l : Lent) (g : Given) (S : List (List ℕ)) (us is rest : List ℕ)
+    (way : Packing) (p : Parts) (l : Lent) (g : Given) (S : List (List ℕ)) (us is rest : List ℕ)
     → p.lent ≡ Some l → length p.keys ≤ 2 ^ 31 → KeysStand p l g.position → All IsUtf8 S
-    → IsPlanWith l.block S us is l.limit l.short_limit → p.block ≡ us ++ rest
+    → IsPlanWithBy way l.block S us is l.limit l.short_limit → p.block ≡ us ++ rest
     → StandAt S is g.offset → 0 < g.base → g.base % 4 ≡ 0 → IsRead p (Some (lends_to p l)) g
 
 -- Behind a head that is written, whole words of keys, units and a tail, as many as it says, make a

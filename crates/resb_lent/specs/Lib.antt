@@ -10,6 +10,7 @@ pub use Rattle.resb_pool_bundle.specs.Pool
 pub use Rattle.resb_layout.specs.Laws as LayoutLaws
 pub mod LentKeys
 pub mod LentTexts
+pub mod LentBeside
 pub mod PlanWithPool
 pub mod HeadWithPool
 pub mod Entries

@@ -1,25 +1,38 @@
 -- How the strings of a file stand that uses a pool bundle: where the pool has them, and the others
 -- in records of the file's own. (ICU's `reslist.cpp`, `uresdata.h`: string index limits.)
 --     AreLent block S os          os is what the pool has of the texts S, one answer for each
+--     AreLentBy way block A S os  the same of texts S in a file of the strings A that is packed
+--                                 this way
 --     lacking S os                those of S that the pool lacks
 --     short_limit_of limit own    the first index of the file's own, as a unit tells it
 --     StandAt S is offset         each index that is given is that of one of the strings S
---     IsPlanWith block S us is limit short     how the strings S stand
---     NotPlannedWith block S e    the error e is the answer for the strings S
+--     IsPlanWithBy way block S us is limit short   how the strings S stand in a file that is packed
+--                                 this way
+--     IsPlanWith block S us is limit short     how they stand in a plain file
+--     NotPlannedWithBy way block S e, NotPlannedWith block S e     the error e is the answer for S
 use Rattle.std.specs.Prelude.{◌≡◌, ℕ, ◌+◌, ◌*◌, ◌/◌, ◌^◌, ◌<◌, ◌≤◌, List, [], ◌∷◌, map, max}
 use Rattle.std.specs.Prelude.{Option, Some, None, ◌&&◌, nat_le, nat_eq, slice_get, if◌then◌else◌}
 use Rattle.std.specs.Prelude.{All}
 use Rattle.std.specs.Str.{IsUtf8}
-use Rattle.resb_pool.specs.Plan.{IsPlan, NotPlanned}
+use Rattle.resb_pool.specs.Plan.{IsPlanBy, NotPlanned}
+use Rattle.resb_pool.specs.declared.packing.Packing.{Packing}
+use Rattle.resb_pool.specs.declared.packing.Packing.TheVariants.{Plain}
 use Rattle.resb_pool.specs.declared.error.PlanError.{PlanError}
 use Rattle.resb_pool.specs.declared.error.PlanError.TheVariants.{TooLarge, OutOfMemory}
-use Rattle.resb_lent.specs.LentTexts.{LendsText}
+use Rattle.resb_lent.specs.LentBeside.{LendsTextBy}
 
--- one answer for each text: its index in the pool, or none where the pool lacks it
-pub data AreLent (block : List ℕ) : List (List ℕ) → List (Option ℕ) → Type 0 where
-  lent_none : AreLent block [] []
+-- one answer for each text of a file of the strings A: its index in the pool, or none where the
+-- pool lacks it
+pub data AreLentBy (way : Packing) (block : List ℕ) (A : List (List ℕ))
+    : List (List ℕ) → List (Option ℕ) → Type 0 where
+  lent_none : AreLentBy way block A [] []
   lent_more : {s : List ℕ} {ss : List (List ℕ)} {o : Option ℕ} {os : List (Option ℕ)}
-      → LendsText block s o → AreLent block ss os → AreLent block (s ∷ ss) (o ∷ os)
+      → LendsTextBy way block A s o → AreLentBy way block A ss os
+      → AreLentBy way block A (s ∷ ss) (o ∷ os)
+
+-- the same of a plain file, where it doesn't hang on its other strings
+abbrev pub AreLent : List ℕ → List (List ℕ) → List (Option ℕ) → Type 0
+AreLent block S = AreLentBy Plain block S S
 
 -- the texts without an index, in their order
 abbrev pub lacking : List (List ℕ) → List (Option ℕ) → List (List ℕ)
@@ -65,14 +78,14 @@ StandAt S is offset =
 
 -- The strings that the pool has stand there, and the limit is behind the greatest index that is
 -- used. The others are planned as if there were no others, and stand from the limit on.
-pub record IsPlanWith (block : List ℕ) (S : List (List ℕ)) (us is : List ℕ) (limit short : ℕ)
-    : Type 0 where
+pub record IsPlanWithBy (way : Packing) (block : List ℕ) (S : List (List ℕ)) (us is : List ℕ)
+    (limit short : ℕ) : Type 0 where
   pub texts : All IsUtf8 S
   pub found : List (Option ℕ)
-  pub lent : AreLent block S found
+  pub lent : AreLentBy way block S S found
   pub offset : List ℕ → Option ℕ
   pub offsets : List ℕ
-  pub plan : IsPlan (lacking S found) us offset
+  pub plan : IsPlanBy way (lacking S found) us offset
   pub offsets_are : map offset (lacking S found) ≡ map Some offsets
   pub limit_is : limit ≡ limit_of (given found)
   pub short_is : short ≡ short_limit_of limit (limit_of offsets)
@@ -80,13 +93,23 @@ pub record IsPlanWith (block : List ℕ) (S : List (List ℕ)) (us is : List ℕ
   pub room : limit + limit_of offsets ≤ 2 ^ 28
   pub indexes_are : is ≡ in_turn limit found offsets
 
+-- the same of a plain file
+abbrev pub IsPlanWith : List ℕ → List (List ℕ) → List ℕ → List ℕ → ℕ → ℕ → Type 0
+IsPlanWith = IsPlanWithBy Plain
+
 -- why strings have no plan: want of memory, a fault of those that the pool lacks, or indexes of
 -- more than 28 bits
-pub data NotPlannedWith (block : List ℕ) (S : List (List ℕ)) : PlanError → Type 0 where
-  no_memory : NotPlannedWith block S OutOfMemory
-  own_fault : {e : PlanError} (found : List (Option ℕ)) → AreLent block S found
-      → NotPlanned (lacking S found) e → NotPlannedWith block S e
+pub data NotPlannedWithBy (way : Packing) (block : List ℕ) (S : List (List ℕ))
+    : PlanError → Type 0 where
+  no_memory : NotPlannedWithBy way block S OutOfMemory
+  own_fault : {e : PlanError} (found : List (Option ℕ)) → AreLentBy way block S S found
+      → NotPlanned (lacking S found) e → NotPlannedWithBy way block S e
   too_far : (found : List (Option ℕ)) (us offsets : List ℕ) (offset : List ℕ → Option ℕ)
-      → AreLent block S found → IsPlan (lacking S found) us offset
+      → AreLentBy way block S S found → IsPlanBy way (lacking S found) us offset
       → map offset (lacking S found) ≡ map Some offsets
-      → 2 ^ 28 < limit_of (given found) + limit_of offsets → NotPlannedWith block S TooLarge
+      → 2 ^ 28 < limit_of (given found) + limit_of offsets
+      → NotPlannedWithBy way block S TooLarge
+
+-- the same of a plain file
+abbrev pub NotPlannedWith : List ℕ → List (List ℕ) → PlanError → Type 0
+NotPlannedWith = NotPlannedWithBy Plain

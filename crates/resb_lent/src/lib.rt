@@ -3,6 +3,7 @@
 //! How bodies tell these places is said in `resb_layout`; no body is laid here.
 #![tactic(auto)]
 
+mod answers_beside;
 mod head_with_pool;
 mod keys;
 pub mod laws;

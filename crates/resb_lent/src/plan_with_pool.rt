@@ -7,9 +7,11 @@ ghost use Rattle.std.specs.Str.{IsUtf8};
 ghost use Rattle.resb_pool.specs.Plan.{nows};
 ghost use Rattle.resb_lent.specs.Lending.{LendsTexts};
 ghost use Rattle.resb_lent.specs.LentTexts.{LendsText};
-ghost use Rattle.resb_lent.specs.PlanWithPool.{AreLent, lacking as lacking_of, given, behind};
+ghost use Rattle.resb_pool.specs.declared.packing.Packing.TheVariants.{Plain};
+ghost use Rattle.resb_lent.specs.PlanWithPool.{AreLentBy, lacking as lacking_of, given, behind};
 ghost use Rattle.resb_lent.specs.PlanWithPool.{limit_of, short_limit_of, in_turn as in_turn_of};
 
+use crate::answers_beside::answers_beside;
 use crate::texts::LentTexts;
 use resb_pool::pool::plan_in_turn;
 use resb_pool::{Packing, PlanError};
@@ -46,8 +48,8 @@ fn answer_for(lent: &LentTexts, text: &str) -> Option<u32>
 
 /// What the pool has of each text.
 fn answers(alloc: Global, lent: &LentTexts, texts: &[&str]) -> Result<Vec<Option<u32>>, AllocError>
-    ensures lends { IfOk result (λ v. (block : List ℕ) → LendsTexts lent.now block
-        → AreLent block (nows texts.now) v.items) }
+    ensures lends { IfOk result (λ v. (block : List ℕ) (A : List (List ℕ))
+        → LendsTexts lent.now block → AreLentBy Plain block A (nows texts.now) v.items) }
     ensures utf8 { OnOk result (All IsUtf8 (nows texts.now)) }
 {
     let mut found = Vec::with_capacity(alloc, texts.len())?;
@@ -55,6 +57,23 @@ fn answers(alloc: Global, lent: &LentTexts, texts: &[&str]) -> Result<Vec<Option
         found.push(answer_for(lent, *text))?;
     }
     Ok(found)
+}
+
+/// What the pool has of each string of a file that is packed this way.
+fn answers_by(
+    alloc: Global,
+    packing: Packing,
+    lent: &LentTexts,
+    strings: &[&str],
+) -> Result<Vec<Option<u32>>, AllocError>
+    ensures lends { IfOk result (λ v. (block : List ℕ) → LendsTexts lent.now block
+        → AreLentBy packing block (nows strings.now) (nows strings.now) v.items) }
+    ensures utf8 { OnOk result (All IsUtf8 (nows strings.now)) }
+{
+    match packing {
+        Packing::Plain => answers(alloc, lent, strings),
+        Packing::Compact => answers_beside(alloc, lent, strings),
+    }
 }
 
 /// Adds a text that the pool lacks.
@@ -196,10 +215,11 @@ impl PlanWithPool {
     ghost use Rattle.resb_pool.specs.Plan.{nows};
     ghost use Rattle.resb_lent.specs.Lending.{LendsTexts};
     ghost use Rattle.resb_lent.specs.PlanWithPool.{IsPlanWith, NotPlannedWith};
+    ghost use Rattle.resb_lent.specs.PlanWithPool.{IsPlanWithBy, NotPlannedWithBy};
 
-    /// Plans strings, each of which may be given more than once. Those that the pool has stand
-    /// there, and the others have records of the file's own, as `resb_pool` plans them. (ICU's
-    /// `uresdata.h`: pool bundles of version 3.0.)
+    /// Plans the strings of a plain file, each of which may be given more than once. Those that the
+    /// pool has stand there, and the others have records of the file's own, as `resb_pool` plans
+    /// them. (ICU's `uresdata.h`: pool bundles of version 3.0.)
     ///
     /// Refused is what is refused of the file's own strings, and, as `TooLarge`, indexes of more
     /// than 28 bits.
@@ -210,9 +230,30 @@ impl PlanWithPool {
         ensures err { IfErr result (λ e. (block : List ℕ) → LendsTexts lent.now block
             → NotPlannedWith block (nows strings.now) e) }
     {
-        let found = answers(alloc, lent, strings)?;
+        PlanWithPool::by(alloc, Packing::Plain, lent, strings)
+    }
+
+    /// The same of a file that is packed this way. The pool has a string of a compact file if it
+    /// has a record of just this string, or if this string has no marker and the greatest text that
+    /// ends with it, and that no other one ends with, is the pool's, where the texts are those of
+    /// the file and of the pool together. (ICU's `reslist.cpp`: `compactStringsV2`.)
+    ///
+    /// Refused is what `of` refuses; 2^32 texts and more are refused as want of memory.
+    pub fn by(
+        alloc: Global,
+        packing: Packing,
+        lent: &LentTexts,
+        strings: &[&str],
+    ) -> Result<PlanWithPool, PlanError>
+        ensures ok { IfOk result (λ p. (block : List ℕ) → LendsTexts lent.now block
+            → IsPlanWithBy packing block (nows strings.now) p.units.items p.indexes.items p.limit
+            p.short_limit) }
+        ensures err { IfErr result (λ e. (block : List ℕ) → LendsTexts lent.now block
+            → NotPlannedWithBy packing block (nows strings.now) e) }
+    {
+        let found = answers_by(alloc, packing, lent, strings)?;
         let own = lacking(alloc, strings, &found)?;
-        let (units, offsets) = plan_in_turn(alloc, Packing::Plain, own)?;
+        let (units, offsets) = plan_in_turn(alloc, packing, own)?;
         let limit = lent_limit(&found);
         let own_limit = own_limit(&offsets);
         if limit + own_limit > INDEX_LIMIT {

@@ -94,6 +94,8 @@ impl LentTexts {
     ghost use Rattle.resb_format.specs.Bytes.{units_of};
     ghost use Rattle.resb_lent.specs.LentTexts.{LendsText};
     ghost use Rattle.resb_lent.specs.Lending.{LendsTexts};
+    ghost use Rattle.resb_lent.specs.Inner.Within.{NoneHolds, StandsWithin};
+    ghost use Rattle.std.specs.Prelude.{MatchOption};
 
     /// What the 16-bit block of a pool bundle lends, given as its bytes. Its records are gone
     /// through and sorted once. They end where no further one stands.
@@ -114,6 +116,24 @@ impl LentTexts {
             records,
             lends: true,
         })
+    }
+
+    /// The unit at which a text stands in the first record of another text, if the pool has one and
+    /// the text lies there.
+    pub(crate) fn place_within(&self, holder: &str, text: &str) -> Option<u32>
+        ensures { (block : List ℕ) → LendsTexts self.now block
+            → MatchOption result (NoneHolds block holder.now text.now)
+            (StandsWithin block holder.now text.now) }
+    {
+        let count = count_up_to(&self.records, holder);
+        if count == 0 {
+            return None;
+        }
+        let record = &self.records[count - 1];
+        if record.text.as_str() != holder {
+            return None;
+        }
+        place_in(record, text)
     }
 
     /// The index of a text in the pool: where its marker stands, or its first unit if it has none.

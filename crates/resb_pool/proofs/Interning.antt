@@ -169,7 +169,7 @@ module _ (D : TextList) (t : List ℕ) (T : TextList) (ms : List Measure) (h : I
   }
 
 -- keys as the set has them
-any_none : (ks : List Key) (t : List ℕ) → list_any (λ k. bytes_eq t k.now) ks ≡ false
+pub any_none : (ks : List Key) (t : List ℕ) → list_any (λ k. bytes_eq t k.now) ks ≡ false
     → Contains (nows ks) t → ⊥
 any_none [] t e c = omega (arith, c.1)
 any_none (k ∷ ks) t e (zero, lt, is) = true≢false (sym ((bytes_decides t k.now).1 (sym is))
@@ -194,7 +194,7 @@ text_nows ks i l = sym (get_or-map (λ (y : Key). y.now) ks i blank [] l)
 pub length-nows : (ks : List Key) → length (nows ks) ≡ length ks
 length-nows ks = length-map ks (λ (y : Key). y.now)
 
-any_some : (ks : List Key) (t : List ℕ) → list_any (λ k. bytes_eq t k.now) ks ≡ true
+pub any_some : (ks : List Key) (t : List ℕ) → list_any (λ k. bytes_eq t k.now) ks ≡ true
     → Contains (nows ks) t
 any_some [] t e = absurd (true≢false (sym e))
 any_some (k ∷ ks) t e = by (any_some ks t) (bytes_eq t k.now) refl

@@ -30,6 +30,7 @@ mod FewDigits
 mod FrontBytes
 mod SuffixRuns
 mod TopRuns
+mod Holding
 mod Numbers
 mod Lists
 mod HashRuns

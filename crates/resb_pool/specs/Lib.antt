@@ -10,5 +10,6 @@ pub mod Container
 pub mod Pool
 pub mod Plan
 pub mod Shared
+pub mod Holders
 pub mod Laws
 pub mod Inner

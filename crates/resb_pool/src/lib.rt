@@ -5,6 +5,7 @@
 mod containers;
 mod error;
 mod firsts;
+pub mod holders;
 pub mod laws;
 mod listed_texts;
 mod measure;

@@ -265,7 +265,7 @@ module _ (pool : Pool) (t : Tree) (ks : List (List ℕ)) (b : BlocksWith pool t 
 
       is_read : IsRead parts (Some lends) given
       is_read = subst (λ l. IsRead parts (Some l) given) lends_are
-          (lent_is_read parts lent given (texts_of t) b.units b.indexes
+          (lent_is_read Plain parts lent given (texts_of t) b.units b.indexes
           ((grows b.lays).units ++ more.0) refl few keys_stand b.plan.texts b.plan block_begins
           stand_at (omega arith) base_whole)
 

@@ -48,8 +48,8 @@ module _ (pool : Pool) (t : Tree) (ks : List (List ℕ)) (x y : BlocksWith pool 
 
   plans : (x.units ≡ y.units) × (x.indexes ≡ y.indexes) × (x.limit ≡ y.limit)
       × (x.short ≡ y.short)
-  plans = one_plan_with pool.block (texts_of t) x.units y.units x.indexes y.indexes x.limit y.limit
-      x.short y.short x.plan y.plan
+  plans = one_plan_with Plain pool.block (texts_of t) x.units y.units x.indexes y.indexes x.limit
+      y.limit x.short y.short x.plan y.plan
 
   offset_at : (s : List ℕ) → x.offset s ≡ y.offset s
   offset_at s = by (one_or_none (texts_of t) s)

@@ -104,9 +104,9 @@ module _ (t : Tree) (ks : List (List ℕ)) (pool : Pool)
       too_far no_fault (omega (
         arith,
         far,
-        limit_within pool.block (texts_of t) found lent,
-        own_within (lacking (texts_of t) found) us offset plan (lacking (texts_of t) found) offsets
-            are,
+        limit_within Plain pool.block (texts_of t) (texts_of t) found lent,
+        own_within Plain (lacking (texts_of t) found) us offset plan (lacking (texts_of t) found)
+            offsets are,
         pool_room Plain (lacking (texts_of t) found) us offset plan,
         lacking_sum size (texts_of t) found,
         units_room (laying_order t),

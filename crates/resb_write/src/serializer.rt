@@ -77,8 +77,9 @@ impl Serializer {
     /// The compact `.res` file of a bundle: what `to_bytes` gives, but that a key that other keys
     /// end with lies at the end of the greatest of them, by their bytes from the last to the first,
     /// and that an empty string has the word 0. So ICU's `genrb` writes files without a pool
-    /// bundle, byte by byte, but where a string with a marker is the end of another one. A file
-    /// with word 0 is for readers of aliases.
+    /// bundle, byte by byte, but where strings have characters beyond U+FFFF and others have some
+    /// from U+E000 on, which ICU orders by their 16-bit units. Strings share their ends as there. A
+    /// file with word 0 is for readers of aliases.
     ///
     /// Refused is what `to_bytes` refuses.
     pub fn to_bytes_compact(

@@ -5,13 +5,15 @@ use Rattle.std.proofs.lemmas.List.{take_all}
 use Rattle.std.proofs.lemmas.List.Elements.{All-nil, All-push}
 use Rattle.resb_pool.specs.Plan.{nows}
 use Rattle.resb_pool.proofs.TextLoops.{nows-take}
-use Rattle.resb_lent.specs.PlanWithPool.{AreLent, lent_none}
+use Rattle.resb_pool.specs.declared.packing.Packing.TheVariants.{Plain}
+use Rattle.resb_lent.specs.PlanWithPool.{AreLentBy, lent_none}
 use Rattle.resb_lent.proofs.Beside.{lent_push}
 use Rattle.resb_lent.proofs.plan_with_pool.answers.Goals as goal
 
 pub loop-text-init : goal.loop-text-init
 loop-text-init c = record {
-  lends = λ block h. subst (AreLent block []) (sym c.in_ok-found.ensures.items) lent_none;
+  lends = λ block A h.
+      subst (AreLentBy Plain block A []) (sym c.in_ok-found.ensures.items) lent_none;
   utf8 = All-nil IsUtf8;
 }
 
@@ -23,19 +25,21 @@ loop-text-preserved c =
     let s = (get_or xs i d).now in
     let more = nows-take xs i d c.loop-text-test.true in
     record {
-      lends = λ block h. subst (λ ss. AreLent block ss c.push.new.self.items) (sym more)
-          (subst (AreLent block (nows (take i xs) ++ s ∷ [])) (sym c.in_ok-push.ensures.items)
-          (lent_push block (nows (take i xs)) c.loop-text.found.items s c.answer_for.result
-          (c.loop-text.invariant.lends block h) (c.answer_for.ensures.lends block h)));
+      lends = λ block A h. subst (λ ss. AreLentBy Plain block A ss c.push.new.self.items) (sym more)
+          (subst (AreLentBy Plain block A (nows (take i xs) ++ s ∷ []))
+          (sym c.in_ok-push.ensures.items)
+          (lent_push Plain block A (nows (take i xs)) c.loop-text.found.items s c.answer_for.result
+          (c.loop-text.invariant.lends block A h) (c.answer_for.ensures.lends block h)));
       utf8 = subst (All IsUtf8) (sym more)
           (All-push IsUtf8 (nows (take i xs)) s c.loop-text.invariant.utf8
           c.answer_for.ensures.utf8);
     }
 
 pub returns-clause-lends : goal.returns-clause-lends
-returns-clause-lends c = λ block h. subst (λ xs. AreLent block (nows xs) c.loop-text.found.items)
+returns-clause-lends c = λ block A h.
+    subst (λ xs. AreLentBy Plain block A (nows xs) c.loop-text.found.items)
     (take_all c.loop-text.text-index c.args.texts.now c.loop-text-test.false)
-    (c.loop-text.invariant.lends block h)
+    (c.loop-text.invariant.lends block A h)
 
 pub returns-clause-utf8 : goal.returns-clause-utf8
 returns-clause-utf8 c = subst (λ xs. All IsUtf8 (nows xs))

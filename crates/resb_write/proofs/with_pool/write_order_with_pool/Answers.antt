@@ -115,10 +115,10 @@ numbered g c base t f us =
     record {
       keys = (λ i. map (position_beside place (sym keys.keys i)) (keys_of t))
           ∙ keys.positions (omega (arith, few)) ∙ ap (map Some) (sym c.deref-2.ensures.value);
-      texts = looked_up block (texts_of t) p.units.items p.indexes.items p.limit p.short_limit
+      texts = looked_up Plain block (texts_of t) p.units.items p.indexes.items p.limit p.short_limit
           plan ∙ ap (map Some) (sym c.deref-3.ensures.value);
       near = subst (All (λ k. k < 2 ^ 28)) (sym c.deref-3.ensures.value)
-          (near_indexes block (texts_of t) p.units.items p.indexes.items p.limit p.short_limit
+          (near_indexes Plain block (texts_of t) p.units.items p.indexes.items p.limit p.short_limit
           plan);
     }
 
@@ -186,9 +186,9 @@ assemble_beside-requires-clause-limits g c =
     let p = c.in_ok-units.field-0 in
     let plan = c.in_ok-units.ensures.ok in
     record {
-      limit = limit_fits _ _ p.units.items p.indexes.items p.limit p.short_limit plan;
-      short = short_limit_fits _ _ p.units.items p.indexes.items p.limit p.short_limit plan;
-      none = none_short _ _ p.units.items p.indexes.items p.limit p.short_limit plan;
+      limit = limit_fits Plain _ _ p.units.items p.indexes.items p.limit p.short_limit plan;
+      short = short_limit_fits Plain _ _ p.units.items p.indexes.items p.limit p.short_limit plan;
+      none = none_short Plain _ _ p.units.items p.indexes.items p.limit p.short_limit plan;
     }
 
 pub returns-in_err-assemble_beside-clause-err : goal.returns-in_err-assemble_beside-clause-err
@@ -240,7 +240,7 @@ returns-clause-ok g c = λ t f k.
       short = p.short_limit;
       plan = plan;
       offset = look (texts_of t) p.indexes.items;
-      offsets = looked_up pool.block (texts_of t) p.units.items p.indexes.items p.limit
+      offsets = looked_up Plain pool.block (texts_of t) p.units.items p.indexes.items p.limit
           p.short_limit plan;
       others = look_others (texts_of t) p.indexes.items;
       laid = laid;

@@ -1,0 +1,82 @@
+//! What the pool has of the strings of a compact file, which shares its strings with the pool's as
+//! one set.
+//! In whose record a text lies is found in `resb_pool`, and where in the pool in `texts`.
+ghost use Rattle.std.specs.Prelude.{◌≡◌, ◌++◌, ◌<◌, ℕ, List, length, IfOk, OnOk, All, Contains};
+ghost use Rattle.std.specs.Str.{IsUtf8};
+ghost use Rattle.resb_pool.specs.Container.{IsContainer};
+ghost use Rattle.resb_pool.specs.Plan.{nows};
+ghost use Rattle.resb_pool.specs.declared.packing.Packing.TheVariants.{Compact};
+ghost use Rattle.resb_lent.specs.Lending.{LendsTexts};
+ghost use Rattle.resb_lent.specs.LentBeside.{LendsTextBy};
+ghost use Rattle.resb_lent.specs.PlanWithPool.{AreLentBy};
+ghost use Rattle.resb_lent.specs.Inner.Within.{lent_list};
+
+use crate::texts::LentTexts;
+use resb_pool::Packing;
+use resb_pool::holders::holders;
+use std::alloc::{AllocError, Global};
+
+/// The texts of the pool's records.
+fn lent_texts<'a>(alloc: Global, lent: &'a LentTexts) -> Result<Vec<&'a str>, AllocError>
+    ensures { IfOk result (λ v. nows v.items ≡ lent_list lent.now) }
+{
+    let mut texts = Vec::new(alloc);
+    for record in &lent.records {
+        texts.push(record.text.as_str())?;
+    }
+    Ok(texts)
+}
+
+/// The same, and behind them strings.
+fn all_texts<'a>(
+    alloc: Global,
+    lent: &'a LentTexts,
+    strings: &[&'a str],
+) -> Result<Vec<&'a str>, AllocError>
+    ensures { IfOk result (λ v. nows v.items ≡ lent_list lent.now ++ nows strings.now) }
+{
+    let mut texts = lent_texts(alloc, lent)?;
+    for text in strings {
+        texts.push(*text)?;
+    }
+    Ok(texts)
+}
+
+/// What the pool has of one of the file's strings, which lies in the record of this holder among
+/// all texts of the file and of the pool.
+fn answer_beside(lent: &LentTexts, text: &str, holder: &str) -> Option<u32>
+    ensures lends { (block : List ℕ) (S : List (List ℕ)) → LendsTexts lent.now block
+        → All IsUtf8 S → Contains S text.now
+        → (0 < length text.now
+        → IsContainer Compact (lent_list lent.now ++ S) text.now holder.now)
+        → LendsTextBy Compact block S text.now result }
+    ensures utf8 { IsUtf8 text.now }
+{
+    if text.is_empty() {
+        return lent.index(text);
+    }
+    match lent.place_within(text, text) {
+        Some(index) => Some(index),
+        None => lent.place_within(holder, text),
+    }
+}
+
+/// What the pool has of each of the file's strings.
+pub(crate) fn answers_beside(
+    alloc: Global,
+    lent: &LentTexts,
+    strings: &[&str],
+) -> Result<Vec<Option<u32>>, AllocError>
+    ensures lends { IfOk result (λ v. (block : List ℕ) → LendsTexts lent.now block
+        → AreLentBy Compact block (nows strings.now) (nows strings.now) v.items) }
+    ensures utf8 { OnOk result (All IsUtf8 (nows strings.now)) }
+{
+    let texts = all_texts(alloc, lent, strings)?;
+    let found = holders(alloc, Packing::Compact, &texts)?;
+    let own = &found[lent.records.len()..];
+    let mut answers = Vec::with_capacity(alloc, strings.len())?;
+    for (number, text) in strings.iter().enumerate() {
+        answers.push(answer_beside(lent, *text, own[number]))?;
+    }
+    Ok(answers)
+}

@@ -1,3 +1,4 @@
 -- Words of private functions: nothing here needs to be trusted.
 pub mod Noted
 pub mod Listed
+pub mod Runs

@@ -3,6 +3,7 @@
 //! How bodies tell these places is said in `resb_layout`; no body is laid here.
 #![tactic(auto)]
 
+mod ends;
 mod head_with_pool;
 mod keys;
 pub mod laws;
@@ -10,6 +11,7 @@ mod plan_with_pool;
 mod records;
 mod texts;
 
+pub use ends::{LentEnds, LentRun};
 pub use head_with_pool::HeadWithPool;
 pub use keys::LentKeys;
 pub use plan_with_pool::PlanWithPool;

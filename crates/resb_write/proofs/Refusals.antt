@@ -122,4 +122,4 @@ module _ (t : Tree) (ks : List (List ℕ)) (pool : Pool)
 pub no_memory_over : (o : Target) (t : Tree) (ks : List (List ℕ))
     → RefusesOver o t ks out_of_memory
 no_memory_over (Alone q) t ks = no_memory
-no_memory_over (OverPool pool) t ks = as_alone no_memory
+no_memory_over (OverPool o) t ks = as_alone no_memory

@@ -35,6 +35,14 @@ fn is_up_to(key: &str, end: &str) -> bool
         || compare_ends(key.as_bytes(), end.as_bytes()) == Ordering::Less
 }
 
+/// Whether a key ends with the bytes of another one, or stands before them in the order from the
+/// end.
+pub(crate) fn is_not_behind(bytes: &[u8], key: &str) -> bool
+    ensures { result ≡ is_up_to_end bytes.now key.now }
+{
+    key.as_bytes().ends_with(bytes) || compare_ends(key.as_bytes(), bytes) == Ordering::Less
+}
+
 /// Keys in the order from the end.
 pub fn in_end_order<'k>(alloc: Global, keys: &[&'k str]) -> Result<Vec<&'k str>, AllocError>
     ensures { IfOk result (λ v. AreByEnd (nows keys.now) v.items) }

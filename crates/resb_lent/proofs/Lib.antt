@@ -14,4 +14,8 @@ mod Sorting
 mod Read
 mod Noting
 mod Told
+mod EndOrder
+mod Runs
+pub mod LastEnding
+pub mod EndsRead
 mod Examples

@@ -54,7 +54,7 @@ pub turned : (a b : List ℕ) (o : Ordering) → end_last_cmp a b ≡ o
 turned a b o e = end_last_total.antisymm b a ∙ ap ordering_reverse e
 
 -- what isn't before a text that comes after another comes after that one too
-comes_after : (a b c : List ℕ) → (end_last_cmp a b ≡ Less → ⊥) → end_last_cmp b c ≡ Greater
+pub comes_after : (a b c : List ℕ) → (end_last_cmp a b ≡ Less → ⊥) → end_last_cmp b c ≡ Greater
     → end_last_cmp a c ≡ Greater
 comes_after a b c n g = by (end_last_cmp a b) refl
   where

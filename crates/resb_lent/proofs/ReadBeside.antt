@@ -15,12 +15,11 @@ use Rattle.resb_format.specs.Strings.{key_at, text_at}
 use Rattle.resb_layout.specs.Laid.{Given, Lends, near_in, short_in}
 use Rattle.resb_pool.proofs.ReadBack.{text_at-zero}
 use Rattle.resb_lent.specs.Laws.{LentIsRead, KeysStand, lends_to}
-use Rattle.resb_lent.specs.LentKeys.{StandsWhole}
 use Rattle.resb_pool.specs.declared.packing.Packing.{Packing}
 use Rattle.resb_lent.specs.PlanWithPool.{IsPlanWithBy, StandAt}
 use Rattle.resb_lent.proofs.PlanRead.{planned_is_read, in_pool, in_own, lent_begins}
 use Rattle.resb_lent.proofs.Read.{at_zero}
-use Rattle.resb_lent.proofs.Told.{lent_key_is_told}
+use Rattle.resb_lent.proofs.Told.{told_there}
 
 -- an own position tells itself, and one in the pool is counted from the own keys' end
 near_own : (l : Lends) (at : ℕ) → at < 2 ^ 31 → near_in l at ≡ at
@@ -70,16 +69,16 @@ module _ (p : Parts) (l : Lent) (g : Given) (lent : p.lent ≡ Some l) (few : le
   key_read k at e = by (stand k at e)
     where
       by : ((at < length p.keys) × (key_at p.keys at ≡ Some k))
-          ⊎ ((n : ℕ) × (at ≡ n + 2 ^ 31) × StandsWhole l.keys k n) → key_in p at ≡ Some k
+          ⊎ ((n : ℕ) × (at ≡ n + 2 ^ 31) × (key_at l.keys n ≡ Some k)) → key_in p at ≡ Some k
       by (inl o) = own_key k at o.0 o.1
-      by (inr (n, f, w)) = ap (key_in p) f ∙ (lent_key_is_told p l k n lent few w).0
+      by (inr (n, f, w)) = ap (key_in p) f ∙ (told_there p l k n lent few w).0
 
   near_read : (k : List ℕ) (at : ℕ) → g.position k ≡ Some at → near_in (lends_to p l) at ≤ 65535
       → key_in p (near_in (lends_to p l) at) ≡ Some k
   near_read k at e near = by (stand k at e)
     where
       by : ((at < length p.keys) × (key_at p.keys at ≡ Some k))
-          ⊎ ((n : ℕ) × (at ≡ n + 2 ^ 31) × StandsWhole l.keys k n)
+          ⊎ ((n : ℕ) × (at ≡ n + 2 ^ 31) × (key_at l.keys n ≡ Some k))
           → key_in p (near_in (lends_to p l) at) ≡ Some k
       by (inl o) = ap (key_in p) (near_own (lends_to p l) at (omega (arith, o.0, few)))
           ∙ own_key k at o.0 o.1
@@ -87,7 +86,7 @@ module _ (p : Parts) (l : Lent) (g : Given) (lent : p.lent ≡ Some l) (few : le
           let told : near_in (lends_to p l) at ≡ n + length p.keys =
           ap (near_in (lends_to p l)) f ∙ near_lent (lends_to p l) n in
           ap (key_in p) told
-          ∙ (lent_key_is_told p l k n lent few w).1 (omega (arith, told, near))
+          ∙ (told_there p l k n lent few w).1 (omega (arith, told, near))
 
 module _ (way : Packing) (p : Parts) (l : Lent) (S : List (List ℕ)) (us is rest : List ℕ)
     (utf8 : All IsUtf8 S) (plan : IsPlanWithBy way l.block S us is l.limit l.short_limit)

@@ -27,7 +27,7 @@ tail_zero x xs true e h = absurd (let f = rw e at h in omega (arith, f))
 tail_zero x xs false e h = (refl, let f = rw e at h in omega (arith, f))
 
 -- bytes without a first zero have none
-no_zeros : (xs : List ℕ) (k : ℕ) → length xs ≤ zero_at xs → k < length xs
+pub no_zeros : (xs : List ℕ) (k : ℕ) → length xs ≤ zero_at xs → k < length xs
     → get_or xs k 0 ≡ 0 → ⊥
 no_zeros [] k h l e = omega (arith, l)
 no_zeros (x ∷ xs) zero h l e =
@@ -49,7 +49,7 @@ its_utf8 (Some bs) t e = cases (is_utf8 bs) refl
     cases false u = let f : None ≡ Some t = rw u at e in absurd cc
 
 -- a zero byte stands behind a key
-ended : (xs t : List ℕ) → before_zero xs ≡ Some t → zero_at xs < length xs
+pub ended : (xs t : List ℕ) → before_zero xs ≡ Some t → zero_at xs < length xs
 ended xs t e = cases (cases_lt (zero_at xs) (length xs))
   where
     cases : (zero_at xs < length xs) ⊎ (length xs ≤ zero_at xs) → zero_at xs < length xs
@@ -99,17 +99,23 @@ key_here keys rest key start len r p k =
     ap (λ l. option_and_then if_utf8 (before_zero l)) (sym r) ∙ ap (option_and_then if_utf8) found
 
 -- none begins between the first byte of a key and the zero byte behind it
-pub none_inside : (keys rest q : List ℕ) (start len p : ℕ) → rest ≡ drop start keys
-    → first_zero rest ≡ Some len → start < p → p < start + (len + 1) → StandsWhole keys q p → ⊥
-none_inside keys rest q start len p r found l m w =
+pub begins_inside : (keys rest : List ℕ) (start len p : ℕ) → rest ≡ drop start keys
+    → first_zero rest ≡ Some len → start < p → p < start + (len + 1)
+    → begins_key keys p ≡ true → ⊥
+begins_inside keys rest start len p r found l m w =
     let is = position-Some (λ x. nat_eq x 0) rest len 0 found in
     let k = p - 1 - start in
     let i : start + k ≡ p - 1 = omega (arith, l) in
     let same : get_or rest k 0 ≡ get_or keys (p - 1) 0 =
     ap (λ x. get_or x k 0) r ∙ get_or-drop start keys k 0 ∙ ap (λ n. get_or keys n 0) i in
     let full : nat_eq (get_or rest k 0) 0 ≡ false = is.2 k (omega (arith, l, m)) in
-    let begins : nat_eq p 0 || nat_eq (get_or keys (p - 1) 0) 0 ≡ true = w.begins in
+    let begins : nat_eq p 0 || nat_eq (get_or keys (p - 1) 0) 0 ≡ true = w in
     grind (arith, nat_tests, same, full, begins, l)
+
+pub none_inside : (keys rest q : List ℕ) (start len p : ℕ) → rest ≡ drop start keys
+    → first_zero rest ≡ Some len → start < p → p < start + (len + 1) → StandsWhole keys q p → ⊥
+none_inside keys rest q start len p r found l m w =
+    begins_inside keys rest start len p r found l m w.begins
 
 -- the next key begins behind the zero byte
 pub next_begins : (keys rest : List ℕ) (start len : ℕ) → rest ≡ drop start keys

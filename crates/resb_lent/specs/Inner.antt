@@ -2,3 +2,4 @@
 pub mod Noted
 pub mod Listed
 pub mod Within
+pub mod Runs

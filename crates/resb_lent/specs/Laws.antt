@@ -76,12 +76,12 @@ lends_to p l =
     record { own_end = length p.keys; limit = l.limit; short_limit = l.short_limit }
 
 -- a key that has a position is read there among the file's own keys, or its position is 2^31 and
--- the place at which the pool has it whole
+-- the place at which it is read among the pool's
 abbrev pub KeysStand : Parts → Lent → (List ℕ → Option ℕ) → Type 0
 KeysStand p l position =
     (k : List ℕ) (at : ℕ) → position k ≡ Some at
     → ((at < length p.keys) × (key_at p.keys at ≡ Some k))
-    ⊎ ((n : ℕ) × (at ≡ n + 2 ^ 31) × StandsWhole l.keys k n)
+    ⊎ ((n : ℕ) × (at ≡ n + 2 ^ 31) × (key_at l.keys n ≡ Some k))
 
 -- Beside the pool, a file reads back what it is given: keys that stand so, and strings at the
 -- indexes of a plan with the pool whose units its 16-bit block begins with; and it reads both as 16

@@ -5,15 +5,18 @@ pub use Rattle.resb_format.specs.Lookups
 pub use Rattle.resb_pool.specs.Plan
 pub use Rattle.resb_layout.specs.Laid
 pub use Rattle.resb_layout.specs.WrittenHead
+pub use Rattle.resb_layout.specs.CompactKeys
 pub use Rattle.resb_pool_bundle.specs.FileWith
 pub use Rattle.resb_pool_bundle.specs.Pool
 pub use Rattle.resb_layout.specs.Laws as LayoutLaws
 pub mod LentKeys
+pub mod LentEnds
 pub mod LentTexts
 pub mod LentBeside
 pub mod PlanWithPool
 pub mod HeadWithPool
 pub mod Entries
 pub mod Lending
+pub mod LendingEnds
 pub mod Laws
 pub mod Inner

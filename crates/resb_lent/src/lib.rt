@@ -4,6 +4,7 @@
 #![tactic(auto)]
 
 mod answers_beside;
+mod ends;
 mod head_with_pool;
 mod keys;
 pub mod laws;
@@ -11,6 +12,7 @@ mod plan_with_pool;
 mod records;
 mod texts;
 
+pub use ends::{LentEnds, LentRun};
 pub use head_with_pool::HeadWithPool;
 pub use keys::LentKeys;
 pub use plan_with_pool::PlanWithPool;

@@ -32,13 +32,13 @@ module _ (js : List (List ℕ)) (k : List ℕ) where
   holder = container js k
 
   -- a container is its own
-  own_container : holder ≡ container js holder
+  pub own_container : holder ≡ container js holder
   own_container = container_is js holder holder (inl refl) (ends_itself holder)
       (λ i h e. container_greatest js k i h (extends_ends i k (extends_trans (reverse i)
       (reverse holder) (reverse k) (ends_extends i holder e) (container_ends js k))))
 
   -- that of one of the keys is kept
-  holder_kept : Contains js k → Contains (kept js) holder
+  pub holder_kept : Contains js k → Contains (kept js) holder
   holder_kept h = contained-filter (λ i. same_text i (container js i)) js holder
       ((bytes_decides holder (container js holder)).1 own_container)
       (elim (container_among js k) [
@@ -67,10 +67,10 @@ module _ (js : List (List ℕ)) (k : List ℕ) where
   front_long = omega (arith, ap length front.1, length-append front.0 k)
 
   -- with its container's zero byte the key stands where the container ends
-  pub end_stands : (n : ℕ) → last_place holder (kept js) ≡ Some n
-      → StandsAt (key_bytes (kept js)) k (n + (length holder - length k))
-  end_stands n e =
-      let s = last_of-stands holder (kept js) n e in
+  pub end_stands : (ls : List (List ℕ)) (n : ℕ) → last_place holder ls ≡ Some n
+      → StandsAt (key_bytes ls) k (n + (length holder - length k))
+  end_stands ls n e =
+      let s = last_of-stands holder ls n e in
       record {
         front = s.front ++ front.0;
         back = s.back;
@@ -80,10 +80,10 @@ module _ (js : List (List ℕ)) (k : List ℕ) where
             ∙ sym (append_assoc s.front front.0 (k ++ 0 ∷ s.back));
       }
 
-  end_inside : (n : ℕ) → last_place holder (kept js) ≡ Some n
-      → n + length holder < length (key_bytes (kept js))
-  end_inside n e =
-      let s = last_of-stands holder (kept js) n e in
+  pub end_inside : (ls : List (List ℕ)) (n : ℕ) → last_place holder ls ≡ Some n
+      → n + length holder < length (key_bytes ls)
+  end_inside ls n e =
+      let s = last_of-stands holder ls n e in
       omega (
         arith,
         ap length s.is,
@@ -92,7 +92,7 @@ module _ (js : List (List ℕ)) (k : List ℕ) where
         length-append holder (0 ∷ s.back),
       )
 
-  among_test : Contains js k → is_among js k ≡ true
+  pub among_test : Contains js k → is_among js k ≡ true
   among_test h = member_any (same_text k) js k h ((bytes_decides k k).1 refl)
 
   pub among_contained : is_among js k ≡ true → Contains js k
@@ -138,7 +138,7 @@ module _ (us ks : List (List ℕ)) (faultless : key_fault us (used us ks) ≡ No
   abbrev js : List (List ℕ)
   js = used us ks
 
-  listed : (k : List ℕ) → Contains us k → Contains js k
+  pub listed : (k : List ℕ) → Contains us k → Contains js k
   listed k c = by (last_place k js) refl
     where
       by : (o : Option ℕ) → last_place k js ≡ o → Contains js k
@@ -156,7 +156,7 @@ module _ (us ks : List (List ℕ)) (faultless : key_fault us (used us ks) ≡ No
   told_is small k c =
       let h = listed k c in
       let (n, e) = holder_placed js k h in
-      let inside = end_inside js k n e in
+      let inside = end_inside js k (kept js) n e in
       let room = filter_room (λ i. same_text i (container js i)) js in
       let more : ℕ = length (container js k) - length k in
       let same : 32 + n + more

@@ -11,6 +11,7 @@ use Rattle.std.proofs.lemmas.List.Elements.{All-contains, Contains-append_right}
 use Rattle.resb_tree.specs.Keys.{same_text}
 use Rattle.resb_layout.specs.KeyBlock.{used, is_among, key_bytes, last_place}
 use Rattle.resb_layout.specs.TreeFaults.{key_fault}
+use Rattle.resb_pool.specs.declared.packing.Packing.TheVariants.{Plain}
 use Rattle.resb_write.specs.WrittenWith.{position_beside}
 use Rattle.resb_write.specs.Inner.Beside.{told_beside}
 use Rattle.resb_write.specs.Inner.NearPositions.{near_position, near_position_in}
@@ -96,8 +97,11 @@ module _ (place : List ℕ → Option ℕ) (us ks : List (List ℕ))
   abbrev told : List ℕ → ℕ
   told k = told_beside (place k) (near_position_in own k)
 
+  abbrev js : List (List ℕ)
+  js = used us ks
+
   told_is : length (key_bytes own) < 2 ^ 28 → (k : List ℕ) → Contains us k
-      → position_beside place own k ≡ Some (told k)
+      → position_beside Plain place js own k ≡ Some (told k)
   told_is small k c = by (place k) refl
     where
       by : (o : Option ℕ) → place k ≡ o
@@ -115,5 +119,5 @@ module _ (place : List ℕ → Option ℕ) (us ks : List (List ℕ))
 
   -- each key of the tables has a position
   pub all_told : length (key_bytes own) < 2 ^ 28
-      → map (position_beside place own) us ≡ map Some (map told us)
-  all_told small = told_each (position_beside place own) told us (told_is small)
+      → map (position_beside Plain place js own) us ≡ map Some (map told us)
+  all_told small = told_each (position_beside Plain place js own) told us (told_is small)

@@ -30,6 +30,8 @@ pub mod Listed
 mod Examples
 mod OneFile
 mod KeysBeside
+mod KeyEndsBeside
+mod PlacedBeside
 mod FilesBeside
 mod OneFileBeside
 mod Filled

@@ -1,32 +1,27 @@
 -- A bundle, a list of keys and a pool leave one file.
 use Rattle.std.proofs.Common.{◌≡◌, ℕ, ◌+◌, ◌*◌, ◌/◌, List, [], ◌∷◌, ◌++◌, length, map, Option, Some}
-use Rattle.std.proofs.Common.{None, Bool, ◌⊎◌, inl, inr, refl, sym, ◌∙◌, ap, subst, zero, suc}
+use Rattle.std.proofs.Common.{Bool, ◌⊎◌, inl, inr, refl, sym, ◌∙◌, ap, subst, zero, suc}
 use Rattle.std.proofs.Common.{arith}
 use Rattle.std.specs.List.{Contains}
 use Rattle.resb_tree.specs.Tree.{Tree, largest_table}
-use Rattle.resb_tree.specs.LayingOrder.{texts_of}
+use Rattle.resb_tree.specs.LayingOrder.{keys_of, texts_of}
+use Rattle.resb_layout.specs.KeyBlock.{used}
 use Rattle.resb_format.specs.Bytes.{units_as_bytes}
 use Rattle.resb_pool_bundle.specs.Pool.{Pool}
-use Rattle.resb_pool.specs.declared.packing.Packing.TheVariants.{Plain}
+use Rattle.resb_pool.specs.declared.packing.Packing.{Packing}
+use Rattle.resb_pool.specs.declared.packing.Packing.TheVariants.{Plain, Compact}
 use Rattle.resb_layout.specs.Laid.{Given, Lends, Laid, LaysBy}
 use Rattle.resb_layout.specs.Written.{even}
 use Rattle.resb_layout.proofs.Once.{one_layout}
-use Rattle.resb_lent.specs.LentKeys.{LendsKey}
 use Rattle.resb_lent.specs.HeadWithPool.{head_bytes}
 use Rattle.resb_lent.specs.declared.head_with_pool.HeadWithPool.{HeadWithPool}
-use Rattle.resb_lent.proofs.Once.{one_place}
+use Rattle.resb_write.proofs.PlacedBeside.{one_lent}
 use Rattle.resb_lent.proofs.PlanRead.{one_plan_with}
-use Rattle.resb_write.specs.Laws.{OneFileWithPool}
-use Rattle.resb_write.specs.WrittenWith.{BlocksWith, own_keys_of, key_block_beside, own_end_of}
+use Rattle.resb_write.specs.Laws.{OneFileWithPool, OneCompactFileWithPool}
+use Rattle.resb_write.specs.WrittenWith.{BlocksWithBy, own_keys_of, key_block_beside, own_end_of}
 use Rattle.resb_write.specs.WrittenWith.{position_beside, tail_start_beside, head_of}
 use Rattle.resb_write.proofs.FilesBeside.{one_or_none}
 use Rattle.resb_write.proofs.OneBlock.{one_block}
-
-one_answer : (keys k : List ℕ) (o p : Option ℕ) → LendsKey keys k o → LendsKey keys k p → o ≡ p
-one_answer keys k None None h l = refl
-one_answer keys k None (Some n) h l = absurd (h n l.whole)
-one_answer keys k (Some m) None h l = absurd (l m h.whole)
-one_answer keys k (Some m) (Some n) h l = ap Some (one_place keys k m n h l)
 
 -- two functions that give the same of a list are the same at its members
 same_at : (f g : List ℕ → Option ℕ) (S : List (List ℕ)) → map f S ≡ map g S → (s : List ℕ)
@@ -39,16 +34,18 @@ same_at f g (t ∷ S) e s (suc n, lt, is) =
     let h : map f S ≡ map g S = cc in
     same_at f g S h s (n, omega (arith, lt), is)
 
-module _ (pool : Pool) (t : Tree) (ks : List (List ℕ)) (x y : BlocksWith pool t ks) where
+module _ (q : Packing) (pool : Pool) (t : Tree) (ks : List (List ℕ))
+    (x y : BlocksWithBy q pool t ks) where
   place_at : (k : List ℕ) → x.place k ≡ y.place k
-  place_at k = one_answer pool.keys k (x.place k) (y.place k) (x.places k) (y.places k)
+  place_at k = one_lent q pool.keys (used (keys_of t) ks) k (x.place k) (y.place k) (x.places k)
+      (y.places k)
 
   place_is : x.place ≡ y.place
   place_is = λ i k. place_at k i
 
   plans : (x.units ≡ y.units) × (x.indexes ≡ y.indexes) × (x.limit ≡ y.limit)
       × (x.short ≡ y.short)
-  plans = one_plan_with Plain pool.block (texts_of t) x.units y.units x.indexes y.indexes x.limit
+  plans = one_plan_with q pool.block (texts_of t) x.units y.units x.indexes y.indexes x.limit
       y.limit x.short y.short x.plan y.plan
 
   offset_at : (s : List ℕ) → x.offset s ≡ y.offset s
@@ -62,33 +59,34 @@ module _ (pool : Pool) (t : Tree) (ks : List (List ℕ)) (x y : BlocksWith pool 
   offset_is : x.offset ≡ y.offset
   offset_is = λ i s. offset_at s i
 
-  abbrev lends : BlocksWith pool t ks → Lends
+  abbrev lends : BlocksWithBy q pool t ks → Lends
   lends b = record {
-    own_end = own_end_of (own_keys_of b.place t ks);
+    own_end = own_end_of (own_keys_of q b.place t ks);
     limit = b.limit;
     short_limit = b.short;
   }
 
-  abbrev given : BlocksWith pool t ks → Given
+  abbrev given : BlocksWithBy q pool t ks → Given
   given b = record {
-    position = position_beside b.place (own_keys_of b.place t ks);
+    position = position_beside q b.place (used (keys_of t) ks) (own_keys_of q b.place t ks);
     offset = b.offset;
-    base = tail_start_beside (key_block_beside b.place t ks) b.laid;
-    packing = Plain;
+    base = tail_start_beside (key_block_beside q b.place t ks) b.laid;
+    packing = q;
   }
 
-  abbrev start : BlocksWith pool t ks → Laid
+  abbrev start : BlocksWithBy q pool t ks → Laid
   start b = record { units = b.units; tail = [] }
 
   lends_is : ◌≡◌ {A = Lends} (lends x) (lends y)
   lends_is = λ i. record {
-    own_end = own_end_of (own_keys_of (place_is i) t ks);
+    own_end = own_end_of (own_keys_of q (place_is i) t ks);
     limit = plans.2 i;
     short_limit = plans.3 i;
   }
 
   position_is : (given x).position ≡ (given y).position
-  position_is = λ i. position_beside (place_is i) (own_keys_of (place_is i) t ks)
+  position_is = λ i. position_beside q (place_is i) (used (keys_of t) ks)
+      (own_keys_of q (place_is i) t ks)
 
   by_lends : LaysBy (Some (lends y)) (given x) (start x) t x.laid x.root
   by_lends = subst (λ l. LaysBy (Some l) (given x) (start x) t x.laid x.root) lends_is x.lays
@@ -98,7 +96,7 @@ module _ (pool : Pool) (t : Tree) (ks : List (List ℕ)) (x y : BlocksWith pool 
       x.root y.root refl position_is offset_is plans.0 by_lends y.lays
 
   base_is : (given x).base ≡ (given y).base
-  base_is = λ i. 36 + length (key_block_beside (place_is i) t ks)
+  base_is = λ i. 36 + length (key_block_beside q (place_is i) t ks)
       + 2 * length (even (units_are i))
 
   given_is : ◌≡◌ {A = Given} (given x) (given y)
@@ -106,7 +104,7 @@ module _ (pool : Pool) (t : Tree) (ks : List (List ℕ)) (x y : BlocksWith pool 
     position = position_is i;
     offset = offset_is i;
     base = base_is i;
-    packing = Plain;
+    packing = q;
   }
 
   start_is : ◌≡◌ {A = Laid} (start x) (start y)
@@ -127,20 +125,24 @@ module _ (pool : Pool) (t : Tree) (ks : List (List ℕ)) (x y : BlocksWith pool 
     limit = plans.2 i;
     short_limit = plans.3 i;
     checksum = pool.checksum;
-    key_words = length (key_block_beside (place_is i) t ks) / 4;
+    key_words = length (key_block_beside q (place_is i) t ks) / 4;
     block_words = length (even (same.0 i).units) / 2;
     tail_words = length (same.0 i).tail / 4;
   }
 
-  abbrev file : Bool → BlocksWith pool t ks → List ℕ
-  file fallback b = head_bytes (head_of fallback b) ++ (key_block_beside b.place t ks
+  abbrev file : Bool → BlocksWithBy q pool t ks → List ℕ
+  file fallback b = head_bytes (head_of fallback b) ++ (key_block_beside q b.place t ks
       ++ (units_as_bytes (even b.laid.units) ++ b.laid.tail))
 
   pub file_same : (fallback : Bool) → file fallback x ≡ file fallback y
   file_same fallback = λ i. head_bytes (head_is fallback i)
-      ++ (key_block_beside (place_is i) t ks
+      ++ (key_block_beside q (place_is i) t ks
       ++ (units_as_bytes (even (same.0 i).units) ++ (same.0 i).tail))
 
 pub one_file_with_pool : OneFileWithPool
 one_file_with_pool pool a b t fallback ks x y =
-    x.file ∙ file_same pool t ks x.blocks y.blocks fallback ∙ sym y.file
+    x.file ∙ file_same Plain pool t ks x.blocks y.blocks fallback ∙ sym y.file
+
+pub one_compact_file_with_pool : OneCompactFileWithPool
+one_compact_file_with_pool pool a b t fallback ks x y =
+    x.file ∙ file_same Compact pool t ks x.blocks y.blocks fallback ∙ sym y.file

@@ -4,7 +4,7 @@ use Rattle.std.proofs.Common.{refl, sym, subst, arith}
 use Rattle.std.specs.List.{Contains}
 use Rattle.std.specs.Cmp.Lexicographic.{bytes_decides}
 use Rattle.resb_tree.specs.Keys.{same_text}
-use Rattle.resb_layout.specs.CompactKeys.{container, keys_by, position_by}
+use Rattle.resb_layout.specs.CompactKeys.{container, kept, keys_by, position_by}
 use Rattle.resb_layout.specs.KeyBlock.{used, is_among, key_bytes, last_place, keys_start}
 use Rattle.resb_pool.specs.declared.packing.Packing.{Packing}
 use Rattle.resb_pool.specs.declared.packing.Packing.TheVariants.{Plain, Compact}
@@ -45,7 +45,7 @@ key_placed Compact js k at e =
       given = h.given;
       place = h.place + (length (container js k) - length k);
       is = omega (arith, h.is);
-      stands = end_stands js k h.place h.placed;
+      stands = end_stands js k (kept js) h.place h.placed;
     }
 
 -- what is listed and used is used

@@ -18,7 +18,7 @@ use Rattle.resb_layout.specs.TreeFaults.{at_the_first}
 use Rattle.resb_layout.specs.TreeFaults.{too_large}
 use Rattle.resb_write.specs.declared.target.Target.{Target}
 use Rattle.resb_write.specs.declared.target.Target.TheVariants.{Alone, OverPool}
-use Rattle.resb_pool.specs.declared.packing.Packing.TheVariants.{Plain}
+use Rattle.resb_pool.specs.declared.packing.Packing.{Packing}
 use Rattle.resb_write.specs.FaultOf.{plan_fault}
 use Rattle.resb_write.specs.Inner.Sizes.{size_fault, IsTooMuch, at_fault}
 use Rattle.resb_write.specs.Inner.Sizes.{too_large as too_large_sizes}
@@ -26,7 +26,7 @@ use Rattle.resb_write.proofs.Room.{small_texts_fit, texts_within, small_sizes, p
 use Rattle.resb_write.proofs.Room.{units_room}
 use Rattle.resb_write.proofs.Blocks.{laying_order_long}
 use Rattle.resb_pool_bundle.specs.Pool.{Pool}
-use Rattle.resb_lent.specs.PlanWithPool.{lacking, NotPlannedWith, own_fault}
+use Rattle.resb_lent.specs.PlanWithPool.{lacking, NotPlannedWithBy, own_fault}
 use Rattle.resb_lent.specs.PlanWithPool.{no_memory as no_memory_beside, too_far as too_far_beside}
 use Rattle.resb_lent.proofs.PlanRoom.{lacking_sum, limit_within, own_within}
 use Rattle.resb_write.specs.WrittenWith.{RefusesWritingWith, as_alone, too_far}
@@ -96,31 +96,31 @@ module _ (t : Tree) (ks : List (List ℕ)) (pool : Pool)
       cc
   own_refused os e (too_large_to_plan h l) = absurd (omega (arith, texts_small os, l))
 
-  not_planned : (e : PlanError) → NotPlannedWith pool.block (texts_of t) e
+  not_planned : (q : Packing) (e : PlanError) → NotPlannedWithBy q pool.block (texts_of t) e
       → RefusesWritingWith pool t ks (plan_fault e)
-  not_planned e no_memory_beside = as_alone no_memory
-  not_planned e (own_fault found lent h) = own_refused found e h
-  not_planned e (too_far_beside found us offsets offset lent plan are far) =
+  not_planned q e no_memory_beside = as_alone no_memory
+  not_planned q e (own_fault found lent h) = own_refused found e h
+  not_planned q e (too_far_beside found us offsets offset lent plan are far) =
       too_far no_fault (omega (
         arith,
         far,
-        limit_within Plain pool.block (texts_of t) (texts_of t) found lent,
-        own_within Plain (lacking (texts_of t) found) us offset plan (lacking (texts_of t) found)
+        limit_within q pool.block (texts_of t) (texts_of t) found lent,
+        own_within q (lacking (texts_of t) found) us offset plan (lacking (texts_of t) found)
             offsets are,
-        pool_room Plain (lacking (texts_of t) found) us offset plan,
+        pool_room q (lacking (texts_of t) found) us offset plan,
         lacking_sum size (texts_of t) found,
         units_room (laying_order t),
         laying_order_long t,
       ))
 
-  pub unplanned : (S : List (List ℕ)) (f : WritingFault) → S ≡ texts_of t
-      → IsUnplanned pool.block S f → RefusesWritingWith pool t ks f
-  unplanned S f is u =
-      subst (RefusesWritingWith pool t ks) (sym u.answered) (not_planned u.error
-      (subst (λ T. NotPlannedWith pool.block T u.error) is u.refused))
+  pub unplanned : (q : Packing) (S : List (List ℕ)) (f : WritingFault) → S ≡ texts_of t
+      → IsUnplanned q pool.block S f → RefusesWritingWith pool t ks f
+  unplanned q S f is u =
+      subst (RefusesWritingWith pool t ks) (sym u.answered) (not_planned q u.error
+      (subst (λ T. NotPlannedWithBy q pool.block T u.error) is u.refused))
 
 -- want of memory is answered, whatever a file stands on
 pub no_memory_over : (o : Target) (t : Tree) (ks : List (List ℕ))
     → RefusesOver o t ks out_of_memory
 no_memory_over (Alone q) t ks = no_memory
-no_memory_over (OverPool pool) t ks = as_alone no_memory
+no_memory_over (OverPool o) t ks = as_alone no_memory

@@ -6,6 +6,7 @@
 --     OneCompactFile, CompactInOrder      the same of compact files
 --     OneFileWithPool         a bundle, a list of keys and a pool bundle leave one file
 --     WrittenWithPoolIsRead   beside the pool it denotes the tree, each resource once
+--     OneCompactFileWithPool, CompactWithPoolIsRead   the same of compact files
 use Rattle.std.specs.Prelude.{◌≡◌, ℕ, ◌*◌, List, ◌++◌, drop, Bool, false, Option, Some}
 use Rattle.resb_tree.specs.Tree.{Tree, tree_count}
 use Rattle.resb_tree.specs.Aliases.{has_alias}
@@ -18,7 +19,7 @@ use Rattle.resb_layout.specs.Written.{Written}
 use Rattle.resb_layout.specs.WrittenCompact.{WrittenCompact}
 use Rattle.resb_pool_bundle.specs.Pool.{Pool}
 use Rattle.resb_pool_bundle.specs.FileWith.{DenotesWith}
-use Rattle.resb_write.specs.WrittenWith.{WrittenWith}
+use Rattle.resb_write.specs.WrittenWith.{WrittenWith, WrittenCompactWith}
 
 -- where the units before a tree are the same, so are those behind it, wherever the tail begins
 abbrev pub OneBlock : Type 0
@@ -91,3 +92,16 @@ abbrev pub WrittenWithPoolIsRead : Type 0
 WrittenWithPoolIsRead =
     (pool : Pool) (bytes : List ℕ) (t : Tree) (fallback : Bool) (ks : List (List ℕ))
     → WrittenWith pool bytes t fallback ks → DenotesWith (Some pool) bytes t (tree_count t)
+
+-- two compact files of a bundle and a list of keys that are written over one pool are the same
+-- bytes
+abbrev pub OneCompactFileWithPool : Type 0
+OneCompactFileWithPool =
+    (pool : Pool) (a b : List ℕ) (t : Tree) (fallback : Bool) (ks : List (List ℕ))
+    → WrittenCompactWith pool a t fallback ks → WrittenCompactWith pool b t fallback ks → a ≡ b
+
+-- a compact file that is written over a pool denotes its tree beside that pool
+abbrev pub CompactWithPoolIsRead : Type 0
+CompactWithPoolIsRead =
+    (pool : Pool) (bytes : List ℕ) (t : Tree) (fallback : Bool) (ks : List (List ℕ))
+    → WrittenCompactWith pool bytes t fallback ks → DenotesWith (Some pool) bytes t (tree_count t)

@@ -1,43 +1,68 @@
-//! The key block of a file over a pool bundle: which used keys the pool lacks, and where each key
-//! of the tables stands.
-//! The block of a file that uses no pool, and the faults of keys, are in `key_block`.
+//! The key block of a file over a pool bundle, by how the file is packed: which used keys the pool
+//! lacks, and where each key of the tables stands.
+//! That of a compact file is in `ends_beside`; the block of a file that uses no pool, and the
+//! faults of keys, are in `key_block`.
 ghost use Rattle.std.specs.Prelude.{◌≡◌, ◌⊎◌, ℕ, List, Some, None, IfOk, IfErr, OnOk, map, filter};
 ghost use Rattle.std.specs.Option.{is_none};
 ghost use Rattle.resb_pool.specs.Plan.{nows, at_text};
 ghost use Rattle.resb_layout.specs.KeyBlock.{used as used_of};
 ghost use Rattle.resb_layout.specs.TreeFaults.{key_fault};
 ghost use Rattle.resb_layout.specs.WritingFault.{out_of_memory};
+ghost use Rattle.resb_pool.specs.declared.packing.Packing.TheVariants.{Plain};
 ghost use Rattle.resb_lent.specs.Lending.{lent_place};
 ghost use Rattle.resb_write.specs.FaultOf.{fault_of};
 ghost use Rattle.resb_write.specs.Inner.NearPositions.{near_position_in};
 ghost use Rattle.resb_write.specs.Inner.Numbered.{NumbersKeys};
 ghost use Rattle.resb_write.specs.Inner.Beside.{told_beside, IsKeyBlockBeside};
 
+use crate::ends_beside::end_keys_beside;
 use crate::error::BinarySerializerError;
 use crate::key_block::{KeyBlock, check_used, last_positions, used_keys, values_at};
 use crate::numbered_keys::NumberedKeys;
 use indexmap::IndexMap;
+use resb_layout::Packing;
 use resb_lent::LentKeys;
 use resb_tree::Key;
 use std::alloc::{AllocError, Global};
 
 /// By how much a position of a key in the pool is over its place there.
-const LENT_KEY: u32 = 0x8000_0000;
+pub(crate) const LENT_KEY: u32 = 0x8000_0000;
 
 /// By how much the file's own keys begin later: the index of a file over a pool has a word more.
-const WORD: u32 = 4;
+pub(crate) const WORD: u32 = 4;
 
-/// The block of a list of keys for a tree whose tables have these keys, which are dropped then: of
-/// the used keys those that the pool lacks. Refuses the first fault of a key.
+/// The block of a list of keys for a tree whose tables have these keys, which are dropped then, in
+/// a file that is packed like this, over a pool bundle with these keys. Refuses the first fault of
+/// a key.
 pub(crate) fn key_block_beside<'k>(
+    alloc: Global,
+    packing: Packing,
+    tree_keys: NumberedKeys<'_>,
+    list: &'k [Key<'_>],
+    pool: &[u8],
+) -> Result<KeyBlock<'k>, BinarySerializerError>
+    ensures ok { IfOk result (λ b. (us : List (List ℕ)) → NumbersKeys tree_keys.entry us
+        → IsKeyBlockBeside packing pool.now us list.now (nows b.keys.items) b.positions.items) }
+    ensures err { IfErr result (λ e. (us : List (List ℕ)) → NumbersKeys tree_keys.entry us
+        → (fault_of e ≡ out_of_memory) ⊎ (key_fault us (used_of us list.now)
+        ≡ Some (fault_of e))) }
+{
+    match packing {
+        Packing::Plain => whole_keys_beside(alloc, tree_keys, list, pool),
+        Packing::Compact => end_keys_beside(alloc, tree_keys, list, pool),
+    }
+}
+
+/// The block of a file in which each key stands by itself: the used keys of the list that the pool
+/// lacks.
+fn whole_keys_beside<'k>(
     alloc: Global,
     tree_keys: NumberedKeys<'_>,
     list: &'k [Key<'_>],
-    lent: &LentKeys<'_>,
+    pool: &[u8],
 ) -> Result<KeyBlock<'k>, BinarySerializerError>
     ensures ok { IfOk result (λ b. (us : List (List ℕ)) → NumbersKeys tree_keys.entry us
-        → IsKeyBlockBeside (lent_place lent.now) us list.now (nows b.keys.items)
-        b.positions.items) }
+        → IsKeyBlockBeside Plain pool.now us list.now (nows b.keys.items) b.positions.items) }
     ensures err { IfErr result (λ e. (us : List (List ℕ)) → NumbersKeys tree_keys.entry us
         → (fault_of e ≡ out_of_memory) ⊎ (key_fault us (used_of us list.now)
         ≡ Some (fault_of e))) }
@@ -45,8 +70,9 @@ pub(crate) fn key_block_beside<'k>(
     let (distinct, numbers) = tree_keys.into_parts();
     let used = used_keys(alloc, &distinct, list)?;
     check_used(alloc, distinct.keys().as_slice(), &used)?;
-    let keys = own_keys(alloc, &used, lent)?;
-    let places = places_beside(alloc, distinct.keys().as_slice(), &keys, lent)?;
+    let lent = LentKeys::of(alloc, pool)?;
+    let keys = own_keys(alloc, &used, &lent)?;
+    let places = places_beside(alloc, distinct.keys().as_slice(), &keys, &lent)?;
     let positions = values_at(&places, numbers);
     Ok(KeyBlock { keys, positions })
 }

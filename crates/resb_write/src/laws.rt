@@ -4,6 +4,7 @@
 ghost use Rattle.resb_write.specs.Laws.{OneBlock, OneFile, WrittenIsDenoted, WrittenInOrder};
 ghost use Rattle.resb_write.specs.Laws.{OneCompactFile, CompactInOrder};
 ghost use Rattle.resb_write.specs.Laws.{OneFileWithPool, WrittenWithPoolIsRead};
+ghost use Rattle.resb_write.specs.Laws.{OneCompactFileWithPool, CompactWithPoolIsRead};
 
 /// The units that a tree takes in the 16-bit block don't depend on where the tail begins.
 pub fn one_block()
@@ -44,4 +45,14 @@ pub fn one_file_with_pool()
 /// A file that is written over a pool bundle denotes its tree beside that pool bundle.
 pub fn written_with_pool_is_read()
     ensures { WrittenWithPoolIsRead }
+{}
+
+/// A bundle, a list of keys and a pool bundle leave one compact file.
+pub fn one_compact_file_with_pool()
+    ensures { OneCompactFileWithPool }
+{}
+
+/// A compact file that is written over a pool bundle denotes its tree beside that pool bundle.
+pub fn compact_with_pool_is_read()
+    ensures { CompactWithPoolIsRead }
 {}

@@ -5,6 +5,7 @@
 mod body_steps;
 mod contents;
 mod drafts;
+mod ends_beside;
 mod error;
 mod file;
 mod key_block;

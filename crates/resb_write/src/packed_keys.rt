@@ -16,7 +16,6 @@ ghost use Rattle.resb_write.specs.Inner.Numbered.{NumbersKeys};
 
 use crate::error::BinarySerializerError;
 use crate::key_block::{KeyBlock, check_used, last_positions, used_keys, values_at};
-
 use crate::numbered_keys::NumberedKeys;
 use indexmap::IndexMap;
 use resb_layout::Packing;
@@ -85,7 +84,7 @@ fn end_places(
 }
 
 /// The position of a key at the end of its container.
-fn end_place(name: &str, sorted: &[&str], last: &IndexMap<&str, u32>) -> u32
+pub(crate) fn end_place(name: &str, sorted: &[&str], last: &IndexMap<&str, u32>) -> u32
     ensures { (js ks : List (List ℕ)) → AreByEnd js sorted.now
         → ((q : List ℕ) → at_text last.now q ≡ near_position_in ks q)
         → result ≡ near_end_position js ks name.now }

@@ -20,7 +20,8 @@ ghost use Rattle.resb_layout.specs.Written.{Written};
 ghost use Rattle.resb_layout.specs.WrittenCompact.{WrittenCompact};
 ghost use Rattle.resb_write.specs.declared.target.Target.TheVariants.{Alone};
 ghost use Rattle.resb_pool_bundle.specs.Pool.{pool_in};
-ghost use Rattle.resb_write.specs.WrittenWith.{WrittenWith, RefusesWritingWith};
+ghost use Rattle.resb_write.specs.WrittenWith.{WrittenWith, WrittenCompactWith};
+ghost use Rattle.resb_write.specs.WrittenWith.{RefusesWritingWith};
 
 use crate::contents::Contents;
 use crate::drafts::{NumberedPieces, draft_keys};
@@ -33,7 +34,7 @@ use crate::numbered_keys::NumberedKeys;
 use crate::packed_keys::packed_keys;
 use crate::sites::Sites;
 use crate::strings::Strings;
-use crate::target::{Target, Wanted};
+use crate::target::{OverPool, Target, Wanted};
 use crate::tree_bodies::lay_bodies;
 use crate::with_pool::write_order_with_pool;
 use resb_draft::Draft;
@@ -123,7 +124,40 @@ impl Serializer {
             alloc,
             bundle,
             keys_in_discovery_order,
-            Target::OverPool(*pool),
+            Target::OverPool(OverPool {
+                packing: Packing::Plain,
+                pool: *pool,
+            }),
+        )
+    }
+
+    /// The compact `.res` file of a bundle over a pool bundle: what `to_bytes_with_pool` gives, but
+    /// that a key lies at the end of a key of the pool or of the file, and that an empty string has
+    /// the word 0. Of the pool's keys that end with a key the last one is looked at, by their bytes
+    /// from the last to the first, where an end is the greatest. The key lies in it unless the one
+    /// in which `to_bytes_compact` lays the key is behind it. (ICU's `genrb` lays keys so.)
+    ///
+    /// Refused is what `to_bytes_with_pool` refuses.
+    pub fn to_bytes_compact_with_pool(
+        alloc: Global,
+        bundle: &ResourceBundle<'_>,
+        keys_in_discovery_order: &[Key<'_>],
+        pool: &PoolBundle<'_>,
+    ) -> Result<Vec<u8>, BinarySerializerError>
+        ensures ok { IfOk result (λ v. WrittenCompactWith (pool_in pool.now) v.items
+            (root_of bundle.now) bundle.now.is_locale_fallback_enabled
+            keys_in_discovery_order.now) }
+        ensures err { IfErr result (λ e. RefusesWritingWith (pool_in pool.now)
+            (root_of bundle.now) keys_in_discovery_order.now (fault_of e)) }
+    {
+        write_bundle(
+            alloc,
+            bundle,
+            keys_in_discovery_order,
+            Target::OverPool(OverPool {
+                packing: Packing::Compact,
+                pool: *pool,
+            }),
         )
     }
 
@@ -188,7 +222,38 @@ impl Serializer {
             is_locale_fallback_enabled,
             list: keys_in_discovery_order,
         };
-        write_draft(alloc, root, &wanted, Target::OverPool(*pool))
+        let over = OverPool {
+            packing: Packing::Plain,
+            pool: *pool,
+        };
+        write_draft(alloc, root, &wanted, Target::OverPool(over))
+    }
+
+    /// The compact `.res` file of a bundle over a pool bundle, whose root is given as a draft: what
+    /// `to_bytes_compact_with_pool` gives, and what it refuses, for the tree for which the draft
+    /// stands.
+    pub fn draft_to_bytes_compact_with_pool(
+        alloc: Global,
+        root: Draft<'_>,
+        is_locale_fallback_enabled: bool,
+        keys_in_discovery_order: &[Key<'_>],
+        pool: &PoolBundle<'_>,
+    ) -> Result<Vec<u8>, BinarySerializerError>
+        requires { is_ready root ≡ true }
+        ensures ok { IfOk result (λ v. WrittenCompactWith (pool_in pool.now) v.items
+            (draft_tree root.entry) is_locale_fallback_enabled keys_in_discovery_order.now) }
+        ensures err { IfErr result (λ e. RefusesWritingWith (pool_in pool.now)
+            (draft_tree root.entry) keys_in_discovery_order.now (fault_of e)) }
+    {
+        let wanted = Wanted {
+            is_locale_fallback_enabled,
+            list: keys_in_discovery_order,
+        };
+        let over = OverPool {
+            packing: Packing::Compact,
+            pool: *pool,
+        };
+        write_draft(alloc, root, &wanted, Target::OverPool(over))
     }
 }
 
@@ -311,7 +376,7 @@ fn write_nodes<N: Nodes>(
         → RefusesOver target.entry t wanted.now.list.now (fault_of e)) }
 {
     match target {
-        Target::OverPool(pool) => write_order_with_pool(alloc, order, tree_keys, wanted, &pool),
+        Target::OverPool(over) => write_order_with_pool(alloc, order, tree_keys, wanted, &over),
         Target::Alone(packing) => write_order(alloc, order, tree_keys, wanted, packing),
     }
 }

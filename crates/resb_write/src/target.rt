@@ -18,5 +18,12 @@ pub(crate) enum Target<'p> {
     /// Nothing, and it is packed like this.
     Alone(Packing),
     /// The keys and strings of a pool bundle.
-    OverPool(PoolBundle<'p>),
+    OverPool(OverPool<'p>),
+}
+
+/// What a file over a pool bundle stands on.
+#[derive(Clone, Copy)]
+pub(crate) struct OverPool<'p> {
+    pub(crate) packing: Packing,
+    pub(crate) pool: PoolBundle<'p>,
 }

@@ -2,7 +2,7 @@
 //! there, and what it lacks stands in the file.
 //! What a pool lends is found out in `resb_lent`; files that use no pool are written in
 //! `serializer`.
-ghost use Rattle.std.specs.Prelude.{◌≡◌, ◌++◌, ◌+◌, ◌<◌, ◌^◌, ℕ, List, Option, IfOk, IfErr, OnOk};
+ghost use Rattle.std.specs.Prelude.{◌≡◌, ◌++◌, ◌+◌, ◌<◌, ◌^◌, ℕ, IfOk, IfErr, OnOk};
 ghost use Rattle.std.specs.Prelude.{length, slice_index};
 ghost use Rattle.resb_tree.specs.Tree.{Tree};
 ghost use Rattle.resb_tree.specs.LayingOrder.{laying_order, keys_of};
@@ -12,11 +12,10 @@ ghost use Rattle.resb_layout.specs.KeyBlock.{key_bytes};
 ghost use Rattle.resb_layout.specs.PlainSize.{list_size, resources_size};
 ghost use Rattle.resb_layout.specs.TreeFaults.{RefusesWriting};
 ghost use Rattle.resb_pool_bundle.specs.Pool.{pool_in};
-ghost use Rattle.resb_lent.specs.LentKeys.{LendsKey};
-ghost use Rattle.resb_lent.specs.PlanWithPool.{IsPlanWith};
+ghost use Rattle.resb_lent.specs.PlanWithPool.{IsPlanWithBy};
 ghost use Rattle.resb_lent.specs.HeadWithPool.{IsHead, head_bytes};
 ghost use Rattle.resb_write.specs.FaultOf.{fault_of};
-ghost use Rattle.resb_write.specs.WrittenWith.{WrittenWith, RefusesWritingWith, own_end_of};
+ghost use Rattle.resb_write.specs.WrittenWith.{WrittenWithBy, RefusesWritingWith, own_end_of};
 ghost use Rattle.resb_write.specs.Inner.Beside.{IsKeyBlockBeside, IsUnplanned, FitsLimits};
 ghost use Rattle.resb_write.specs.Inner.Beside.{head_with};
 ghost use Rattle.resb_write.specs.Inner.Files.{FitsFile, keys_in_file, units_in_file};
@@ -33,10 +32,9 @@ use crate::limits::check_sizes;
 use crate::nodes::Nodes;
 use crate::numbered_keys::NumberedKeys;
 use crate::sites::Sites;
-use crate::target::Wanted;
+use crate::target::{OverPool, Wanted};
 use crate::tree_bodies::lay_bodies;
-use resb_layout::Packing;
-use resb_lent::{HeadWithPool, LentKeys, LentTexts, PlanWithPool};
+use resb_lent::{HeadWithPool, LentTexts, PlanWithPool};
 use resb_pool_bundle::PoolBundle;
 use resb_tree::{Key, NoMemory};
 use std::alloc::Global;
@@ -52,18 +50,18 @@ pub(crate) fn write_order_with_pool<N: Nodes>(
     order: &N,
     tree_keys: NumberedKeys<'_>,
     wanted: &Wanted<'_>,
-    pool: &PoolBundle<'_>,
+    over: &OverPool<'_>,
 ) -> Result<Vec<u8>, BinarySerializerError>
     requires { (t : Tree) × N.fit order.now (laying_order t) × NumbersKeys tree_keys (keys_of t) }
     ensures ok { IfOk result (λ v. (t : Tree) → N.fit order.now (laying_order t)
         → NumbersKeys tree_keys.entry (keys_of t)
-        → WrittenWith (pool_in pool.now) v.items t wanted.now.is_locale_fallback_enabled
-        wanted.now.list.now) }
+        → WrittenWithBy over.now.packing (pool_in over.now.pool) v.items t
+        wanted.now.is_locale_fallback_enabled wanted.now.list.now) }
     ensures err { IfErr result (λ e. (t : Tree) → N.fit order.now (laying_order t)
         → NumbersKeys tree_keys.entry (keys_of t)
-        → RefusesWritingWith (pool_in pool.now) t wanted.now.list.now (fault_of e)) }
+        → RefusesWritingWith (pool_in over.now.pool) t wanted.now.list.now (fault_of e)) }
 {
-    let (contents, block) = checked_beside(alloc, order, tree_keys, wanted.list, pool)?;
+    let (contents, block) = checked_beside(alloc, order, tree_keys, wanted.list, over)?;
     let KeyBlock { keys, positions } = block;
     let largest_table = contents.largest_table as u32;
     let PlanWithPool {
@@ -71,7 +69,7 @@ pub(crate) fn write_order_with_pool<N: Nodes>(
         indexes,
         limit,
         short_limit,
-    } = plan_beside(alloc, contents.texts, pool)?;
+    } = plan_beside(alloc, contents.texts, over)?;
     let lends = Lends {
         own_end: own_end(&keys),
         limit,
@@ -81,7 +79,7 @@ pub(crate) fn write_order_with_pool<N: Nodes>(
         positions: &positions,
         offsets: &indexes,
         lent: Some(lends),
-        packing: Packing::Plain,
+        packing: over.packing,
     };
     let keys_end = OWN_KEYS_START + block_length(&keys);
     let (bodies, word) = lay_bodies(alloc, &sites, units, keys_end, order)?;
@@ -94,10 +92,10 @@ pub(crate) fn write_order_with_pool<N: Nodes>(
         keys: &keys,
         bodies: &bodies,
     };
-    Ok(assemble_beside(alloc, &parts, &lends, pool.checksum())?)
+    Ok(assemble_beside(alloc, &parts, &lends, over.pool.checksum())?)
 }
 
-/// What a tree holds and the block of its keys that the pool lacks, once none of the refusals
+/// What a tree holds and the block of the keys that stand in the file, once none of the refusals
 /// holds; the first of them that does is answered. The tree's resources are given in laying order,
 /// and beside them the keys of its tables.
 fn checked_beside<'t, 'k, N: Nodes>(
@@ -105,23 +103,20 @@ fn checked_beside<'t, 'k, N: Nodes>(
     order: &'t N,
     tree_keys: NumberedKeys<'_>,
     list: &'k [Key<'_>],
-    pool: &PoolBundle<'_>,
+    over: &OverPool<'_>,
 ) -> Result<(Contents<'t>, KeyBlock<'k>), BinarySerializerError>
     requires { (t : Tree) × N.fit order.now (laying_order t) × NumbersKeys tree_keys (keys_of t) }
-    ensures ok { IfOk result (λ r. (place : List ℕ → Option ℕ)
-        × ((k : List ℕ) → LendsKey (pool_in pool.now).keys k (place k))
-        × ((t : Tree) → N.fit order.now (laying_order t)
+    ensures ok { IfOk result (λ r. (t : Tree) → N.fit order.now (laying_order t)
         → NumbersKeys tree_keys.entry (keys_of t) → Gathered (laying_order t) r.0
-        × IsKeyBlockBeside place (keys_of t) list.now (nows r.1.keys.items)
-        r.1.positions.items
-        × (list_size list.now + resources_size (laying_order t) < 2 ^ 28))) }
+        × IsKeyBlockBeside over.now.packing (pool_in over.now.pool).keys (keys_of t) list.now
+        (nows r.1.keys.items) r.1.positions.items
+        × (list_size list.now + resources_size (laying_order t) < 2 ^ 28)) }
     ensures err { IfErr result (λ e. (t : Tree) → N.fit order.now (laying_order t)
         → NumbersKeys tree_keys.entry (keys_of t)
         → RefusesWriting t list.now (fault_of e)) }
 {
     let contents = Contents::gather(alloc, order)?;
-    let lent = LentKeys::of(alloc, pool.keys())?;
-    let block = key_block_beside(alloc, tree_keys, list, &lent)?;
+    let block = key_block_beside(alloc, over.packing, tree_keys, list, over.pool.keys())?;
     check_sizes(&contents, list)?;
     Ok((contents, block))
 }
@@ -130,15 +125,15 @@ fn checked_beside<'t, 'k, N: Nodes>(
 fn plan_beside(
     alloc: Global,
     texts: Vec<&str>,
-    pool: &PoolBundle<'_>,
+    over: &OverPool<'_>,
 ) -> Result<PlanWithPool, BinarySerializerError>
-    ensures ok { IfOk result (λ p. IsPlanWith (pool_in pool.now).block (nows texts.entry.items)
-        p.units.items p.indexes.items p.limit p.short_limit) }
-    ensures err { IfErr result
-        (λ e. IsUnplanned (pool_in pool.now).block (nows texts.entry.items) (fault_of e)) }
+    ensures ok { IfOk result (λ p. IsPlanWithBy over.now.packing (pool_in over.now.pool).block
+        (nows texts.entry.items) p.units.items p.indexes.items p.limit p.short_limit) }
+    ensures err { IfErr result (λ e. IsUnplanned over.now.packing (pool_in over.now.pool).block
+        (nows texts.entry.items) (fault_of e)) }
 {
-    let lent = LentTexts::of(alloc, pool.block())?;
-    Ok(PlanWithPool::of(alloc, &lent, &texts)?)
+    let lent = LentTexts::of(alloc, over.pool.block())?;
+    Ok(PlanWithPool::by(alloc, over.packing, &lent, &texts)?)
 }
 
 /// Where the file's own keys end, in bytes of the body: at 0 where it has none.

@@ -2,9 +2,10 @@
 -- aren't planned beside it; the file's head; and a file over a pool or over none.
 --     told_beside place own   the position of a key that stands there in the pool, or else there
 --                             among the file's own, as if these began at byte 32
---     IsKeyBlockBeside place us ks js ps   of used keys us and a list ks: those that the pool
---                             lacks, and where the used ones stand
---     IsUnplanned block S f   the fault f may be answered where the strings S have no plan
+--     told_at_end place js ks k   the same of a key k at an end, in a file of the keys js
+--     IsKeyBlockBeside q keys us ks js ps  of used keys us and a list ks, over a pool of these
+--                             keys: those that stand in the file, and where the used ones stand
+--     IsUnplanned q block S f     the fault f may be answered where the strings S have no plan
 --     IsFileOver o bytes t f ks, RefusesOver o t ks e     a file that stands on this, and why there
 --                             is none
 --     head_with c l n         the head of a file of these parts, to which so much is lent by a
@@ -19,14 +20,18 @@ use Rattle.resb_layout.specs.TreeFaults.{key_fault, RefusesWriting}
 use Rattle.resb_layout.specs.WritingFault.{WritingFault}
 use Rattle.resb_layout.specs.Written.{Written}
 use Rattle.resb_layout.specs.WrittenCompact.{WrittenCompact}
+use Rattle.resb_layout.specs.CompactKeys.{keys_by}
+use Rattle.resb_pool.specs.declared.packing.Packing.{Packing}
 use Rattle.resb_pool.specs.declared.packing.Packing.TheVariants.{Plain, Compact}
 use Rattle.resb_tree.specs.Tree.{Tree}
 use Rattle.resb_pool_bundle.specs.Pool.{pool_in}
-use Rattle.resb_lent.specs.PlanWithPool.{NotPlannedWith}
+use Rattle.resb_lent.specs.PlanWithPool.{NotPlannedWithBy}
 use Rattle.resb_lent.specs.declared.head_with_pool.HeadWithPool.{HeadWithPool}
 use Rattle.resb_write.specs.FaultOf.{plan_fault}
-use Rattle.resb_write.specs.WrittenWith.{position_beside, WrittenWith, RefusesWritingWith}
+use Rattle.resb_write.specs.WrittenWith.{LendsKeyBy, position_beside, WrittenWithBy}
+use Rattle.resb_write.specs.WrittenWith.{RefusesWritingWith}
 use Rattle.resb_write.specs.Inner.Files.{keys_in_file, units_in_file}
+use Rattle.resb_write.specs.Inner.KeyEnds.{near_end_position}
 use Rattle.resb_write.specs.declared.file.FileParts.{FileParts}
 use Rattle.resb_write.specs.declared.lends.Lends.{Lends}
 use Rattle.resb_write.specs.declared.target.Target.{Target}
@@ -36,16 +41,24 @@ abbrev pub told_beside : Option ℕ → Option ℕ → ℕ
 told_beside (Some n) own = n + 2 ^ 31
 told_beside None own = min (unwrap_or own 0 + 4) (2 ^ 32 - 1)
 
-pub record IsKeyBlockBeside (place : List ℕ → Option ℕ) (us ks js : List (List ℕ))
-    (ps : List ℕ) : Type 0 where
-  pub keys : js ≡ filter (λ k. is_none (place k)) (used us ks)
-  pub positions : length (key_bytes js) < 2 ^ 28 → map (position_beside place js) us ≡ map Some ps
-  pub utf8 : All IsUtf8 js
+-- the same of a key of a compact file, that lies at the end of one of the file's own keys ks
+abbrev pub told_at_end : (List ℕ → Option ℕ) → List (List ℕ) → List (List ℕ) → List ℕ → ℕ
+told_at_end place js ks k = told_beside (place k) (Some (near_end_position js ks k))
+
+pub record IsKeyBlockBeside (q : Packing) (keys : List ℕ) (us ks js : List (List ℕ)) (ps : List ℕ)
+    : Type 0 where
+  pub place : List ℕ → Option ℕ
+  pub places : (k : List ℕ) → LendsKeyBy q keys (used us ks) k (place k)
+  pub own : js ≡ filter (λ k. is_none (place k)) (keys_by q (used us ks))
+  pub positions : length (key_bytes js) < 2 ^ 28
+      → map (position_beside q place (used us ks) js) us ≡ map Some ps
+  pub utf8 : All IsUtf8 (used us ks)
   pub faultless : key_fault us (used us ks) ≡ None
 
-pub record IsUnplanned (block : List ℕ) (S : List (List ℕ)) (f : WritingFault) : Type 0 where
+pub record IsUnplanned (q : Packing) (block : List ℕ) (S : List (List ℕ)) (f : WritingFault)
+    : Type 0 where
   pub error : PlanError
-  pub refused : NotPlannedWith block S error
+  pub refused : NotPlannedWithBy q block S error
   pub answered : f ≡ plan_fault error
 
 abbrev pub head_with : FileParts → Lends → ℕ → HeadWithPool
@@ -70,8 +83,9 @@ pub record FitsLimits (l : Lends) : Type 0 where
 abbrev pub IsFileOver : Target → List ℕ → Tree → Bool → List (List ℕ) → Type 0
 IsFileOver (Alone Plain) bytes t fallback ks = Written bytes t fallback ks
 IsFileOver (Alone Compact) bytes t fallback ks = WrittenCompact bytes t fallback ks
-IsFileOver (OverPool pool) bytes t fallback ks = WrittenWith (pool_in pool) bytes t fallback ks
+IsFileOver (OverPool o) bytes t fallback ks =
+    WrittenWithBy o.packing (pool_in o.pool) bytes t fallback ks
 
 abbrev pub RefusesOver : Target → Tree → List (List ℕ) → WritingFault → Type 0
 RefusesOver (Alone q) t ks f = RefusesWriting t ks f
-RefusesOver (OverPool pool) t ks f = RefusesWritingWith (pool_in pool) t ks f
+RefusesOver (OverPool o) t ks f = RefusesWritingWith (pool_in o.pool) t ks f

@@ -1,23 +1,17 @@
 -- Each refusal in its order, and what is known where there is none.
-use Rattle.std.proofs.Common.{refl, sym, ◌∙◌, subst}
+use Rattle.std.proofs.Common.{refl, sym, subst}
 use Rattle.std.proofs.lemmas.Result.{err_from_is_err_and}
 use Rattle.resb_tree.specs.LayingOrder.{laying_order, keys_of}
 use Rattle.resb_layout.specs.KeyBlock.{used}
 use Rattle.resb_layout.specs.TreeFaults.{RefusesWriting, no_memory}
-use Rattle.resb_lent.specs.LentKeys.{LendsKey}
-use Rattle.resb_lent.specs.Lending.{lent_place}
+use Rattle.resb_pool.specs.Plan.{nows}
+use Rattle.resb_write.specs.Inner.Beside.{IsKeyBlockBeside}
 use Rattle.resb_write.proofs.Refusals.{key_refused, size_refused}
 use Rattle.resb_write.proofs.with_pool.checked_beside.Goals as goal
 
 pub returns-in_err-contents-clause-err : goal.returns-in_err-contents-clause-err
 returns-in_err-contents-clause-err g c =
     let p = err_from_is_err_and c.from_residual.result c.from_residual.ensures.1 in
-    rw p.1 (λ t f k. subst (RefusesWriting t c.args.list.now) (sym p.2) no_memory)
-
-pub returns-in_err-lent-clause-err : goal.returns-in_err-lent-clause-err
-returns-in_err-lent-clause-err g c =
-    let p = err_from_is_err_and c.from_residual-in_err-lent.result
-    c.from_residual-in_err-lent.ensures.1 in
     rw p.1 (λ t f k. subst (RefusesWriting t c.args.list.now) (sym p.2) no_memory)
 
 pub returns-in_err-block-clause-err : goal.returns-in_err-block-clause-err
@@ -38,15 +32,11 @@ returns-in_err-check_sizes-clause-err g c =
     b.faultless _ (c.in_err-check_sizes.ensures.err (laying_order t) gathered))
 
 pub returns-clause-ok : goal.returns-clause-ok
-returns-clause-ok g c =
-    let lent = c.in_ok-lent.lent in (
-      lent_place lent,
-      λ k. subst (λ keys. LendsKey keys k (lent_place lent k))
-          (c.in_ok-lent.ensures ∙ c.keys.ensures) (lent.lent k),
-      λ t f k.
-          let gathered = c.in_ok-contents.ensures (laying_order t) f in (
-            gathered,
-            c.in_ok-block.ensures.ok (keys_of t) k,
-            c.in_ok-check_sizes.ensures.ok (laying_order t) gathered,
-          ),
+returns-clause-ok g c = λ t f k.
+    let gathered = c.in_ok-contents.ensures (laying_order t) f in (
+      gathered,
+      subst (λ keys. IsKeyBlockBeside c.args.over.now.packing keys (keys_of t) c.args.list.now
+          (nows c.in_ok-block.block.keys.items) c.in_ok-block.block.positions.items)
+          c.keys.ensures (c.in_ok-block.ensures.ok (keys_of t) k),
+      c.in_ok-check_sizes.ensures.ok (laying_order t) gathered,
     )

@@ -5,7 +5,7 @@ use Rattle.resb_pool.specs.Plan.{nows}
 use Rattle.resb_pool_bundle.specs.Pool.{pool_in}
 use Rattle.resb_pool.specs.declared.error.PlanError.TheVariants.{OutOfMemory}
 use Rattle.resb_lent.specs.Lending.{LendsTexts}
-use Rattle.resb_lent.specs.PlanWithPool.{IsPlanWith, no_memory}
+use Rattle.resb_lent.specs.PlanWithPool.{IsPlanWithBy, no_memory}
 use Rattle.resb_write.proofs.with_pool.plan_beside.Goals as goal
 
 pub returns-in_err-lent-clause-err : goal.returns-in_err-lent-clause-err
@@ -15,9 +15,10 @@ returns-in_err-lent-clause-err c =
 
 pub returns-clause-ok : goal.returns-clause-ok
 returns-clause-ok c =
-    let p = c.in_ok-of.field-0 in
-    let block = (pool_in c.args.pool.now).block in
-    subst (λ S. IsPlanWith block S p.units.items p.indexes.items p.limit p.short_limit)
+    let p = c.in_ok-by.field-0 in
+    let block = (pool_in c.args.over.now.pool).block in
+    subst (λ S. IsPlanWithBy c.args.over.now.packing block S p.units.items p.indexes.items p.limit
+    p.short_limit)
     (ap nows c.deref.ensures.value)
-    (c.in_ok-of.ensures.ok _ (subst (LendsTexts c.in_ok-lent.lent) c.block.ensures
+    (c.in_ok-by.ensures.ok _ (subst (LendsTexts c.in_ok-lent.lent) c.block.ensures
     c.in_ok-lent.ensures))

@@ -10,14 +10,16 @@ use Rattle.resb_pool.specs.Plan.{nows}
 use Rattle.indexmap.specs.IndexMap.{keys}
 use Rattle.resb_layout.specs.KeyBlock.{used, key_bytes}
 use Rattle.resb_layout.specs.TreeFaults.{key_fault}
+use Rattle.resb_pool.specs.declared.packing.Packing.TheVariants.{Plain}
+use Rattle.resb_lent.specs.LentKeys.{LendsKey}
 use Rattle.resb_lent.specs.Lending.{lent_place}
 use Rattle.resb_write.specs.WrittenWith.{position_beside}
 use Rattle.resb_write.specs.Inner.Beside.{told_beside}
 use Rattle.resb_write.specs.Inner.NearPositions.{near_position_in}
 use Rattle.resb_write.proofs.Distinct.{fault_same, same_keys}
-use Rattle.resb_write.proofs.KeysBeside.{all_told, filter_utf8}
+use Rattle.resb_write.proofs.KeysBeside.{all_told}
 use Rattle.resb_write.proofs.NumberedKeys.{by_number}
-use Rattle.resb_write.proofs.keys_beside.key_block_beside.Goals as goal
+use Rattle.resb_write.proofs.keys_beside.whole_keys_beside.Goals as goal
 
 pub returns-in_err-check_used-clause-err : goal.returns-in_err-check_used-clause-err
 returns-in_err-check_used-clause-err c =
@@ -44,7 +46,8 @@ returns-clause-ok c = λ us h.
     let m = c.into_parts-distinct.result.0 in
     let ns = c.into_parts-distinct.result.1.items in
     let list = c.args.list.now in
-    let place = lent_place c.args.lent.now in
+    let lent = c.in_ok-lent.lent in
+    let place = lent_place lent in
     let ks = used us list in
     let own = filter (λ k. is_none (place k)) ks in
     let used_are : nows c.in_ok-used.used.items ≡ ks = c.in_ok-used.ensures.keys
@@ -64,15 +67,17 @@ returns-clause-ok c = λ us h.
     let places = c.deref-4.ensures.value ∙ c.in_ok-places.ensures
     ∙ (λ i. map (λ k. told_beside (place k) (near_position_in (here i) k)) (names i)) in
     record {
-      keys = js;
+      place = place;
+      places = λ k. subst (λ keys. LendsKey keys k (lent_place lent k)) c.in_ok-lent.ensures
+          (lent.lent k);
+      own = js;
       positions = λ small.
-          (λ i. map (position_beside place (js i)) us)
+          (λ i. map (position_beside Plain place ks (js i)) us)
           ∙ all_told place us list faultless
           (subst (λ l. length (key_bytes l) < 2 ^ 28) js small)
           ∙ ap (map Some) (sym (c.values_at-positions.ensures
           ∙ (λ i. map (slice_index (places i)) ns)
           ∙ by_number told (nows (keys m)) ns us numbered.numbers));
-      utf8 = subst (All IsUtf8) (sym js) (filter_utf8 (λ k. is_none (place k)) ks
-          (subst (All IsUtf8) used_are c.in_ok-used.ensures.utf8));
+      utf8 = subst (All IsUtf8) used_are c.in_ok-used.ensures.utf8;
       faultless = faultless;
     }

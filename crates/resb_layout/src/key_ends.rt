@@ -27,17 +27,9 @@ fn compare_ends(left: &[u8], right: &[u8]) -> Ordering
     left.len().cmp(&right.len())
 }
 
-/// Whether a key ends with another one, or stands before it in the order from the end.
-fn is_up_to(key: &str, end: &str) -> bool
-    ensures { result ≡ is_up_to_end end.now key.now }
-{
-    key.as_bytes().ends_with(end.as_bytes())
-        || compare_ends(key.as_bytes(), end.as_bytes()) == Ordering::Less
-}
-
 /// Whether a key ends with the bytes of another one, or stands before them in the order from the
 /// end.
-pub(crate) fn is_not_behind(bytes: &[u8], key: &str) -> bool
+pub fn is_not_behind(bytes: &[u8], key: &str) -> bool
     ensures { result ≡ is_up_to_end bytes.now key.now }
 {
     key.as_bytes().ends_with(bytes) || compare_ends(key.as_bytes(), bytes) == Ordering::Less
@@ -68,7 +60,7 @@ fn count_up_to(sorted: &[&str], key: &str) -> usize
     let mut high = sorted.len();
     'halves: while low < high {
         let middle = low + (high - low) / 2;
-        if is_up_to(sorted[middle], key) {
+        if is_not_behind(key.as_bytes(), sorted[middle]) {
             low = middle + 1;
         } else {
             high = middle;

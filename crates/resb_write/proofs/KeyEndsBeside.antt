@@ -21,7 +21,7 @@ use Rattle.resb_write.specs.Inner.Beside.{told_beside, told_at_end}
 use Rattle.resb_write.specs.Inner.KeyEnds.{near_end_position}
 use Rattle.resb_write.specs.Inner.NearPositions.{near_position}
 use Rattle.resb_write.proofs.EndPlaces.{holder_kept, end_inside, among_test, listed}
-use Rattle.resb_write.proofs.KeyEndsLemmas.{container_ends, extends_ends}
+use Rattle.resb_layout.proofs.KeyEndsLemmas.{container_ends, extends_ends}
 use Rattle.resb_write.proofs.Keys.{no_place}
 use Rattle.resb_write.proofs.KeysBeside.{told_each}
 use Rattle.resb_write.proofs.Lists.{contained-filter}

@@ -15,7 +15,7 @@ use Rattle.resb_pool.specs.declared.packing.Packing.TheVariants.{Compact}
 use Rattle.resb_lent.specs.LendingEnds.{end_place}
 use Rattle.resb_write.specs.WrittenWith.{position_beside}
 use Rattle.resb_write.specs.Inner.Beside.{told_at_end}
-use Rattle.resb_write.specs.Inner.KeyEnds.{AreByEnd}
+use Rattle.resb_layout.specs.KeyEnds.{AreByEnd}
 use Rattle.resb_write.proofs.Distinct.{fault_same, same_keys}
 use Rattle.resb_write.proofs.KeyEndsBeside.{all_told_at_ends, places_lie}
 use Rattle.resb_write.proofs.NumberedKeys.{by_number}

@@ -13,7 +13,7 @@ ghost use Rattle.resb_lent.specs.PlanWithPool.{limit_of, short_limit_of, in_turn
 
 use crate::answers_beside::answers_beside;
 use crate::texts::LentTexts;
-use resb_pool::pool::plan_in_turn;
+use resb_pool::packed::plan_packed;
 use resb_pool::{Packing, PlanError};
 use std::alloc::{AllocError, Global};
 
@@ -253,7 +253,7 @@ impl PlanWithPool {
     {
         let found = answers_by(alloc, packing, lent, strings)?;
         let own = lacking(alloc, strings, &found)?;
-        let (units, offsets) = plan_in_turn(alloc, packing, own)?;
+        let (units, offsets) = plan_packed(alloc, packing, own)?;
         let limit = lent_limit(&found);
         let own_limit = own_limit(&offsets);
         if limit + own_limit > INDEX_LIMIT {

@@ -122,7 +122,8 @@ part_at q (h ∷ hs) (t ∷ T) s (suc j) e u l k =
     )
 
 module _ (way : Packing) (S T : TextList) (texts : All IsUtf8 S) (once : EachOnce T)
-    (same : (s : List ℕ) → Contains T s ↔ Contains S s) (hs : List ℕ) (placed : AreContainers way T hs)
+    (same : (s : List ℕ) → Contains T s ↔ Contains S s) (hs : List ℕ)
+    (placed : AreContainers way T hs)
     (ms : List Measure) (len : length ms ≡ length T)
     (totals : (i : ℕ) (d : Measure) → i < length T
     → (get_or ms i d).total ≡ copies S (indexed_text T i)) where

@@ -10,6 +10,7 @@ pub mod laws;
 mod listed_texts;
 mod measure;
 mod offsets;
+pub mod packed;
 mod packing;
 pub mod pool;
 mod records;

@@ -4,7 +4,7 @@
 ghost use Rattle.std.specs.Prelude.{◌≡◌, ℕ, ◌<◌, ◌^◌, List, map, Option, Some};
 ghost use Rattle.std.specs.Prelude.{IfOk, IfErr};
 ghost use Rattle.resb_pool.specs.Plan.{nows, plan_units, offset_of, turn_offsets, texts_size};
-ghost use Rattle.resb_pool.specs.Plan.{IsPlan, IsPlanBy, NotPlanned};
+ghost use Rattle.resb_pool.specs.Plan.{IsPlan, NotPlanned};
 ghost use Rattle.resb_pool.specs.Inner.Placing.{AreTexts, AreContainers, AreHidden};
 ghost use Rattle.resb_pool.specs.Inner.LaidRecords.{IsBlock, HaveOffsets};
 ghost use Rattle.resb_pool.specs.Inner.ToldApart.{ToldApart};
@@ -15,7 +15,8 @@ use crate::error::PlanError;
 use crate::firsts::find_firsts;
 use crate::listed_texts::{ListedTexts, as_list, by_firsts};
 use crate::measure::{Measure, check_lengths};
-use crate::offsets::{Plan, find_offsets, in_turn};
+use crate::offsets::{Plan, find_offsets};
+use crate::packed::plan_packed;
 use crate::packing::Packing;
 use crate::records::{Block, lay, ordered};
 use crate::texts::{Sample, Texts, gather};
@@ -47,7 +48,7 @@ fn lay_records(
 
 /// Unit 0 and the records of distinct texts, and the unit at which each text stands in a file that
 /// is packed this way.
-fn place(
+pub(crate) fn place(
     alloc: Global,
     packing: Packing,
     texts: &[&str],
@@ -120,7 +121,10 @@ pub fn plan<'a>(alloc: Global, strings: &[&'a str]) -> Result<Plan<'a>, PlanErro
 }
 
 /// The distinct texts of strings as a list. Refused is what `plan` refuses.
-fn list_of<'a>(alloc: Global, strings: Vec<&'a str>) -> Result<ListedTexts<'a>, PlanError>
+pub(crate) fn list_of<'a>(
+    alloc: Global,
+    strings: Vec<&'a str>,
+) -> Result<ListedTexts<'a>, PlanError>
     ensures ok { IfOk result (λ t. ToldApart (nows strings.entry.items) (nows t.texts.items)
         t.measures.items t.order.items) }
     ensures err { IfErr result (NotPlanned (nows strings.entry.items)) }
@@ -137,25 +141,17 @@ fn list_of<'a>(alloc: Global, strings: Vec<&'a str>) -> Result<ListedTexts<'a>, 
     Ok(as_list(alloc, texts)?)
 }
 
-/// The plan of the strings of a file that is packed this way: its units and the offset of each
-/// string, in the order in which they were given. For a plain file it is what `plan` makes. In a
-/// compact one a shared string lies in the greatest one that ends with it and that no other one
-/// ends with, and a record at the end of another string saves nothing. (ICU's `reslist.cpp`:
-/// `compactStringsV2`.) Refused is what `plan` refuses.
-///
-/// The list of strings is handed over. Once the strings are told apart it is dropped, or their
-/// texts stand in its room.
+/// The plan of strings, as `plan` makes it: its units and the offset of each string, in the order
+/// in which they were given. The list of strings is handed over. Once the strings are told apart it
+/// is dropped, or their texts stand in its room.
 pub fn plan_in_turn<'a>(
     alloc: Global,
-    packing: Packing,
     strings: Vec<&'a str>,
 ) -> Result<(Vec<u16>, Vec<u32>), PlanError>
     ensures ok { IfOk result (λ p. (offset : List ℕ → Option ℕ)
-        × IsPlanBy packing (nows strings.entry.items) p.0.items offset
+        × IsPlan (nows strings.entry.items) p.0.items offset
         × (map offset (nows strings.entry.items) ≡ map Some p.1.items)) }
     ensures err { IfErr result (NotPlanned (nows strings.entry.items)) }
 {
-    let list = list_of(alloc, strings)?;
-    let (units, offsets) = place(alloc, packing, &list.texts, &list.measures)?;
-    Ok((units, in_turn(&offsets, list.order)))
+    plan_packed(alloc, Packing::Plain, strings)
 }

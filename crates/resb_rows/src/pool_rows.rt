@@ -1,7 +1,7 @@
 //! Pools of strings: the units and offsets that the rules of suffix sharing ask for.
 //! Expected values are worked out by hand from the rules of markers, records and their order.
 use crate::write_rows::text_of;
-use resb_pool::{Packing, Plan, PlanError, pool};
+use resb_pool::{Plan, PlanError, pool};
 use resb_write::BinarySerializerError;
 use std::alloc::Global;
 use std::test::Fail;
@@ -63,7 +63,7 @@ fn line_of_texts(alloc: Global, texts: &[String]) -> Result<String, Fail> {
     }
     let plan = pool::plan(alloc, &strings)?;
     let line = described(alloc, &plan, &strings)?;
-    let (units, offsets) = pool::plan_in_turn(alloc, Packing::Plain, strings)?;
+    let (units, offsets) = pool::plan_in_turn(alloc, strings)?;
     if line != described_parts(alloc, &units, &offsets)? {
         return Err("two plans")?;
     }

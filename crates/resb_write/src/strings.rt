@@ -4,7 +4,8 @@ ghost use Rattle.std.specs.Prelude.{IfOk, IfErr};
 ghost use Rattle.resb_pool.specs.Plan.{nows, NotPlanned};
 ghost use Rattle.resb_write.specs.Inner.Pooled.{Pooled};
 
-use resb_pool::{Packing, PlanError, pool};
+use resb_pool::packed::plan_packed;
+use resb_pool::{Packing, PlanError};
 use std::alloc::Global;
 
 /// The units of a pool, and the offset of each string in it, in the order in which they were given.
@@ -26,7 +27,7 @@ impl Strings {
             (λ s. Pooled packing (nows texts.entry.items) s.pool.items s.offsets.items) }
         ensures err { IfErr result (NotPlanned (nows texts.entry.items)) }
     {
-        let (pool, offsets) = pool::plan_in_turn(alloc, packing, texts)?;
+        let (pool, offsets) = plan_packed(alloc, packing, texts)?;
         Ok(Strings { pool, offsets })
     }
 }

@@ -4,7 +4,7 @@ use Rattle.resb_pool.specs.Plan.{nows, no_memory}
 use Rattle.resb_pool.specs.Inner.Placing.{AreTexts}
 use Rattle.resb_pool.specs.Inner.LaidRecords.{HaveOffsets}
 use Rattle.resb_pool.proofs.Planned.{offset_in, plan_of_keys, turns_of_keys}
-use Rattle.resb_pool.proofs.pool.plan_in_turn.Goals as goal
+use Rattle.resb_pool.proofs.packed.plan_packed.Goals as goal
 
 pub returns-in_err-units-clause-err : goal.returns-in_err-units-clause-err
 returns-in_err-units-clause-err c =

@@ -23,6 +23,7 @@ pub use Rattle.resb_layout.specs.WrittenCompact
 pub use Rattle.resb_pool_bundle.specs.Pool
 pub use Rattle.resb_pool_bundle.specs.FileWith
 pub use Rattle.resb_lent.specs.LentKeys
+pub use Rattle.resb_lent.specs.LentEnds
 pub use Rattle.resb_lent.specs.PlanWithPool
 pub use Rattle.resb_lent.specs.HeadWithPool
 pub mod FaultOf

@@ -62,7 +62,8 @@ pub use resb_icu_print::laws::printed_icu_is_a_bundle;
 pub use resb_icu_print::laws::an_icu_text_gives_no_cause;
 // A bundle has a path to what keeps it from having one exactly where something does.
 pub use resb_icu_print::laws::icu_causes_have_paths;
-// What keeps it from having one first stands where that path leads, and nothing does before it.
+// Where tables are maps, what keeps it from having one first stands where that path leads, and
+// nothing does before it.
 pub use resb_icu_print::laws::icu_causes_stand_where_paths_lead;
 // Such a printed text has at most 270 bytes a resource, and so much for each byte and number held.
 pub use resb_icu_print::laws::printed_icu_is_linear;
@@ -73,7 +74,8 @@ pub use resb_print::laws::printed_is_a_bundle;
 pub use resb_print::laws::a_bundle_gives_no_cause;
 // A bundle has a path to its first cause exactly where it has a cause.
 pub use resb_print::laws::causes_have_paths;
-// The first cause stands where that path leads, and no cause stands before it.
+// Where tables are maps, the first cause stands where that path leads, and no cause stands before
+// it; without a first cause none stands anywhere.
 pub use resb_print::laws::causes_stand_where_paths_lead;
 // A printed text has at most 270 bytes a resource, and so much for each byte and number held.
 pub use resb_print::laws::printed_is_linear;
@@ -166,6 +168,8 @@ pub use resb_write::laws::{compact_in_order, one_compact_file};
 pub use resb_write::laws::one_file_with_pool;
 // A file that is written over a pool bundle denotes its tree beside it.
 pub use resb_write::laws::written_with_pool_is_read;
+// The same of compact files over a pool bundle.
+pub use resb_write::laws::{compact_with_pool_is_read, one_compact_file_with_pool};
 // A pool bundle that was made is read, and lends just the keys and strings that it is made of.
 pub use resb_pool_maker::laws::made_pool_is_read;
 // Without rules nothing is left out of a tree.

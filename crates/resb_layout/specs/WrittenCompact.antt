@@ -1,6 +1,6 @@
 -- What a compact file is: what ICU's `genrb` writes without a pool bundle, byte by byte, but where
--- some strings have characters beyond U+FFFF and others have some from U+E000 on: the order of
--- these is ICU's by 16-bit units, and here by characters.
+-- strings differ by a character beyond U+FFFF: ICU orders texts by 16-bit units, and this by
+-- characters.
 --     WrittenCompact bytes t f ks     the file of a bundle of t, with locale fallback or not
 use Rattle.std.specs.Prelude.{◌≡◌, ℕ, ◌+◌, ◌*◌, ◌≤◌, List, [], length, drop, Bool, false, None}
 use Rattle.std.specs.Prelude.{Contains}

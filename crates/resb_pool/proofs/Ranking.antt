@@ -27,7 +27,8 @@ worth_of : (way : Packing) (S T : TextList) (least : ℕ) (v : List Record)
     → AreWorth way S least (record_texts T v) (record_texts T (saving least v))
 worth_of way S T least [] h = worth_none
 worth_of way S T least (r ∷ v) h =
-    by (worth_of way S T least v (λ k d l. h (suc k) d (omega (arith, l)))) (nat_le least r.saved) refl
+    by (worth_of way S T least v (λ k d l. h (suc k) d (omega (arith, l)))) (nat_le least r.saved)
+    refl
   where
     by : AreWorth way S least (record_texts T v) (record_texts T (saving least v))
         → (b : Bool) → nat_le least r.saved ≡ b

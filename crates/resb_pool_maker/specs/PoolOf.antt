@@ -4,7 +4,8 @@
 --     pool_keys_by q bs       the keys that the pool of the bundles bs has, packed like this
 --     GiveRecords bs S        S are the records that the bundles bs give
 --     IsPoolOf bytes bs       the bytes are the pool bundle of the bundles bs
---     IsCompactPoolOf bytes bs    they are that which ICU's `genrb` makes of them
+--     IsCompactPoolOf bytes bs    they are the compact one, which ICU's `genrb` makes of them, but
+--                             where strings differ by a character beyond U+FFFF
 use Rattle.std.specs.Prelude.{◌≡◌, ℕ, ◌<◌, ◌≤◌, ◌^◌, List, [], ◌∷◌, ◌++◌, length, slice_index}
 use Rattle.std.specs.Prelude.{if◌then◌else◌, false}
 use Rattle.std.specs.List.{flat_map, fold, list_any}
@@ -72,6 +73,6 @@ pub record IsPoolOfBy (packing : Packing) (bytes : List ℕ) (bs : List Bundle) 
 abbrev pub IsPoolOf : List ℕ → List Bundle → Type 0
 IsPoolOf = IsPoolOfBy Plain
 
--- the pool bundle in which keys lie at the ends of others, as `genrb` makes it
+-- the pool bundle in which keys lie at the ends of others
 abbrev pub IsCompactPoolOf : List ℕ → List Bundle → Type 0
 IsCompactPoolOf = IsPoolOfBy Compact

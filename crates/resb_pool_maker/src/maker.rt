@@ -139,12 +139,13 @@ impl PoolMaker {
         self.finish_by(alloc, Packing::Plain)
     }
 
-    /// The compact pool bundle of the bundles that were added, as ICU's `genrb` makes it: what
-    /// `finish` gives, but that a key that other keys end with, of its bundle or of the pool, lies
-    /// at the end of the greatest of them, by their bytes from the last to the first; that a record
-    /// which another string ends with saves nothing; and that the version is 3.0 in any case.
+    /// The compact pool bundle of the bundles that were added: what `finish` gives, but that a key
+    /// that other keys end with, of its bundle or of the pool, lies at the end of the greatest of
+    /// them, by their bytes from the last to the first; that a record which another string ends
+    /// with saves nothing; and that the version is 3.0 in any case. So ICU's `genrb` makes it, but
+    /// where strings differ by a character beyond U+FFFF.
     ///
-    /// Refused is what `finish` refuses.
+    /// Refused is what `finish` refuses, where the keys are those that lie in themselves.
     pub fn finish_compact(&self, alloc: Global) -> Result<Vec<u8>, PoolMakerError>
         ensures ok { IfOk result (λ v. (bs : List Bundle) → Holds self.now bs
             → IsCompactPoolOf v.items bs) }
@@ -241,7 +242,8 @@ fn given_records<'g>(alloc: Global, gifts: &'g [Gift]) -> Result<Vec<&'g str>, A
 
 /// Unit 0 and the records of gifts that save enough.
 fn shared_units(alloc: Global, packing: Packing, gifts: &[Gift]) -> Result<Vec<u16>, PlanError>
-    ensures ok { IfOk result (λ v. IsSharedPool packing (gift_records gifts.now) least_saved v.items) }
+    ensures ok { IfOk result
+        (λ v. IsSharedPool packing (gift_records gifts.now) least_saved v.items) }
     ensures err { IfErr result (NotPlanned (gift_records gifts.now)) }
 {
     let records = given_records(alloc, gifts)?;

@@ -5,6 +5,8 @@
 #[cfg(test)]
 mod answers;
 #[cfg(test)]
+mod compact_over_rows;
+#[cfg(test)]
 mod compact_rows;
 #[cfg(test)]
 mod over_pool_rows;

@@ -84,7 +84,7 @@ fn bytes_of(alloc: Global, words: &[u32]) -> Result<Vec<u8>, Fail> {
 }
 
 /// The version of a file, and its words behind the header.
-fn words_of(alloc: Global, file: &[u8]) -> Result<String, Fail> {
+pub(crate) fn words_of(alloc: Global, file: &[u8]) -> Result<String, Fail> {
     let version = file.get(16).copied().unwrap_or(0);
     let mut line = format!(in alloc; "{version}:")?;
     let (_, body) = file.split_at_checked(32).ok_or("short")?;
@@ -112,7 +112,7 @@ fn line_over(alloc: Global, pool: &PoolBundle<'_>, text: &str, list: &str) -> Re
 }
 
 /// The bytes of the pool bundle of a version.
-fn pool_named(alloc: Global, version: &str) -> Result<Vec<u8>, Fail> {
+pub(crate) fn pool_named(alloc: Global, version: &str) -> Result<Vec<u8>, Fail> {
     match version {
         "2" => bytes_of(alloc, &POOL_2),
         _ => bytes_of(alloc, &POOL_3),

@@ -1,7 +1,7 @@
 //! The tests of the rows that are lines of text: what answers a row of each kind, and one loop,
 //! which is proved once. The rows and what answers them stand in the other modules.
 use crate::answers::{assert_said, parts};
-use crate::{compact_rows, over_pool_rows, pool_rows, write_rows};
+use crate::{compact_over_rows, compact_rows, over_pool_rows, pool_rows, write_rows};
 use std::alloc::Global;
 use std::process::Abort;
 use std::test::Fail;
@@ -25,6 +25,7 @@ enum Kind {
     OverPool,
     Compiled,
     Compact,
+    CompactOver,
 }
 
 /// The line of a row of this kind.
@@ -46,6 +47,7 @@ fn answered(alloc: Global, kind: Kind, input: &str) -> Result<String, Fail> {
         Kind::OverPool => over_pool_rows::line_of_pool(alloc, input),
         Kind::Compiled => over_pool_rows::line_of_compiled(alloc, input),
         Kind::Compact => compact_rows::line_of_compact(alloc, input),
+        Kind::CompactOver => compact_over_rows::line_of_compact_over(alloc, input),
     }
 }
 
@@ -96,7 +98,13 @@ fn trees_over_pools_have_their_files(rt: HostRuntime) -> Result<(), Fail> {
 
 #[test]
 fn trees_have_their_compact_files(rt: HostRuntime) -> Result<(), Fail> {
-    assert_rows(&rt, rt.alloc(), Kind::Compact, compact_rows::COMPACT)
+    assert_rows(&rt, rt.alloc(), Kind::Compact, compact_rows::COMPACT)?;
+    assert_rows(
+        &rt,
+        rt.alloc(),
+        Kind::CompactOver,
+        compact_over_rows::COMPACT_OVER,
+    )
 }
 
 #[test]

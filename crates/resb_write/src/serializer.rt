@@ -77,10 +77,10 @@ impl Serializer {
 
     /// The compact `.res` file of a bundle: what `to_bytes` gives, but that a key that other keys
     /// end with lies at the end of the greatest of them, by their bytes from the last to the first,
-    /// and that an empty string has the word 0. So ICU's `genrb` writes files without a pool
-    /// bundle, byte by byte, but where strings have characters beyond U+FFFF and others have some
-    /// from U+E000 on, which ICU orders by their 16-bit units. Strings share their ends as there. A
-    /// file with word 0 is for readers of aliases.
+    /// that an empty string has the word 0, and that strings share ends only with strings that no
+    /// other one ends with. So ICU's `genrb` writes files without a pool bundle, byte by byte, but
+    /// where strings differ by a character beyond U+FFFF: ICU orders texts by 16-bit units, and
+    /// this by characters. A file with word 0 is for readers of aliases.
     ///
     /// Refused is what `to_bytes` refuses.
     pub fn to_bytes_compact(
@@ -132,10 +132,13 @@ impl Serializer {
     }
 
     /// The compact `.res` file of a bundle over a pool bundle: what `to_bytes_with_pool` gives, but
-    /// that a key lies at the end of a key of the pool or of the file, and that an empty string has
-    /// the word 0. Of the pool's keys that end with a key the last one is looked at, by their bytes
-    /// from the last to the first, where an end is the greatest. The key lies in it unless the one
-    /// in which `to_bytes_compact` lays the key is behind it. (ICU's `genrb` lays keys so.)
+    /// that a key lies at the end of a key of the pool or of the file, that an empty string has the
+    /// word 0, and that strings share ends only with those strings of the file and the pool that no
+    /// other one of these ends with. Of the pool's keys that end with a key the last one is looked
+    /// at, by their bytes from the last to the first, where an end is the greatest. The key lies in
+    /// it unless the one in which `to_bytes_compact` lays the key is behind it. So ICU's `genrb`
+    /// writes it, but for what `to_bytes_compact` says, and but for the order of strings of over 40
+    /// units that stand more than once in the file and end a string of the pool.
     ///
     /// Refused is what `to_bytes_with_pool` refuses.
     pub fn to_bytes_compact_with_pool(

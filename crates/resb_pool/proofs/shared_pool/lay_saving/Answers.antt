@@ -21,7 +21,8 @@ each c =
     let g = c.requires.given in
     let T = nows c.args.texts.now in
     subst (λ (z : List Record). All (IsRecordOf T c.in_ok-rows.ensures.sums) z) (sym (kept c))
-    (kept_each c.args.packing g.0 T c.args.measures.now g.2 g.1 c.in_ok-rows.rows.items c.in_ok-rows.ensures
+    (kept_each c.args.packing g.0 T c.args.measures.now g.2 g.1 c.in_ok-rows.rows.items
+    c.in_ok-rows.ensures
     c.args.least)
 
 pub lay-requires-clause-counts : goal.lay-requires-clause-counts
@@ -44,14 +45,16 @@ lay-requires-clause-short c =
     let T = nows c.args.texts.now in
     subst (λ (z : List Record). sum_by size (record_texts T z) < 2 ^ 28)
     (sym (c.deref-2.ensures.value ∙ kept (goal.at.lay-requires-clause-short c).In_ok-kept))
-    (kept_small c.args.packing g.0 T c.args.measures.now g.2 g.1 c.in_ok-rows.rows.items c.in_ok-rows.ensures
+    (kept_small c.args.packing g.0 T c.args.measures.now g.2 g.1 c.in_ok-rows.rows.items
+    c.in_ok-rows.ensures
     c.args.least)
 
 pub returns : goal.returns
 returns c = λ S small given.
     let T = nows c.args.texts.now in
     let all = c.deref-2.ensures.value ∙ kept (goal.at.returns c).In_ok-kept in
-    shared_pool c.args.packing S T c.args.measures.now given small c.in_ok-rows.rows.items c.in_ok-rows.ensures
+    shared_pool c.args.packing S T c.args.measures.now given small c.in_ok-rows.rows.items
+    c.in_ok-rows.ensures
     c.args.least c.in_ok-block.block.units.items
     (c.in_ok-block.ensures.units
     ∙ ap (λ (z : List Record). 0 ∷ flat_map record_units (record_texts T z)) all)

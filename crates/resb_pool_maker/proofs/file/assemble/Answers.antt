@@ -1,5 +1,6 @@
 -- The parts of the file, one behind the other.
-use Rattle.std.proofs.Common.{◌≡◌, ℕ, ◌<◌, ◌^◌, List, [], ◌++◌, cond, length, get_or, ◌∙◌, ap, subst}
+use Rattle.std.proofs.Common.{◌≡◌, ℕ, ◌<◌, ◌^◌, List, [], ◌++◌, cond, length, get_or}
+use Rattle.std.proofs.Common.{◌∙◌, ap, subst}
 use Rattle.std.proofs.Common.{append_assoc, arith}
 use Rattle.resb_format.specs.Bytes.{units_of, units_as_bytes}
 use Rattle.resb_head.specs.Head.{index_words}

@@ -57,7 +57,8 @@ returns-in_err-units-clause-err g c =
     rw (p.1, p.2) (λ t f k.
     let known = c.in_ok-contents.ensures.ok t f k in
     unplanned t c.args.wanted.now.list.now (pool_in c.args.over.now.pool) known.1.faultless known.2
-    c.args.over.now.packing (nows c.in_ok-contents.contents.texts.items) _ known.0.texts_are c.in_err-units.ensures.err)
+    c.args.over.now.packing (nows c.in_ok-contents.contents.texts.items) _ known.0.texts_are
+    c.in_err-units.ensures.err)
 
 -- the own keys take few bytes
 few_keys : (q : Packing) (pool : List ℕ) (t : Tree) (ks js : List (List ℕ)) (ps : List ℕ)

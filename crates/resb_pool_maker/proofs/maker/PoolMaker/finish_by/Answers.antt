@@ -69,7 +69,8 @@ returns-clause-ok c = λ bs h.
           none_kept q has_nul (each_once (flat_map (λ b. keys_by q (used_keys b)) bs))
           (none_once has_nul (flat_map (λ b. keys_by q (used_keys b)) bs) [] refl
           (plain_given q h));
-      shared = subst (λ (g : List Gift). IsSharedPool c.args.packing (gift_records g) least_saved us)
+      shared = subst
+          (λ (g : List Gift). IsSharedPool c.args.packing (gift_records g) least_saved us)
           c.deref-3.ensures.value c.in_ok-units.ensures.ok;
       near = subst (λ ks. length (key_bytes ks) ≤ 2 ^ 31)
           (ap nows c.deref-2.ensures.value ∙ here) c.in_ok-check_near.ensures.ok;

@@ -4,6 +4,8 @@ pub mod Standing
 mod Listing
 mod Lying
 mod Together
+mod Among
+mod EndedBeside
 pub mod Once
 pub mod Beside
 pub mod PlanRead

@@ -1,7 +1,8 @@
 -- In which record a text lies: the last one that doesn't come after it, if one holds it.
 use Rattle.std.proofs.Common.{ℕ, List, [], ◌∷◌, ◌≡◌, ◌+◌, ◌<◌, ◌≤◌, inl, inr, length}
 use Rattle.std.proofs.Common.{get_or, refl, sym, ap, subst, ◌∙◌, arith, true≢false}
-use Rattle.std.proofs.Common.{append-nil, Option, Some, None, MatchOption}
+use Rattle.std.proofs.Common.{append-nil, Option, Some, None, MatchOption, Bool, true, false}
+use Rattle.std.specs.Bool.{MatchBool}
 use Rattle.std.specs.Cmp.{IsTotalOrder, IsStrictWeakOrder, nat_cmp_is}
 use Rattle.std.specs.Ordering.{is_lt, nat_cmp, ordering_then, ordering_reverse}
 use Rattle.std.specs.String.{string_bytes}
@@ -15,6 +16,7 @@ use Rattle.std.proofs.lemmas.List.MinMax.{ranks_by}
 use Rattle.std.proofs.lemmas.List.Sorted.{sorted_far}
 use Rattle.resb_format.specs.Units.{size}
 use Rattle.resb_pool.specs.Order.{suffix_cmp, end_last_cmp}
+use Rattle.resb_pool.specs.Records.{EndsWith}
 use Rattle.resb_pool.specs.Inner.Cuts.{chars_backwards}
 use Rattle.resb_pool.specs.Inner.Extends.{Before, NotAfter}
 use Rattle.resb_pool.proofs.Cut.{key_same, ends_extends, extends_ends}
@@ -24,6 +26,7 @@ use Rattle.resb_lent.specs.LentTexts.{IsLentRecord, Holds, LiesAt, LentText, Len
 use Rattle.resb_lent.specs.LentTexts.{lent_empty, lent_within}
 use Rattle.resb_lent.specs.Lending.{LendsTexts}
 use Rattle.resb_lent.specs.Inner.Listed.{HasPlace}
+use Rattle.resb_lent.specs.Inner.LentEndings.{IsLentEnd}
 use Rattle.resb_lent.specs.Inner.Within.{NoneHolds, StandsWithin}
 use Rattle.resb_lent.specs.Entries.{IsLentEntry, pair_of, entry_cmp}
 use Rattle.resb_lent.specs.declared.records.LentRecord.{LentRecord}
@@ -73,6 +76,28 @@ holds_not_after r s u v (inl e) = extends_not_after (letters r) (letters s) (rec
 })
 holds_not_after r s u v (inr h) = extends_not_after (letters r) (letters s)
     (ends_extends r s u v h.ends)
+
+-- so does what ends with it
+pub ends_of : (q s : List ℕ) → Holds q s → EndsWith q s
+ends_of q s (inl e) = record { front = []; is = e }
+ends_of q s (inr h) = h.ends
+
+ends_not_after : (r s : List ℕ) → IsUtf8 r → IsUtf8 s → EndsWith r s
+    → NotAfter (letters r) (letters s)
+ends_not_after r s u v h = extends_not_after (letters r) (letters s) (ends_extends r s u v h)
+
+-- a text between one that ends with s and s itself ends with s
+ends_between : (r q s : List ℕ) → IsUtf8 r → IsUtf8 q → IsUtf8 s → EndsWith r s
+    → (end_last_cmp (letters q) (letters r) ≡ Less → ⊥) → NotAfter (letters q) (letters s)
+    → EndsWith q s
+ends_between r q s u v w h behind before = by (end_last_cmp (letters q) (letters s)) refl
+  where
+    by : (o : Ordering) → end_last_cmp (letters q) (letters s) ≡ o → EndsWith q s
+    by Less b = extends_ends q s v w (between (letters r) (letters q) (letters s)
+        (λ g. behind (turned (letters r) (letters q) Greater g)) b (ends_extends r s u w h))
+    by Equal e =
+        record { front = []; is = key_same q s v w (tied_same (letters q) (letters s) e) }
+    by Greater e = absurd (before e)
 
 -- a text between one that holds s and s itself holds s
 holds_between : (r q s : List ℕ) → IsUtf8 r → IsUtf8 q → IsUtf8 s → Holds r s
@@ -149,10 +174,10 @@ module _ (l : LentTexts) (block : List ℕ) (h : LendsTexts l block) where
   module _ (s : List ℕ) (u : IsUtf8 s) (count : ℕ)
       (behind : (d : LentRecord) → count < length es
       → suffix_cmp (text (get_or es count d)) s ≡ Greater) where
-    -- a record that holds the text is among the first ones
-    among : (r : List ℕ) (at : ℕ) (d : LentRecord) → IsLentRecord block r at → Holds r s
+    -- a record that ends with the text is among the first ones
+    among_ends : (r : List ℕ) (at : ℕ) (d : LentRecord) → IsLentRecord block r at → EndsWith r s
         → (j : ℕ) × (j < count) × (j < length es) × (pair_of (get_or es j d) ≡ (r, at))
-    among r at d x y =
+    among_ends r at d x y =
         let (j, m, f) = number_of r at x in
         elim (cases_lt j count) [
           | inl n ↦ (j, n, m, f d)
@@ -162,17 +187,26 @@ module _ (l : LentTexts) (block : List ℕ) (h : LendsTexts l block) where
               (behind d (omega (arith, n, m))) in
               let k : end_last_cmp (letters r) (letters s) ≡ Greater =
               sym (ap (λ p. end_last_cmp (letters p.0) (letters s)) (f d)) ∙ g in
-              absurd (holds_not_after r s (is_utf8 r at x) u y k)
+              absurd (ends_not_after r s (is_utf8 r at x) u y k)
         ]
 
-    -- where there is none, no record holds it
-    pub none_holds : (r : List ℕ) (at : ℕ) → count ≡ 0 → IsLentRecord block r at → Holds r s → ⊥
-    none_holds r at z x y = some es refl
+    -- so is one that holds it
+    among : (r : List ℕ) (at : ℕ) (d : LentRecord) → IsLentRecord block r at → Holds r s
+        → (j : ℕ) × (j < count) × (j < length es) × (pair_of (get_or es j d) ≡ (r, at))
+    among r at d x y = among_ends r at d x (ends_of r s y)
+
+    -- where there is none, no record ends with it
+    pub none_ends : (r : List ℕ) (at : ℕ) → count ≡ 0 → IsLentRecord block r at → EndsWith r s → ⊥
+    none_ends r at z x y = some es refl
       where
         some : (xs : List LentRecord) → xs ≡ es → ⊥
         some [] e =
             let n = number_of r at x in omega (arith, n.1, ap length e)
-        some (d ∷ xs) e = let a = among r at d x y in omega (arith, a.1, z)
+        some (d ∷ xs) e = let a = among_ends r at d x y in omega (arith, a.1, z)
+
+    -- nor does one hold it
+    pub none_holds : (r : List ℕ) (at : ℕ) → count ≡ 0 → IsLentRecord block r at → Holds r s → ⊥
+    none_holds r at z x y = none_ends r at z x (ends_of r s y)
 
     module _ (k : ℕ) (d : LentRecord) (is : count ≡ k + 1) (in_list : k < length es)
         (before : suffix_cmp (text (get_or es k d)) s ≡ Greater → ⊥) where
@@ -191,6 +225,17 @@ module _ (l : LentTexts) (block : List ℕ) (h : LendsTexts l block) where
           (λ g. texts_far j k d (omega (arith, m, is)) in_list
           (ap (λ p. end_last_cmp (letters (text e)) (letters p.0)) f ∙ g))
           before
+
+      -- if some text of the pool ends with it, the last one of the first ones does
+      pub tells_end : (b : Bool) → MatchBool b (EndsWith (text e) s) (EndsWith (text e) s → ⊥)
+          → MatchBool b (IsLentEnd block s) (IsLentEnd block s → ⊥)
+      tells_end true h = (text e, (e.at, own.own), h)
+      tells_end false h = λ (x : IsLentEnd block s). (let (r, (at, l), y) = x in
+          let (j, m, n, f) = among_ends r at d l y in
+          h (ends_between r (text e) s (is_utf8 r at l) own.own.stands.utf8 u y
+          (λ g. texts_far j k d (omega (arith, m, is)) in_list
+          (ap (λ p. end_last_cmp (letters (text e)) (letters p.0)) f ∙ g))
+          before))
 
       lies : Holds (text e) s → LiesAt block s (text e) e.at
       lies holds = record {

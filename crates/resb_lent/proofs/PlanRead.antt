@@ -11,7 +11,7 @@ use Rattle.std.proofs.lemmas.List.Elements.{All-head, All-tail}
 use Rattle.resb_format.specs.Strings.{text_at}
 use Rattle.resb_format.specs.Lookups.{text_in, text_place_by}
 use Rattle.resb_format.specs.Parts.{Parts, Lent}
-use Rattle.resb_pool.specs.Plan.{IsPlanBy}
+use Rattle.resb_pool.specs.Plan.{IsPlanAmong}
 use Rattle.resb_pool.specs.declared.packing.Packing.{Packing}
 use Rattle.resb_pool.proofs.IsRead.{pool_is_read}
 use Rattle.resb_pool.proofs.OnePool.{one_pool}
@@ -19,6 +19,7 @@ use Rattle.resb_pool.proofs.ReadBack.{text_at-zero}
 use Rattle.resb_lent.specs.Laws.{PlannedIsRead, OnePlanWith}
 use Rattle.resb_lent.specs.PlanWithPool.{AreLentBy, lent_none, lent_more, lacking, given, limit_of}
 use Rattle.resb_lent.specs.PlanWithPool.{in_turn, short_limit_of, behind}
+use Rattle.resb_lent.specs.LentBeside.{IsTextBeside}
 use Rattle.resb_lent.proofs.Once.{one_answer}
 use Rattle.resb_lent.proofs.Read.{at_zero, Placed, placed_empty, placed_within, placed, placed_read}
 
@@ -82,8 +83,8 @@ module _ (p : Parts) (l : Lent) (us rest : List ℕ) (lent : p.lent ≡ Some l)
         (only_empty l.block s i u h none))
   ]
 
-  module _ (way : Packing) (T : List (List ℕ)) (offset : List ℕ → Option ℕ)
-      (plan : IsPlanBy way T us offset) where
+  module _ (way : Packing) {B : List ℕ → Type 0} (T : List (List ℕ)) (offset : List ℕ → Option ℕ)
+      (plan : IsPlanAmong way B T us offset) where
     own_read : (s : List ℕ) (k : ℕ) → offset s ≡ Some k → text_in p (l.limit + k) ≡ Some s
     own_read s k e =
         let f : l.limit + k - l.limit ≡ k = omega arith in
@@ -141,7 +142,7 @@ same_somes (i ∷ is) (j ∷ js) e =
 pub one_plan_with : OnePlanWith
 one_plan_with way block S us vs is js limit other short small x y =
     let found = one_found way block S S x.found y.found x.lent y.lent in
-    let moved = subst (λ os. IsPlanBy way (lacking S os) us x.offset) found x.plan in
+    let moved = subst (λ os. IsPlanAmong way (IsTextBeside block S) (lacking S os) us x.offset) found x.plan in
     let pool = one_pool way (lacking S y.found) us vs x.offset y.offset moved y.plan in
     let offsets = same_somes x.offsets y.offsets (sym x.offsets_are
     ∙ (λ k. map (pool.1 k) (lacking S (found k))) ∙ y.offsets_are) in

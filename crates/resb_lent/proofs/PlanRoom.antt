@@ -15,7 +15,7 @@ use Rattle.std.proofs.lemmas.List.Elements.{All-nil, All-cons, All-head, All-tai
 use Rattle.std.proofs.lemmas.List.Elements.{Contains-append_right}
 use Rattle.std.proofs.lemmas.List.Sums.{sum_by-cons}
 use Rattle.resb_format.specs.Units.{units}
-use Rattle.resb_pool.specs.Plan.{IsPlanBy}
+use Rattle.resb_pool.specs.Plan.{IsPlanAmong}
 use Rattle.resb_pool.specs.declared.packing.Packing.{Packing}
 use Rattle.resb_pool.proofs.IsRead.{pool_is_read}
 use Rattle.resb_lent.specs.LentBeside.{LentTextBy}
@@ -129,8 +129,8 @@ lacking_sum f (s ∷ S) (None ∷ os) = omega (
 )
 
 -- one more than the greatest own offset is at most the number of units
-pub own_within : (way : Packing) (T : List (List ℕ)) (us : List ℕ) (offset : List ℕ → Option ℕ)
-    → IsPlanBy way T us offset → (ts : List (List ℕ)) (ks : List ℕ) → map offset ts ≡ map Some ks
+pub own_within : (way : Packing) {B : List ℕ → Type 0} (T : List (List ℕ)) (us : List ℕ)
+    (offset : List ℕ → Option ℕ) → IsPlanAmong way B T us offset → (ts : List (List ℕ)) (ks : List ℕ) → map offset ts ≡ map Some ks
     → limit_of ks ≤ length us
 own_within way T us offset plan ts [] e = omega arith
 own_within way T us offset plan [] (k ∷ ks) e = absurd (omega (arith, ap length e))

@@ -23,14 +23,14 @@ use Rattle.resb_pool.proofs.Cut.{key_same}
 use Rattle.resb_pool.proofs.SuffixOrder.{tied_same}
 use Rattle.resb_lent.specs.Entries.{pairs}
 use Rattle.resb_lent.specs.Lending.{LendsTexts}
-use Rattle.resb_lent.specs.LentBeside.{IsLent, IsTextBeside, IsTopBeside, MayHoldBeside}
+use Rattle.resb_lent.specs.LentBeside.{IsLent, IsTextBeside, MayHoldBeside}
 use Rattle.resb_lent.specs.LentBeside.{LentBeside, beside_empty, beside_within, LendsTextBy}
 use Rattle.resb_lent.specs.LentTexts.{IsLentRecord, Holds, LentText, LendsText, lent_empty}
 use Rattle.resb_lent.specs.LentTexts.{lent_within}
 use Rattle.resb_lent.specs.Inner.Within.{NoneHolds, StandsWithin, lent_list, record_bytes}
 use Rattle.resb_lent.specs.declared.records.LentRecord.{LentRecord}
 use Rattle.resb_lent.specs.declared.texts.LentTexts.{LentTexts}
-use Rattle.resb_lent.proofs.Lying.{turned, holds_not_after}
+use Rattle.resb_lent.proofs.Lying.{turned, holds_not_after, ends_of}
 
 -- the empty text has the same index in files of either packing
 pub empty_beside : (block : List ℕ) (S : List (List ℕ)) (s : List ℕ) (o : Option ℕ)
@@ -47,10 +47,6 @@ empty_beside block S s None z h = λ i x. none s i z h x
     none s i z h (beside_empty b) = h 0 (lent_empty b)
     none s i z h (beside_within full lies e) = absurd (omega (arith, z, full))
 
-ends_of : (q s : List ℕ) → Holds q s → EndsWith q s
-ends_of q s (inl e) = record { front = []; is = e }
-ends_of q s (inr h) = h.ends
-
 in_list : (es : List LentRecord) (t : List ℕ) (at : ℕ) → Contains (pairs es) (t, at)
     → Contains (map record_bytes es) t
 in_list [] t at c = absurd (omega (arith, c.1))
@@ -64,18 +60,18 @@ module _ (l : LentTexts) (block : List ℕ) (h : LendsTexts l block) (S : List (
   A = lent_list l ++ S
 
   -- the list has the texts of the file and of the pool, and no others
-  lent_of : (t : List ℕ) → Contains (lent_list l) t → IsLent block t
+  pub lent_of : (t : List ℕ) → Contains (lent_list l) t → IsLent block t
   lent_of t c = All-contains (IsLent block) (lent_list l) t
       (All-map (IsLent block) record_bytes l.records.items
       (λ i d m. ((get_or l.records.items i d).at, (h.sound i d m).own))) c
 
-  to_beside : (t : List ℕ) → Contains A t → IsTextBeside block S t
+  pub to_beside : (t : List ℕ) → Contains A t → IsTextBeside block S t
   to_beside t c = elim (Contains-append_cases (lent_list l) S t c) [
     | inl x ↦ inr (lent_of t x)
     | inr x ↦ inl x
   ]
 
-  from_beside : (t : List ℕ) → IsTextBeside block S t → Contains A t
+  pub from_beside : (t : List ℕ) → IsTextBeside block S t → Contains A t
   from_beside t c = elim c [
     | inl x ↦ Contains-append_right (lent_list l) S t x
     | inr x ↦
@@ -83,21 +79,21 @@ module _ (l : LentTexts) (block : List ℕ) (h : LendsTexts l block) (S : List (
         (in_list l.records.items t x.0 (h.complete t x.0 x.1))
   ]
 
-  top_to : (t : List ℕ) → IsTop A t → IsTopBeside block S t
+  top_to : (t : List ℕ) → IsTop (Contains A) t → IsTop (IsTextBeside block S) t
   top_to t x = record {
     given = to_beside t x.given;
     nonempty = x.nonempty;
     alone = λ q c. x.alone q (from_beside q c);
   }
 
-  top_from : (t : List ℕ) → IsTopBeside block S t → IsTop A t
+  top_from : (t : List ℕ) → IsTop (IsTextBeside block S) t → IsTop (Contains A) t
   top_from t x = record {
     given = from_beside t x.given;
     nonempty = x.nonempty;
     alone = λ q c. x.alone q (to_beside q c);
   }
 
-  record_from : (t : List ℕ) → IsTopBeside block S t → IsRecord A t
+  record_from : (t : List ℕ) → IsTop (IsTextBeside block S) t → IsRecord A t
   record_from t x =
       let y = top_from t x in
       record { given = y.given; nonempty = y.nonempty; alone = inr y.alone }
@@ -151,7 +147,7 @@ module _ (l : LentTexts) (block : List ℕ) (h : LendsTexts l block) (S : List (
 
       -- where neither has a record there, no index is the text's
       module _ (more : NoneHolds block c s) (r : List ℕ) (at : ℕ) (x : IsLentRecord block r at)
-          (t : IsTopBeside block S r) (y : Holds r s)
+          (t : IsTop (IsTextBeside block S) r) (y : Holds r s)
           (greatest : (q : List ℕ) → MayHoldBeside block S s q → Holds q s
           → suffix_cmp q r ≡ Greater → ⊥) where
         held : IsHeldBy s r
@@ -161,7 +157,7 @@ module _ (l : LentTexts) (block : List ℕ) (h : LendsTexts l block) (S : List (
         no_top : ((q : List ℕ) → Contains A q → EndsWith q s → q ≡ s) → ⊥
         no_top only = other r at x (only r (from_beside r (inr (at, x))) held.ends)
 
-        top_of : IsTop A c
+        top_of : IsTop (Contains A) c
         top_of = elim k.holds [
           | inl e ↦
               let own : IsRecord A s = subst (IsRecord A) e k.own in

@@ -2,4 +2,5 @@
 pub mod Noted
 pub mod Listed
 pub mod Within
+pub mod LentEndings
 pub mod Runs

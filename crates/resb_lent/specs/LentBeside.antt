@@ -1,7 +1,7 @@
 -- Where a pool bundle has a text of a compact file, which shares its strings with the pool's as one
 -- set. The block is the pool's, in 16-bit units; S are the file's strings. (ICU's `reslist.cpp`:
 -- shared suffixes beside a pool bundle.)
---     IsTopBeside block S r       no other text of the file or of the pool ends with r
+--     IsTextBeside block S r      r is a text of the file or of the pool
 --     MayHoldBeside block S s r   r may hold the text s, which it ends with
 --     LentBeside block S s i      the text s has this index
 --     LentTextBy way block S s i  the same of a file that is packed this way
@@ -10,8 +10,8 @@ use Rattle.std.specs.Prelude.{◌≡◌, ℕ, ◌+◌, ◌<◌, ◌≤◌, List,
 use Rattle.std.specs.Prelude.{Option, Some, MatchOption, slice_get}
 use Rattle.std.specs.declared.cmp.Ordering.TheVariants.{Greater}
 use Rattle.resb_format.specs.Units.{size}
+use Rattle.resb_pool.specs.Container.{IsTop}
 use Rattle.resb_pool.specs.Order.{suffix_cmp}
-use Rattle.resb_pool.specs.Records.{EndsWith}
 use Rattle.resb_pool.specs.declared.packing.Packing.{Packing}
 use Rattle.resb_pool.specs.declared.packing.Packing.TheVariants.{Plain, Compact}
 use Rattle.resb_lent.specs.LentTexts.{IsLentRecord, Holds, LentText}
@@ -24,16 +24,10 @@ IsLent block r = (at : ℕ) × IsLentRecord block r at
 abbrev pub IsTextBeside : List ℕ → List (List ℕ) → List ℕ → Type 0
 IsTextBeside block S r = Contains S r ⊎ IsLent block r
 
--- a non-empty text of the file or of the pool that no other one of both ends with
-pub record IsTopBeside (block : List ℕ) (S : List (List ℕ)) (r : List ℕ) : Type 0 where
-  pub given : IsTextBeside block S r
-  pub nonempty : 0 < length r
-  pub alone : (t : List ℕ) → IsTextBeside block S t → EndsWith t r → t ≡ r
-
--- the pool's record of a text may hold just this text, unless it's a top; a top may hold each text
--- that it ends with
+-- the pool's record of a text may hold just this text, unless it's a top of the texts of the file
+-- and of the pool; such a top may hold each text that it ends with
 abbrev pub MayHoldBeside : List ℕ → List (List ℕ) → List ℕ → List ℕ → Type 0
-MayHoldBeside block S s r = (IsLent block r × (r ≡ s)) ⊎ IsTopBeside block S r
+MayHoldBeside block S s r = (IsLent block r × (r ≡ s)) ⊎ IsTop (IsTextBeside block S) r
 
 -- Of what may hold s, be it of the file or of the pool, the greatest in the order from the end is a
 -- record of the pool, the first one of its text: s lies there.

@@ -14,12 +14,12 @@ use Rattle.std.specs.Prelude.{◌≡◌, ℕ, ◌+◌, ◌*◌, ◌/◌, ◌^◌
 use Rattle.std.specs.Prelude.{Option, Some, None, ◌&&◌, nat_le, nat_eq, slice_get, if◌then◌else◌}
 use Rattle.std.specs.Prelude.{All}
 use Rattle.std.specs.Str.{IsUtf8}
-use Rattle.resb_pool.specs.Plan.{IsPlanBy, NotPlanned}
+use Rattle.resb_pool.specs.Plan.{IsPlanAmong, NotPlanned}
 use Rattle.resb_pool.specs.declared.packing.Packing.{Packing}
 use Rattle.resb_pool.specs.declared.packing.Packing.TheVariants.{Plain}
 use Rattle.resb_pool.specs.declared.error.PlanError.{PlanError}
 use Rattle.resb_pool.specs.declared.error.PlanError.TheVariants.{TooLarge, OutOfMemory}
-use Rattle.resb_lent.specs.LentBeside.{LendsTextBy}
+use Rattle.resb_lent.specs.LentBeside.{IsTextBeside, LendsTextBy}
 
 -- one answer for each text of a file of the strings A: its index in the pool, or none where the
 -- pool lacks it
@@ -77,7 +77,8 @@ StandAt S is offset =
     → (n : ℕ) × (slice_get S n ≡ Some s) × (slice_get is n ≡ Some i)
 
 -- The strings that the pool has stand there, and the limit is behind the greatest index that is
--- used. The others are planned as if there were no others, and stand from the limit on.
+-- used. The others are planned among all texts of the file and of the pool, and stand from the limit
+-- on.
 pub record IsPlanWithBy (way : Packing) (block : List ℕ) (S : List (List ℕ)) (us is : List ℕ)
     (limit short : ℕ) : Type 0 where
   pub texts : All IsUtf8 S
@@ -85,7 +86,7 @@ pub record IsPlanWithBy (way : Packing) (block : List ℕ) (S : List (List ℕ))
   pub lent : AreLentBy way block S S found
   pub offset : List ℕ → Option ℕ
   pub offsets : List ℕ
-  pub plan : IsPlanBy way (lacking S found) us offset
+  pub plan : IsPlanAmong way (IsTextBeside block S) (lacking S found) us offset
   pub offsets_are : map offset (lacking S found) ≡ map Some offsets
   pub limit_is : limit ≡ limit_of (given found)
   pub short_is : short ≡ short_limit_of limit (limit_of offsets)
@@ -105,7 +106,8 @@ pub data NotPlannedWithBy (way : Packing) (block : List ℕ) (S : List (List ℕ
   own_fault : {e : PlanError} (found : List (Option ℕ)) → AreLentBy way block S S found
       → NotPlanned (lacking S found) e → NotPlannedWithBy way block S e
   too_far : (found : List (Option ℕ)) (us offsets : List ℕ) (offset : List ℕ → Option ℕ)
-      → AreLentBy way block S S found → IsPlanBy way (lacking S found) us offset
+      → AreLentBy way block S S found
+      → IsPlanAmong way (IsTextBeside block S) (lacking S found) us offset
       → map offset (lacking S found) ≡ map Some offsets
       → 2 ^ 28 < limit_of (given found) + limit_of offsets
       → NotPlannedWithBy way block S TooLarge

@@ -1,7 +1,8 @@
 //! What the pool has of the strings of a compact file, which shares its strings with the pool's as
-//! one set.
+//! one set, and which of the others end a text of the pool.
 //! In whose record a text lies is found in `resb_pool`, and where in the pool in `texts`.
-ghost use Rattle.std.specs.Prelude.{◌≡◌, ◌++◌, ◌<◌, ℕ, List, length, IfOk, OnOk, All, Contains};
+ghost use Rattle.std.specs.Prelude.{◌≡◌, ◌++◌, ◌∷◌, ◌<◌, [], ℕ, List, length, IfOk, OnOk, All};
+ghost use Rattle.std.specs.Prelude.{Contains, ◌⊎◌};
 ghost use Rattle.std.specs.Str.{IsUtf8};
 ghost use Rattle.resb_pool.specs.Container.{IsContainer};
 ghost use Rattle.resb_pool.specs.Plan.{nows};
@@ -9,6 +10,7 @@ ghost use Rattle.resb_pool.specs.declared.packing.Packing.TheVariants.{Compact};
 ghost use Rattle.resb_lent.specs.Lending.{LendsTexts};
 ghost use Rattle.resb_lent.specs.LentBeside.{LendsTextBy};
 ghost use Rattle.resb_lent.specs.PlanWithPool.{AreLentBy};
+ghost use Rattle.resb_lent.specs.Inner.LentEndings.{NotesEnd, AreLentEnds, AreLentEndsBy};
 ghost use Rattle.resb_lent.specs.Inner.Within.{lent_list};
 
 use crate::texts::LentTexts;
@@ -79,4 +81,52 @@ pub(crate) fn answers_beside(
         answers.push(answer_beside(lent, *text, own[number]))?;
     }
     Ok(answers)
+}
+
+/// Adds the number of a string if a text of the pool ends with it.
+fn note_end(
+    ended: &mut Vec<usize>,
+    lent: &LentTexts,
+    number: usize,
+    text: &str,
+) -> Result<(), AllocError>
+    ensures more { OnOk result ((ended.new.items ≡ ended.old.items)
+        ⊎ (ended.new.items ≡ ended.old.items ++ number ∷ [])) }
+    ensures ends { OnOk result ((block : List ℕ) → LendsTexts lent.now block
+        → NotesEnd block text.now number ended.old.items ended.new.items) }
+{
+    if lent.ends_with(text) {
+        ended.push(number)?;
+    }
+    Ok(())
+}
+
+/// The numbers of the strings that a text of the pool ends with.
+fn ended_texts(alloc: Global, lent: &LentTexts, own: &[&str]) -> Result<Vec<usize>, AllocError>
+    ensures within { IfOk result (λ v. All (λ i. i < length own.now) v.items) }
+    ensures ends { IfOk result (λ v. (block : List ℕ) → LendsTexts lent.now block
+        → AreLentEnds block (nows own.now) v.items) }
+{
+    let mut ended = Vec::new(alloc);
+    for (number, text) in own.iter().enumerate() {
+        note_end(&mut ended, lent, number, *text)?;
+    }
+    Ok(ended)
+}
+
+/// The same in a compact file, and none in a plain one, where they don't matter.
+pub(crate) fn ended_beside(
+    alloc: Global,
+    packing: Packing,
+    lent: &LentTexts,
+    own: &[&str],
+) -> Result<Vec<usize>, AllocError>
+    ensures within { IfOk result (λ v. All (λ i. i < length own.now) v.items) }
+    ensures ends { IfOk result (λ v. (block : List ℕ) → LendsTexts lent.now block
+        → AreLentEndsBy packing block (nows own.now) v.items) }
+{
+    match packing {
+        Packing::Plain => Ok(Vec::new(alloc)),
+        Packing::Compact => ended_texts(alloc, lent, own),
+    }
 }

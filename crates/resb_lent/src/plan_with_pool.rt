@@ -11,9 +11,9 @@ ghost use Rattle.resb_pool.specs.declared.packing.Packing.TheVariants.{Plain};
 ghost use Rattle.resb_lent.specs.PlanWithPool.{AreLentBy, lacking as lacking_of, given, behind};
 ghost use Rattle.resb_lent.specs.PlanWithPool.{limit_of, short_limit_of, in_turn as in_turn_of};
 
-use crate::answers_beside::answers_beside;
+use crate::answers_beside::{answers_beside, ended_beside};
 use crate::texts::LentTexts;
-use resb_pool::packed::plan_packed;
+use resb_pool::packed::plan_beside;
 use resb_pool::{Packing, PlanError};
 use std::alloc::{AllocError, Global};
 
@@ -236,7 +236,8 @@ impl PlanWithPool {
     /// The same of a file that is packed this way. The pool has a string of a compact file if it
     /// has a record of just this string, or if this string has no marker and the greatest text that
     /// ends with it, and that no other one ends with, is the pool's, where the texts are those of
-    /// the file and of the pool together. (ICU's `reslist.cpp`: `compactStringsV2`.)
+    /// the file and of the pool together. A record of the file's own that ends one of these texts
+    /// saves nothing. (ICU's `reslist.cpp`: `compactStringsV2`.)
     ///
     /// Refused is what `of` refuses; 2^32 texts and more are refused as want of memory.
     pub fn by(
@@ -253,7 +254,8 @@ impl PlanWithPool {
     {
         let found = answers_by(alloc, packing, lent, strings)?;
         let own = lacking(alloc, strings, &found)?;
-        let (units, offsets) = plan_packed(alloc, packing, own)?;
+        let ended = ended_beside(alloc, packing, lent, &own)?;
+        let (units, offsets) = plan_beside(alloc, packing, own, &ended)?;
         let limit = lent_limit(&found);
         let own_limit = own_limit(&offsets);
         if limit + own_limit > INDEX_LIMIT {

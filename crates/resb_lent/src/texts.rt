@@ -7,6 +7,7 @@ ghost use Rattle.std.specs.String.{string_bytes};
 ghost use Rattle.std.specs.declared.cmp.Ordering.TheVariants.{Greater};
 ghost use Rattle.resb_format.specs.Units.{size};
 ghost use Rattle.resb_pool.specs.Order.{suffix_cmp};
+ghost use Rattle.resb_pool.specs.Records.{EndsWith};
 ghost use Rattle.resb_lent.specs.LentTexts.{Holds};
 ghost use Rattle.resb_lent.specs.Inner.Listed.{HasPlace};
 ghost use Rattle.resb_lent.specs.Entries.{entry_cmp};
@@ -89,12 +90,22 @@ fn place_in(record: &LentRecord, text: &str) -> Option<u32>
     record.end.checked_sub(utf16_len(text) as u32 + 1)
 }
 
+/// Whether the text of a record ends with a text.
+fn has_end(record: &LentRecord, text: &str) -> bool
+    ensures { MatchBool result (EndsWith (string_bytes «record».now.text) text.now)
+        (EndsWith (string_bytes «record».now.text) text.now → ⊥) }
+{
+    record.text.ends_with(text)
+}
+
 impl LentTexts {
     ghost use Rattle.std.specs.Prelude.{ℕ, List, IfOk};
     ghost use Rattle.resb_format.specs.Bytes.{units_of};
     ghost use Rattle.resb_lent.specs.LentTexts.{LendsText};
     ghost use Rattle.resb_lent.specs.Lending.{LendsTexts};
+    ghost use Rattle.resb_lent.specs.Inner.LentEndings.{IsLentEnd};
     ghost use Rattle.resb_lent.specs.Inner.Within.{NoneHolds, StandsWithin};
+    ghost use Rattle.std.specs.Bool.{MatchBool};
     ghost use Rattle.std.specs.Prelude.{MatchOption};
 
     /// What the 16-bit block of a pool bundle lends, given as its bytes. Its records are gone
@@ -134,6 +145,18 @@ impl LentTexts {
             return None;
         }
         place_in(record, text)
+    }
+
+    /// Whether a text of the pool ends with this text.
+    pub(crate) fn ends_with(&self, text: &str) -> bool
+        ensures { (block : List ℕ) → LendsTexts self.now block
+            → MatchBool result (IsLentEnd block text.now) (IsLentEnd block text.now → ⊥) }
+    {
+        let count = count_up_to(&self.records, text);
+        if count == 0 {
+            return false;
+        }
+        has_end(&self.records[count - 1], text)
     }
 
     /// The index of a text in the pool: where its marker stands, or its first unit if it has none.

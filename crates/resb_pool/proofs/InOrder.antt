@@ -102,12 +102,12 @@ neighbours_differ (x ∷ y ∷ xs) zero d h e = d.0 (0, omega arith, sym e)
 neighbours_differ (x ∷ xs) (suc k) d h e = neighbours_differ xs k d.1 (omega arith) e
 
 -- of two records in order, the first precedes
-module _ (way : Packing) (S T : TextList) (x y : Record)
+module _ (way : Packing) (A : List ℕ → Type 0) (S T : TextList) (x y : Record)
     (ux : x.unit_count ≡ length (units (record_text T x)))
     (uy : y.unit_count ≡ length (units (record_text T y)))
-    (sx : Saved way S (record_text T x) x.saved) (sy : Saved way S (record_text T y) y.saved) where
+    (sx : Saved way A S (record_text T x) x.saved) (sy : Saved way A S (record_text T y) y.saved) where
   pub in_order : is_lt (record_cmp T y x) ≡ false → (record_text T x ≡ record_text T y → ⊥)
-      → Precedes way S (record_text T x) (record_text T y)
+      → Precedes way A S (record_text T x) (record_text T y)
   in_order h ne = elim (cmp_cases y.unit_count x.unit_count) [
     | inl l ↦ absurd (true≢false (sym (ap (λ o. is_lt (ordering_then o later)) l.0) ∙ h))
     | inr (inr g) ↦ fewer_units (omega (arith, ux, uy, g.1))
@@ -119,7 +119,7 @@ module _ (way : Packing) (S T : TextList) (x y : Record)
           | inl l ↦ absurd (true≢false (sym (ap (λ o. is_lt (ordering_then o last)) l.0) ∙ h2))
           | inr (inr g) ↦ saves_more x.saved y.saved units_same sx sy g.1
           | inr (inl f) ↦ smaller_bytes x.saved units_same sx
-              (subst (Saved way S (record_text T y)) (sym f.1) sy)
+              (subst (Saved way A S (record_text T y)) (sym f.1) sy)
               (text_order (record_text T x) (record_text T y)
               (sym (ap (λ o. is_lt (ordering_then o last)) f.0) ∙ h2) ne)
         ])

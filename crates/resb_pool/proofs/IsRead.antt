@@ -11,7 +11,7 @@ use Rattle.resb_format.specs.Units.{units, marker, size, is_unmarked, length_mar
 use Rattle.resb_pool.specs.Records.{IsRecord}
 use Rattle.resb_pool.specs.Container.{IsContainer}
 use Rattle.resb_pool.specs.Pool.{record_units, ClosesAt, Off, off_empty, off_within}
-use Rattle.resb_pool.specs.Plan.{IsPlanBy}
+use Rattle.resb_pool.specs.Plan.{IsPlanAmong}
 use Rattle.resb_pool.specs.declared.packing.Packing.{Packing}
 use Rattle.resb_pool.proofs.Least.{units_end}
 use Rattle.resb_pool.proofs.Sharing.{one_container, own_container}
@@ -41,8 +41,8 @@ around us Q before after r rest u q =
     ∙ ap (λ l. marker r ++ l) (append_assoc (units r) (0 ∷ [])
     (flat_map record_units after ++ rest)))
 
-module _ (way : Packing) (S : TextList) (us : List ℕ) (offset : List ℕ → Option ℕ)
-    (p : IsPlanBy way S us offset) where
+module _ (way : Packing) {A : List ℕ → Type 0} (S : TextList) (us : List ℕ)
+    (offset : List ℕ → Option ℕ) (p : IsPlanAmong way A S us offset) where
   inside : (r : List ℕ) (c : ℕ) → ClosesAt p.records r c → c < length us
   inside r c h =
       let n = ap length p.pool.units in
@@ -132,8 +132,8 @@ module _ (way : Packing) (S : TextList) (us : List ℕ) (offset : List ℕ → O
           ∙ text_at-found first s (behind rest) (All-contains IsUtf8 S s p.texts c) m
 
 -- each text of a pool is read at its offset, whatever follows the pool
-pub pool_is_read : (way : Packing) (S : TextList) (us : List ℕ) (offset : List ℕ → Option ℕ)
-    → IsPlanBy way S us offset
+pub pool_is_read : (way : Packing) {A : List ℕ → Type 0} (S : TextList) (us : List ℕ)
+    (offset : List ℕ → Option ℕ) → IsPlanAmong way A S us offset
     → (s : List ℕ) (k : ℕ) → offset s ≡ Some k
     → (k < length us) × ((rest : List ℕ) → text_at (us ++ rest) k ≡ Some s)
 pool_is_read way S us offset p s k e =

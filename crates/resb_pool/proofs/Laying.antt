@@ -5,11 +5,10 @@ use Rattle.std.specs.List.{All, flat_map}
 use Rattle.std.specs.List.Sorted.{IsSorted}
 use Rattle.resb_pool.specs.Pool.{record_units}
 use Rattle.resb_pool.specs.Records.{IsRecords}
-use Rattle.resb_pool.specs.Inner.Placing.{AreContainers, AreHidden, IsRecordOf, AreEnds}
+use Rattle.resb_pool.specs.Inner.Placing.{IsRecordOf, AreEnds}
 use Rattle.resb_pool.specs.Inner.Placing.{record_texts, record_cmp}
 use Rattle.resb_pool.specs.Inner.LaidRecords.{AreCounted, IsBlock}
 use Rattle.resb_pool.specs.declared.measure.Measure.{Measure}
-use Rattle.resb_pool.specs.declared.packing.Packing.{Packing}
 use Rattle.resb_pool.specs.declared.records.Record.{Record}
 use Rattle.resb_pool.specs.declared.records.Block.{Block}
 
@@ -20,11 +19,8 @@ module _ (T : List (List ℕ)) (hs : List ℕ) (ms : List Measure) (hidden sums 
   pub block_of : (n : ℕ) → n ≡ length hs → (r : Result Block AllocError)
       → IfOk r (λ b. b.units.items ≡ 0 ∷ flat_map record_units (record_texts T v))
       → IfOk r (λ b. length b.ends.items ≡ n) → IfOk r (λ b. AreEnds T v v b.ends.items)
-      → IfOk r (λ b. (way : Packing) → AreContainers way T hs → AreHidden way T hidden
-      → IsBlock way T hs ms b.units.items b.ends.items)
-  block_of n m (Ok b) u k e = λ way at h. record {
-    hidden = hidden;
-    hidden_are = h;
+      → IfOk r (λ b. IsBlock T hidden hs ms b.units.items b.ends.items)
+  block_of n m (Ok b) u k e = record {
     sums = sums;
     lying = lying;
     rows = v;

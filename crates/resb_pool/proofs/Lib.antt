@@ -15,6 +15,7 @@ mod PlanLemmas
 mod Turns
 mod Laying
 mod Planned
+mod Endings
 mod Ranking
 pub mod IsRead
 pub mod OnePool

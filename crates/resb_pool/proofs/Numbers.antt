@@ -1,11 +1,12 @@
 -- Numbers and how they compare, and two comparisons in a row: what names no word of this project.
 use Rattle.std.proofs.Common.{◌≡◌, ℕ, ◌<◌, ◌⊎◌, inl, inr, refl, ◌∙◌, ap, sym, suc, ◌+◌, arith}
-use Rattle.std.proofs.Common.{false, zero, nat_eq, ◌≤◌}
+use Rattle.std.proofs.Common.{false, zero, nat_eq, ◌≤◌, List, [], ◌∷◌}
+use Rattle.std.specs.List.{Contains}
 use Rattle.std.specs.Ordering.{nat_cmp, ordering_reverse, ordering_then, is_lt}
 use Rattle.std.specs.declared.cmp.Ordering.{Ordering}
 use Rattle.std.specs.declared.cmp.Ordering.TheVariants.{Less, Equal, Greater}
 use Rattle.std.proofs.lemmas.Cmp.{nat_cmp_total, ranked, by_ranked, tied_itself}
-use Rattle.std.proofs.lemmas.Bool.{cases_lt, ne_eqb}
+use Rattle.std.proofs.lemmas.Bool.{cases_lt, cases_eq, ne_eqb}
 
 -- how two numbers compare, both ways
 pub cmp_both_ways : (x y : ℕ) → ((nat_cmp x y ≡ Less) × (nat_cmp y x ≡ Greater))
@@ -69,6 +70,21 @@ cmp_cases x y = by_ranked (x < y) (x ≡ y) (y < x) (nat_cmp x y) (ranked x y (n
 -- below the next number is below this one, or this one
 pub old_or_new : (n k : ℕ) → k < n + 1 → (k < n) ⊎ (k ≡ n)
 old_or_new n k l = elim (cases_lt k n) [ inl h ↦ inl h | inr h ↦ inr (omega arith) ]
+
+-- a number is in a list, or it isn't
+pub is_in : (ns : List ℕ) (n : ℕ) → Contains ns n ⊎ (Contains ns n → ⊥)
+is_in [] n = inr (λ c. omega (arith, c.1))
+is_in (m ∷ ns) n = elim (cases_eq m n) [
+  | inl e ↦ inl (0, omega arith, e)
+  | inr ne ↦ elim (is_in ns n) [
+    | inl c ↦ inl (suc c.0, omega (arith, c.1), c.2)
+    | inr none ↦ inr (λ c. later ne none c)
+  ]
+]
+  where
+    later : (m ≡ n → ⊥) → (Contains ns n → ⊥) → Contains (m ∷ ns) n → ⊥
+    later ne none (zero, lt, is) = ne is
+    later ne none (suc k, lt, is) = none (k, omega (arith, lt), is)
 
 -- a number that is not 0 is positive
 pub more_than_zero : (n : ℕ) → (n ≡ 0 → ⊥) → 0 < n

@@ -11,7 +11,7 @@ use Rattle.resb_pool.specs.Records.{EachOnce}
 use Rattle.resb_pool.specs.Pool.{SizeIn, size_none, size_here, size_elsewhere, Saved, Precedes}
 use Rattle.resb_pool.specs.Pool.{fewer_units, saves_more, smaller_bytes, record_units, ClosesAt}
 use Rattle.resb_pool.specs.Pool.{Off, off_empty, off_within}
-use Rattle.resb_pool.specs.Plan.{IsPlanBy}
+use Rattle.resb_pool.specs.Plan.{IsPlanAmong}
 use Rattle.resb_pool.specs.declared.packing.Packing.{Packing}
 use Rattle.resb_pool.specs.declared.packing.Packing.TheVariants.{Plain, Compact}
 use Rattle.resb_pool.proofs.Distinct.{cons_cases, Contains-first}
@@ -19,7 +19,7 @@ use Rattle.resb_pool.proofs.Sharing.{one_container}
 use Rattle.resb_pool.proofs.TextLists.{TextList}
 use Rattle.resb_pool.proofs.Lists.{bytes_asym}
 
-module _ (way : Packing) (S : TextList) where
+module _ (way : Packing) (A : List ℕ → Type 0) (S : TextList) where
   size_once : (r : List ℕ) (ss : TextList) (m n : ℕ) → SizeIn way S r ss m → SizeIn way S r ss n
       → m ≡ n
   size_once r _ _ _ size_none size_none = refl
@@ -30,18 +30,18 @@ module _ (way : Packing) (S : TextList) where
   size_once r _ _ _ (size_elsewhere {s} {ss} {n = m} h p) (size_elsewhere {n} k q) =
       size_once r ss m n p q
 
-  saved_once : (r : List ℕ) (m n : ℕ) → Saved way S r m → Saved way S r n → m ≡ n
+  saved_once : (r : List ℕ) (m n : ℕ) → Saved way A S r m → Saved way A S r n → m ≡ n
   saved_once r m n p q = by way size_once p q
     where
       by : (w : Packing) → ((r : List ℕ) (ss : TextList) (m n : ℕ) → SizeIn w S r ss m
-          → SizeIn w S r ss n → m ≡ n) → Saved w S r m → Saved w S r n → m ≡ n
+          → SizeIn w S r ss n → m ≡ n) → Saved w A S r m → Saved w A S r n → m ≡ n
       by Plain once p q = omega (arith, once r S (m + size r) (n + size r) p q)
       by Compact once (inl p) (inl q) = omega (arith, once r S (m + size r) (n + size r) p.1 q.1)
       by Compact once (inl p) (inr q) = absurd (q.0 p.0)
       by Compact once (inr p) (inl q) = absurd (p.0 q.0)
       by Compact once (inr p) (inr q) = p.1 ∙ sym q.1
 
-  asym : (r q : List ℕ) → Precedes way S r q → Precedes way S q r → ⊥
+  asym : (r q : List ℕ) → Precedes way A S r q → Precedes way A S q r → ⊥
   asym r q (fewer_units h) (fewer_units k) = absurd (omega (arith, h, k))
   asym r q (fewer_units h) (saves_more m n e a b l) = absurd (omega (arith, h, e))
   asym r q (fewer_units h) (smaller_bytes n e a b l) = absurd (omega (arith, h, e))
@@ -55,7 +55,7 @@ module _ (way : Packing) (S : TextList) where
       absurd (omega (arith, saved_once q n m' b a', saved_once r n n' a b', l'))
   asym r q (smaller_bytes n e a b l) (smaller_bytes n' e' a' b' l') = bytes_asym r q l l'
 
-  onward : (r q p : List ℕ) → Precedes way S r q → Precedes way S q p → Precedes way S r p
+  onward : (r q p : List ℕ) → Precedes way A S r q → Precedes way A S q p → Precedes way A S r p
   onward r q p (fewer_units h) (fewer_units k) = fewer_units (omega (arith, h, k))
   onward r q p (fewer_units h) (saves_more m n e a b l) = fewer_units (omega (arith, h, e))
   onward r q p (fewer_units h) (smaller_bytes n e a b l) = fewer_units (omega (arith, h, e))
@@ -68,24 +68,24 @@ module _ (way : Packing) (S : TextList) where
   onward r q p (smaller_bytes n e a b l) (saves_more m' n' e' a' b' l') =
       saves_more n n' (e ∙ e') a b' (omega (arith, l', saved_once q n m' b a'))
   onward r q p (smaller_bytes n e a b l) (smaller_bytes n' e' a' b' l') =
-      smaller_bytes n (e ∙ e') a (subst (Saved way S p) (sym (saved_once q n n' b a')) b')
+      smaller_bytes n (e ∙ e') a (subst (Saved way A S p) (sym (saved_once q n n' b a')) b')
       (nat_list_cmp_total.trans r q p l l')
 
   abbrev IsOrdered : TextList → Type 0
   IsOrdered Q = (k : ℕ) → k + 1 < length Q
-      → Precedes way S (slice_index_or Q k []) (slice_index_or Q (k + 1) [])
+      → Precedes way A S (slice_index_or Q k []) (slice_index_or Q (k + 1) [])
 
   ordered_tail : (q : List ℕ) (Q : TextList) → IsOrdered (q ∷ Q) → IsOrdered Q
   ordered_tail q Q h k lt =
       let e : suc k + 1 ≡ suc (k + 1) = omega arith in
-      subst (λ j. Precedes way S (slice_index_or Q k []) (slice_index_or (q ∷ Q) j [])) e
+      subst (λ j. Precedes way A S (slice_index_or Q k []) (slice_index_or (q ∷ Q) j [])) e
       (h (suc k) (omega (arith, lt)))
 
   heads : (q : List ℕ) (Q : TextList) → IsOrdered (q ∷ Q) → (x : List ℕ) → Contains Q x
-      → Precedes way S q x
+      → Precedes way A S q x
   heads q [] h x c = absurd (omega (arith, c.1))
   heads q (p ∷ Q) h x c = elim (cons_cases p Q x c) [
-    | inl e ↦ subst (Precedes way S q) e (h 0 (omega arith))
+    | inl e ↦ subst (Precedes way A S q) e (h 0 (omega arith))
     | inr d ↦ onward q p x (h 0 (omega arith)) (heads p Q (ordered_tail q (p ∷ Q) h) x d)
   ]
 
@@ -161,10 +161,10 @@ module _ (way : Packing) (S : TextList) where
       omega (arith, f, e, close)
 
 -- the units, and where each text stands
-pub one_pool : (way : Packing) (S : TextList) (us vs : List ℕ) (offset place : List ℕ → Option ℕ)
-    → IsPlanBy way S us offset
-    → IsPlanBy way S vs place → (us ≡ vs) × (offset ≡ place)
-one_pool way S us vs offset place p q = (
+pub one_pool : (way : Packing) {A : List ℕ → Type 0} (S : TextList) (us vs : List ℕ)
+    (offset place : List ℕ → Option ℕ) → IsPlanAmong way A S us offset
+    → IsPlanAmong way A S vs place → (us ≡ vs) × (offset ≡ place)
+one_pool way {A} S us vs offset place p q = (
   p.pool.units ∙ ap (λ Q. 0 ∷ flat_map record_units Q) records
       ∙ sym q.pool.units,
   λ i s. at s i,
@@ -172,7 +172,7 @@ one_pool way S us vs offset place p q = (
   where
     records : p.records ≡ q.records
     records =
-        one_order way S p.records q.records p.pool.records.once q.pool.records.once
+        one_order way A S p.records q.records p.pool.records.once q.pool.records.once
         (λ s c. (q.pool.records.just s).1 ((p.pool.records.just s).0 c))
         (λ s c. (p.pool.records.just s).1 ((q.pool.records.just s).0 c)) p.pool.ordered
         q.pool.ordered
@@ -183,7 +183,7 @@ one_pool way S us vs offset place p q = (
     by s None None h k = refl
     by s None (Some n) h k = absurd (h k.0)
     by s (Some n) None h k = absurd (k h.0)
-    by s (Some n) (Some m) h k = ap Some (off_once way S p.texts p.records p.pool.records.once s n
+    by s (Some n) (Some m) h k = ap Some (off_once way A S p.texts p.records p.pool.records.once s n
         m h.1 (subst (λ Q. Off way S Q s m) (sym records) k.1))
 
     at : (s : List ℕ) → offset s ≡ place s

@@ -36,14 +36,14 @@ module _ (T S : TextList) (e : (s : List ℕ) → Contains T s ↔ Contains S s)
     alone = elim h.alone [ inl m ↦ inl m | inr only ↦ inr (λ t c. only t ((e t).0 c)) ];
   }
 
-  pub top_from : (s : List ℕ) → IsTop T s → IsTop S s
+  pub top_from : (s : List ℕ) → IsTop (Contains T) s → IsTop (Contains S) s
   top_from s h = record {
     given = (e s).0 h.given;
     nonempty = h.nonempty;
     alone = λ t c. h.alone t ((e t).1 c);
   }
 
-  pub top_to : (s : List ℕ) → IsTop S s → IsTop T s
+  pub top_to : (s : List ℕ) → IsTop (Contains S) s → IsTop (Contains T) s
   top_to s h = record {
     given = (e s).1 h.given;
     nonempty = h.nonempty;
@@ -65,6 +65,18 @@ module _ (T S : TextList) (e : (s : List ℕ) → Contains T s ↔ Contains S s)
     ends = h.ends;
     holds = holds_from way s r h.holds;
     greatest = λ q x y z. h.greatest q (record_to q x) y (holds_to way s q z);
+  }
+
+  -- what is hidden among the texts of one list is among those of the other
+  pub hidden_from : (way : Packing) (hs : List ℕ) → AreHidden way (Contains T) T hs
+      → AreHidden way (Contains S) T hs
+  hidden_from Plain hs h = h
+  hidden_from Compact hs h = record {
+    within = h.within;
+    each = λ i l r. elim (h.each i l r) [
+      | inl t ↦ inl (top_from (indexed_text T i) t.0, t.1)
+      | inr n ↦ inr (λ t. n.0 (top_to (indexed_text T i) t), n.1)
+    ];
   }
 
   pub records_from : (rs : TextList) → IsRecords T rs → IsRecords S rs
@@ -147,7 +159,7 @@ within_texts way T hs c i d l =
     omega (arith, get_or_default hs i 0 d l, w, c.len)
 
 -- and each hidden one is one of them
-pub hidden_within : (way : Packing) (T : TextList) (hs hidden : List ℕ) → AreContainers way T hs
-    → AreHidden way T hidden → All (λ h. h < length hs) hidden
-hidden_within Plain T hs hidden c e i d l = absurd (omega (arith, l, ap length e))
-hidden_within Compact T hs hidden c all i d l = omega (arith, all.within i d l, c.len)
+pub hidden_within : (way : Packing) (A : List ℕ → Type 0) (T : TextList) (hidden : List ℕ)
+    → AreHidden way A T hidden → All (λ h. h < length T) hidden
+hidden_within Plain A T hidden e i d l = absurd (omega (arith, l, ap length e))
+hidden_within Compact A T hidden all i d l = all.within i d l

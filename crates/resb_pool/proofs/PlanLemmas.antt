@@ -21,7 +21,7 @@ use Rattle.resb_pool.specs.Container.{IsContainer}
 use Rattle.resb_pool.specs.Pool.{LiesIn, SizeIn, Saved, Precedes, record_units, ClosesAt, Off}
 use Rattle.resb_pool.specs.Pool.{IsPool}
 use Rattle.resb_pool.specs.Pool.{off_empty, off_within}
-use Rattle.resb_pool.specs.Plan.{nows, texts_size, IsPlanBy}
+use Rattle.resb_pool.specs.Plan.{nows, texts_size, IsPlanAmong}
 use Rattle.resb_pool.specs.Inner.Placing.{indexed_text, copies, AreTexts, AreContainers, AreSums}
 use Rattle.resb_pool.specs.Inner.Placing.{lying_in, AreHidden}
 use Rattle.resb_pool.specs.Inner.Placing.{IsRecordOf, AreEnds, record_text, record_texts}
@@ -36,7 +36,7 @@ use Rattle.resb_pool.proofs.Distinct.{has_text, index_of, one_index}
 use Rattle.resb_pool.proofs.Sizes.{sizes_within}
 use Rattle.resb_pool.proofs.Sums.{sized, totals_of, copies_of_all}
 use Rattle.resb_pool.proofs.PlacingLemmas.{record_from, container_from, records_from}
-use Rattle.resb_pool.proofs.PlacingLemmas.{top_from, top_to}
+use Rattle.resb_pool.proofs.Numbers.{is_in}
 use Rattle.resb_pool.proofs.Sharing.{own_size, size_within}
 use Rattle.resb_pool.proofs.InOrder.{length-records, neighbours_differ, in_order}
 use Rattle.resb_pool.proofs.TextLists.{TextList}
@@ -106,8 +106,7 @@ module _ (way : Packing) (S T : TextList) (ms : List Measure) (given : AreTexts 
         (subst (λ n. IsContainer way T (indexed_text T q) (indexed_text T n)) (at.itself r)
         (at.container r.nonempty))
 
-    module _ (hidden : List ℕ) (hidden_are : AreHidden way T hidden) (sums : List ℕ)
-        (lying : AreCounted hidden hs ms sums) where
+    module _ (hidden : List ℕ) (sums : List ℕ) (lying : AreCounted hidden hs ms sums) where
       in_counted : (q : ℕ) → q < length T → q < length hs
       in_counted q l = omega (arith, l, placed.len)
 
@@ -117,51 +116,40 @@ module _ (way : Packing) (S T : TextList) (ms : List Measure) (given : AreTexts 
       counts_itself q l c =
           lying.hidden q no_measure (in_counted q l) c ∙ size_is q no_measure l
 
-      -- what a record saves, where so much is counted for it
-      saved_by : (n q : ℕ) → q < length T → IsRecord T (indexed_text T q)
-          → n + size (indexed_text T q) ≡ get_or sums q 0
-          → Saved way S (indexed_text T q) n
-      saved_by n q l r e = by way hidden_are (record_in q l r)
+      -- what a record saves among texts, where so much is counted for it
+      saved_by : (A : List ℕ → Type 0) → AreHidden way A T hidden → (n q : ℕ) → q < length T
+          → IsRecord T (indexed_text T q) → n + size (indexed_text T q) ≡ get_or sums q 0
+          → Saved way A S (indexed_text T q) n
+      saved_by A hidden_are n q l r e = by way hidden_are (record_in q l r)
         where
-          by : (w : Packing) → AreHidden w T hidden
+          by : (w : Packing) → AreHidden w A T hidden
               → SizeIn w S (indexed_text T q) S (lying_in hs ms q)
-              → Saved w S (indexed_text T q) n
+              → Saved w A S (indexed_text T q) n
           by Plain none s = subst (SizeIn Plain S (indexed_text T q) S)
               (sym (lying.each q (in_counted q l)
               (λ c. omega (arith, c.1, ap length none))) ∙ sym e) s
           by Compact all s = elim (all.each q l r) [
             | inl top ↦
                 inl (
-                  top_from T S given.same (indexed_text T q) top.0,
+                  top.0,
                   subst (SizeIn Compact S (indexed_text T q) S)
                       (sym (lying.each q (in_counted q l) top.1) ∙ sym e) s,
                 )
-            | inr h ↦
-                inr (
-                  λ t. h.0 (top_to T S given.same (indexed_text T q) t),
-                  omega (arith, e, counts_itself q l h.1),
-                )
+            | inr h ↦ inr (h.0, omega (arith, e, counts_itself q l h.1))
           ]
 
       -- the size of a record is counted
       counts_own : (q : ℕ) → q < length T → IsRecord T (indexed_text T q)
           → size (indexed_text T q) ≤ get_or sums q 0
-      counts_own q l r = by way hidden_are
-        where
-          shared : (Contains hidden q → ⊥) → size (indexed_text T q) ≤ get_or sums q 0
-          shared none =
-              let c = own_container q l r in
-              let o = own_size way S (indexed_text T q)
-              (record { nonempty = r.nonempty; container = c }) S
-              (lying_in hs ms q) (record_in q l r) c.own.given in
-              omega (arith, o, lying.each q (in_counted q l) none)
-
-          by : (w : Packing) → AreHidden w T hidden → size (indexed_text T q) ≤ get_or sums q 0
-          by Plain none = shared (λ c. omega (arith, c.1, ap length none))
-          by Compact all = elim (all.each q l r) [
-            | inl top ↦ shared top.1
-            | inr h ↦ omega (arith, counts_itself q l h.1)
-          ]
+      counts_own q l r = elim (is_in hidden q) [
+        | inl there ↦ omega (arith, counts_itself q l there)
+        | inr none ↦
+            let c = own_container q l r in
+            let o = own_size way S (indexed_text T q)
+            (record { nonempty = r.nonempty; container = c }) S
+            (lying_in hs ms q) (record_in q l r) c.own.given in
+            omega (arith, o, lying.each q (in_counted q l) none)
+      ]
 
       pub sums_are : AreSums T ms sums
       sums_are = record {
@@ -195,17 +183,19 @@ module _ (way : Packing) (S T : TextList) (ms : List Measure) (given : AreTexts 
           get_or-map (record_text T) v i d (record_text T (get_or v i d)) l,
         )
 
-        pub saved_at : (i : ℕ) (d : Record) → i < length v
-            → Saved way S (record_text T (get_or v i d)) (get_or v i d).saved
-        saved_at i d l =
+        pub saved_at : (A : List ℕ → Type 0) → AreHidden way A T hidden → (i : ℕ) (d : Record)
+            → i < length v → Saved way A S (record_text T (get_or v i d)) (get_or v i d).saved
+        saved_at A hidden_are i d l =
             let r = get_or v i d in
             let e = each i d l in
-            saved_by r.saved r.index e.within (is_record i d l) e.saved_is
+            saved_by A hidden_are r.saved r.index e.within (is_record i d l) e.saved_is
 
         -- each record stands before the next
-        precedes : IsSorted (record_cmp T) v → (k : ℕ) → k + 1 < length (record_texts T v)
-            → Precedes way S (get_or (record_texts T v) k []) (get_or (record_texts T v) (k + 1) [])
-        precedes sorted k lt =
+        precedes : (A : List ℕ → Type 0) → AreHidden way A T hidden → IsSorted (record_cmp T) v
+            → (k : ℕ) → k + 1 < length (record_texts T v)
+            → Precedes way A S (get_or (record_texts T v) k [])
+            (get_or (record_texts T v) (k + 1) [])
+        precedes A hidden_are sorted k lt =
             let Q = record_texts T v in
             let n = length-map v (record_text T) in
             let next : suc k ≡ k + 1 = omega arith in
@@ -218,19 +208,19 @@ module _ (way : Packing) (S T : TextList) (ms : List Measure) (given : AreTexts 
             let ne : record_text T x ≡ record_text T y
             → ⊥ = λ q. neighbours_differ Q k records.once (omega arith) (here ∙ q
             ∙ sym there ∙ ap (λ i. get_or Q i []) (sym next)) in
-            subst (λ z. Precedes way S z (get_or Q (k + 1) [])) (sym here)
-            (subst (Precedes way S (record_text T x)) (sym there)
-            (in_order way S T x y (each k no_record a).units_is
+            subst (λ z. Precedes way A S z (get_or Q (k + 1) [])) (sym here)
+            (subst (Precedes way A S (record_text T x)) (sym there)
+            (in_order way A S T x y (each k no_record a).units_is
             (each (k + 1) no_record b).units_is
-            (saved_at k no_record a) (saved_at (k + 1) no_record b)
+            (saved_at A hidden_are k no_record a) (saved_at A hidden_are (k + 1) no_record b)
             (sorted k no_record (omega arith) b) ne))
 
-        pub pool_is : IsSorted (record_cmp T) v → (us : List ℕ)
-            → us ≡ 0 ∷ flat_map record_units (record_texts T v)
-            → IsPool way S (record_texts T v) us
-        pool_is sorted us u = record {
+        pub pool_is : (A : List ℕ → Type 0) → AreHidden way A T hidden → IsSorted (record_cmp T) v
+            → (us : List ℕ) → us ≡ 0 ∷ flat_map record_units (record_texts T v)
+            → IsPool way A S (record_texts T v) us
+        pool_is A hidden_are sorted us u = record {
           records = in_given;
-          ordered = λ k lt. precedes sorted k lt;
+          ordered = λ k lt. precedes A hidden_are sorted k lt;
           units = u;
         }
 
@@ -345,18 +335,18 @@ module _ (way : Packing) (S T : TextList) (ms : List Measure) (given : AreTexts 
                       (sym (nil_from_length (indexed_text T i) (omega (arith, z)))) off_empty)
                 ]
 
-            pub planned : IsSorted (record_cmp T) v → All (λ s. length (units s) ≤ 4294967295) S
-                → (us : List ℕ) (offset : List ℕ → Option ℕ)
+            pub planned : (A : List ℕ → Type 0) → AreHidden way A T hidden
+                → IsSorted (record_cmp T) v → All (λ s. length (units s) ≤ 4294967295) S → (us : List ℕ) (offset : List ℕ → Option ℕ)
                 → us ≡ 0 ∷ flat_map record_units (record_texts T v)
                 → ((s : List ℕ) → MatchOption (offset s) (Contains T s → ⊥) (λ k. (i : ℕ)
                 × (i < length T) × (indexed_text T i ≡ s) × (k ≡ get_or os i 0)))
-                → IsPlanBy way S us offset
-            planned sorted short us offset u f = record {
+                → IsPlanAmong way A S us offset
+            planned A hidden_are sorted short us offset u f = record {
               texts = given.utf8;
               short = short;
               room = omega (arith, ap length u, length-records (record_texts T v), laid_small);
               records = record_texts T v;
-              pool = pool_is sorted us u;
+              pool = pool_is A hidden_are sorted us u;
               offsets = λ s. by s (offset s) (f s);
             }
               where

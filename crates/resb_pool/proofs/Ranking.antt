@@ -1,6 +1,6 @@
 -- The records of strings that are worth their room in a pool that many bundles share.
 use Rattle.std.proofs.Common.{◌≡◌, ℕ, suc, ◌<◌, ◌≤◌, ◌^◌, List, [], ◌∷◌, Bool, true, false}
-use Rattle.std.proofs.Common.{length, get_or, cond, refl, ap, arith, All}
+use Rattle.std.proofs.Common.{length, get_or, cond, refl, ap, arith, All, Contains}
 use Rattle.std.specs.Prelude.{nat_le}
 use Rattle.std.specs.List.{sum_by, flat_map}
 use Rattle.std.proofs.lemmas.Bool.{leb-true, leb-false}
@@ -11,19 +11,21 @@ use Rattle.resb_pool.specs.Plan.{texts_size}
 use Rattle.resb_pool.specs.Pool.{Saved, record_units}
 use Rattle.resb_pool.specs.Records.{IsRecords}
 use Rattle.resb_pool.specs.Shared.{AreWorth, worth_none, worth_kept, worth_left, IsSharedPool}
-use Rattle.resb_pool.specs.Inner.Placing.{AreTexts, IsRecordOf, record_text, record_texts}
+use Rattle.resb_pool.specs.Inner.Placing.{AreTexts, AreHidden, IsRecordOf, record_text}
+use Rattle.resb_pool.specs.Inner.Placing.{record_texts}
 use Rattle.resb_pool.specs.Inner.Ranked.{AreRanked, saving}
 use Rattle.resb_pool.specs.declared.measure.Measure.{Measure}
 use Rattle.resb_pool.specs.declared.packing.Packing.{Packing}
 use Rattle.resb_pool.specs.declared.records.Record.{Record}
 use Rattle.resb_pool.proofs.InOrder.{length-records}
+use Rattle.resb_pool.proofs.PlacingLemmas.{hidden_from}
 use Rattle.resb_pool.proofs.PlanLemmas.{in_given, laid_small, saved_at, pool_is}
 use Rattle.resb_pool.proofs.TextLists.{TextList}
 
 -- the rows that save enough are the records that do
 worth_of : (way : Packing) (S T : TextList) (least : ℕ) (v : List Record)
     → ((k : ℕ) (d : Record) → k < length v
-    → Saved way S (record_text T (get_or v k d)) (get_or v k d).saved)
+    → Saved way (Contains S) S (record_text T (get_or v k d)) (get_or v k d).saved)
     → AreWorth way S least (record_texts T v) (record_texts T (saving least v))
 worth_of way S T least [] h = worth_none
 worth_of way S T least (r ∷ v) h =
@@ -60,8 +62,11 @@ module _ (way : Packing) (S T : TextList) (ms : List Measure) (given : AreTexts 
   pub records_of : IsRecords S (record_texts T v)
   records_of =
       in_given way S T ms given small ranked.containers ranked.containers_are ranked.hidden
-      ranked.hidden_are ranked.sums ranked.lying v
-      ranked.records ranked.each
+      ranked.sums ranked.lying v ranked.records ranked.each
+
+  -- the records that save nothing among the strings
+  hidden_are : AreHidden way (Contains S) T ranked.hidden
+  hidden_are = hidden_from T S given.same way ranked.hidden ranked.hidden_are
 
   module _ (least : ℕ) where
     pub kept_each : All (IsRecordOf T ranked.sums) (saving least v)
@@ -72,7 +77,7 @@ module _ (way : Packing) (S T : TextList) (ms : List Measure) (given : AreTexts 
       arith,
       saving_within T least v,
       laid_small way S T ms given small ranked.containers ranked.containers_are ranked.hidden
-          ranked.hidden_are ranked.sums ranked.lying v ranked.records ranked.each,
+          ranked.sums ranked.lying v ranked.records ranked.each,
     )
 
     pub shared_pool : (us : List ℕ)
@@ -83,12 +88,12 @@ module _ (way : Packing) (S T : TextList) (ms : List Measure) (given : AreTexts 
       kept = record_texts T (saving least v);
       pool =
           pool_is way S T ms given small ranked.containers ranked.containers_are ranked.hidden
-          ranked.hidden_are ranked.sums ranked.lying v ranked.records ranked.each ranked.ascend
+          ranked.sums ranked.lying v ranked.records ranked.each (Contains S) hidden_are ranked.ascend
           (0 ∷ flat_map record_units (record_texts T v)) refl;
       worth =
           worth_of way S T least v (saved_at way S T ms given small ranked.containers
-          ranked.containers_are ranked.hidden ranked.hidden_are ranked.sums ranked.lying v
-          ranked.records ranked.each);
+          ranked.containers_are ranked.hidden ranked.sums ranked.lying v ranked.records ranked.each
+          (Contains S) hidden_are);
       units = e;
       room = omega (
         arith,

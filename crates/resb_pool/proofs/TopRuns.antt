@@ -24,7 +24,7 @@ use Rattle.resb_pool.proofs.SuffixRuns.{lies_itself, still_greatest}
 use Rattle.resb_pool.proofs.TextLists.{TextList}
 
 -- a top is a record
-record_of_top : (T : TextList) (s : List ℕ) → IsTop T s → IsRecord T s
+record_of_top : (T : TextList) (s : List ℕ) → IsTop (Contains T) s → IsRecord T s
 record_of_top T s h = record { given = h.given; nonempty = h.nonempty; alone = inr h.alone }
 
 -- what a step makes of the text s of an index
@@ -32,7 +32,7 @@ pub record IsMade (T : TextList) (s : List ℕ) (index top container : ℕ) (hid
     : Type 0 where
   pub next : 0 < length s → (top < length T) × IsTopOf T s (indexed_text T top)
   pub lies : LiesAt Compact T index container
-  pub told : IsToldHidden T hidden index
+  pub told : IsToldHidden (Contains T) T hidden index
 
 -- a step hides no other text than its own, and none that was hidden comes to light
 pub hidden_more : {p s : List ℕ} {i top next c : ℕ} {hs new : List ℕ}
@@ -49,8 +49,8 @@ hidden_keep {i} {hs} (hides e m) x h = Contains-append_left hs (i ∷ []) x h
 
 -- what was told of another text stays told
 pub told_keep : (T : TextList) {p s : List ℕ} {i top next c : ℕ} {hs new : List ℕ}
-    → StepsTo p s i top hs next c new → (x : ℕ) → (i ≡ x → ⊥) → IsToldHidden T hs x
-    → IsToldHidden T new x
+    → StepsTo p s i top hs next c new → (x : ℕ) → (i ≡ x → ⊥) → IsToldHidden (Contains T) T hs x
+    → IsToldHidden (Contains T) T new x
 told_keep T step x other told r = elim (told r) [
   | inl t ↦
       inl (
@@ -89,7 +89,7 @@ module _ (T : TextList) (utf8 : All IsUtf8 T) (once : EachOnce T) (rows : List R
     told = λ r. inl (is_top r.nonempty, fresh);
   }
     where
-      is_top : 0 < length (at i d) → IsTop T (at i d)
+      is_top : 0 < length (at i d) → IsTop (Contains T) (at i d)
       is_top pos = record {
         given = in_texts T utf8 once rows o i d l;
         nonempty = pos;
@@ -107,7 +107,7 @@ module _ (T : TextList) (utf8 : All IsUtf8 T) (once : EachOnce T) (rows : List R
     abbrev m : k < length rows
     m = omega (arith, l)
 
-    no_top : IsTop T s → ⊥
+    no_top : IsTop (Contains T) s → ⊥
     no_top h =
         let e = h.alone p (in_texts T utf8 once rows o k d m) x.ends in
         omega (arith, one_place T utf8 once rows o k (k + 1) d m l e)
@@ -123,7 +123,7 @@ module _ (T : TextList) (utf8 : All IsUtf8 T) (once : EachOnce T) (rows : List R
     same_top r t = record {
       own = t.own;
       ends = ends_trans r p s t.ends x.ends;
-      greatest = still_greatest T utf8 once rows o k d l (IsTop T) (λ q w. w.given) no_top r t.own
+      greatest = still_greatest T utf8 once rows o k d l (IsTop (Contains T)) (λ q w. w.given) no_top r t.own
           t.ends t.greatest;
     }
 

@@ -89,9 +89,9 @@ module _ (D : TextList) (ks new : List Key) (t : Key) (turns : List ℕ)
           (omega (arith, ap length is, length_push (nows ks) t.now))
 
 -- each text has an offset
-pub offsets_fit : (way : Packing) (T : TextList) (ms : List Measure) (us os : List ℕ)
-    → HaveOffsets way T ms us os → length os ≡ length T
-offsets_fit way T ms us os h = omega (
+pub offsets_fit : (way : Packing) (A : List ℕ → Type 0) (T : TextList) (ms : List Measure)
+    (us os : List ℕ) → HaveOffsets way A T ms us os → length os ≡ length T
+offsets_fit way A T ms us os h = omega (
   arith,
   h.offsets_are.len,
   h.containers_are.len,

@@ -1,5 +1,5 @@
 -- The record in which a text lies, in a file that is packed one way or the other.
---     IsTop S s                   no other text of S ends with s
+--     IsTop IsText s              no other one of these texts ends with s
 --     MayHold way S s r           the record r may hold the text s, which it ends with
 --     IsContainer way S s r       s lies in the record r
 use Rattle.std.specs.Prelude.{◌≡◌, ℕ, ◌<◌, List, length, ◌⊎◌, Contains}
@@ -10,17 +10,17 @@ use Rattle.resb_pool.specs.Records.{IsRecord}
 use Rattle.resb_pool.specs.declared.packing.Packing.{Packing}
 use Rattle.resb_pool.specs.declared.packing.Packing.TheVariants.{Plain, Compact}
 
--- a non-empty text of S that no other text of S ends with
-pub record IsTop (S : List (List ℕ)) (s : List ℕ) : Type 0 where
-  pub given : Contains S s
+-- of some texts, a non-empty one that no other one of them ends with
+pub record IsTop (IsText : List ℕ → Type 0) (s : List ℕ) : Type 0 where
+  pub given : IsText s
   pub nonempty : 0 < length s
-  pub alone : (t : List ℕ) → Contains S t → EndsWith t s → t ≡ s
+  pub alone : (t : List ℕ) → IsText t → EndsWith t s → t ≡ s
 
 -- Each record may hold a text that it ends with; in a compact file it may only if it is that text,
 -- or if no other text of S ends with it.
 abbrev pub MayHold : Packing → List (List ℕ) → List ℕ → List ℕ → Type 0
 MayHold Plain S s r = Unit {0}
-MayHold Compact S s r = (r ≡ s) ⊎ IsTop S r
+MayHold Compact S s r = (r ≡ s) ⊎ IsTop (Contains S) r
 
 -- among the texts S, r is the greatest record in suffix order that ends with s and may hold it
 pub record IsContainer (way : Packing) (S : List (List ℕ)) (s r : List ℕ) : Type 0 where

@@ -9,6 +9,7 @@ pub mod Order
 pub mod Container
 pub mod Pool
 pub mod Plan
+pub mod Ended
 pub mod Shared
 pub mod Holders
 pub mod Laws

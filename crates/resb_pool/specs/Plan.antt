@@ -2,8 +2,9 @@
 --     plan_units p            its units: unit 0 and the records
 --     offset_of p s           where the text s stands, if it was given
 --     turn_offsets p          the offset of each string, in the order in which they were given
---     IsPlanBy way S us offset    these are the units and offsets of the strings S, in a file that
---                             is packed this way
+--     IsPlanAmong way A S us offset   these are the units and offsets of the strings S, in a file
+--                             that is packed this way, where A are its texts and those beside it
+--     IsPlanBy way S us offset    the same of a file of just these strings
 --     IsPlan S us offset      the same of a plain file
 --     NotPlanned S e          the error e is the answer for the strings S
 use Rattle.std.specs.Prelude.{◌≡◌, ℕ, ◌+◌, ◌^◌, ◌≤◌, List, [], ◌∷◌, length, Option, Some, None}
@@ -47,17 +48,21 @@ turn_offsets p = map (slice_index p.offsets.items) p.order.items
 
 -- the units are the pool of the strings, and just the given texts have offsets: where they stand in
 -- it
-pub record IsPlanBy (way : Packing) (S : List (List ℕ)) (us : List ℕ) (offset : List ℕ → Option ℕ)
-    : Type 0 where
+pub record IsPlanAmong (way : Packing) (A : List ℕ → Type 0) (S : List (List ℕ)) (us : List ℕ)
+    (offset : List ℕ → Option ℕ) : Type 0 where
   pub texts : All IsUtf8 S
   -- no text is too long
   pub short : All (λ s. length (units s) ≤ 4294967295) S
   pub room : length us ≤ 2 ^ 28
   pub records : List (List ℕ)
-  pub pool : IsPool way S records us
+  pub pool : IsPool way A S records us
   -- a text has an offset exactly where it was given
   pub offsets : (s : List ℕ) → MatchOption (offset s) (Contains S s → ⊥) (λ k. Contains S s
       × Off way S records s k)
+
+-- the same of a file in which no other texts stand, and beside which there are none
+abbrev pub IsPlanBy : Packing → List (List ℕ) → List ℕ → (List ℕ → Option ℕ) → Type 0
+IsPlanBy way S us offset = IsPlanAmong way (Contains S) S us offset
 
 -- the same of a file in which each string lies in the greatest record that ends with it
 abbrev pub IsPlan : List (List ℕ) → List ℕ → (List ℕ → Option ℕ) → Type 0

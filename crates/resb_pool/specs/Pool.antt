@@ -1,10 +1,10 @@
 -- How strings S stand at the front of the 16-bit block. (ICU's `reslist.cpp`: shared suffixes.)
 -- S holds a text as often as it stands in the tree. Sizes and offsets count 16-bit units.
--- A file is packed one way or the other.
+-- A file is packed one way or the other. A are its texts, and those of a pool bundle beside it.
 --     LiesIn way S s r        s lies in the record r
---     Saved way S r n         sharing the record r saves n units
---     Precedes way S r q      the record r stands before the record q
---     IsPool way S Q us       the units us are unit 0 and the records Q of S, in their order
+--     Saved way A S r n       sharing the record r saves n units
+--     Precedes way A S r q    the record r stands before the record q
+--     IsPool way A S Q us     the units us are unit 0 and the records Q of S, in their order
 --     Off way S Q s k         s stands at unit k
 use Rattle.std.specs.Prelude.{◌≡◌, ℕ, ◌+◌, ◌<◌, List, [], ◌∷◌, ◌++◌, length, slice_index_or, sum_by}
 use Rattle.std.specs.Prelude.{◌⊎◌}
@@ -34,29 +34,31 @@ pub data SizeIn (way : Packing) (S : List (List ℕ)) (r : List ℕ) : List (Lis
       → SizeIn way S r ss n → SizeIn way S r (s ∷ ss) n
 
 -- What the copies and suffixes that lie in r would take, beyond the one record; in a compact file
--- a record that another text ends with saves nothing.
-abbrev pub Saved : Packing → List (List ℕ) → List ℕ → ℕ → Type 0
-Saved Plain S r n = SizeIn Plain S r S (n + size r)
-Saved Compact S r n = (IsTop S r × SizeIn Compact S r S (n + size r))
-    ⊎ ((IsTop S r → ⊥) × (n ≡ 0))
+-- a record that another text of A ends with saves nothing.
+abbrev pub Saved : Packing → (List ℕ → Type 0) → List (List ℕ) → List ℕ → ℕ → Type 0
+Saved Plain A S r n = SizeIn Plain S r S (n + size r)
+Saved Compact A S r n = (IsTop A r × SizeIn Compact S r S (n + size r))
+    ⊎ ((IsTop A r → ⊥) × (n ≡ 0))
 
 -- by the text's own units, then by what is saved, the most first, then by the bytes
-pub data Precedes (way : Packing) (S : List (List ℕ)) (r q : List ℕ) : Type 0 where
-  fewer_units : length (units r) < length (units q) → Precedes way S r q
-  saves_more : (m n : ℕ) → length (units r) ≡ length (units q) → Saved way S r m
-      → Saved way S q n → n < m → Precedes way S r q
-  smaller_bytes : (n : ℕ) → length (units r) ≡ length (units q) → Saved way S r n
-      → Saved way S q n → slice_cmp nat_cmp r q ≡ Less → Precedes way S r q
+pub data Precedes (way : Packing) (A : List ℕ → Type 0) (S : List (List ℕ)) (r q : List ℕ)
+    : Type 0 where
+  fewer_units : length (units r) < length (units q) → Precedes way A S r q
+  saves_more : (m n : ℕ) → length (units r) ≡ length (units q) → Saved way A S r m
+      → Saved way A S q n → n < m → Precedes way A S r q
+  smaller_bytes : (n : ℕ) → length (units r) ≡ length (units q) → Saved way A S r n
+      → Saved way A S q n → slice_cmp nat_cmp r q ≡ Less → Precedes way A S r q
 
 -- a record: the text's marker, its units, and 0
 abbrev pub record_units : List ℕ → List ℕ
 record_units r = marker r ++ (units r ++ 0 ∷ [])
 
 -- the units are unit 0 and the records of the strings, each before those that it precedes
-pub record IsPool (way : Packing) (S Q : List (List ℕ)) (us : List ℕ) : Type 0 where
+pub record IsPool (way : Packing) (A : List ℕ → Type 0) (S Q : List (List ℕ)) (us : List ℕ)
+    : Type 0 where
   pub records : IsRecords S Q
   pub ordered : (k : ℕ) → k + 1 < length Q
-      → Precedes way S (slice_index_or Q k []) (slice_index_or Q (k + 1) [])
+      → Precedes way A S (slice_index_or Q k []) (slice_index_or Q (k + 1) [])
   pub units : us ≡ 0 ∷ flat_map record_units Q
 
 -- the 0 that closes the record r stands at unit k; unit 0 stands before the first record

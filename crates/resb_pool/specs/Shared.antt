@@ -3,6 +3,7 @@
 --     AreWorth way S n Q K        of the records Q, K are those that save n units or more
 --     IsSharedPool way S n us     us are unit 0 and those records of the strings S, in their order
 use Rattle.std.specs.Prelude.{◌≡◌, ℕ, ◌<◌, ◌≤◌, ◌^◌, List, [], ◌∷◌, length}
+use Rattle.std.specs.Prelude.{Contains}
 use Rattle.std.specs.List.{flat_map}
 use Rattle.resb_pool.specs.Pool.{IsPool, Saved, record_units}
 use Rattle.resb_pool.specs.declared.packing.Packing.{Packing}
@@ -11,17 +12,17 @@ use Rattle.resb_pool.specs.declared.packing.Packing.{Packing}
 pub data AreWorth (way : Packing) (S : List (List ℕ)) (least : ℕ)
     : List (List ℕ) → List (List ℕ) → Type 0 where
   worth_none : AreWorth way S least [] []
-  worth_kept : {r : List ℕ} {Q K : List (List ℕ)} {n : ℕ} → Saved way S r n → least ≤ n
-      → AreWorth way S least Q K → AreWorth way S least (r ∷ Q) (r ∷ K)
-  worth_left : {r : List ℕ} {Q K : List (List ℕ)} {n : ℕ} → Saved way S r n → n < least
-      → AreWorth way S least Q K → AreWorth way S least (r ∷ Q) K
+  worth_kept : {r : List ℕ} {Q K : List (List ℕ)} {n : ℕ} → Saved way (Contains S) S r n
+      → least ≤ n → AreWorth way S least Q K → AreWorth way S least (r ∷ Q) (r ∷ K)
+  worth_left : {r : List ℕ} {Q K : List (List ℕ)} {n : ℕ} → Saved way (Contains S) S r n
+      → n < least → AreWorth way S least Q K → AreWorth way S least (r ∷ Q) K
 
 -- of the pool that the strings have, unit 0 and the records that are worth it
 pub record IsSharedPool (way : Packing) (S : List (List ℕ)) (least : ℕ) (us : List ℕ)
     : Type 0 where
   pub records : List (List ℕ)
   pub kept : List (List ℕ)
-  pub pool : IsPool way S records (0 ∷ flat_map record_units records)
+  pub pool : IsPool way (Contains S) S records (0 ∷ flat_map record_units records)
   pub worth : AreWorth way S least records kept
   pub units : us ≡ 0 ∷ flat_map record_units kept
   pub room : length us ≤ 2 ^ 28

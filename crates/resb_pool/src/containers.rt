@@ -82,6 +82,20 @@ pub(crate) struct Containers {
     pub(crate) hidden: Vec<u32>,
 }
 
+impl Containers {
+    ghost use Rattle.std.specs.Prelude.{◌≡◌, ◌++◌, OnOk};
+
+    /// Adds texts, by their indexes, that save nothing if they are records, since a text beside the
+    /// file ends with them.
+    pub(crate) fn hide(&mut self, indexes: &[u32]) -> Result<(), AllocError>
+        ensures of { self.new.of ≡ self.old.of }
+        ensures hidden { OnOk result
+            (self.new.hidden.items ≡ self.old.hidden.items ++ indexes.now) }
+    {
+        self.hidden.extend_from_slice(indexes)
+    }
+}
+
 /// Whether a text isn't empty and ends the one that stands right before it in suffix order.
 fn is_end(text: &str, previous: &str) -> bool
     ensures { MatchBool result (IsEnd previous.now text.now) (IsEnd previous.now text.now → ⊥) }
@@ -141,7 +155,8 @@ fn find_compact(alloc: Global, texts: &[&str]) -> Result<Containers, AllocError>
     requires distinct { EachOnce (nows texts.now) }
     requires few { length texts.now < 2 ^ 32 }
     ensures containers { IfOk result (λ c. AreContainers Compact (nows texts.now) c.of.items) }
-    ensures hidden { IfOk result (λ c. AreHidden Compact (nows texts.now) c.hidden.items) }
+    ensures hidden { IfOk result (λ c.
+        AreHidden Compact (Contains (nows texts.now)) (nows texts.now) c.hidden.items) }
 {
     let mut of = vec![in alloc; 0; texts.len()]?;
     let mut hidden = Vec::new(alloc);
@@ -168,7 +183,8 @@ pub(crate) fn find_containers(
     requires distinct { EachOnce (nows texts.now) }
     requires few { length texts.now < 2 ^ 32 }
     ensures containers { IfOk result (λ c. AreContainers packing (nows texts.now) c.of.items) }
-    ensures hidden { IfOk result (λ c. AreHidden packing (nows texts.now) c.hidden.items) }
+    ensures hidden { IfOk result (λ c.
+        AreHidden packing (Contains (nows texts.now)) (nows texts.now) c.hidden.items) }
 {
     match packing {
         Packing::Plain => Ok(Containers {

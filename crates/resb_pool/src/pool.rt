@@ -2,10 +2,11 @@
 //! Strings are told apart in `texts`, or else in `firsts` and `listed_texts`. The other steps are
 //! in `containers`, `records` and `offsets`.
 ghost use Rattle.std.specs.Prelude.{◌≡◌, ℕ, ◌<◌, ◌^◌, List, map, Option, Some};
-ghost use Rattle.std.specs.Prelude.{IfOk, IfErr};
+ghost use Rattle.std.specs.Prelude.{IfOk, IfErr, All, Contains, length};
 ghost use Rattle.resb_pool.specs.Plan.{nows, plan_units, offset_of, turn_offsets, texts_size};
 ghost use Rattle.resb_pool.specs.Plan.{IsPlan, NotPlanned};
-ghost use Rattle.resb_pool.specs.Inner.Placing.{AreTexts, AreContainers, AreHidden};
+ghost use Rattle.resb_pool.specs.Ended.{AreEnded};
+ghost use Rattle.resb_pool.specs.Inner.Placing.{AreTexts, AreContainers};
 ghost use Rattle.resb_pool.specs.Inner.LaidRecords.{IsBlock, HaveOffsets};
 ghost use Rattle.resb_pool.specs.Inner.ToldApart.{ToldApart};
 ghost use Rattle.resb_pool.specs.declared.packing.Packing.{Packing};
@@ -33,12 +34,10 @@ fn lay_records(
     requires given { (strings : List (List ℕ)) × (texts_size strings < 2 ^ 28)
         × AreTexts strings (nows texts.now) measures.now }
     requires containers { (way : Packing) × AreContainers way (nows texts.now)
-        containers.now.of.items × AreHidden way (nows texts.now) containers.now.hidden.items }
-    ensures { IfOk result (λ b. (way : Packing)
-        → AreContainers way (nows texts.now) containers.now.of.items
-        → AreHidden way (nows texts.now) containers.now.hidden.items
-        → IsBlock way (nows texts.now) containers.now.of.items measures.now b.units.items
-        b.ends.items) }
+        containers.now.of.items }
+    requires hidden { All (λ h. h < length texts.now) containers.now.hidden.items }
+    ensures { IfOk result (λ b. IsBlock (nows texts.now) containers.now.hidden.items
+        containers.now.of.items measures.now b.units.items b.ends.items) }
 {
     let sums = find_sums(alloc, containers, measures)?;
     let records = ordered(alloc, texts, &containers.of, measures, &sums)?;
@@ -47,19 +46,23 @@ fn lay_records(
 }
 
 /// Unit 0 and the records of distinct texts, and the unit at which each text stands in a file that
-/// is packed this way.
+/// is packed this way. Of the texts that a text beside the file ends with the indexes are given.
 pub(crate) fn place(
     alloc: Global,
     packing: Packing,
     texts: &[&str],
     measures: &[Measure],
+    ended: &[u32],
 ) -> Result<(Vec<u16>, Vec<u32>), AllocError>
     requires given { (strings : List (List ℕ)) × (texts_size strings < 2 ^ 28)
         × AreTexts strings (nows texts.now) measures.now }
-    ensures { IfOk result (λ p.
-        HaveOffsets packing (nows texts.now) measures.now p.0.items p.1.items) }
+    requires within { All (λ i. i < length texts.now) ended.now }
+    ensures { IfOk result (λ p. (A : List (List ℕ))
+        → AreEnded packing A (nows texts.now) ended.now → HaveOffsets packing (Contains A)
+        (nows texts.now) measures.now p.0.items p.1.items) }
 {
-    let containers = find_containers(alloc, packing, texts)?;
+    let mut containers = find_containers(alloc, packing, texts)?;
+    containers.hide(ended)?;
     let block = lay_records(alloc, texts, &containers, measures)?;
     let offsets = find_offsets(alloc, &containers.of, measures, &block.ends)?;
     Ok((block.units, offsets))
@@ -93,6 +96,7 @@ fn plan_texts<'a>(alloc: Global, texts: Texts<'a>) -> Result<Plan<'a>, PlanError
         Packing::Plain,
         texts.distinct.as_slice(),
         &texts.measures,
+        &[],
     )?;
     Ok(Plan {
         units,

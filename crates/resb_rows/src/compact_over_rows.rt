@@ -11,7 +11,8 @@ use std::alloc::Global;
 use std::test::Fail;
 
 /// Over pools with the keys `alpha`, `beta` and `gamma`: keys in the pool; at ends of the pool's
-/// keys; of an own key, with one that would lie in the pool; behind the pool's last one.
+/// keys; of an own key, with one that would lie in the pool; behind the pool's last one. Over the
+/// pool of a long string: a string that ends it saves nothing, and stands behind another one.
 pub(crate) const COMPACT_OVER: &str = r#"3 a{alpha{""}beta{"x"}} =>
     2:50000003,8,9,d,d,2,4,d,e31610fa,780000,20000,60000,10000,;
 3 b{zeta:int{5}ta:int{3}a:int{1}pha:int{2}eta:int{4}} =>
@@ -28,6 +29,14 @@ pub(crate) const COMPACT_OVER: &str = r#"3 a{alpha{""}beta{"x"}} =>
 2 f{a:int{1}alphaa:int{2}za:int{3}mma:int{4}} =>
     2:2000000d,8,c,14,14,4,4,d,1baba403,68706c61,7a006161,aaaa0061,aaaa0000,2c0004,3d0024,
     aaaa002b,70000001,70000002,70000004,70000003,;
+long f{a{"aaaaaaaaaaaaaaaaaaaabbbbbbbbbbbbbbbbbbbbb"}b{
+"aaaaaaaaaaaaaaaaaaaabbbbbbbbbbbbbbbbbbbbb"}c{"ccccccccccccccccccccddddddddddddddddddddd"}d{
+"ccccccccccccccccccccddddddddddddddddddddd"}} =>
+    2:50000057,8,b,3b,3b,4,4,3b,9b2603dd,620061,640063,dc290000,630063,630063,630063,630063,
+    630063,630063,630063,630063,630063,630063,640064,640064,640064,640064,640064,640064,640064,
+    640064,640064,640064,64,61dc29,610061,610061,610061,610061,610061,610061,610061,610061,
+    610061,620061,620062,620062,620062,620062,620062,620062,620062,620062,620062,620062,40000,
+    260024,2a0028,2c002c,10001,;
 "#;
 
 /// The version and the words of the file that the three calls give.

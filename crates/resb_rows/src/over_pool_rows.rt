@@ -27,6 +27,15 @@ const POOL_2: [u32; 23] = [
     0x1baba403, 0x68706c61, 0x65620061, 0x67006174, 0x616d6d61, 0xaaaaaa00, 0xaaaa0000,
 ];
 
+/// The pool bundle of two bundles with the string of an `x`, 20 `a` and 21 `b` under `k`, of
+/// version 3.0, as ICU's compiler writes it: its words.
+const POOL_OF_LONG: [u32; 41] = [
+    0x27da0020, 0x14, 0x20000, 0x42736552, 3, 0x401, 0, 0, 0x20000000, 8, 0xa, 0x21, 0x21, 0, 3,
+    0x21, 0x9b2603dd, 0xaaaa006b, 0xdc2a0000, 0x610078, 0x610061, 0x610061, 0x610061, 0x610061,
+    0x610061, 0x610061, 0x610061, 0x610061, 0x610061, 0x620061, 0x620062, 0x620062, 0x620062,
+    0x620062, 0x620062, 0x620062, 0x620062, 0x620062, 0x620062, 0x620062, 0xaaaa0000,
+];
+
 /// The version of a pool, a text and keys in the order of a list; then the version of the file over
 /// that pool, and its words behind the header.
 pub(crate) const OVER_POOLS: &str = r#"3 a{alpha{"one two three"}beta{"x"}} | alpha beta =>
@@ -111,10 +120,11 @@ fn line_over(alloc: Global, pool: &PoolBundle<'_>, text: &str, list: &str) -> Re
     }
 }
 
-/// The bytes of the pool bundle of a version.
+/// The bytes of the pool bundle of a version, or of that of a long string.
 pub(crate) fn pool_named(alloc: Global, version: &str) -> Result<Vec<u8>, Fail> {
     match version {
         "2" => bytes_of(alloc, &POOL_2),
+        "long" => bytes_of(alloc, &POOL_OF_LONG),
         _ => bytes_of(alloc, &POOL_3),
     }
 }

@@ -9,7 +9,7 @@ use Rattle.std.proofs.lemmas.List.Sums.{sum_by-append, sum_by-cons}
 use Rattle.resb_tree.specs.Tree.{Tree, string, alias, array, table, binary, integer, int_vector}
 use Rattle.resb_format.specs.Units.{units, size}
 use Rattle.resb_pool.specs.declared.packing.Packing.{Packing}
-use Rattle.resb_pool.specs.Plan.{first_too_long, texts_size, IsPlanBy}
+use Rattle.resb_pool.specs.Plan.{first_too_long, texts_size, IsPlanAmong}
 use Rattle.resb_pool.proofs.Least.{into_least}
 use Rattle.resb_pool.proofs.InOrder.{length-records}
 use Rattle.resb_pool.proofs.Sizes.{marker_le}
@@ -73,8 +73,8 @@ small_sizes ts h = no_size_fault ts (small_texts_fit (flat_map text_in ts)
     (omega (arith, texts_within ts, h))) (none_over ts h)
 
 -- the pool has at most a record of each text, and unit 0
-pub pool_room : (w : Packing) (S : List (List ℕ)) (us : List ℕ) (offset : List ℕ → Option ℕ)
-    → IsPlanBy w S us offset
+pub pool_room : (w : Packing) {A : List ℕ → Type 0} (S : List (List ℕ)) (us : List ℕ)
+    (offset : List ℕ → Option ℕ) → IsPlanAmong w A S us offset
     → length us ≤ 1 + sum_by size S
 pool_room w S us offset p =
     let e = ap length p.pool.units in

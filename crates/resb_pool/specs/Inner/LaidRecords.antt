@@ -2,8 +2,10 @@
 -- texts of the measures ms, and cs say in which of them each lies.
 --     AreLyingIn cs ms sums   the sums are what lies in each text
 --     AreCounted hs cs ms sums    .. but for the texts hs, each of which counts itself alone
---     IsBlock way T cs ms us es   us are unit 0 and the records in their order, which close at es
---     HaveOffsets way T ms us os  the texts of these measures stand in us, each where os says
+--     IsBlock T hs cs ms us es    us are unit 0 and the records in their order, which close at es,
+--                             where those of hs save nothing
+--     HaveOffsets way A T ms us os    the texts of these measures stand in us, each where os says;
+--                             A are all texts of the file, and those beside it
 use Rattle.std.specs.Prelude.{◌≡◌, ℕ, ◌<◌, List, ◌∷◌, length, All, Contains, slice_index}
 use Rattle.std.specs.Prelude.{slice_index_or}
 use Rattle.std.specs.List.{flat_map}
@@ -29,12 +31,10 @@ pub record AreCounted (hs cs : List ℕ) (ms : List Measure) (sums : List ℕ) :
   pub hidden : (q : ℕ) (d : Measure) → q < length cs → Contains hs q
       → slice_index sums q ≡ (slice_index_or ms q d).size
 
-pub record IsBlock (way : Packing) (T : List (List ℕ)) (cs : List ℕ) (ms : List Measure)
-    (us es : List ℕ) : Type 0 where
-  pub hidden : List ℕ
-  pub hidden_are : AreHidden way T hidden
+pub record IsBlock (T : List (List ℕ)) (hs cs : List ℕ) (ms : List Measure) (us es : List ℕ)
+    : Type 0 where
   pub sums : List ℕ
-  pub lying : AreCounted hidden cs ms sums
+  pub lying : AreCounted hs cs ms sums
   pub rows : List Record
   pub records : IsRecords T (record_texts T rows)
   pub each : All (IsRecordOf T sums) rows
@@ -43,10 +43,12 @@ pub record IsBlock (way : Packing) (T : List (List ℕ)) (cs : List ℕ) (ms : L
   pub len : length es ≡ length cs
   pub ends : AreEnds T rows rows es
 
-pub record HaveOffsets (way : Packing) (T : List (List ℕ)) (ms : List Measure) (us os : List ℕ)
-    : Type 0 where
+pub record HaveOffsets (way : Packing) (A : List ℕ → Type 0) (T : List (List ℕ))
+    (ms : List Measure) (us os : List ℕ) : Type 0 where
   pub containers : List ℕ
+  pub hidden : List ℕ
   pub ends : List ℕ
   pub containers_are : AreContainers way T containers
-  pub block : IsBlock way T containers ms us ends
+  pub hidden_are : AreHidden way A T hidden
+  pub block : IsBlock T hidden containers ms us ends
   pub offsets_are : AreOffsets containers ms ends os

@@ -3,7 +3,7 @@
 --     AreTurns S T is         the strings S are the texts of the indexes is, one by one
 --     LiesAt way T i r        the text i lies in the text r, in a file that is packed this way
 --     AreContainers way T cs  each text lies in the one that cs has at its index
---     AreHidden way T hs      hs are the records that save nothing
+--     AreHidden way A T hs    hs are the records that save nothing, among all texts A
 --     lying_in cs ms q        what all copies that lie in the text q would take
 --     AreEnds T rs done es    es says where each record done closes
 use Rattle.std.specs.Prelude.{◌≡◌, ℕ, zero, suc, ◌+◌, ◌-◌, ◌*◌, ◌^◌, ◌<◌, ◌≤◌, List, []}
@@ -66,22 +66,22 @@ pub record AreContainers (way : Packing) (T : List (List ℕ)) (cs : List ℕ) :
   pub len : length cs ≡ length T
   pub lies : (i : ℕ) → i < length T → LiesAt way T i (slice_index cs i)
 
--- the text i, if it's a record, is among hs just where another text ends with it
-abbrev pub IsToldHidden : List (List ℕ) → List ℕ → ℕ → Type 0
-IsToldHidden T hs i =
-    IsRecord T (indexed_text T i) → (IsTop T (indexed_text T i) × (Contains hs i → ⊥))
-    ⊎ ((IsTop T (indexed_text T i) → ⊥) × Contains hs i)
+-- the text i, if it's a record, is among hs just where another text of A ends with it
+abbrev pub IsToldHidden : (List ℕ → Type 0) → List (List ℕ) → List ℕ → ℕ → Type 0
+IsToldHidden A T hs i =
+    IsRecord T (indexed_text T i) → (IsTop A (indexed_text T i) × (Contains hs i → ⊥))
+    ⊎ ((IsTop A (indexed_text T i) → ⊥) × Contains hs i)
 
 -- the texts that hs tells to be such records, and no others
-pub record AreAllHidden (T : List (List ℕ)) (hs : List ℕ) : Type 0 where
+pub record AreAllHidden (A : List ℕ → Type 0) (T : List (List ℕ)) (hs : List ℕ) : Type 0 where
   pub within : All (λ h. h < length T) hs
-  pub each : (i : ℕ) → i < length T → IsToldHidden T hs i
+  pub each : (i : ℕ) → i < length T → IsToldHidden A T hs i
 
 -- hs are the records that save nothing: none in a plain file, and in a compact one those that
--- another text ends with
-abbrev pub AreHidden : Packing → List (List ℕ) → List ℕ → Type 0
-AreHidden Plain T hs = hs ≡ []
-AreHidden Compact T hs = AreAllHidden T hs
+-- another text of A ends with
+abbrev pub AreHidden : Packing → (List ℕ → Type 0) → List (List ℕ) → List ℕ → Type 0
+AreHidden Plain A T hs = hs ≡ []
+AreHidden Compact A T hs = AreAllHidden A T hs
 
 abbrev pub lying_in : List ℕ → List Measure → ℕ → ℕ
 lying_in [] ms q = 0

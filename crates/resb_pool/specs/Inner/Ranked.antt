@@ -2,7 +2,7 @@
 --     AreRanked way T ms rows     the rows are the records of the texts T, of measures ms, in their
 --                             order
 --     saving n rows           those that save n units or more
-use Rattle.std.specs.Prelude.{ℕ, List, All, filter, nat_le}
+use Rattle.std.specs.Prelude.{ℕ, List, All, Contains, filter, nat_le}
 use Rattle.std.specs.List.Sorted.{IsSorted}
 use Rattle.resb_pool.specs.Records.{IsRecords}
 use Rattle.resb_pool.specs.Inner.LaidRecords.{AreCounted}
@@ -17,7 +17,7 @@ pub record AreRanked (way : Packing) (T : List (List ℕ)) (ms : List Measure)
   pub containers : List ℕ
   pub containers_are : AreContainers way T containers
   pub hidden : List ℕ
-  pub hidden_are : AreHidden way T hidden
+  pub hidden_are : AreHidden way (Contains T) T hidden
   pub sums : List ℕ
   pub lying : AreCounted hidden containers ms sums
   pub records : IsRecords T (record_texts T rows)

@@ -1,7 +1,7 @@
 -- The texts that no other one ends with, in suffix order.
 --     IsTopOf T s r           r is the greatest top of T that ends with s
 --     StepsTo p s i top hs top' c hs'     what the text s of index i, right behind p, comes to
-use Rattle.std.specs.Prelude.{◌≡◌, ℕ, List, [], ◌∷◌, ◌++◌, true, false}
+use Rattle.std.specs.Prelude.{◌≡◌, ℕ, List, [], ◌∷◌, ◌++◌, true, false, Contains}
 use Rattle.std.specs.declared.cmp.Ordering.TheVariants.{Greater}
 use Rattle.resb_format.specs.Units.{is_unmarked}
 use Rattle.resb_pool.specs.Container.{IsTop}
@@ -10,9 +10,9 @@ use Rattle.resb_pool.specs.Records.{EndsWith}
 use Rattle.resb_pool.specs.Inner.Suffixes.{IsEnd}
 
 pub record IsTopOf (T : List (List ℕ)) (s r : List ℕ) : Type 0 where
-  pub own : IsTop T r
+  pub own : IsTop (Contains T) r
   pub ends : EndsWith r s
-  pub greatest : (q : List ℕ) → IsTop T q → EndsWith q s → suffix_cmp q r ≡ Greater → ⊥
+  pub greatest : (q : List ℕ) → IsTop (Contains T) q → EndsWith q s → suffix_cmp q r ≡ Greater → ⊥
 
 -- The text that stands right behind p and doesn't end it is a top, and the one up to now is left
 -- behind. One that ends it lies in the top, or, where it has a marker, in itself, and is hidden.

@@ -102,7 +102,7 @@ loop-row-preserved c =
             told_keep T step (get_or rows j d).index (λ e. apart j d b (sym e)) (v.told j d b)
         | inr e ↦
             let q = is_row d ∙ ap (λ z. get_or rows z d) (sym e) in
-            subst (λ (z : Row). IsToldHidden T c.step.new.hidden.items z.index) q made.told
+            subst (λ (z : Row). IsToldHidden (Contains T) T c.step.new.hidden.items z.index) q made.told
       ];
       only = λ h d x. elim (hidden_more step h x) [
         | inl w ↦ (let y = v.only h d w in (y.0, omega (arith, y.1), y.2))
@@ -141,6 +141,6 @@ returns-clause-hidden c =
           omega (arith, w.within, y.2);
       each = λ i l.
           let r = row_of T c.requires.utf8 c.requires.distinct rows o i no_row l in
-          subst (IsToldHidden T hs) r.2
+          subst (IsToldHidden (Contains T) T hs) r.2
           (v.told r.0 no_row (omega (arith, r.1, c.loop-row-test.false)));
     }

@@ -7,7 +7,7 @@ use Rattle.resb_pool.specs.Inner.Placing.{AreContainers, AreSums, IsRecordOf, re
 use Rattle.resb_pool.specs.Inner.Placing.{record_cmp}
 use Rattle.resb_pool.specs.declared.records.Record.{Record}
 use Rattle.resb_pool.proofs.Interning.{length-nows}
-use Rattle.resb_pool.proofs.PlacingLemmas.{within_texts, hidden_within}
+use Rattle.resb_pool.proofs.PlacingLemmas.{within_texts}
 use Rattle.resb_pool.proofs.PlanLemmas.{totals_small, sums_are, laid_small, texts_few}
 use Rattle.resb_pool.proofs.Laying.{block_of}
 use Rattle.resb_pool.proofs.pool.lay_records.Goals as goal
@@ -21,9 +21,12 @@ find_sums-requires-clause-within c = within_texts c.requires.containers.0 (nows 
 
 pub find_sums-requires-clause-hidden : goal.find_sums-requires-clause-hidden
 find_sums-requires-clause-hidden c =
-    let w = c.requires.containers in
-    hidden_within w.0 (nows c.args.texts.now) c.args.containers.now.of.items
-    c.args.containers.now.hidden.items w.1 w.2
+    λ i d l. omega (
+      arith,
+      c.requires.hidden i d l,
+      c.requires.containers.1.len,
+      length-nows c.args.texts.now,
+    )
 
 pub find_sums-requires-clause-small : goal.find_sums-requires-clause-small
 find_sums-requires-clause-small c =
@@ -45,7 +48,7 @@ ordered-requires-clause-sums c =
     let w = c.requires.containers in
     subst (AreSums T c.args.measures.now) (sym c.deref-2.ensures.value)
     (sums_are w.0 g.0 T c.args.measures.now g.2 g.1 c.args.containers.now.of.items w.1
-    c.args.containers.now.hidden.items w.2 sums c.in_ok-sums.ensures)
+    c.args.containers.now.hidden.items sums c.in_ok-sums.ensures)
 
 pub ordered-requires-clause-containers : goal.ordered-requires-clause-containers
 ordered-requires-clause-containers c =
@@ -79,7 +82,7 @@ lay-requires-clause-short c =
     c.deref-2.ensures.value c.in_ok-records.ensures.each) in
     let w = c.requires.containers in
     laid_small w.0 g.0 T c.args.measures.now g.2 g.1 c.args.containers.now.of.items w.1
-    c.args.containers.now.hidden.items w.2 sums c.in_ok-sums.ensures v records each
+    c.args.containers.now.hidden.items sums c.in_ok-sums.ensures v records each
 
 pub returns : goal.returns
 returns c =

@@ -1,4 +1,5 @@
 use Rattle.std.proofs.Common.{get_or, sym, subst, arith}
+use Rattle.std.specs.List.{Contains}
 use Rattle.std.specs.Str.{IsUtf8}
 use Rattle.std.proofs.lemmas.List.{get_or_default}
 use Rattle.std.proofs.lemmas.List.Elements.{All-contains}
@@ -34,9 +35,10 @@ find_sums-requires-clause-small c =
 
 pub find_sums-requires-clause-hidden : goal.find_sums-requires-clause-hidden
 find_sums-requires-clause-hidden c =
-    hidden_within c.args.packing (nows c.args.texts.now) c.in_ok-containers.containers.of.items
-    c.in_ok-containers.containers.hidden.items c.in_ok-containers.ensures.containers
-    c.in_ok-containers.ensures.hidden
+    let T = nows c.args.texts.now in
+    let hidden = hidden_within c.args.packing (Contains T) T
+    c.in_ok-containers.containers.hidden.items c.in_ok-containers.ensures.hidden in
+    λ i d l. omega (arith, hidden i d l, c.in_ok-containers.ensures.containers.len)
 
 pub find_sums-requires-clause-within : goal.find_sums-requires-clause-within
 find_sums-requires-clause-within c =
@@ -69,4 +71,4 @@ ordered-requires-clause-sums c =
     subst (AreSums T ms) (sym c.deref-2.ensures.value)
     (sums_are c.args.packing g.0 T ms g.2 g.1 c.in_ok-containers.containers.of.items
     c.in_ok-containers.ensures.containers c.in_ok-containers.containers.hidden.items
-    c.in_ok-containers.ensures.hidden sums c.in_ok-sums.ensures)
+    sums c.in_ok-sums.ensures)

@@ -1,0 +1,28 @@
+-- Which of some texts a text of the pool ends with.
+--     IsLentEnd block s           a text of the pool ends with s
+--     NotesEnd block s n es fs   fs are es, and the number n if a text of the pool ends with s
+--     AreLentEndsBy way block S es    es are the numbers of these texts of S
+use Rattle.std.specs.Prelude.{◌≡◌, ℕ, ◌<◌, List, [], ◌∷◌, ◌++◌, length, ◌⊎◌, Contains, slice_index_or}
+use Rattle.resb_pool.specs.Records.{EndsWith}
+use Rattle.resb_pool.specs.declared.packing.Packing.{Packing}
+use Rattle.resb_pool.specs.declared.packing.Packing.TheVariants.{Plain, Compact}
+use Rattle.resb_lent.specs.LentBeside.{IsLent}
+
+abbrev pub IsLentEnd : List ℕ → List ℕ → Type 0
+IsLentEnd block s = (t : List ℕ) × IsLent block t × EndsWith t s
+
+-- the number of a text is added to those before, if a text of the pool ends with it
+abbrev pub NotesEnd : List ℕ → List ℕ → ℕ → List ℕ → List ℕ → Type 0
+NotesEnd block s n es fs = (IsLentEnd block s × (fs ≡ es ++ n ∷ []))
+    ⊎ ((IsLentEnd block s → ⊥) × (fs ≡ es))
+
+-- each text of the list, by its number
+abbrev pub AreLentEnds : List ℕ → List (List ℕ) → List ℕ → Type 0
+AreLentEnds block S es = (i : ℕ) → i < length S
+    → (IsLentEnd block (slice_index_or S i []) × Contains es i)
+    ⊎ ((IsLentEnd block (slice_index_or S i []) → ⊥) × (Contains es i → ⊥))
+
+-- none in a plain file
+abbrev pub AreLentEndsBy : Packing → List ℕ → List (List ℕ) → List ℕ → Type 0
+AreLentEndsBy Plain block S es = es ≡ []
+AreLentEndsBy Compact block S es = AreLentEnds block S es

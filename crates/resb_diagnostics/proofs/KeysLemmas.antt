@@ -9,12 +9,12 @@ use Rattle.resb_diagnostics.specs.Pieces.{PlacedText}
 use Rattle.resb_diagnostics.specs.Groups.{GroupItem, string_item, group_item, comma_item, OpenGroup}
 use Rattle.resb_diagnostics.specs.Groups.{pair_keys}
 use Rattle.resb_diagnostics.specs.Warnings.{first_place, of_key, of_keys, of_some_keys, of_group}
-use Rattle.resb_diagnostics.specs.Warnings.{is_array, is_nothing, behind_pairs, lone_string}
+use Rattle.resb_diagnostics.specs.Warnings.{is_array, is_nothing, is_empty, has_none, behind_pairs, lone_string}
 use Rattle.resb_diagnostics.specs.Warnings.{of_lone, of_some_lone}
 use Rattle.resb_diagnostics.specs.Warnings.{of_comma, of_comma_behind, warning_at}
 use Rattle.resb_diagnostics.specs.Inner.Looks.{Pairing, pairs, key, other, pairing_of}
 use Rattle.resb_diagnostics.specs.Inner.Looks.{pairing_behind}
-use Rattle.resb_diagnostics.specs.Inner.Looks.{level_of, is_pairs}
+use Rattle.resb_diagnostics.specs.Inner.Looks.{level_of, is_pairs, code_is_empty}
 use Rattle.resb_diagnostics.specs.Inner.Looks.{code_may_be_table, code_has_pairs, code_lone, is_nil}
 use Rattle.resb_diagnostics.specs.declared.warning.Reason.TheVariants as reason
 use Rattle.resb_diagnostics.specs.declared.text_pieces.StringAt.{StringAt}
@@ -92,6 +92,40 @@ comma_by_code n c g e =
     by false shape.Pairs (k ∷ ks) = refl
     by false (shape.Key k) ks = refl
     by false shape.Other ks = refl
+
+abbrev is_none : Pairing → Bool
+is_none (pairs []) = true
+is_none _ = false
+
+none_behind : (x : GroupItem) (l : Pairing) → false ≡ is_none (pairing_behind x l)
+none_behind (string_item s) (pairs ks) = refl
+none_behind (string_item s) (key ks t) = refl
+none_behind (string_item s) other = refl
+none_behind group_item (pairs ks) = refl
+none_behind group_item (key [] t) = refl
+none_behind group_item (key (k ∷ ks) t) = refl
+none_behind group_item other = refl
+none_behind comma_item (pairs ks) = refl
+none_behind comma_item (key ks t) = refl
+none_behind comma_item other = refl
+
+none_by_pairing : (xs : List GroupItem) → has_none xs ≡ is_none (pairing_of xs)
+none_by_pairing [] = refl
+none_by_pairing (x ∷ xs) = none_behind x (pairing_of xs)
+
+pub empty_by_code : (c : CodeGroup) (g : OpenGroup) → level_of_code c ≡ level_of g
+    → code_is_empty c ≡ is_empty g
+empty_by_code c g e =
+    by (is_nothing c.named) c.shape c.keys.items
+    ∙ ap (λ l. is_nothing l.named && is_none l.pairing) e
+    ∙ ap (λ b. is_nothing g.named && b) (sym (none_by_pairing g.items))
+  where
+    by : (b : Bool) (sh : Shape) (ks : List StringAt) → b && (is_pairs sh && is_nil ks)
+        ≡ b && is_none (pairing_in sh (map placed_text_of ks))
+    by b shape.Pairs [] = refl
+    by b shape.Pairs (k ∷ ks) = refl
+    by b (shape.Key k) ks = refl
+    by b shape.Other ks = refl
 
 abbrev lone_if : Pairing → Option PlacedText
 lone_if (key (k ∷ ks) s) = Some s

@@ -4,11 +4,12 @@ ghost use Rattle.std.specs.Prelude.{◌≡◌, ◌++◌, ◌∷◌, ◌&&◌, On
 ghost use Rattle.resb_diagnostics.specs.Groups as spec;
 ghost use Rattle.resb_diagnostics.specs.Groups.{with_one_more, string_item, group_item, comma_item};
 ghost use Rattle.resb_diagnostics.specs.Groups.{behind_piece};
+ghost use Rattle.resb_diagnostics.specs.Pieces.{closing};
 ghost use Rattle.resb_diagnostics.specs.Warnings.{of_keys, of_group, of_comma, of_empty, of_string};
 ghost use Rattle.resb_diagnostics.specs.Warnings.{of_piece, of_lone, is_empty, is_below_root};
 ghost use Rattle.resb_diagnostics.specs.Inner.Looks.{placed_text_of, text_piece_of, level_of_code};
 ghost use Rattle.resb_diagnostics.specs.Inner.Looks.{level_of, code_may_be_table, code_is_empty};
-ghost use Rattle.resb_diagnostics.specs.Inner.Looks.{code_has_pairs};
+ghost use Rattle.resb_diagnostics.specs.Inner.Looks.{code_has_pairs, is_pairs, is_nil};
 ghost use Rattle.resb_diagnostics.specs.Inner.Looks.{HasInner, ShowsOpen, ShowsNesting, IsClosed};
 
 use crate::named::{Named, named_by};
@@ -94,19 +95,33 @@ impl<'a> Group<'a> {
         self.shape = Shape::Other;
     }
 
+    /// Whether it has pairs of a string and a group alone, or nothing.
+    fn is_paired(&self) -> bool
+        ensures { result ≡ is_pairs self.now.shape }
+    {
+        matches!(self.shape, Shape::Pairs)
+    }
+
+    /// Whether it has no pair of a string and a group.
+    fn has_no_keys(&self) -> bool
+        ensures { result ≡ is_nil self.now.keys.items }
+    {
+        self.keys.is_empty()
+    }
+
     /// Whether it may be a table: it is no `:array`, and has pairs of a string and a group, or
     /// nothing.
     fn may_be_table(&self) -> bool
         ensures { result ≡ code_may_be_table self.now }
     {
-        !self.named.is_array() && matches!(self.shape, Shape::Pairs)
+        !self.named.is_array() && self.is_paired()
     }
 
     /// Whether it has no type, and nothing stands in it.
     fn is_empty(&self) -> bool
         ensures { result ≡ code_is_empty self.now }
     {
-        self.named.is_nothing() && matches!(self.shape, Shape::Pairs) && self.keys.is_empty()
+        self.named.is_nothing() && self.is_paired() && self.keys.is_empty()
     }
 
     /// Whether it has pairs, and may be a table.
@@ -266,20 +281,31 @@ impl<'a> Groups<'a> {
         ensures { OnOk result ((g : spec.Nesting) → ShowsNesting self.now g
             → found.new.items ≡ found.old.items ++ of_piece (text_piece_of piece.entry) g) }
     {
-        let inner = self.inner();
         match piece {
-            Piece::Close(at) => {
-                inner.tell(self.alloc, found)?;
-                inner.tell_lone(found)?;
-                self.tell_empty(at, found)
-            }
-            Piece::Comma(at) => inner.tell_comma(at, found),
+            Piece::Close(at) => self.tell_close(at, found),
+            Piece::Comma(at) => self.inner().tell_comma(at, found),
             Piece::String(string) => {
                 self.tell_row(string, found)?;
-                tell_number(string, inner.named, found)
+                tell_number(string, self.inner().named, found)
             }
             _ => Ok(()),
         }
+    }
+
+    /// Adds the warnings of the innermost group, whose `}` stands at a place.
+    fn tell_close(&self, at: usize, found: &mut Vec<Warning>) -> Result<(), AllocError>
+        requires { HasInner self.now }
+        ensures { OnOk result ((g : spec.Nesting) → ShowsNesting self.now g
+            → found.new.items ≡ found.old.items ++ of_piece (closing at) g) }
+    {
+        let inner = self.inner();
+        if !inner.is_paired() {
+            return inner.tell_lone(found);
+        }
+        if inner.has_no_keys() {
+            return self.tell_empty(at, found);
+        }
+        inner.tell(self.alloc, found)
     }
 
     /// Whether the innermost group is empty, and not the root.

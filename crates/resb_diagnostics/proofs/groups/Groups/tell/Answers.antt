@@ -11,9 +11,9 @@ returns-in_ok-tell_row-in-String c =
     let s = placed_text_of c.in-String.string in
     on_ok_weaker c.tell_number.result (λ e g shows.
     e
-    ∙ ap (λ l. l ++ of_number s c.inner-inner.result.now.named)
+    ∙ ap (λ l. l ++ of_number s c.inner-in-String.result.now.named)
     (c.in_ok-tell_row-in-String.ensures g shows)
-    ∙ append_assoc found (of_string s g.last) (of_number s c.inner-inner.result.now.named)
+    ∙ append_assoc found (of_string s g.last) (of_number s c.inner-in-String.result.now.named)
     ∙ ap (λ l. found ++ (of_string s g.last ++ of_number s l.named))
-    (c.inner-inner.ensures g.inner g.around shows.groups)
+    (c.inner-in-String.ensures g.inner g.around shows.groups)
     ∙ ap (λ p. found ++ of_piece (text_piece_of p) g) (sym c.in-String.is)) c.tell_number.ensures

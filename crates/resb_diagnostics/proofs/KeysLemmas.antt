@@ -1,6 +1,7 @@
 -- The keys of a group beside what the code keeps, and the first places of keys.
 use Rattle.std.proofs.Common.{◌≡◌, ℕ, Bool, true, false, cond, List, [], ◌∷◌, ◌++◌, Option, Some}
-use Rattle.std.proofs.Common.{None, refl, sym, ◌∙◌, ap, append_assoc, append-nil, nat_eq, true≢false}
+use Rattle.std.proofs.Common.{None, refl, sym, ◌∙◌, ap, append_assoc, append-nil, nat_eq}
+use Rattle.std.proofs.Common.{true≢false}
 use Rattle.std.specs.Prelude.{map, not, ◌&&◌}
 use Rattle.std.specs.Option.{option_map}
 use Rattle.std.specs.Cmp.Lexicographic.{pointwise, bytes_decides}
@@ -9,8 +10,9 @@ use Rattle.resb_diagnostics.specs.Pieces.{PlacedText, closing}
 use Rattle.resb_diagnostics.specs.Groups.{GroupItem, string_item, group_item, comma_item, OpenGroup}
 use Rattle.resb_diagnostics.specs.Groups.{pair_keys, Nesting}
 use Rattle.resb_diagnostics.specs.Warnings.{first_place, of_key, of_keys, of_some_keys, of_group}
-use Rattle.resb_diagnostics.specs.Warnings.{is_array, is_nothing, is_empty, has_none, behind_pairs, lone_string}
-use Rattle.resb_diagnostics.specs.Warnings.{of_lone, of_some_lone, of_empty, of_piece, is_below_root}
+use Rattle.resb_diagnostics.specs.Warnings.{is_array, is_nothing, is_empty, has_none}
+use Rattle.resb_diagnostics.specs.Warnings.{behind_pairs, lone_string, is_below_root}
+use Rattle.resb_diagnostics.specs.Warnings.{of_lone, of_some_lone, of_empty, of_piece}
 use Rattle.resb_diagnostics.specs.Warnings.{of_comma, of_comma_behind, warning_at}
 use Rattle.resb_diagnostics.specs.Inner.Looks.{Pairing, pairs, key, other, pairing_of}
 use Rattle.resb_diagnostics.specs.Inner.Looks.{pairing_behind}

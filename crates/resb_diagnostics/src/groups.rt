@@ -215,6 +215,7 @@ fn tell_keys(
 }
 
 /// What a group names whose `{` stands behind this piece.
+#[inline(always)]
 fn named_behind(piece: Piece<'_>) -> Named
     ensures { result ≡ spec.named_behind (Some (text_piece_of piece.entry)) }
 {
@@ -370,8 +371,8 @@ impl<'a> Groups<'a> {
     fn open(&mut self) -> Result<(), AllocError>
         requires { HasInner self.old }
         ensures { OnOk result ((g : spec.Nesting) → ShowsNesting self.old g
-            → ShowsOpen self.new.groups.items self.new.depth (record { named = spec.named_behind g.last; items = [] })
-            (g.inner ∷ g.around)) }
+            → ShowsOpen self.new.groups.items self.new.depth
+            (record { named = spec.named_behind g.last; items = [] }) (g.inner ∷ g.around)) }
     {
         self.depth += 1;
         if self.depth < self.groups.len() {

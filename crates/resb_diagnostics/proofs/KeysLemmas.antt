@@ -1,20 +1,22 @@
 -- The keys of a group beside what the code keeps, and the first places of keys.
 use Rattle.std.proofs.Common.{◌≡◌, ℕ, Bool, true, false, cond, List, [], ◌∷◌, ◌++◌, Option, Some}
-use Rattle.std.proofs.Common.{None, refl, sym, ◌∙◌, ap, append_assoc, nat_eq, true≢false}
+use Rattle.std.proofs.Common.{None, refl, sym, ◌∙◌, ap, append_assoc, append-nil, nat_eq}
+use Rattle.std.proofs.Common.{true≢false}
 use Rattle.std.specs.Prelude.{map, not, ◌&&◌}
 use Rattle.std.specs.Option.{option_map}
 use Rattle.std.specs.Cmp.Lexicographic.{pointwise, bytes_decides}
 use Rattle.std.proofs.lemmas.Option.{none-some}
-use Rattle.resb_diagnostics.specs.Pieces.{PlacedText}
+use Rattle.resb_diagnostics.specs.Pieces.{PlacedText, closing}
 use Rattle.resb_diagnostics.specs.Groups.{GroupItem, string_item, group_item, comma_item, OpenGroup}
-use Rattle.resb_diagnostics.specs.Groups.{pair_keys}
+use Rattle.resb_diagnostics.specs.Groups.{pair_keys, Nesting}
 use Rattle.resb_diagnostics.specs.Warnings.{first_place, of_key, of_keys, of_some_keys, of_group}
-use Rattle.resb_diagnostics.specs.Warnings.{is_array, is_nothing, behind_pairs, lone_string}
-use Rattle.resb_diagnostics.specs.Warnings.{of_lone, of_some_lone}
+use Rattle.resb_diagnostics.specs.Warnings.{is_array, is_nothing, is_empty, has_none}
+use Rattle.resb_diagnostics.specs.Warnings.{behind_pairs, lone_string, is_below_root}
+use Rattle.resb_diagnostics.specs.Warnings.{of_lone, of_some_lone, of_empty, of_piece}
 use Rattle.resb_diagnostics.specs.Warnings.{of_comma, of_comma_behind, warning_at}
 use Rattle.resb_diagnostics.specs.Inner.Looks.{Pairing, pairs, key, other, pairing_of}
 use Rattle.resb_diagnostics.specs.Inner.Looks.{pairing_behind}
-use Rattle.resb_diagnostics.specs.Inner.Looks.{level_of, is_pairs}
+use Rattle.resb_diagnostics.specs.Inner.Looks.{level_of, is_pairs, code_is_empty}
 use Rattle.resb_diagnostics.specs.Inner.Looks.{code_may_be_table, code_has_pairs, code_lone, is_nil}
 use Rattle.resb_diagnostics.specs.declared.warning.Reason.TheVariants as reason
 use Rattle.resb_diagnostics.specs.declared.text_pieces.StringAt.{StringAt}
@@ -93,6 +95,40 @@ comma_by_code n c g e =
     by false (shape.Key k) ks = refl
     by false shape.Other ks = refl
 
+abbrev is_none : Pairing → Bool
+is_none (pairs []) = true
+is_none _ = false
+
+none_behind : (x : GroupItem) (l : Pairing) → false ≡ is_none (pairing_behind x l)
+none_behind (string_item s) (pairs ks) = refl
+none_behind (string_item s) (key ks t) = refl
+none_behind (string_item s) other = refl
+none_behind group_item (pairs ks) = refl
+none_behind group_item (key [] t) = refl
+none_behind group_item (key (k ∷ ks) t) = refl
+none_behind group_item other = refl
+none_behind comma_item (pairs ks) = refl
+none_behind comma_item (key ks t) = refl
+none_behind comma_item other = refl
+
+none_by_pairing : (xs : List GroupItem) → has_none xs ≡ is_none (pairing_of xs)
+none_by_pairing [] = refl
+none_by_pairing (x ∷ xs) = none_behind x (pairing_of xs)
+
+pub empty_by_code : (c : CodeGroup) (g : OpenGroup) → level_of_code c ≡ level_of g
+    → code_is_empty c ≡ is_empty g
+empty_by_code c g e =
+    by (is_nothing c.named) c.shape c.keys.items
+    ∙ ap (λ l. is_nothing l.named && is_none l.pairing) e
+    ∙ ap (λ b. is_nothing g.named && b) (sym (none_by_pairing g.items))
+  where
+    by : (b : Bool) (sh : Shape) (ks : List StringAt) → b && (is_pairs sh && is_nil ks)
+        ≡ b && is_none (pairing_in sh (map placed_text_of ks))
+    by b shape.Pairs [] = refl
+    by b shape.Pairs (k ∷ ks) = refl
+    by b (shape.Key k) ks = refl
+    by b shape.Other ks = refl
+
 abbrev lone_if : Pairing → Option PlacedText
 lone_if (key (k ∷ ks) s) = Some s
 lone_if _ = None
@@ -133,6 +169,62 @@ lone_by_code c g e =
     by false shape.Pairs ks = refl
     by false (shape.Key s) ks = refl
     by false shape.Other ks = refl
+
+-- of a group that is closed, one thing at most is told
+module _ (n : ℕ) (c : CodeGroup) (g : Nesting) (e : level_of_code c ≡ level_of g.inner) where
+  no_group : (is_pairs c.shape && not (is_nil c.keys.items)) ≡ false → of_group g.inner ≡ []
+  no_group h = sym (group_by_code c g.inner e) ∙ by (is_array c.named) c.shape c.keys.items h
+    where
+      by : (b : Bool) (sh : Shape) (ks : List StringAt)
+          → (is_pairs sh && not (is_nil ks)) ≡ false
+          → cond (not b && is_pairs sh) (of_keys [] (map placed_text_of ks)) [] ≡ []
+      by true sh ks h = refl
+      by false shape.Pairs [] h = refl
+      by false shape.Pairs (k ∷ ks) h = absurd (true≢false h)
+      by false (shape.Key k) ks h = refl
+      by false shape.Other ks h = refl
+
+  no_lone : is_pairs c.shape ≡ true → of_lone g.inner ≡ []
+  no_lone h = sym (lone_by_code c g.inner e) ∙ by (is_nothing c.named) c.shape c.keys.items h
+    where
+      by : (b : Bool) (sh : Shape) (ks : List StringAt) → is_pairs sh ≡ true
+          → code_lone b sh ks ≡ []
+      by true shape.Pairs ks h = refl
+      by false shape.Pairs ks h = refl
+      by b (shape.Key s) ks h = absurd (true≢false (sym h))
+      by b shape.Other ks h = absurd (true≢false (sym h))
+
+  no_empty : (is_pairs c.shape && is_nil c.keys.items) ≡ false → of_empty n g ≡ []
+  no_empty h =
+      ap (λ b. cond (b && is_below_root g.around) (warning_at reason.EmptyGroup n ∷ []) [])
+      (sym (empty_by_code c g.inner e) ∙ ap (λ b. is_nothing c.named && b) h
+      ∙ by (is_nothing c.named))
+    where
+      by : (b : Bool) → (b && false) ≡ false
+      by true = refl
+      by false = refl
+
+  pub closed_unpaired : is_pairs c.shape ≡ false → of_lone g.inner ≡ of_piece (closing n) g
+  closed_unpaired h =
+      sym (ap (λ l. l ++ (of_lone g.inner ++ of_empty n g))
+      (no_group (ap (λ b. b && not (is_nil c.keys.items)) h))
+      ∙ ap (λ l. of_lone g.inner ++ l) (no_empty (ap (λ b. b && is_nil c.keys.items) h))
+      ∙ append-nil (of_lone g.inner))
+
+  pub closed_empty : is_pairs c.shape ≡ true → is_nil c.keys.items ≡ true
+      → of_empty n g ≡ of_piece (closing n) g
+  closed_empty h k =
+      sym (ap (λ l. l ++ (of_lone g.inner ++ of_empty n g))
+      (no_group (ap (λ b. b && not (is_nil c.keys.items)) h ∙ ap not k))
+      ∙ ap (λ l. l ++ of_empty n g) (no_lone h))
+
+  pub closed_pairs : is_pairs c.shape ≡ true → is_nil c.keys.items ≡ false
+      → of_group g.inner ≡ of_piece (closing n) g
+  closed_pairs h k =
+      sym (ap (λ l. of_group g.inner ++ (l ++ of_empty n g)) (no_lone h)
+      ∙ ap (λ l. of_group g.inner ++ l)
+      (no_empty (ap (λ b. b && is_nil c.keys.items) h ∙ k))
+      ∙ append-nil (of_group g.inner))
 
 -- what the code tells of a string alone
 pub told_lone : (c : CodeGroup) (s : StringAt) → c.shape ≡ shape.Key s

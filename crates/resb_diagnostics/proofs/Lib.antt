@@ -23,6 +23,7 @@ mod Lists
 mod LocationLemmas
 mod OnceLemmas
 mod OnceLists
+mod OpenGroups
 mod OutdentLemmas
 mod PartnersLemmas
 mod LongLemmas

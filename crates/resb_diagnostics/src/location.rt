@@ -6,7 +6,7 @@ ghost use Rattle.resb_diagnostics.specs.Inner.Tokens.{NoByte};
 ghost use Rattle.resb_diagnostics.specs.Location as location;
 ghost use Rattle.resb_diagnostics.specs.Location.{line_at, column_at};
 
-use crate::runs::first_byte;
+use crate::runs::near_byte;
 use std::marker::Model;
 
 /// A place in a text as a person counts: lines from 1, and characters of the line from 1.
@@ -84,7 +84,7 @@ pub fn location_of(text: &[u8], place: usize) -> Location
 }
 
 /// Where a place is that doesn't stand before another one, of which that is known. Line feeds are
-/// looked for many bytes at a time, and the characters of the last line alone are counted.
+/// looked for sixteen bytes at a time, and the characters of the last line alone are counted.
 #[tactic(auto, using(crate::proofs::LocationLemmas::few_places))]
 fn location_behind(text: &[u8], from: usize, known: Location, place: usize) -> Location
     requires order { from ≤ place }
@@ -99,7 +99,7 @@ fn location_behind(text: &[u8], from: usize, known: Location, place: usize) -> L
         mut column,
     } = known;
     let mut start = from;
-    'feeds: while let Some(feed) = first_byte(text, b'\n', start, place) {
+    'feeds: while let Some(feed) = near_byte(text, b'\n', start, place) {
         line += 1;
         column = 1;
         start = feed + 1;

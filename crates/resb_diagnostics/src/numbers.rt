@@ -111,6 +111,7 @@ fn tell_cut(number: StringAt<'_>, found: &mut Vec<Warning>) -> Result<(), AllocE
 }
 
 /// Adds the warnings of a string that comes, if its group has numbers.
+#[inline(always)]
 pub(crate) fn tell_number(
     string: StringAt<'_>,
     named: Named,

@@ -39,6 +39,22 @@ fn bytes_before(text: &[u8], from: usize, byte: u8) -> usize
     }
 }
 
+/// The same where the byte is thought to be near: sixteen bytes are looked at at once.
+pub(crate) fn near_byte(text: &[u8], byte: u8, from: usize, to: usize) -> Option<usize>
+    requires { (from ≤ to) × (to ≤ length text.now) }
+    ensures { IsFound byte text.now from to result }
+{
+    let mut at = from;
+    'sixteens: while to - at >= 16 {
+        let near = bytes_before(text, at, byte);
+        if near < 16 {
+            return Some(at + near);
+        }
+        at += 16;
+    }
+    first_byte(text, byte, at, to)
+}
+
 /// Where a quote or a backslash stands first, from a place on. Sixteen bytes are looked at at once,
 /// since most strings are short.
 pub(crate) fn string_stop(text: &[u8], from: usize) -> Option<usize>

@@ -2,7 +2,7 @@
 //! Where a string or a comment ends is found in `runs`; what the pieces say of groups is in
 //! `groups`.
 ghost use Rattle.std.specs.Prelude.{◌≡◌, ◌==◌, ◌+◌, ◌<◌, length, slice_index, true, false};
-ghost use Rattle.std.specs.Prelude.{None, option_map};
+ghost use Rattle.std.specs.Prelude.{None};
 ghost use Rattle.resb_grammar.specs.Ascii as ascii;
 ghost use Rattle.resb_grammar.specs.ByteRuns as bytes;
 ghost use Rattle.resb_diagnostics.specs.Pieces.{is_behind_colon};
@@ -10,10 +10,9 @@ ghost use Rattle.resb_diagnostics.specs.Braces as braces;
 ghost use Rattle.resb_diagnostics.specs.Inner.Tokens.{IsBetween, IsToken, IsQuiet, IsFirst};
 ghost use Rattle.resb_diagnostics.specs.Inner.Tokens.{IsFound};
 ghost use Rattle.resb_diagnostics.specs.Inner.Tokens.{one_byte_piece};
-ghost use Rattle.resb_diagnostics.specs.Inner.Looks.{text_piece_of};
 
 use crate::runs::{comment_end, first_byte, string_stop, word_end};
-use resb_grammar::{blanks_end, is_word};
+use resb_grammar::is_word;
 
 /// A string of a text.
 #[derive(Clone, Copy)]
@@ -50,39 +49,16 @@ pub(crate) struct Token<'a> {
     pub end: usize,
 }
 
-/// Blanks, and what stands behind them.
-pub(crate) fn next_token(text: &[u8], from: usize) -> Token<'_>
-    requires fits { from < length text.now }
-    requires between { IsBetween text.now from }
-    ensures { IsToken text.now from result }
-{
-    let at = blanks_end(text, from);
-    if at == text.len() {
-        return Token {
-            piece: None,
-            backslash: None,
-            end: at,
-        };
-    }
-    token_at(text, at)
-}
-
-/// What stands at a place where no blank does.
-fn token_at(text: &[u8], at: usize) -> Token<'_>
+/// What stands at a place where neither a blank does nor a byte that is a piece.
+pub(crate) fn token_at(text: &[u8], at: usize) -> Token<'_>
     requires fits { at < length text.now }
     requires between { IsBetween text.now at }
+    requires no_piece { one_byte_piece at (slice_index text.now at) ≡ None }
     ensures { IsToken text.now at result }
 {
     let byte = text[at];
     if byte == b'"' {
         return quoted(text, at);
-    }
-    if let Some(piece) = sign(at, byte) {
-        return Token {
-            piece: Some(piece),
-            backslash: None,
-            end: at + 1,
-        };
     }
     if is_word(byte) {
         return word(text, at);
@@ -108,18 +84,6 @@ fn behind_other(text: &[u8], at: usize, byte: u8) -> usize
         comment_end(text, at)
     } else {
         at + 1
-    }
-}
-
-/// The piece that is the byte at a place, if it is one.
-fn sign<'a>(at: usize, byte: u8) -> Option<Piece<'a>>
-    ensures { option_map text_piece_of result ≡ one_byte_piece at byte }
-{
-    match byte {
-        b'{' => Some(Piece::Open),
-        b'}' => Some(Piece::Close(at)),
-        b',' => Some(Piece::Comma(at)),
-        _ => None,
     }
 }
 

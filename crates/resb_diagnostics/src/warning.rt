@@ -1,18 +1,21 @@
 //! What a person may not have meant in a text that is a bundle: most of it is taken otherwise by
 //! another reader, ICU's `genrb`.
 //! A warning changes nothing about what is made. Why a text is refused isn't found here.
-ghost use Rattle.std.specs.Prelude.{◌≡◌, ◌++◌, ◌<◌, length, option_map, IfOk, OnOk};
+ghost use Rattle.std.specs.Prelude.{◌≡◌, ◌++◌, ◌<◌, ◌≤◌, [], Some, None, length, option_map, IfOk, OnOk};
+ghost use Rattle.std.specs.Prelude.{slice_index};
 ghost use Rattle.std.specs.Prelude.{IsPermutation};
 ghost use Rattle.std.specs.List.Sorted.{IsSortedByKey};
 ghost use Rattle.std.specs.Ordering.{nat_cmp};
 ghost use Rattle.resb_diagnostics.specs.Groups as spec;
 ghost use Rattle.resb_diagnostics.specs.Groups.{groups_behind};
 ghost use Rattle.resb_diagnostics.specs.Warnings.{warned, of_end};
-ghost use Rattle.resb_diagnostics.specs.Inner.Looks.{text_piece_of, ShowsNesting};
-ghost use Rattle.resb_diagnostics.specs.Inner.Tokens.{of_some_backslash, HasScanned};
+ghost use Rattle.resb_diagnostics.specs.Inner.Looks.{text_piece_of, HasInner, ShowsNesting};
+ghost use Rattle.resb_diagnostics.specs.Inner.Tokens.{of_some_backslash, one_byte_piece, HasScanned};
+ghost use Rattle.resb_diagnostics.specs.Inner.Tokens.{IsBetween, IsToken, Passes};
 
 use crate::groups::Groups;
-use crate::text_pieces::{Piece, next_token};
+use crate::text_pieces::{Piece, Token, token_at};
+use resb_grammar::blanks_end;
 use std::alloc::{AllocError, Global};
 
 /// What a person may not have meant. Places are in bytes from the text's start.
@@ -62,7 +65,7 @@ pub fn warnings(alloc: Global, text: &str) -> Result<Vec<Warning>, AllocError>
         (λ found. IsPermutation (warned text.now (length text.now)) found.items) }
     ensures order { IfOk result (λ found. IsSortedByKey (λ w. w.place) nat_cmp found.items) }
 {
-    let mut scan = Scan::new(alloc, text.as_bytes());
+    let mut scan = Scan::new(alloc, text.as_bytes())?;
     'tokens: while scan.at < text.len() {
         scan.advance()?;
     }
@@ -83,15 +86,15 @@ struct Scan<'a> {
 
 impl<'a> Scan<'a> {
     /// Nothing was looked at.
-    fn new(alloc: Global, text: &'a [u8]) -> Scan<'a>
-        ensures { HasScanned result text.now }
+    fn new(alloc: Global, text: &'a [u8]) -> Result<Scan<'a>, AllocError>
+        ensures { IfOk result (λ made. HasScanned made text.now) }
     {
-        Scan {
+        Ok(Scan {
             text,
             at: 0,
-            groups: Groups::new(alloc),
+            groups: Groups::new(alloc)?,
             found: Vec::new(alloc),
-        }
+        })
     }
 
     /// Goes on behind the next piece, or to the text's end.
@@ -101,7 +104,61 @@ impl<'a> Scan<'a> {
         ensures { OnOk result
             (HasScanned self.new self.old.text.now × (self.old.at < self.new.at)) }
     {
-        let token = next_token(self.text, self.at);
+        let text = self.text;
+        let at = self.behind_blanks();
+        if at == text.len() {
+            return self.pass(Token {
+                piece: None,
+                backslash: None,
+                end: at,
+            });
+        }
+        match text[at] {
+            b'{' => self.pass_byte(at, Piece::Open),
+            b'}' => self.pass_byte(at, Piece::Close(at)),
+            b',' => self.pass_byte(at, Piece::Comma(at)),
+            _ => self.pass(token_at(text, at)),
+        }
+    }
+
+    /// Where the blanks at the place end.
+    fn behind_blanks(&self) -> usize
+        requires more { self.now.at < length self.now.text.now }
+        requires reads { HasScanned self.now self.now.text.now }
+        ensures fits { result ≤ length self.now.text.now }
+        ensures between { IsBetween self.now.text.now result }
+        ensures passes { Passes self.now.text.now self.now.at result [] None }
+    {
+        blanks_end(self.text, self.at)
+    }
+
+    /// Goes on behind the byte at a place behind blanks, which is a piece.
+    #[inline(always)]
+    fn pass_byte(&mut self, at: usize, piece: Piece<'a>) -> Result<(), AllocError>
+        requires reads { HasScanned self.old self.old.text.now }
+        requires fits { at < length self.old.text.now }
+        requires between { IsBetween self.old.text.now at }
+        requires passes { Passes self.old.text.now self.old.at at [] None }
+        requires is_piece { Some (text_piece_of piece)
+            ≡ one_byte_piece at (slice_index self.old.text.now at) }
+        ensures { OnOk result
+            (HasScanned self.new self.old.text.now × (self.old.at < self.new.at)) }
+    {
+        self.pass(Token {
+            piece: Some(piece),
+            backslash: None,
+            end: at + 1,
+        })
+    }
+
+    /// Goes on behind a token, and adds its warnings.
+    #[inline(always)]
+    fn pass(&mut self, token: Token<'a>) -> Result<(), AllocError>
+        requires reads { HasScanned self.old self.old.text.now }
+        requires token { IsToken self.old.text.now self.old.at token }
+        ensures { OnOk result
+            (HasScanned self.new self.old.text.now × (self.old.at < self.new.at)) }
+    {
         self.tell_backslash(token.backslash)?;
         self.take(token.piece)?;
         self.at = token.end;
@@ -126,7 +183,9 @@ impl<'a> Scan<'a> {
     }
 
     /// Adds the warnings of a piece, if one comes, and goes on behind it.
+    #[inline(always)]
     fn take(&mut self, piece: Option<Piece<'a>>) -> Result<(), AllocError>
+        requires { HasInner self.old.groups }
         ensures text { self.new.text ≡ self.old.text }
         ensures groups { OnOk result ((g : spec.Nesting) → ShowsNesting self.old.groups g
             → ShowsNesting self.new.groups

@@ -1,11 +1,10 @@
 -- What the code keeps of the groups that are open, beside their items.
-use Rattle.std.specs.Prelude.{◌≡◌, Bool, true, false, ◌&&◌, not, List, []}
-use Rattle.std.specs.Prelude.{◌∷◌, ◌++◌, map}
-use Rattle.std.specs.Option.{option_map}
+use Rattle.std.specs.Prelude.{◌≡◌, ◌<◌, ℕ, Bool, true, false, ◌&&◌, not, List, []}
+use Rattle.std.specs.Prelude.{◌∷◌, ◌++◌, map, length, take, get_or}
 use Rattle.resb_diagnostics.specs.Pieces.{PlacedText, TextPiece, a_string, a_type, opening, closing}
 use Rattle.resb_diagnostics.specs.Pieces.{a_comma}
 use Rattle.resb_diagnostics.specs.Groups.{GroupItem, string_item, group_item, OpenGroup, Nesting}
-use Rattle.resb_diagnostics.specs.Groups.{named_behind, with_one_more}
+use Rattle.resb_diagnostics.specs.Groups.{is_string_piece, named_behind, with_one_more}
 use Rattle.resb_diagnostics.specs.Warnings.{is_array, is_nothing, warning_at}
 use Rattle.resb_diagnostics.specs.declared.text_pieces.StringAt.{StringAt}
 use Rattle.resb_diagnostics.specs.declared.text_pieces.Piece.{Piece as CodePiece}
@@ -87,22 +86,26 @@ abbrev pub levels_of : List OpenGroup → List Level
 levels_of [] = []
 levels_of (g ∷ gs) = levels_of gs ++ level_of g ∷ []
 
--- the code's groups are these
-pub record ShowsNesting (c : CodeGroups) (g : Nesting) : Type 0 where
-  pub last : option_map text_piece_of c.last ≡ g.last
-  pub inner : level_of_code c.inner ≡ level_of g.inner
-  pub around : map level_of_code c.around.items ≡ levels_of g.around
+-- the code's innermost group is there
+abbrev pub HasInner : CodeGroups → Type 0
+HasInner c = c.depth < length c.groups.items
 
--- a group began, behind these
-pub record IsOpened (c : CodeGroups) (g : Nesting) : Type 0 where
-  pub inner : level_of_code c.inner
-      ≡ level_of (record { named = named_behind g.last; items = [] })
-  pub around : map level_of_code c.around.items ≡ levels_of (g.inner ∷ g.around)
+-- of the groups that the code keeps these are open, so many in the text itself
+pub record ShowsOpen (xs : List CodeGroup) (depth : ℕ) (g : OpenGroup) (gs : List OpenGroup) :
+    Type 0 where
+  pub fits : depth < length xs
+  pub count : depth ≡ length gs
+  pub inner : (x : CodeGroup) → level_of_code (get_or xs depth x) ≡ level_of g
+  pub around : map level_of_code (take depth xs) ≡ levels_of gs
+
+-- the code knows the last piece and the open groups
+pub record ShowsNesting (c : CodeGroups) (g : Nesting) : Type 0 where
+  pub string : c.is_behind_string ≡ is_string_piece g.last
+  pub next : c.next ≡ named_behind g.last
+  pub groups : ShowsOpen c.groups.items c.depth g.inner g.around
 
 -- the innermost group ended
 abbrev pub IsClosed : CodeGroups → OpenGroup → List OpenGroup → Type 0
-IsClosed c inner [] =
-    (level_of_code c.inner ≡ level_of inner) × (map level_of_code c.around.items ≡ [])
-IsClosed c inner (outer ∷ around) =
-    (level_of_code c.inner ≡ level_of (with_one_more group_item outer))
-    × (map level_of_code c.around.items ≡ levels_of around)
+IsClosed c g [] = ShowsOpen c.groups.items c.depth g []
+IsClosed c g (outer ∷ gs) =
+    ShowsOpen c.groups.items c.depth (with_one_more group_item outer) gs

@@ -7,7 +7,9 @@ ghost use Rattle.resb_draft.specs.Drafts.{is_ready};
 use crate::collation::{BINARY, check_collations, forms_in, refuse_lacking, unbuilt};
 use crate::compile::{BundleFile, NO_FILE_NAME, is_file_name};
 use crate::filter::{draft_of, filtered, refuse_text, without_rules};
+use crate::format_version::check_version;
 use crate::input::Input;
+use crate::key_order::{ReadKeys, laid_keys};
 use crate::say::{or_fail, refuse_memory};
 use crate::show::opened_of;
 use crate::streams::made;
@@ -43,6 +45,8 @@ struct Layout<'p, 'b> {
     pool: Option<&'p PoolBundle<'b>>,
     /// As ICU's compiler lays it out: keys may lie at the ends of others.
     is_compact: bool,
+    /// The version of the format that it must have, if one is asked for.
+    version: Option<u8>,
 }
 
 /// The file of a text in ICU's own form, with the status of what is said of its rules of collation;
@@ -57,6 +61,7 @@ pub(crate) fn drafted_file<'t>(
     let layout = Layout {
         pool,
         is_compact: wanted.is_compact,
+        version: wanted.version,
     };
     let (draft, keys) = draft_of(rt, name, text, wanted.limit)?;
     let bundle_name = draft.name;
@@ -77,7 +82,7 @@ pub(crate) fn drafted_file<'t>(
     let types = unbuilt_in(rt, name, &draft.root)?;
     let status = check_collations(rt, name, types.as_slice(), wanted)?;
     let draft = without_rules(rt, name, draft, wanted.omits_rules)?;
-    let bytes = written(rt, name, draft, keys.as_slice(), layout)?;
+    let bytes = written(rt, name, draft, keys, layout)?;
     Ok(BundleFile {
         bytes,
         bundle,
@@ -124,14 +129,14 @@ fn built_file(
 }
 
 /// Keys, and this one if it isn't among them.
-fn listed<'k>(mut keys: Vec<Key<'k>>, name: &'k str) -> Result<Vec<Key<'k>>, AllocError> {
-    for key in keys.as_slice() {
+fn listed<'k>(mut read: ReadKeys<'k>, name: &'k str) -> Result<ReadKeys<'k>, AllocError> {
+    for key in read.keys.as_slice() {
         if key.as_str() == name {
-            return Ok(keys);
+            return Ok(read);
         }
     }
-    keys.push(Key::from(name))?;
-    Ok(keys)
+    read.keys.push(Key::from(name))?;
+    Ok(read)
 }
 
 /// The bytes of a text's file with the binary forms that a file has, before rules leave something
@@ -169,21 +174,25 @@ fn collated_file<'s>(
         return Err(refuse_lacking(rt, built.name, key));
     }
     let bundle = without_rules(rt, name, bundle, wanted.omits_rules)?;
-    written(rt, name, bundle, keys.as_slice(), layout)
+    written(rt, name, bundle, keys, layout)
 }
 
 /// The file of a bundle, laid out like this.
-fn written(
+fn written<'t>(
     rt: &HostRuntime,
     name: &str,
-    bundle: DraftBundle<'_>,
-    keys: &[Key<'_>],
+    bundle: DraftBundle<'t>,
+    read: ReadKeys<'t>,
     layout: Layout<'_, '_>,
 ) -> Result<Vec<u8>, u8>
     requires { is_ready bundle.root ≡ true }
 {
     let has_fallback = bundle.is_locale_fallback_enabled;
     let (alloc, root) = (rt.alloc(), bundle.root);
+    let keys = laid_keys(alloc, &root, read, layout.is_compact).map_err(|_| refuse_memory(
+        rt, name,
+    ))?;
+    let keys = keys.as_slice();
     let file = match (layout.pool, layout.is_compact) {
         (None, false) => Serializer::draft_to_bytes(alloc, root, has_fallback, keys),
         (None, true) => Serializer::draft_to_bytes_compact(alloc, root, has_fallback, keys),
@@ -195,10 +204,12 @@ fn written(
         }
     };
     // what the writer refuses has no place in the text
-    file.map_err(|e| refuse_text(
+    let file = file.map_err(|e| refuse_text(
         rt,
         name,
         SourceText::new("", None),
         IcuCompileError::Writing(e),
-    ))
+    ))?;
+    check_version(rt, name, file.as_slice(), layout.version)?;
+    Ok(file)
 }

@@ -116,7 +116,9 @@ impl<'d, 'a> Listing<'d, 'a> {
             }
         }
         self.push_entries(value)?;
-        self.pending[first..].sort_unstable_by_key(|value| u32::MAX - value.read);
+        if let Some(inner) = self.pending.get_mut(first..) {
+            inner.sort_unstable_by_key(|value| u32::MAX - value.read);
+        }
         Ok(())
     }
 

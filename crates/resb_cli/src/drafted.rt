@@ -129,14 +129,14 @@ fn built_file(
 }
 
 /// Keys, and this one if it isn't among them.
-fn listed<'k>(mut read: ReadKeys<'k>, name: &'k str) -> Result<ReadKeys<'k>, AllocError> {
-    for key in read.keys.as_slice() {
+fn listed<'k>(mut keys: Vec<Key<'k>>, name: &'k str) -> Result<Vec<Key<'k>>, AllocError> {
+    for key in keys.as_slice() {
         if key.as_str() == name {
-            return Ok(read);
+            return Ok(keys);
         }
     }
-    read.keys.push(Key::from(name))?;
-    Ok(read)
+    keys.push(Key::from(name))?;
+    Ok(keys)
 }
 
 /// The bytes of a text's file with the binary forms that a file has, before rules leave something
@@ -149,7 +149,11 @@ fn collated_file<'s>(
     layout: Layout<'_, '_>,
 ) -> Result<Vec<u8>, u8> {
     let Source { name, text } = source;
-    let (bundle, keys) = draft_of(rt, name, text, wanted.limit)?;
+    let (bundle, read) = draft_of(rt, name, text, wanted.limit)?;
+    let ReadKeys {
+        keys,
+        root: read_root,
+    } = read;
     let types = unbuilt_in(rt, name, &bundle.root)?;
     let forms = forms_in(rt, built.name, built.root, types.as_slice())?;
     let DraftBundle {
@@ -174,7 +178,11 @@ fn collated_file<'s>(
         return Err(refuse_lacking(rt, built.name, key));
     }
     let bundle = without_rules(rt, name, bundle, wanted.omits_rules)?;
-    written(rt, name, bundle, keys, layout)
+    let read = ReadKeys {
+        keys,
+        root: read_root,
+    };
+    written(rt, name, bundle, read, layout)
 }
 
 /// The file of a bundle, laid out like this.

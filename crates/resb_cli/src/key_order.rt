@@ -2,10 +2,10 @@
 //! first, among the entries that are left in the draft.
 //! How a draft's keys are laid out is in `resb_write`, and what rules leave of it in `filter`.
 use crate::entries::{entries_at, members_at, text_at, value_at};
-use indexmap::IndexSet;
 use resb_draft::Draft;
-use resb_tree::Key;
-use std::alloc::{AllocError, Global};
+use resb_grammar::KeyList;
+use resb_tree::{Key, NoMemory};
+use std::alloc::Global;
 
 /// The key at which a root has the names of the files that it depends on. ICU's compiler lists it
 /// right before the key of the first of them.
@@ -25,11 +25,8 @@ struct Value<'a> {
 
 /// What is listed of a draft, and what isn't looked at yet.
 #[derive(Drop)]
-struct Listing<'d, 'a> {
-    draft: &'d Draft<'a>,
-    /// The name of the first file that the draft depends on.
-    dependency: Option<&'d str>,
-    keys: IndexSet<&'a str>,
+struct Listing<'a> {
+    keys: KeyList<'a>,
     /// The last one comes first in the text.
     pending: Vec<Value<'a>>,
 }
@@ -50,23 +47,13 @@ pub(crate) fn laid_keys<'a>(
     draft: &Draft<'a>,
     read: ReadKeys<'a>,
     is_compact: bool,
-) -> Result<Vec<Key<'a>>, AllocError> {
+) -> Result<Vec<Key<'a>>, NoMemory> {
+    let ReadKeys { keys, root } = read;
     let dependency = first_dependency(draft);
-    if !is_compact || (draft.root == read.root && dependency.is_none()) {
-        return Ok(read.keys);
+    if !is_compact || (draft.root == root && dependency.is_none()) {
+        return Ok(keys);
     }
-    let mut listing = Listing {
-        draft,
-        dependency,
-        keys: IndexSet::new(alloc),
-        pending: Vec::new(alloc),
-    };
-    listing.list_all(read.root)?;
-    let mut keys = Vec::new(alloc);
-    for key in &listing.keys {
-        keys.push(Key::from(*key))?;
-    }
-    Ok(keys)
+    listed_keys(alloc, draft, dependency, root)
 }
 
 /// The name of the first file that a draft depends on.
@@ -76,37 +63,54 @@ fn first_dependency<'d>(draft: &'d Draft<'_>) -> Option<&'d str> {
     text_at(draft, *first)
 }
 
-impl<'d, 'a> Listing<'d, 'a> {
-    /// Lists the keys of all values of the draft, whose root had this number when it was read.
-    fn list_all(&mut self, read_root: u32) -> Result<(), AllocError> {
-        self.pending.push(Value {
-            key: None,
-            read: read_root,
-            now: self.draft.root,
-        })?;
-        while let Some(value) = self.pending.pop() {
-            self.list(value)?;
-            self.push_inner(value)?;
-        }
-        Ok(())
+/// The keys of a draft, whose root had this number when it was read.
+fn listed_keys<'a>(
+    alloc: Global,
+    draft: &Draft<'a>,
+    dependency: Option<&str>,
+    read_root: u32,
+) -> Result<Vec<Key<'a>>, NoMemory> {
+    let mut listing = Listing {
+        keys: KeyList::new(alloc),
+        pending: Vec::new(alloc),
+    };
+    listing.pending.push(Value {
+        key: None,
+        read: read_root,
+        now: draft.root,
+    })?;
+    for _ in 0..u64::MAX {
+        let Some(value) = listing.pending.pop() else {
+            break;
+        };
+        listing.list(draft, dependency, value)?;
+        listing.push_inner(draft, value)?;
     }
+    let Listing { keys, pending: _ } = listing;
+    keys.into_keys(alloc)
+}
 
+impl<'a> Listing<'a> {
     /// Lists the key of a value.
-    fn list(&mut self, value: Value<'a>) -> Result<(), AllocError> {
+    fn list(
+        &mut self,
+        draft: &Draft<'a>,
+        dependency: Option<&str>,
+        value: Value<'a>,
+    ) -> Result<(), NoMemory> {
         let Some(key) = value.key else {
             return Ok(());
         };
-        if self.dependency.is_some() && text_at(self.draft, value.now) == self.dependency {
-            let _is_new = self.keys.insert(DEPENDENCIES)?;
+        if dependency.is_some() && text_at(draft, value.now) == dependency {
+            self.keys.list(DEPENDENCIES)?;
         }
-        let _is_new = self.keys.insert(key)?;
-        Ok(())
+        self.keys.list(key)
     }
 
     /// Has the values right inside a value wait, the first one of the text as the last.
-    fn push_inner(&mut self, value: Value<'a>) -> Result<(), AllocError> {
+    fn push_inner(&mut self, draft: &Draft<'a>, value: Value<'a>) -> Result<(), NoMemory> {
         let first = self.pending.len();
-        if let Some(members) = members_at(self.draft, value.now) {
+        if let Some(members) = members_at(draft, value.now) {
             for member in members.iter().copied() {
                 self.pending.push(Value {
                     key: None,
@@ -115,20 +119,20 @@ impl<'d, 'a> Listing<'d, 'a> {
                 })?;
             }
         }
-        self.push_entries(value)?;
-        if let Some(inner) = self.pending.get_mut(first..) {
+        self.push_entries(draft, value)?;
+        if let Some((_, inner)) = self.pending.split_at_mut_checked(first) {
             inner.sort_unstable_by_key(|value| u32::MAX - value.read);
         }
         Ok(())
     }
 
-    /// Has the values of a table wait. As in a draft, keys ascend.
-    fn push_entries(&mut self, table: Value<'a>) -> Result<(), AllocError> {
-        let Some((keys, values)) = entries_at(self.draft, table.now) else {
+    /// Has the values of a table wait.
+    fn push_entries(&mut self, draft: &Draft<'a>, table: Value<'a>) -> Result<(), NoMemory> {
+        let Some((keys, values)) = entries_at(draft, table.now) else {
             return Ok(());
         };
         for (key, now) in keys.iter().copied().zip(values.iter().copied()) {
-            let read = self.read_number(table, key, now);
+            let read = read_number(draft, table, key, now);
             self.pending.push(Value {
                 key: Some(key),
                 read,
@@ -137,12 +141,12 @@ impl<'d, 'a> Listing<'d, 'a> {
         }
         Ok(())
     }
+}
 
-    /// The number that the value of a table's entry had when it was read.
-    fn read_number(&self, table: Value<'_>, key: &str, now: u32) -> u32 {
-        if table.read == table.now {
-            return now;
-        }
-        value_at(self.draft, table.read, key).unwrap_or(u32::MAX)
+/// The number that the value of a table's entry had when it was read.
+fn read_number(draft: &Draft<'_>, table: Value<'_>, key: &str, now: u32) -> u32 {
+    if table.read == table.now {
+        return now;
     }
+    value_at(draft, table.read, key).unwrap_or(u32::MAX)
 }

@@ -5,7 +5,7 @@ mkdir -p source/sub built
 printf 'de_AT{ hi{"Servus"} n:int{3} }' > source/sub/first.txt
 printf '\357\273\277root{ hi{"Hello"} list{ "a", "b" } }' > source/root.txt
 printf 'broken{ a{ "x" ' > source/broken.txt
-told 0 '' '' genrb -q -k -R -C -c -v -i elsewhere -e utf-8 --formatVersion 3 -s source -d built \
+told 0 '' '' genrb -q -k -R -C -c -v -i elsewhere -e utf-8 --formatVersion 2 -s source -d built \
   sub/first.txt root.txt
 holds built 'de_AT.res root.res'
 told 0 '' '' compile --icu source/root.txt -o wanted.res
@@ -35,6 +35,8 @@ told 4 '' 'x/root.txt: no such file' genrb --filterDir x -s source root.txt
 told 1 '' 'resb: --encoding is UTF-8, or UTF-16 by the mark that a text begins with' \
   genrb -e latin1 -s source root.txt
 told 1 '' 'resb: --formatVersion is 2 or 3' genrb --formatVersion 1 -s source root.txt
+told 3 '' 'source/root.txt: its file has format 2.0, and --formatVersion asks for 3' \
+  genrb --formatVersion 3 -s source -d built root.txt
 # the pool bundle that ICU 72's compiler writes for texts without a key and a string
 printf 'none{}' > source/none.txt
 told 0 '' '' genrb -q -s source -d built --writePoolBundle -k none.txt
@@ -220,3 +222,35 @@ same over/p.res wanted.res
 words 3 50000007 a08 c 17 17 7 a0004 17 5440b0b8 6261636b 7a006100 aa006261 780000 6f0000 6e0077 \
   70000 2c0029 25002d 24003a e002b 9000b 3 1000d > wanted.res
 same over/r.res wanted.res
+# its order of keys: `%%DEPENDENCY` comes right before the key of the first dependency
+printf 'order{ a{"v"} b{ c:process(dependency){"z"} d{"w"} } e:process(dependency){"y"} }' \
+  > source/order.txt
+words 2 20000017 7 e 1e 1e 4 0 17 620061 45442525 444e4550 59434e45 64006300 aa006500 790000 \
+  7a0000 760000 770000 20000 10003 310002 30033 aaaa0007 240004 220020 aaaa0035 90000009 \
+  60000005 5000000c 60000001 > wanted.res
+told 0 '' '' genrb -q -s source -d built --compact order.txt
+same built/order.res wanted.res
+# of what rules leave, a key comes where it stands first
+printf 'f{ a{ keep{"1"} b{"2"} } b{"one two three"} c{ keep{"2"} x{"3"} } }' > source/f.txt
+printf 'g{ b{"one two three"} keep{"two three"} }' > source/g.txt
+printf -- '-/a/*\n+/a/b\n-/c/x\n' > rules/f.txt
+printf -- '-/none\n' > rules/g.txt
+told 0 '' '' genrb -q -s source -d built --compact --filterDir rules --writePoolBundle shared \
+  f.txt g.txt
+words 3 20000000 8 c 14 14 0 3 14 1b50aaf0 620061 656b0063 aa007065 6f0000 65006e 740020 6f0077 \
+  740020 720068 650065 aaaa0000 > wanted.res
+same shared/pool.res wanted.res
+told 0 '' '' genrb -q -s source -d over --compact --filterDir rules --usePoolBundle shared f.txt
+words 3 2000000e 208 9 13 13 3 20004 e 1b50aaf0 320000 10000 30002 60001 aaaa0003 3 40002 \
+  50000003 60000001 50000006 > wanted.res
+same over/f.res wanted.res
+told 3 '' 'source/f.txt: its file has format 3.0, and --formatVersion asks for 2' \
+  genrb -q -s source -d over --formatVersion 2 --filterDir rules --usePoolBundle shared f.txt
+# a binary form comes behind all else of its type
+printf 'de{ z{"1"} collations{ standard{ Version{"1"} Sequence{"&a<b"} m{"x"} } x{"y"} } a{"b"} }' \
+  > source/coll.txt
+printf 'de{ z{"1"} collations{ standard{ Version{"1"} Sequence{"&a<b"} m{"x"} %s } x{"y"} } %s }' \
+  '%%CollationBin:bin{00ff}' 'a{"b"}' > forms.txt
+told 0 '' '' compile --icu --compact forms.txt -o forms/de.res
+told 0 '' '' genrb -q -s source -d built --compact --collation forms coll.txt
+same built/de.res forms/de.res

@@ -1,11 +1,11 @@
 //! Rules of collation in drafts of ICU's texts. ICU's compiler makes a binary form of them, without
 //! which ICU opens no collator; this program makes none, but takes it from that compiler's files.
 //! How such a draft becomes a file is in `drafted`.
+use crate::entries::{entries_at, text_at, value_at};
 use crate::say::{complain, refuse_memory};
-use resb_draft::{Draft, Piece};
+use resb_draft::Draft;
 use resb_filter::CollationForm;
 use resb_opened::{Found, Handle};
-use resb_tree::Resource;
 use resb_words::{Collation, CompileWords};
 use std::alloc::{AllocError, Global};
 use std::fmt;
@@ -94,41 +94,8 @@ pub(crate) fn unbuilt<'a>(alloc: Global, draft: &Draft<'a>) -> Result<Vec<&'a st
 fn is_unbuilt(draft: &Draft<'_>, table: u32, key: &str) -> bool {
     let rules = value_at(draft, table, RULES);
     !key.starts_with(PRIVATE)
-        && rules.is_some_and(|rules| is_string(draft, rules))
+        && rules.is_some_and(|rules| text_at(draft, rules).is_some())
         && value_at(draft, table, BINARY).is_none()
-}
-
-/// Whether the piece of this number is a string, be it lent or put together of several.
-fn is_string(draft: &Draft<'_>, number: u32) -> bool {
-    match draft.pieces.get(number as usize) {
-        Some(Piece::String(_)) => true,
-        Some(Piece::Leaf(leaf)) => is_text(leaf),
-        _ => false,
-    }
-}
-
-/// Whether a resource is a string.
-fn is_text(resource: &Resource<'_>) -> bool {
-    matches!(resource, Resource::String(_))
-}
-
-/// The keys of the table that the piece of this number stands for, if it stands for one, and the
-/// numbers of its values.
-fn entries_at<'d, 'a>(draft: &'d Draft<'a>, number: u32) -> Option<(&'d [&'a str], &'d [u32])> {
-    let Some(Piece::Table(part, first)) = draft.pieces.get(number as usize) else {
-        return None;
-    };
-    let keys = draft.keys.get(*first as usize..)?;
-    let values = draft.members.get(part.from as usize..)?;
-    let count = part.count as usize;
-    Some((keys.get(..count)?, values.get(..count)?))
-}
-
-/// The number of the value that the table of this number has at a key, if it is one and has it.
-fn value_at(draft: &Draft<'_>, number: u32, key: &str) -> Option<u32> {
-    let (keys, values) = entries_at(draft, number)?;
-    let place = keys.iter().position(|name| *name == key)?;
-    values.get(place).copied()
 }
 
 /// Says that a file of a name has no binary form for the rules of the type of a key, and gives the

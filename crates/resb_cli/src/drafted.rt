@@ -7,7 +7,9 @@ ghost use Rattle.resb_draft.specs.Drafts.{is_ready};
 use crate::collation::{BINARY, check_collations, forms_in, refuse_lacking, unbuilt};
 use crate::compile::{BundleFile, NO_FILE_NAME, is_file_name};
 use crate::filter::{draft_of, filtered, refuse_text, without_rules};
+use crate::format_version::check_version;
 use crate::input::Input;
+use crate::key_order::{ReadKeys, laid_keys};
 use crate::say::{or_fail, refuse_memory};
 use crate::show::opened_of;
 use crate::streams::made;
@@ -43,6 +45,8 @@ struct Layout<'p, 'b> {
     pool: Option<&'p PoolBundle<'b>>,
     /// As ICU's compiler lays it out: keys may lie at the ends of others.
     is_compact: bool,
+    /// The version of the format that it must have, if one is asked for.
+    version: Option<u8>,
 }
 
 /// The file of a text in ICU's own form, with the status of what is said of its rules of collation;
@@ -57,6 +61,7 @@ pub(crate) fn drafted_file<'t>(
     let layout = Layout {
         pool,
         is_compact: wanted.is_compact,
+        version: wanted.version,
     };
     let (draft, keys) = draft_of(rt, name, text, wanted.limit)?;
     let bundle_name = draft.name;
@@ -77,7 +82,7 @@ pub(crate) fn drafted_file<'t>(
     let types = unbuilt_in(rt, name, &draft.root)?;
     let status = check_collations(rt, name, types.as_slice(), wanted)?;
     let draft = without_rules(rt, name, draft, wanted.omits_rules)?;
-    let bytes = written(rt, name, draft, keys.as_slice(), layout)?;
+    let bytes = written(rt, name, draft, keys, layout)?;
     Ok(BundleFile {
         bytes,
         bundle,
@@ -144,7 +149,11 @@ fn collated_file<'s>(
     layout: Layout<'_, '_>,
 ) -> Result<Vec<u8>, u8> {
     let Source { name, text } = source;
-    let (bundle, keys) = draft_of(rt, name, text, wanted.limit)?;
+    let (bundle, read) = draft_of(rt, name, text, wanted.limit)?;
+    let ReadKeys {
+        keys,
+        root: read_root,
+    } = read;
     let types = unbuilt_in(rt, name, &bundle.root)?;
     let forms = forms_in(rt, built.name, built.root, types.as_slice())?;
     let DraftBundle {
@@ -169,21 +178,29 @@ fn collated_file<'s>(
         return Err(refuse_lacking(rt, built.name, key));
     }
     let bundle = without_rules(rt, name, bundle, wanted.omits_rules)?;
-    written(rt, name, bundle, keys.as_slice(), layout)
+    let read = ReadKeys {
+        keys,
+        root: read_root,
+    };
+    written(rt, name, bundle, read, layout)
 }
 
 /// The file of a bundle, laid out like this.
-fn written(
+fn written<'t>(
     rt: &HostRuntime,
     name: &str,
-    bundle: DraftBundle<'_>,
-    keys: &[Key<'_>],
+    bundle: DraftBundle<'t>,
+    read: ReadKeys<'t>,
     layout: Layout<'_, '_>,
 ) -> Result<Vec<u8>, u8>
     requires { is_ready bundle.root ≡ true }
 {
     let has_fallback = bundle.is_locale_fallback_enabled;
     let (alloc, root) = (rt.alloc(), bundle.root);
+    let keys = laid_keys(alloc, &root, read, layout.is_compact).map_err(|_| refuse_memory(
+        rt, name,
+    ))?;
+    let keys = keys.as_slice();
     let file = match (layout.pool, layout.is_compact) {
         (None, false) => Serializer::draft_to_bytes(alloc, root, has_fallback, keys),
         (None, true) => Serializer::draft_to_bytes_compact(alloc, root, has_fallback, keys),
@@ -195,10 +212,12 @@ fn written(
         }
     };
     // what the writer refuses has no place in the text
-    file.map_err(|e| refuse_text(
+    let file = file.map_err(|e| refuse_text(
         rt,
         name,
         SourceText::new("", None),
         IcuCompileError::Writing(e),
-    ))
+    ))?;
+    check_version(rt, name, file.as_slice(), layout.version)?;
+    Ok(file)
 }

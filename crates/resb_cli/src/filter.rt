@@ -5,6 +5,7 @@ ghost use Rattle.resb_draft.specs.Drafts.{is_ready};
 
 use crate::genrb::PARSE_ERROR;
 use crate::input::bytes_of;
+use crate::key_order::ReadKeys;
 use crate::say::{complain, fail, refuse_memory, refuse_source};
 use crate::texts::SourceText;
 use resb_compile::IcuCompileError;
@@ -12,7 +13,6 @@ use resb_draft::{Draft, DraftBundle};
 use resb_filter::{RuleError, Rules};
 use resb_icu_text::{IcuLimitError, IcuReader};
 use resb_program::{SourceError, text_of};
-use resb_tree::Key;
 use resb_words::Filters;
 use std::alloc::{AllocError, Global};
 use std::path::Path;
@@ -21,30 +21,42 @@ use std::path::Path;
 /// and the root's `UCARules`, which are those of all languages.
 const COLLATION_RULES: &str = "-/collations/*/Sequence\n-/UCARules";
 
-/// The bundle of a text in ICU's own form, and its keys; or the status, once it is said why there
-/// is none.
+/// The bundle of a text in ICU's own form, and its keys as they are read; or the status, once it is
+/// said why there is none.
 pub(crate) fn draft_of<'t>(
     rt: &HostRuntime,
     name: &str,
     text: SourceText<'t>,
     limit: Option<u64>,
-) -> Result<(DraftBundle<'t>, Vec<Key<'t>>), u8>
+) -> Result<(DraftBundle<'t>, ReadKeys<'t>), u8>
     ensures { IfOk result (λ r. is_ready r.0.root ≡ true) }
 {
-    let Some(limit) = limit else {
-        return match IcuReader::read_draft(rt.alloc(), text.whole()) {
-            Ok(read) => Ok(read),
-            Err(e) => Err(refuse_text(rt, name, text, IcuCompileError::Reading(e))),
-        };
+    let (bundle, keys) = match limit {
+        None => IcuReader::read_draft(rt.alloc(), text.whole()).map_err(|e| refuse_text(
+            rt,
+            name,
+            text,
+            IcuCompileError::Reading(e),
+        ))?,
+        Some(limit) => IcuReader::read_draft_within(rt.alloc(), text.whole(), limit).map_err(
+            |e| refuse_limited(rt, name, text, limit, e),
+        )?,
     };
-    match IcuReader::read_draft_within(rt.alloc(), text.whole(), limit) {
-        Ok(read) => Ok(read),
-        Err(IcuLimitError::Text(e)) => {
-            Err(refuse_text(rt, name, text, IcuCompileError::Reading(e)))
-        }
-        Err(IcuLimitError::Larger) => {
-            Err(refuse_source(rt, name, text, &SourceError::Larger(limit)))
-        }
+    let root = bundle.root.root;
+    Ok((bundle, ReadKeys { keys, root }))
+}
+
+/// Says why a text isn't read within a limit, and gives the status of that.
+fn refuse_limited(
+    rt: &HostRuntime,
+    name: &str,
+    text: SourceText<'_>,
+    limit: u64,
+    e: IcuLimitError,
+) -> u8 {
+    match e {
+        IcuLimitError::Text(e) => refuse_text(rt, name, text, IcuCompileError::Reading(e)),
+        IcuLimitError::Larger => refuse_source(rt, name, text, &SourceError::Larger(limit)),
     }
 }
 

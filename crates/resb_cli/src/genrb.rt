@@ -4,10 +4,12 @@
 use crate::below::{as_names, below};
 use crate::compile::{compile, source_of, text_in};
 use crate::filter::{draft_of, filtered, without_rules};
+use crate::format_version::check_version;
 use crate::input::pool_in;
+use crate::key_order::laid_keys;
 use crate::place::place_of;
 use crate::save::{Bytes, save, saved};
-use crate::say::{complain, fail, or_fail};
+use crate::say::{complain, fail, or_fail, refuse_memory};
 use crate::show::settled;
 use crate::streams::{NO_MEMORY, made};
 use crate::texts::{SourceText, taken_in};
@@ -80,6 +82,7 @@ fn compile_texts(rt: &HostRuntime, wanted: &GenrbWords<'_>, texts: &[PathBuf]) -
             collation: wanted.collation,
             omits_rules: wanted.omits_rules,
             is_compact: wanted.is_compact,
+            version: wanted.version,
             files: wanted.files,
             dependencies: Some(wanted.destination),
             is_check: false,
@@ -109,6 +112,7 @@ fn write_pool(
         maker.finish(rt.alloc())
     }
     .map_err(|e| refuse_pool(rt, name, e))?;
+    check_version(rt, name, pool.as_slice(), wanted.version)?;
     let done = save(rt, &place, &Bytes(pool.as_slice()));
     or_fail(rt, name, saved(&place, done))?;
     Ok(0)
@@ -129,6 +133,9 @@ fn add_text(
     let (bundle, keys) = draft_of(rt, name, text, None)?;
     let bundle = filtered(rt, name, bundle, wanted.filters)?;
     let bundle = without_rules(rt, name, bundle, wanted.omits_rules)?;
+    let keys = laid_keys(rt.alloc(), &bundle.root, keys, wanted.is_compact).map_err(
+        |_| refuse_memory(rt, name),
+    )?;
     maker
         .add_draft(rt.alloc(), &bundle.root, keys.as_slice())
         .map_err(|e| refuse_pool(rt, name, e))

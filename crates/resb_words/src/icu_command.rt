@@ -197,7 +197,7 @@ pub(crate) const GENRB: Described<'static> = Described {
             id: "formatVersion",
             option: Some("formatVersion"),
             value: Some("NUMBER"),
-            help: "2 or 3; the files are of 3 where they leave strings out, else of 2",
+            help: "2 or 3: files of the other version are refused",
             ..VALUE
         },
         Argument {

@@ -29,6 +29,8 @@ pub struct GenrbWords<'w> {
     pub omits_rules: bool,
     /// Whether the files are laid out as ICU's compiler lays them out.
     pub is_compact: bool,
+    /// The version of the format that the files must have, 2 or 3, if one is asked for.
+    pub version: Option<u8>,
     /// The folder of the files that texts take in, if it isn't that of each text.
     pub files: Option<&'w str>,
     /// Whether warnings are left unsaid.
@@ -93,9 +95,12 @@ fn genrb<'w>(alloc: Global, matches: &ArgMatches<'w>) -> Result<Request<'w>, Wor
     if !is_known_encoding(matches.get_str("encoding")) {
         return Err(WordsError::NoEncoding);
     }
-    if !matches!(matches.get_str("formatVersion"), None | Some("2" | "3")) {
-        return Err(WordsError::NoVersion);
-    }
+    let version = match matches.get_str("formatVersion") {
+        None => None,
+        Some("2") => Some(2),
+        Some("3") => Some(3),
+        Some(_) => return Err(WordsError::NoVersion),
+    };
     let source = folder(matches, "sourcedir");
     let destination = folder(matches, "destdir");
     Ok(Request::Genrb(GenrbWords {
@@ -108,6 +113,7 @@ fn genrb<'w>(alloc: Global, matches: &ArgMatches<'w>) -> Result<Request<'w>, Wor
         collation: asked_collation(matches),
         omits_rules: matches.get_flag("omitCollationRules"),
         is_compact: matches.get_flag("compact"),
+        version,
         files: source_said(matches),
         is_quiet: matches.get_flag("quiet"),
     }))

@@ -57,6 +57,8 @@ pub struct CompileWords<'w> {
     pub omits_rules: bool,
     /// Whether the files are laid out as ICU's compiler lays them out.
     pub is_compact: bool,
+    /// The version of the format that the files must have, 2 or 3, if one is asked for.
+    pub version: Option<u8>,
     /// The folder of the files that texts take in, if it isn't that of each text.
     pub files: Option<&'w str>,
     /// The folder where the files should be that texts depend on, if these are looked for.
@@ -192,6 +194,7 @@ fn compile<'w>(alloc: Global, matches: &ArgMatches<'w>) -> Result<Request<'w>, W
         collation: asked_collation(matches),
         omits_rules: false,
         is_compact,
+        version: None,
         files: None,
         dependencies: None,
         is_check: matches.get_flag("check"),

@@ -68,7 +68,7 @@ complete -c resb -n '__fish_seen_subcommand_from genrb' -s R -l omitCollationRul
 complete -c resb -n '__fish_seen_subcommand_from genrb' -s C -l noBinaryCollation -d 'Compiles rules of collation without their binary form'
 complete -c resb -n '__fish_seen_subcommand_from genrb' -l collation -x -a '(__fish_complete_directories)' -d 'Takes the binary forms of collation rules from genrb\'s .res files in this folder'
 complete -c resb -n '__fish_seen_subcommand_from genrb' -l compact -d 'Lays files out as ICU\'s genrb does: keys may lie at the ends of others'
-complete -c resb -n '__fish_seen_subcommand_from genrb' -l formatVersion -x -d '2 or 3; the files are of 3 where they leave strings out, else of 2'
+complete -c resb -n '__fish_seen_subcommand_from genrb' -l formatVersion -x -d '2 or 3: files of the other version are refused'
 complete -c resb -n '__fish_seen_subcommand_from genrb' -s h -l help -d 'Print help'
 complete -c resb -n '__fish_seen_subcommand_from genrb' -s V -l version -d 'Print version'
 complete -c resb -n '__fish_seen_subcommand_from derb' -F

@@ -1,164 +1,173 @@
 //! What reading a file answers, as a line of text: the count and the tree, or why it is refused.
-//! Rows compare such lines.
+//! Rows compare such lines. Want of memory is a refusal too, which no row wants.
 use resb_format::{BinaryDeserializerError, Resource};
 use resb_read::{count_resources, from_bytes, from_bytes_counted, tree_from_bytes};
-use std::alloc::Global;
-use std::process::Abort;
-use std::test::Fail;
+use std::alloc::{AllocError, Global};
+use std::fmt::Write;
+
+/// A line, or why what it would speak of is refused.
+pub(crate) type Answer = Result<String, BinaryDeserializerError>;
+
+/// A line that says of a refusal why it is one.
+pub(crate) type Line = Result<String, AllocError>;
+
+/// Adds texts.
+pub(crate) fn push_all(line: &mut String, texts: &[&str]) -> Result<(), AllocError> {
+    for text in texts {
+        line.push_str(text)?;
+    }
+    Ok(())
+}
 
 /// Adds a tree of few levels: `"text"`, `@"path"`, `[item, ..]`, `{key=item, ..}`, `<bytes>`,
 /// `number`, `(numbers)`.
-fn push_tree(
-    alloc: Global,
-    line: &mut String,
-    tree: &Resource<'_>,
-    levels: u8,
-) -> Result<(), Fail> {
-    if levels == 0 {
-        line.push_str("..")?;
-        return Ok(());
-    }
+fn push_tree(line: &mut String, tree: &Resource<'_>) -> Result<(), AllocError> {
     match tree {
-        Resource::String(text) => push_text(line, text.as_str())?,
-        Resource::Alias(path) => push_alias(line, path.as_str())?,
+        Resource::String(text) => push_all(line, &["\"", text.as_str(), "\""]),
+        Resource::Alias(path) => push_all(line, &["@\"", path.as_str(), "\""]),
         Resource::Array(items) => {
             line.push_str("[")?;
             for item in items {
-                push_tree(alloc, line, item, levels - 1)?;
+                push_tree(line, item)?;
                 line.push_str(",")?;
             }
-            line.push_str("]")?;
+            line.push_str("]")
         }
         Resource::Table(table) => {
             line.push_str("{")?;
             for (key, item) in table {
-                line.push_str(key.as_str())?;
-                line.push_str("=")?;
-                push_tree(alloc, line, item, levels - 1)?;
+                push_all(line, &[key.as_str(), "="])?;
+                push_tree(line, item)?;
                 line.push_str(",")?;
             }
-            line.push_str("}")?;
+            line.push_str("}")
         }
-        Resource::Binary(bytes) => push_numbers(alloc, line, "<", bytes.as_slice(), ">")?,
-        Resource::Integer(number) => push_number(alloc, line, u32::from(*number))?,
-        Resource::IntVector(numbers) => push_numbers(alloc, line, "(", numbers.as_slice(), ")")?,
+        Resource::Binary(bytes) => push_numbers(line, "<", bytes.as_slice(), ">"),
+        Resource::Integer(number) => push_number(line, u32::from(*number)),
+        Resource::IntVector(numbers) => push_numbers(line, "(", numbers.as_slice(), ")"),
     }
-    Ok(())
-}
-
-/// Adds a text between quotation marks.
-fn push_text(line: &mut String, text: &str) -> Result<(), Fail> {
-    line.push_str("\"")?;
-    line.push_str(text)?;
-    line.push_str("\"")?;
-    Ok(())
-}
-
-/// Adds an alias's path.
-fn push_alias(line: &mut String, path: &str) -> Result<(), Fail> {
-    line.push_str("@")?;
-    push_text(line, path)
 }
 
 /// Adds a number.
-fn push_number(alloc: Global, line: &mut String, number: u32) -> Result<(), Fail> {
-    let digits = format!(in alloc; "{number}")?;
-    line.push_str(digits.as_str())?;
-    Ok(())
+fn push_number(line: &mut String, number: u32) -> Result<(), AllocError> {
+    write!(line, "{number}")
 }
 
 /// Adds numbers between two marks.
 fn push_numbers<N: Copy + Into<u32>>(
-    alloc: Global,
     line: &mut String,
     before: &str,
     numbers: &[N],
     behind: &str,
-) -> Result<(), Fail> {
+) -> Result<(), AllocError> {
     line.push_str(before)?;
     for number in numbers {
-        push_number(alloc, line, (*number).into())?;
+        push_number(line, (*number).into())?;
         line.push_str(",")?;
     }
-    line.push_str(behind)?;
-    Ok(())
+    line.push_str(behind)
 }
 
 /// The line of a tree.
-pub(crate) fn shown(alloc: Global, tree: &Resource<'_>) -> Result<String, Fail> {
+pub(crate) fn shown(alloc: Global, tree: &Resource<'_>) -> Line {
     let mut line = String::new(alloc);
-    push_tree(alloc, &mut line, tree, 9)?;
+    push_tree(&mut line, tree)?;
     Ok(line)
 }
 
 /// The line of a count and a tree.
-pub(crate) fn line_of_tree(
+pub(crate) fn line_of_tree(alloc: Global, count: usize, tree: &Resource<'_>) -> Line {
+    let mut line = format!(in alloc; "{count} ")?;
+    push_tree(&mut line, tree)?;
+    Ok(line)
+}
+
+/// The line of a count and the tree that is read.
+pub(crate) fn line_of_read(
     alloc: Global,
     count: usize,
-    tree: &Resource<'_>,
-) -> Result<String, Fail> {
-    let tree = shown(alloc, tree)?;
-    Ok(format!(in alloc; "{count} {tree}")?)
+    read: Result<Resource<'_>, BinaryDeserializerError>,
+) -> Answer {
+    let tree = read?;
+    Ok(line_of_tree(alloc, count, &tree)?)
 }
 
-/// The line of a refusal. Want of memory is handed up: it is no answer of a row.
-pub(crate) fn line_of_refusal(
-    alloc: Global,
-    error: BinaryDeserializerError,
-) -> Result<String, Fail> {
-    if error.is_out_of_memory() {
-        return Err(error)?;
-    }
-    Ok(format!(in alloc; "{error}")?)
-}
-
-/// The line of a file, by `from_bytes_counted`.
-fn line_by_counted(alloc: Global, bytes: &[u8]) -> Result<String, Fail> {
-    match from_bytes_counted::<Resource<'_>>(alloc, bytes) {
-        Ok((tree, count)) => line_of_tree(alloc, count, &tree),
-        Err(error) => line_of_refusal(alloc, error),
-    }
-}
-
-/// The line of a file, by `from_bytes` and `count_resources`.
-fn line_by_count(alloc: Global, bytes: &[u8]) -> Result<String, Fail> {
-    match from_bytes::<Resource<'_>>(alloc, bytes) {
-        Ok(tree) => line_of_tree(alloc, count_resources(alloc, bytes)?, &tree),
-        Err(error) => line_of_refusal(alloc, error),
-    }
-}
-
-/// The line of a file, by `count_resources` and `tree_from_bytes`.
-pub(crate) fn line_by_tree(alloc: Global, bytes: &[u8]) -> Result<String, Fail> {
-    match count_resources(alloc, bytes) {
-        Ok(count) => line_of_tree(alloc, count, &tree_from_bytes(alloc, bytes)?),
-        Err(error) => line_of_refusal(alloc, error),
+/// The line of an answer.
+pub(crate) fn said(alloc: Global, answer: Answer) -> Line {
+    match answer {
+        Ok(line) => Ok(line),
+        Err(error) => format!(in alloc; "{error}"),
     }
 }
 
 /// The line that two calls give.
-pub(crate) fn same(one: String, other: String) -> Result<String, Fail> {
-    if one != other {
-        return Err("the calls differ")?;
+pub(crate) fn same(alloc: Global, one: Line, other: Line) -> Line {
+    let (one, other) = (one?, other?);
+    if one == other {
+        Ok(one)
+    } else {
+        format!(in alloc; "{one}, but by another call {other}")
     }
-    Ok(one)
+}
+
+/// The line of what two calls answer.
+pub(crate) fn agreed(alloc: Global, one: Answer, other: Answer) -> Line {
+    same(alloc, said(alloc, one), said(alloc, other))
+}
+
+/// The answer for a file, by `from_bytes_counted`.
+fn answer_by_counted(alloc: Global, bytes: &[u8]) -> Answer {
+    let (tree, count) = from_bytes_counted::<Resource<'_>>(alloc, bytes)?;
+    Ok(line_of_tree(alloc, count, &tree)?)
+}
+
+/// The answer for a file, by `from_bytes` and `count_resources`.
+fn answer_by_count(alloc: Global, bytes: &[u8]) -> Answer {
+    let count = count_resources(alloc, bytes).unwrap_or(0);
+    line_of_read(alloc, count, from_bytes::<Resource<'_>>(alloc, bytes))
+}
+
+/// The answer for a file, by `count_resources` and `tree_from_bytes`.
+pub(crate) fn answer_by_tree(alloc: Global, bytes: &[u8]) -> Answer {
+    let count = count_resources(alloc, bytes)?;
+    line_of_read(alloc, count, tree_from_bytes(alloc, bytes))
 }
 
 /// The line of a file, which is the same by each of the calls that read a whole tree.
-pub(crate) fn line_of(alloc: Global, bytes: &[u8]) -> Result<String, Fail> {
-    let line = same(line_by_counted(alloc, bytes)?, line_by_count(alloc, bytes)?)?;
-    same(line, line_by_tree(alloc, bytes)?)
+pub(crate) fn line_of(alloc: Global, bytes: &[u8]) -> Line {
+    let tree = said(alloc, answer_by_tree(alloc, bytes));
+    let others = agreed(
+        alloc,
+        answer_by_counted(alloc, bytes),
+        answer_by_count(alloc, bytes),
+    );
+    same(alloc, tree, others)
+}
+
+/// What stands before a mark and behind it, which is nothing where the mark isn't there.
+pub(crate) fn halves<'a>(text: &'a str, mark: &str) -> (&'a str, &'a str) {
+    text.split_once(mark).unwrap_or((text, ""))
 }
 
 /// What a row asks for, and the answer that it wants.
-pub(crate) fn parts(row: &str) -> Result<(&str, &str), Fail> {
-    let (input, said) = row.split_once(" =>").ok_or("a row without an answer")?;
-    Ok((input, said.trim_start()))
+pub(crate) fn parts(row: &str) -> (&str, &str) {
+    let (input, said) = halves(row, " =>");
+    (input, said.trim_start())
 }
 
-/// The line is the one that is wanted.
-pub(crate) fn assert_said(rt: &impl Abort, found: String, said: &str) {
-    assert_eq!(rt; found.as_str(), said);
+/// The number of decimal digits, and 0 for other texts.
+pub(crate) fn number_of(digits: &str) -> usize {
+    digits.parse::<usize>().unwrap_or(0)
+}
+
+/// What stands beside a name; none where nothing does.
+pub(crate) fn named<T: Copy>(table: &[(&str, T)], name: &str) -> Option<T> {
+    for (it, value) in table {
+        if *it == name {
+            return Some(*value);
+        }
+    }
+    None
 }
 
 /// The digest of no lines.

@@ -1,6 +1,6 @@
 //! What can be asked for at a place, and the line of what is answered.
 //! The places are found in `places`, and the rows are in `type_rows`.
-use crate::answers::{line_of_refusal, shown};
+use crate::answers::{Line, push_all, same, shown};
 use resb_format::{
     BinaryDeserializerError, I32View, Int28, Key, PairView, ReadingError, Resource, Utf16View,
     WordView,
@@ -9,113 +9,160 @@ use resb_read::helpers::{
     i32_tuple, option_i32, option_i32_tuple, option_u32, option_utf_16, vec_utf_16,
 };
 use resb_read::{Cursor, Deserialize, Walk};
-use std::alloc::Global;
+use std::alloc::{AllocError, Global};
 use std::collections::BTreeMap;
-use std::fmt::Debug;
-use std::test::Fail;
+use std::fmt::{Debug, Write};
 
-/// What is asked for at a place in a sweep, in the order of the lines.
-pub(crate) const ALL: &str = "\
-    bool i8 i16 i32 i64 u8 u16 u32 u64 text key bytes bits option-bool text-list word-list \
-    text-map word-list-map byte-map unit-view word-view number-view pair-view unit-view-list \
-    type skip key-map pairs unit-lists tree";
+/// What is asked for at a place.
+#[derive(Clone, Copy)]
+pub(crate) enum Ask {
+    Bool,
+    I8,
+    I16,
+    I32,
+    I64,
+    U8,
+    U16,
+    U32,
+    U64,
+    Text,
+    Key,
+    Bytes,
+    Bits,
+    OptionBool,
+    TextList,
+    WordList,
+    TextMap,
+    WordListMap,
+    ByteMap,
+    UnitView,
+    WordView,
+    NumberView,
+    PairView,
+    UnitViewList,
+    Type,
+    Skip,
+    KeyMap,
+    Pairs,
+    UnitLists,
+    Tree,
+}
 
-/// The line of a value, or of why it is refused. Want of memory is handed up.
-pub(crate) fn line<'m, T: Debug + Drop>(
-    alloc: Global,
-    read: Result<T, ReadingError<'m>>,
-) -> Result<String, Fail> {
+/// What is asked for at a place in a sweep, in the order of the lines, with the names in rows.
+pub(crate) const ASKS: [(&str, Ask); 30] = [
+    ("bool", Ask::Bool),
+    ("i8", Ask::I8),
+    ("i16", Ask::I16),
+    ("i32", Ask::I32),
+    ("i64", Ask::I64),
+    ("u8", Ask::U8),
+    ("u16", Ask::U16),
+    ("u32", Ask::U32),
+    ("u64", Ask::U64),
+    ("text", Ask::Text),
+    ("key", Ask::Key),
+    ("bytes", Ask::Bytes),
+    ("bits", Ask::Bits),
+    ("option-bool", Ask::OptionBool),
+    ("text-list", Ask::TextList),
+    ("word-list", Ask::WordList),
+    ("text-map", Ask::TextMap),
+    ("word-list-map", Ask::WordListMap),
+    ("byte-map", Ask::ByteMap),
+    ("unit-view", Ask::UnitView),
+    ("word-view", Ask::WordView),
+    ("number-view", Ask::NumberView),
+    ("pair-view", Ask::PairView),
+    ("unit-view-list", Ask::UnitViewList),
+    ("type", Ask::Type),
+    ("skip", Ask::Skip),
+    ("key-map", Ask::KeyMap),
+    ("pairs", Ask::Pairs),
+    ("unit-lists", Ask::UnitLists),
+    ("tree", Ask::Tree),
+];
+
+/// The line of a value, or of why it is refused.
+pub(crate) fn line<'m, T: Debug + Drop>(alloc: Global, read: Result<T, ReadingError<'m>>) -> Line {
     match read {
-        Ok(value) => Ok(format!(in alloc; "{value:?}")?),
-        Err(error) if error.is_out_of_memory() => Err("out of memory")?,
-        Err(error) => Ok(format!(in alloc; "{error}")?),
+        Ok(value) => format!(in alloc; "{value:?}"),
+        Err(error) => format!(in alloc; "{error}"),
     }
 }
 
 /// The line of what a call of the cursor answers.
-fn called(alloc: Global, ask: &str, at: Cursor<'_>, walk: &mut Walk) -> Result<String, Fail> {
+fn called(alloc: Global, ask: Ask, at: Cursor<'_>, walk: &mut Walk) -> Line {
     match ask {
-        "bool" => line(alloc, at.read_bool(walk)),
-        "i8" => line(alloc, at.read_i8(walk)),
-        "i16" => line(alloc, at.read_i16(walk)),
-        "i32" => line(alloc, at.read_i32(walk)),
-        "i64" => line(alloc, at.read_i64(walk)),
-        "u8" => line(alloc, at.read_u8(walk)),
-        "u16" => line(alloc, at.read_u16(walk)),
-        "u32" => line(alloc, at.read_u32(walk)),
-        "u64" => line(alloc, at.read_u64(walk)),
-        "text" => line(alloc, at.read_string(alloc, walk)),
-        "key" => line(alloc, at.read_str(walk)),
-        "bytes" => line(alloc, at.read_bytes(walk)),
-        "type" => line(alloc, at.resource_type()),
-        "skip" => line(alloc, at.skip(walk)),
-        "tree" => tree(alloc, at.read_resource(alloc, walk), walk),
-        "unit-view" | "word-view" | "number-view" | "pair-view" => viewed(alloc, ask, at, walk),
+        Ask::Bool => line(alloc, at.read_bool(walk)),
+        Ask::I8 => line(alloc, at.read_i8(walk)),
+        Ask::I16 => line(alloc, at.read_i16(walk)),
+        Ask::I32 => line(alloc, at.read_i32(walk)),
+        Ask::I64 => line(alloc, at.read_i64(walk)),
+        Ask::U8 => line(alloc, at.read_u8(walk)),
+        Ask::U16 => line(alloc, at.read_u16(walk)),
+        Ask::U32 => line(alloc, at.read_u32(walk)),
+        Ask::U64 => line(alloc, at.read_u64(walk)),
+        Ask::Text => line(alloc, at.read_string(alloc, walk)),
+        Ask::Key => line(alloc, at.read_str(walk)),
+        Ask::Bytes => line(alloc, at.read_bytes(walk)),
+        Ask::Type => line(alloc, at.resource_type()),
+        Ask::Skip => line(alloc, at.skip(walk)),
+        Ask::Tree => tree(alloc, at.read_resource(alloc, walk), walk),
+        Ask::UnitView => viewed(alloc, option_utf_16(at, walk)),
+        Ask::WordView => viewed(alloc, option_u32(at, walk)),
+        Ask::NumberView => viewed(alloc, option_i32(at, walk)),
+        Ask::PairView => viewed(alloc, option_i32_tuple(at, walk)),
         _ => typed(alloc, ask, at, walk),
     }
 }
 
 /// The line of the value of a type.
-fn typed(alloc: Global, ask: &str, at: Cursor<'_>, walk: &mut Walk) -> Result<String, Fail> {
+fn typed(alloc: Global, ask: Ask, at: Cursor<'_>, walk: &mut Walk) -> Line {
     match ask {
-        "bool" => line(alloc, bool::deserialize(alloc, at, walk)),
-        "i8" => line(alloc, i8::deserialize(alloc, at, walk)),
-        "i16" => line(alloc, i16::deserialize(alloc, at, walk)),
-        "i32" => line(alloc, i32::deserialize(alloc, at, walk)),
-        "i64" => line(alloc, i64::deserialize(alloc, at, walk)),
-        "u8" => line(alloc, u8::deserialize(alloc, at, walk)),
-        "u16" => line(alloc, u16::deserialize(alloc, at, walk)),
-        "u32" => line(alloc, u32::deserialize(alloc, at, walk)),
-        "u64" => line(alloc, u64::deserialize(alloc, at, walk)),
-        "text" => line(alloc, String::deserialize(alloc, at, walk)),
-        "key" => line(alloc, <&str>::deserialize(alloc, at, walk)),
-        "bytes" => line(alloc, <&[u8]>::deserialize(alloc, at, walk)),
-        "tree" => tree(alloc, Resource::deserialize(alloc, at, walk), walk),
+        Ask::Bool => line(alloc, bool::deserialize(alloc, at, walk)),
+        Ask::I8 => line(alloc, i8::deserialize(alloc, at, walk)),
+        Ask::I16 => line(alloc, i16::deserialize(alloc, at, walk)),
+        Ask::I32 => line(alloc, i32::deserialize(alloc, at, walk)),
+        Ask::I64 => line(alloc, i64::deserialize(alloc, at, walk)),
+        Ask::U8 => line(alloc, u8::deserialize(alloc, at, walk)),
+        Ask::U16 => line(alloc, u16::deserialize(alloc, at, walk)),
+        Ask::U32 => line(alloc, u32::deserialize(alloc, at, walk)),
+        Ask::U64 => line(alloc, u64::deserialize(alloc, at, walk)),
+        Ask::Text => line(alloc, String::deserialize(alloc, at, walk)),
+        Ask::Key => line(alloc, <&str>::deserialize(alloc, at, walk)),
+        Ask::Bytes => line(alloc, <&[u8]>::deserialize(alloc, at, walk)),
+        Ask::Tree => tree(alloc, Resource::deserialize(alloc, at, walk), walk),
+        Ask::UnitView => viewed(alloc, Utf16View::deserialize(alloc, at, walk).map(Some)),
+        Ask::WordView => viewed(alloc, WordView::deserialize(alloc, at, walk).map(Some)),
+        Ask::NumberView => viewed(alloc, I32View::deserialize(alloc, at, walk).map(Some)),
+        Ask::PairView => viewed(alloc, PairView::deserialize(alloc, at, walk).map(Some)),
         _ => parted(alloc, ask, at, walk),
     }
 }
 
-/// The line of the value of a type that has parts.
-fn parted(alloc: Global, ask: &str, at: Cursor<'_>, walk: &mut Walk) -> Result<String, Fail> {
+/// The line of the value of a type that has parts, or of the answer of a helper.
+fn parted(alloc: Global, ask: Ask, at: Cursor<'_>, walk: &mut Walk) -> Line {
     match ask {
-        "bits" => line(alloc, Int28::deserialize(alloc, at, walk).map(u32::from)),
-        "option-bool" => line(alloc, Option::<bool>::deserialize(alloc, at, walk)),
-        "text-list" => line(alloc, Vec::<String>::deserialize(alloc, at, walk)),
-        "word-list" => line(alloc, Vec::<u32>::deserialize(alloc, at, walk)),
-        "text-map" => line(
+        Ask::Bits => line(alloc, Int28::deserialize(alloc, at, walk).map(u32::from)),
+        Ask::OptionBool => line(alloc, Option::<bool>::deserialize(alloc, at, walk)),
+        Ask::TextList => line(alloc, Vec::<String>::deserialize(alloc, at, walk)),
+        Ask::WordList => line(alloc, Vec::<u32>::deserialize(alloc, at, walk)),
+        Ask::TextMap => line(
             alloc,
             BTreeMap::<&str, String>::deserialize(alloc, at, walk),
         ),
-        "word-list-map" => line(
+        Ask::WordListMap => line(
             alloc,
             BTreeMap::<&str, Vec<u32>>::deserialize(alloc, at, walk),
         ),
-        "byte-map" => line(alloc, BTreeMap::<String, u8>::deserialize(alloc, at, walk)),
-        "key-map" => keyed(
+        Ask::ByteMap => line(alloc, BTreeMap::<String, u8>::deserialize(alloc, at, walk)),
+        Ask::KeyMap => keyed(
             alloc,
             BTreeMap::<Key<'_>, String>::deserialize(alloc, at, walk),
         ),
-        "unit-view" => units(alloc, Utf16View::deserialize(alloc, at, walk).map(Some)),
-        "word-view" => words(alloc, WordView::deserialize(alloc, at, walk).map(Some)),
-        "number-view" => numbers(alloc, I32View::deserialize(alloc, at, walk).map(Some)),
-        "pair-view" => pairs(alloc, PairView::deserialize(alloc, at, walk).map(Some)),
-        _ => viewed(alloc, ask, at, walk),
-    }
-}
-
-/// The line of a helper's answer.
-fn viewed(alloc: Global, ask: &str, at: Cursor<'_>, walk: &mut Walk) -> Result<String, Fail> {
-    match ask {
-        "unit-view" => units(alloc, option_utf_16(at, walk)),
-        "word-view" => words(alloc, option_u32(at, walk)),
-        "number-view" => numbers(alloc, option_i32(at, walk)),
-        "pair-view" => pairs(alloc, option_i32_tuple(at, walk)),
-        "pairs" => match i32_tuple(at, walk) {
-            Ok(view) => pairs(alloc, Ok(Some(view))),
-            Err(error) => line_of_refusal(alloc, error),
-        },
-        "unit-lists" => items_of_units(alloc, vec_utf_16(alloc, at, walk)),
-        _ => unit_lists(alloc, vec_utf_16(alloc, at, walk)),
+        Ask::Pairs => viewed(alloc, i32_tuple(at, walk).map(Some)),
+        Ask::UnitLists => listed(alloc, vec_utf_16(alloc, at, walk), true),
+        _ => listed(alloc, vec_utf_16(alloc, at, walk), false),
     }
 }
 
@@ -124,166 +171,151 @@ fn tree(
     alloc: Global,
     read: Result<Resource<'_>, BinaryDeserializerError>,
     walk: &mut Walk,
-) -> Result<String, Fail> {
+) -> Line {
     match read {
         Ok(tree) => shown(alloc, &tree),
         Err(error) => {
             *walk = Walk::new(0);
-            line_of_refusal(alloc, error)
+            format!(in alloc; "{error}")
         }
     }
 }
 
 /// The line of texts by their keys.
-fn keyed(
-    alloc: Global,
-    read: Result<BTreeMap<Key<'_>, String>, BinaryDeserializerError>,
-) -> Result<String, Fail> {
-    let texts = match read {
-        Ok(texts) => texts,
-        Err(error) => return line_of_refusal(alloc, error),
-    };
+fn line_of_texts(alloc: Global, texts: &BTreeMap<Key<'_>, String>) -> Line {
     let mut line = String::new(alloc);
-    for (key, text) in &texts {
-        push_entry(&mut line, key.as_str(), text.as_str())?;
+    for (key, text) in texts {
+        push_all(&mut line, &[key.as_str(), "=", text.as_str(), ","])?;
     }
     Ok(line)
 }
 
-/// Adds a key and its text.
-fn push_entry(line: &mut String, key: &str, text: &str) -> Result<(), Fail> {
-    line.push_str(key)?;
-    line.push_str("=")?;
-    line.push_str(text)?;
-    line.push_str(",")?;
-    Ok(())
+/// The line of texts by their keys, or of why they are refused.
+fn keyed(alloc: Global, read: Result<BTreeMap<Key<'_>, String>, BinaryDeserializerError>) -> Line {
+    match read {
+        Ok(texts) => line_of_texts(alloc, &texts),
+        Err(error) => format!(in alloc; "{error}"),
+    }
 }
 
-/// The line of a view of units.
-fn units(
-    alloc: Global,
-    read: Result<Option<Utf16View<'_>>, BinaryDeserializerError>,
-) -> Result<String, Fail> {
-    let Some(view) = (match read {
-        Ok(view) => view,
-        Err(error) => return line_of_refusal(alloc, error),
-    }) else {
-        return Err("no view")?;
-    };
-    let mut items = Vec::new(alloc);
-    for i in 0..view.len() {
-        items.push(view.item(i))?;
-    }
-    Ok(format!(in alloc; "{items:?}")?)
+/// What has a line of its items.
+trait View: Copy {
+    /// The line of the items.
+    fn line(self, alloc: Global) -> Line;
 }
 
-/// The line of a view of words.
-fn words(
-    alloc: Global,
-    read: Result<Option<WordView<'_>>, BinaryDeserializerError>,
-) -> Result<String, Fail> {
-    let Some(view) = (match read {
-        Ok(view) => view,
-        Err(error) => return line_of_refusal(alloc, error),
-    }) else {
-        return Err("no view")?;
-    };
-    let mut items = Vec::new(alloc);
-    for i in 0..view.len() {
-        items.push(view.item(i))?;
+impl View for Utf16View<'_> {
+    fn line(self, alloc: Global) -> Line {
+        let mut items = Vec::new(alloc);
+        for number in 0..self.len() {
+            items.push(self.item(number))?;
+        }
+        format!(in alloc; "{items:?}")
     }
-    Ok(format!(in alloc; "{items:?}")?)
 }
 
-/// The line of a view of signed numbers.
-fn numbers(
-    alloc: Global,
-    read: Result<Option<I32View<'_>>, BinaryDeserializerError>,
-) -> Result<String, Fail> {
-    let Some(view) = (match read {
-        Ok(view) => view,
-        Err(error) => return line_of_refusal(alloc, error),
-    }) else {
-        return Err("no view")?;
-    };
-    let mut items = Vec::new(alloc);
-    for i in 0..view.len() {
-        items.push(view.item(i))?;
+impl View for WordView<'_> {
+    fn line(self, alloc: Global) -> Line {
+        let mut items = Vec::new(alloc);
+        for number in 0..self.len() {
+            items.push(self.item(number))?;
+        }
+        format!(in alloc; "{items:?}")
     }
-    Ok(format!(in alloc; "{items:?}")?)
 }
 
-/// The line of a view of pairs.
-fn pairs(
-    alloc: Global,
-    read: Result<Option<PairView<'_>>, BinaryDeserializerError>,
-) -> Result<String, Fail> {
-    let Some(view) = (match read {
-        Ok(view) => view,
-        Err(error) => return line_of_refusal(alloc, error),
-    }) else {
-        return Err("no view")?;
-    };
-    let mut items = Vec::new(alloc);
-    for i in 0..view.len() {
-        items.push(view.item(i))?;
+impl View for I32View<'_> {
+    fn line(self, alloc: Global) -> Line {
+        let mut items = Vec::new(alloc);
+        for number in 0..self.len() {
+            items.push(self.item(number))?;
+        }
+        format!(in alloc; "{items:?}")
     }
-    Ok(format!(in alloc; "{items:?}")?)
+}
+
+impl View for PairView<'_> {
+    fn line(self, alloc: Global) -> Line {
+        let mut items = Vec::new(alloc);
+        for number in 0..self.len() {
+            items.push(self.item(number))?;
+        }
+        format!(in alloc; "{items:?}")
+    }
+}
+
+/// The line of a view, or of why there is none.
+fn viewed<V: View>(alloc: Global, read: Result<Option<V>, BinaryDeserializerError>) -> Line {
+    match read {
+        Ok(Some(view)) => view.line(alloc),
+        Ok(None) => String::from_str(alloc, "no view"),
+        Err(error) => format!(in alloc; "{error}"),
+    }
 }
 
 /// The line of views of units: how many units each has.
-fn unit_lists(
-    alloc: Global,
-    read: Result<Vec<Utf16View<'_>>, BinaryDeserializerError>,
-) -> Result<String, Fail> {
-    let views = match read {
-        Ok(views) => views,
-        Err(error) => return line_of_refusal(alloc, error),
-    };
+fn line_of_lengths(alloc: Global, views: &[Utf16View<'_>]) -> Line {
     let mut lengths = Vec::new(alloc);
-    for view in &views {
+    for view in views {
         lengths.push(view.len())?;
     }
-    Ok(format!(in alloc; "{lengths:?}")?)
+    format!(in alloc; "{lengths:?}")
 }
 
 /// Adds how many units a view has, and the units.
-fn push_units(alloc: Global, line: &mut String, view: Utf16View<'_>) -> Result<(), Fail> {
+fn push_units(alloc: Global, line: &mut String, view: Utf16View<'_>) -> Result<(), AllocError> {
     let length = view.len();
-    let units = units(alloc, Ok(Some(view)))?;
-    let item = format!(in alloc; "{length}:{units},")?;
-    line.push_str(item.as_str())?;
-    Ok(())
+    let units = view.line(alloc)?;
+    write!(line, "{length}:{units},")
 }
 
 /// The line of views of units: how many units each has, and the units.
-fn items_of_units(
-    alloc: Global,
-    read: Result<Vec<Utf16View<'_>>, BinaryDeserializerError>,
-) -> Result<String, Fail> {
-    let views = match read {
-        Ok(views) => views,
-        Err(error) => return line_of_refusal(alloc, error),
-    };
+fn line_of_lists(alloc: Global, views: &[Utf16View<'_>]) -> Line {
     let mut line = String::new(alloc);
-    for view in &views {
+    for view in views {
         push_units(alloc, &mut line, *view)?;
     }
     Ok(line)
 }
 
-/// The line of what is asked for at a place with so much of a budget, and what of it is left after
-/// it.
-/// A call of the cursor and the type that it reads answer the same.
-pub(crate) fn asked(alloc: Global, ask: &str, at: Cursor<'_>, left: usize) -> Result<String, Fail> {
+/// The line of views of units, or of why they are refused.
+fn listed(
+    alloc: Global,
+    read: Result<Vec<Utf16View<'_>>, BinaryDeserializerError>,
+    is_whole: bool,
+) -> Line {
+    match read {
+        Ok(views) if is_whole => line_of_lists(alloc, &views),
+        Ok(views) => line_of_lengths(alloc, &views),
+        Err(error) => format!(in alloc; "{error}"),
+    }
+}
+
+/// The line of what a call answers with so much of a budget, and what of it is left then.
+fn line_of_call(alloc: Global, ask: Ask, at: Cursor<'_>, left: usize) -> Line {
     let mut walk = Walk::new(left);
     let said = called(alloc, ask, at, &mut walk)?;
-    let mut again = Walk::new(left);
-    if !matches!(ask, "type" | "skip") {
-        if said != typed(alloc, ask, at, &mut again)? || walk.left() != again.left() {
-            return Err("call and type differ")?;
-        }
-    }
     let left = walk.left();
-    Ok(format!(in alloc; "{said}, {left} left")?)
+    format!(in alloc; "{said}, {left} left")
+}
+
+/// The same of the type that the call reads.
+fn line_of_type(alloc: Global, ask: Ask, at: Cursor<'_>, left: usize) -> Line {
+    let mut walk = Walk::new(left);
+    let said = typed(alloc, ask, at, &mut walk)?;
+    let left = walk.left();
+    format!(in alloc; "{said}, {left} left")
+}
+
+/// The line of what is asked for at a place with so much of a budget, and what of it is left after
+/// it. A call of the cursor and the type that it reads answer the same.
+pub(crate) fn asked(alloc: Global, ask: Ask, at: Cursor<'_>, left: usize) -> Line {
+    match ask {
+        Ask::Type | Ask::Skip => line_of_call(alloc, ask, at, left),
+        _ => same(
+            alloc,
+            line_of_call(alloc, ask, at, left),
+            line_of_type(alloc, ask, at, left),
+        ),
+    }
 }

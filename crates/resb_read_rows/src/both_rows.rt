@@ -1,6 +1,6 @@
 //! A type of a user's own at the root of files, in a map and in a list.
 //! The type and its proof are in `both`, the tests in `rows`.
-use crate::answers::line_of_refusal;
+use crate::answers::Answer;
 use crate::both::Both;
 use crate::files::file_of;
 use resb_format::BinaryDeserializerError;
@@ -8,7 +8,6 @@ use resb_read::from_bytes_counted;
 use std::alloc::Global;
 use std::collections::BTreeMap;
 use std::fmt::Debug;
-use std::test::Fail;
 
 /// Files, and what is read of each as a `Both`, with its count.
 pub(crate) const ALONE: &str = "\
@@ -37,36 +36,34 @@ pub(crate) const LIST: &str = "\
     8 {\"a\": [Both { i: -1, v: [1, -1] }, Both { i: 2, v: [] }]};
 ";
 
-/// The line of a value and its count.
-fn line<T: Debug + Drop>(
+/// The answer of a value and its count.
+fn answer<T: Debug + Drop>(
     alloc: Global,
     read: Result<(T, usize), BinaryDeserializerError>,
-) -> Result<String, Fail> {
-    match read {
-        Ok((value, count)) => Ok(format!(in alloc; "{count} {value:?}")?),
-        Err(error) => line_of_refusal(alloc, error),
-    }
+) -> Answer {
+    let (value, count) = read?;
+    Ok(format!(in alloc; "{count} {value:?}")?)
 }
 
-/// The line of a file that is read as the type.
-pub(crate) fn line_alone(alloc: Global, words: &str) -> Result<String, Fail> {
+/// The answer for a file that is read as the type.
+pub(crate) fn answer_alone(alloc: Global, words: &str) -> Answer {
     let bytes = file_of(alloc, words)?;
-    line(alloc, from_bytes_counted::<Both>(alloc, &bytes))
+    answer(alloc, from_bytes_counted::<Both>(alloc, &bytes))
 }
 
-/// The line of a file that is read as a map of the type.
-pub(crate) fn line_in_map(alloc: Global, words: &str) -> Result<String, Fail> {
+/// The answer for a file that is read as a map of the type.
+pub(crate) fn answer_in_map(alloc: Global, words: &str) -> Answer {
     let bytes = file_of(alloc, words)?;
-    line(
+    answer(
         alloc,
         from_bytes_counted::<BTreeMap<&str, Both>>(alloc, &bytes),
     )
 }
 
-/// The line of a file that is read as a map of lists of the type.
-pub(crate) fn line_in_list(alloc: Global, words: &str) -> Result<String, Fail> {
+/// The answer for a file that is read as a map of lists of the type.
+pub(crate) fn answer_in_list(alloc: Global, words: &str) -> Answer {
     let bytes = file_of(alloc, words)?;
-    line(
+    answer(
         alloc,
         from_bytes_counted::<BTreeMap<&str, Vec<Both>>>(alloc, &bytes),
     )

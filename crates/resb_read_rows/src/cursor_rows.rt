@@ -1,13 +1,12 @@
 //! Cursors, accesses and named deserializers, step by step: what each step takes from the budget,
 //! and what an access answers behind its last step and behind an error. The tests are in `rows`.
-use crate::answers::{line_of_refusal, line_of_tree, same};
-use crate::asks::line;
+use crate::answers::{Answer, Line, halves, line_of_tree, named, push_all, same};
+use crate::asks::{ASKS, Ask, line};
 use crate::files::file_of;
 use crate::places::place;
 use resb_format::{BinaryDeserializerError, Key};
-use resb_read::{Cursor, IntVectorDeserializer, MapAccess, Walk};
-use std::alloc::Global;
-use std::test::Fail;
+use resb_read::{Cursor, IntVectorDeserializer, MapAccess, SeqAccess, Walk};
+use std::alloc::{AllocError, Global};
 
 /// What is done with files, and what comes of it. The last are types, and what the number -1 is as
 /// each.
@@ -31,137 +30,190 @@ u32 of NUMBERS => 4294967295;
 u64 of NUMBERS => 4294967295;
 ";
 
-/// The line of what comes of a row of these.
-pub(crate) fn line_of_step(alloc: Global, input: &str) -> Result<String, Fail> {
-    let (step, words) = input.split_once(" of ").ok_or("a row without a file")?;
-    let bytes = file_of(alloc, words)?;
-    stepped(alloc, step, &bytes)
+/// A step, or steps.
+#[derive(Clone, Copy)]
+enum Step {
+    Skips,
+    Tree,
+    Entries,
+    Keys,
+    Members,
+    RefusedEntries,
+    RefusedMembers,
+    String,
+    Key,
+    Number,
 }
 
-/// The line of what comes of a step.
-fn stepped(alloc: Global, step: &str, bytes: &[u8]) -> Result<String, Fail> {
+/// The steps by their names; other names are those of types.
+const NAMES: [(&str, Step); 9] = [
+    ("skips", Step::Skips),
+    ("tree", Step::Tree),
+    ("entries", Step::Entries),
+    ("keys", Step::Keys),
+    ("members", Step::Members),
+    ("refused entries", Step::RefusedEntries),
+    ("refused members", Step::RefusedMembers),
+    ("string", Step::String),
+    ("key", Step::Key),
+];
+
+/// The answer to a row of these.
+pub(crate) fn answer_to_step(alloc: Global, row: &str) -> Answer {
+    let (name, words) = halves(row, " of ");
+    let bytes = file_of(alloc, words)?;
+    stepped(
+        alloc,
+        named(&NAMES, name).unwrap_or(Step::Number),
+        name,
+        &bytes,
+    )
+}
+
+/// The answer to a step. The name is that of a type where a number is asked for.
+fn stepped(alloc: Global, step: Step, name: &str, bytes: &[u8]) -> Answer {
     match step {
-        "skips" => line_of_skips(alloc, bytes),
-        "tree" => line_of_root(alloc, bytes),
-        "entries" => line_of_entries(alloc, bytes),
-        "keys" => line_of_keys(alloc, bytes),
-        "members" => line_of_members(alloc, bytes),
-        "refused entries" => line_of_refused_entries(alloc, bytes),
-        "refused members" => line_of_refused_members(alloc, bytes),
-        "string" => line_of_string(alloc, bytes),
-        "key" => line_of_key(alloc, bytes),
-        _ => line_of_minus_one(alloc, step, bytes),
+        Step::Skips => skips(alloc, bytes),
+        Step::Tree => root(alloc, bytes),
+        Step::Entries => entries(alloc, bytes),
+        Step::Keys => keys(alloc, bytes),
+        Step::Members => members(alloc, bytes),
+        Step::RefusedEntries => refused_entries(alloc, bytes),
+        Step::RefusedMembers => refused_members(alloc, bytes),
+        Step::String => string(alloc, bytes),
+        Step::Key => key(alloc, bytes),
+        Step::Number => minus_one(alloc, named(&ASKS, name).unwrap_or(Ask::Type), bytes),
     }
 }
 
+/// The refusal of what isn't there.
+fn lack() -> BinaryDeserializerError {
+    BinaryDeserializerError::unknown("nothing is there")
+}
+
 /// What is left after a table is opened and after each entry's key and value are skipped.
-fn line_of_skips(alloc: Global, bytes: &[u8]) -> Result<String, Fail> {
+fn skips(alloc: Global, bytes: &[u8]) -> Answer {
     let (root, mut walk) = Cursor::root(bytes)?;
     let mut entries = root.read_map(&mut walk)?;
     let (opened, count) = (walk.left(), entries.size_hint());
-    let first = skipped(&mut entries, &mut walk)?;
-    let second = skipped(&mut entries, &mut walk)?;
+    let first = skipped(entries.next_entry_cursor()?, &mut walk)?;
+    let second = skipped(entries.next_entry_cursor()?, &mut walk)?;
     let ends = entries.next_entry_cursor()?.is_none();
     Ok(format!(in alloc; "{opened} {count} {first} {second} {ends}")?)
 }
 
-/// What is left after the next entry is skipped.
-fn skipped(entries: &mut MapAccess<'_, '_>, walk: &mut Walk) -> Result<usize, Fail> {
-    let Some((key, value)) = entries.next_entry_cursor()? else {
-        return Err("no entry")?;
-    };
+/// What is left after an entry is skipped.
+fn skipped(
+    entry: Option<(Cursor<'_>, Cursor<'_>)>,
+    walk: &mut Walk,
+) -> Result<usize, BinaryDeserializerError> {
+    let (key, value) = entry.ok_or(lack())?;
     key.skip(walk)?;
     value.skip(walk)?;
     Ok(walk.left())
 }
 
-/// The line of a whole tree, with what is left after it.
-fn line_of_root(alloc: Global, bytes: &[u8]) -> Result<String, Fail> {
+/// The whole tree, with what is left after it.
+fn root(alloc: Global, bytes: &[u8]) -> Answer {
     let (root, mut walk) = Cursor::root(bytes)?;
     let tree = root.read_resource(alloc, &mut walk)?;
-    line_of_tree(alloc, walk.left(), &tree)
+    Ok(line_of_tree(alloc, walk.left(), &tree)?)
 }
 
 /// Adds what a step says.
-fn push_step(line: &mut String, said: String) -> Result<(), Fail> {
-    line.push_str(said.as_str())?;
-    line.push_str("; ")?;
-    Ok(())
+fn push_step(line: &mut String, said: Line) -> Result<(), AllocError> {
+    let said = said?;
+    push_all(line, &[said.as_str(), "; "])
 }
 
-/// The line of four steps over the entries of a table of texts.
-fn line_of_entries(alloc: Global, bytes: &[u8]) -> Result<String, Fail> {
-    let (root, mut walk) = Cursor::root(bytes)?;
-    let mut entries = root.read_map(&mut walk)?;
+/// The line of four steps over entries of texts.
+fn line_of_entries(alloc: Global, mut entries: MapAccess<'_, 'static>, walk: &mut Walk) -> Line {
     let mut all = String::new(alloc);
     for _ in 0u8..4 {
-        let next = entries.next_entry::<&str, String>(alloc, &mut walk);
-        push_step(&mut all, line(alloc, next)?)?;
+        let next = line(alloc, entries.next_entry::<&str, String>(alloc, walk));
+        push_step(&mut all, next)?;
     }
     Ok(all)
+}
+
+/// Four steps over the entries of a table of texts.
+fn entries(alloc: Global, bytes: &[u8]) -> Answer {
+    let (root, mut walk) = Cursor::root(bytes)?;
+    let entries = root.read_map(&mut walk)?;
+    Ok(line_of_entries(alloc, entries, &mut walk)?)
 }
 
 /// The line of an entry of a key and a text.
 fn line_of_entry(
     alloc: Global,
     next: Result<Option<(Key<'_>, String)>, BinaryDeserializerError>,
-) -> Result<String, Fail> {
+) -> Line {
     match next {
         Ok(Some((key, text))) => {
             let name = key.as_str();
-            Ok(format!(in alloc; "{name}={text}")?)
+            format!(in alloc; "{name}={text}")
         }
-        Ok(None) => Ok(format!(in alloc; "none")?),
-        Err(error) => line_of_refusal(alloc, error),
+        Ok(None) => String::from_str(alloc, "none"),
+        Err(error) => format!(in alloc; "{error}"),
     }
 }
 
-/// The line of three steps over the entries of a table of texts by their keys.
-fn line_of_keys(alloc: Global, bytes: &[u8]) -> Result<String, Fail> {
-    let (root, mut walk) = Cursor::root(bytes)?;
-    let mut entries = root.read_map(&mut walk)?;
+/// The line of three steps over entries of texts by their keys.
+fn line_of_keys(alloc: Global, mut entries: MapAccess<'_, 'static>, walk: &mut Walk) -> Line {
     let mut all = String::new(alloc);
     for _ in 0u8..3 {
-        let next = entries.next_entry::<Key<'_>, String>(alloc, &mut walk);
-        push_step(&mut all, line_of_entry(alloc, next)?)?;
+        let next = entries.next_entry::<Key<'_>, String>(alloc, walk);
+        push_step(&mut all, line_of_entry(alloc, next))?;
     }
     Ok(all)
 }
 
-/// The line of four steps over the members of a list of texts.
-fn line_of_members(alloc: Global, bytes: &[u8]) -> Result<String, Fail> {
-    let mut walk = Walk::new(9);
-    let mut members = place(bytes, "root v0")?.read_seq(&mut walk)?;
+/// Three steps over the entries of a table of texts by their keys.
+fn keys(alloc: Global, bytes: &[u8]) -> Answer {
+    let (root, mut walk) = Cursor::root(bytes)?;
+    let entries = root.read_map(&mut walk)?;
+    Ok(line_of_keys(alloc, entries, &mut walk)?)
+}
+
+/// The line of four steps over members of texts.
+fn line_of_members(alloc: Global, mut members: SeqAccess<'_, 'static>, walk: &mut Walk) -> Line {
     let mut all = String::new(alloc);
     for _ in 0u8..4 {
-        let next = members.next_element::<String>(alloc, &mut walk);
-        push_step(&mut all, line(alloc, next)?)?;
+        let next = line(alloc, members.next_element::<String>(alloc, walk));
+        push_step(&mut all, next)?;
     }
     Ok(all)
+}
+
+/// Four steps over the members of a list of texts.
+fn members(alloc: Global, bytes: &[u8]) -> Answer {
+    let mut walk = Walk::new(9);
+    let members = place(bytes, "root v0")?.read_seq(&mut walk)?;
+    Ok(line_of_members(alloc, members, &mut walk)?)
 }
 
 /// Two steps over entries whose values are not what is asked for, and what is then to come and
 /// left.
-fn line_of_refused_entries(alloc: Global, bytes: &[u8]) -> Result<String, Fail> {
+fn refused_entries(alloc: Global, bytes: &[u8]) -> Answer {
     let (root, mut walk) = Cursor::root(bytes)?;
     let mut entries = root.read_map(&mut walk)?;
-    let first = line(alloc, entries.next_entry::<&str, u8>(alloc, &mut walk))?;
-    let second = line(alloc, entries.next_entry::<&str, u8>(alloc, &mut walk))?;
+    let first = line(alloc, entries.next_entry::<&str, u8>(alloc, &mut walk));
+    let second = line(alloc, entries.next_entry::<&str, u8>(alloc, &mut walk));
+    let said = same(alloc, first, second)?;
     let goes_on = entries.next_entry_cursor().is_ok();
     let (rest, left) = (entries.size_hint(), walk.left());
-    let said = same(first, second)?;
     Ok(format!(in alloc; "{said}; {goes_on} {rest} {left}")?)
 }
 
 /// Two steps over members that are not what is asked for, and what is then to come and left.
-fn line_of_refused_members(alloc: Global, bytes: &[u8]) -> Result<String, Fail> {
+fn refused_members(alloc: Global, bytes: &[u8]) -> Answer {
     let mut walk = Walk::new(9);
     let mut members = place(bytes, "root v0")?.read_seq(&mut walk)?;
-    let first = line(alloc, members.next_element::<u8>(alloc, &mut walk))?;
-    let second = line(alloc, members.next_element::<u8>(alloc, &mut walk))?;
+    let first = line(alloc, members.next_element::<u8>(alloc, &mut walk));
+    let second = line(alloc, members.next_element::<u8>(alloc, &mut walk));
+    let said = same(alloc, first, second)?;
     let goes_on = members.next_cursor().is_ok();
     let (rest, left) = (members.size_hint(), walk.left());
-    let said = same(first, second)?;
     Ok(format!(in alloc; "{said}; {goes_on} {rest} {left}")?)
 }
 
@@ -174,8 +226,8 @@ TEXTS / root k0 => false false true;
 ";
 
 /// Which deserializers a place has.
-pub(crate) fn line_of_named(alloc: Global, input: &str) -> Result<String, Fail> {
-    let (words, path) = input.split_once(" / ").ok_or("a row without a place")?;
+pub(crate) fn answer_of_named(alloc: Global, row: &str) -> Answer {
+    let (words, path) = halves(row, " / ");
     let bytes = file_of(alloc, words)?;
     let at = place(&bytes, path)?;
     let string = at.as_16_bit().is_some();
@@ -185,10 +237,8 @@ pub(crate) fn line_of_named(alloc: Global, input: &str) -> Result<String, Fail> 
 }
 
 /// A short string by its deserializer: its text, its bytes, and what of 2 is left.
-fn line_of_string(alloc: Global, bytes: &[u8]) -> Result<String, Fail> {
-    let Some(string) = place(bytes, "root v0 m1")?.as_16_bit() else {
-        return Err("no string")?;
-    };
+fn string(alloc: Global, bytes: &[u8]) -> Answer {
+    let string = place(bytes, "root v0 m1")?.as_16_bit().ok_or(lack())?;
     let mut walk = Walk::new(2);
     let text = string.read_string(alloc, &mut walk)?;
     let units = string.read_bytes(&mut walk)?;
@@ -196,36 +246,28 @@ fn line_of_string(alloc: Global, bytes: &[u8]) -> Result<String, Fail> {
     Ok(format!(in alloc; "{text} {units:?} {left}")?)
 }
 
-/// The line of a number as a type that is named.
-fn line_of_number(
-    alloc: Global,
-    number: IntVectorDeserializer<'_>,
-    name: &str,
-) -> Result<String, Fail> {
-    match name {
-        "i8" => line(alloc, number.read_i8()),
-        "i16" => line(alloc, number.read_i16()),
-        "i32" => line(alloc, number.read_i32()),
-        "i64" => line(alloc, number.read_i64()),
-        "u8" => line(alloc, number.read_u8()),
-        "u16" => line(alloc, number.read_u16()),
-        "u32" => line(alloc, number.read_u32()),
+/// The line of a number as a type.
+fn line_of_number(alloc: Global, number: IntVectorDeserializer<'_>, ask: Ask) -> Line {
+    match ask {
+        Ask::I8 => line(alloc, number.read_i8()),
+        Ask::I16 => line(alloc, number.read_i16()),
+        Ask::I32 => line(alloc, number.read_i32()),
+        Ask::I64 => line(alloc, number.read_i64()),
+        Ask::U8 => line(alloc, number.read_u8()),
+        Ask::U16 => line(alloc, number.read_u16()),
+        Ask::U32 => line(alloc, number.read_u32()),
         _ => line(alloc, number.read_u64()),
     }
 }
 
-/// The line of the second member of the vector of 1 and -1 as a type that is named.
-fn line_of_minus_one(alloc: Global, name: &str, bytes: &[u8]) -> Result<String, Fail> {
-    match place(bytes, "root v1 m1")?.as_int_vector() {
-        Some(number) => line_of_number(alloc, number, name),
-        None => Err("no number")?,
-    }
+/// The second member of the vector of 1 and -1 as a type.
+fn minus_one(alloc: Global, ask: Ask, bytes: &[u8]) -> Answer {
+    let number = place(bytes, "root v1 m1")?.as_int_vector().ok_or(lack())?;
+    Ok(line_of_number(alloc, number, ask)?)
 }
 
 /// A key by its deserializer.
-fn line_of_key(alloc: Global, bytes: &[u8]) -> Result<String, Fail> {
-    match place(bytes, "root k1")?.as_key() {
-        Some(key) => Ok(String::from_str(alloc, key.read_str()?)?),
-        None => Err("no key")?,
-    }
+fn key(alloc: Global, bytes: &[u8]) -> Answer {
+    let key = place(bytes, "root k1")?.as_key().ok_or(lack())?;
+    Ok(String::from_str(alloc, key.read_str()?)?)
 }

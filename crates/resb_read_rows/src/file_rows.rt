@@ -1,10 +1,9 @@
 //! Files, and the count and the tree that each denotes, or why it is refused. A row ends with a `;`
 //! and a line feed. The number in it is the digest of the lines of its file cut at each length, and
 //! then with each byte changed to 0, 1, 0x7f and 0xff. The tests are in `rows`.
-use crate::answers::{BASIS, digest, line_of};
+use crate::answers::{Answer, BASIS, digest, halves, line_of, number_of};
 use crate::files::{cut, file_of, with_byte};
-use std::alloc::Global;
-use std::test::Fail;
+use std::alloc::{AllocError, Global};
 
 pub(crate) const FILES: &str = "\
 INTEGER | 57527c573832488d => 1 268435455;
@@ -118,43 +117,49 @@ pub(crate) const ENDS: &str = "\
 0 => Invalid resource bundle data: unexpected end of input;
 ";
 
-/// The line of a file of a table without entries, of whose word so many bytes are left.
-pub(crate) fn line_of_end(alloc: Global, left: &str) -> Result<String, Fail> {
+/// The answer for a file of a table without entries, of whose word so many bytes are left.
+pub(crate) fn answer_for_end(alloc: Global, left: &str) -> Answer {
     let bytes = file_of(alloc, "20000009 7 8 9 9 0 0 9 aaaa0000 0")?;
-    let left = left.parse::<usize>()?;
-    let file = cut(alloc, &bytes, left.saturating_add(68))?;
-    line_of(alloc, &file)
+    let file = cut(alloc, &bytes, number_of(left).saturating_add(68))?;
+    Ok(line_of(alloc, &file)?)
 }
 
-/// The line of a file of these words.
-pub(crate) fn line_of_words(alloc: Global, words: &str) -> Result<String, Fail> {
+/// The answer for a file of these words.
+pub(crate) fn answer_for_words(alloc: Global, words: &str) -> Answer {
     let bytes = file_of(alloc, words)?;
-    line_of(alloc, &bytes)
+    Ok(line_of(alloc, &bytes)?)
 }
 
-/// The line of the file of a row, whose digest is the one of the damaged files.
-pub(crate) fn line_of_file(alloc: Global, input: &str) -> Result<String, Fail> {
-    let (words, digits) = input.split_once(" | ").ok_or("a row without a digest")?;
+/// The answer for the file of a row, whose digest is the one of the damaged files.
+pub(crate) fn answer_for_file(alloc: Global, row: &str) -> Answer {
+    let (words, digits) = halves(row, " | ");
     let sum = digest_of_damage(alloc, words)?;
-    if u64::from_str_radix(digits, 16)? != sum {
-        return Ok(format!(in alloc; "damaged files have the digest {sum:016x}")?);
+    let found = format!(in alloc; "{sum:016x}")?;
+    if found.as_str() != digits {
+        return Ok(format!(in alloc; "damaged files have the digest {found}")?);
     }
-    line_of_words(alloc, words)
+    answer_for_words(alloc, words)
 }
 
 /// The digest so far, with the line of a file.
-fn with_line(alloc: Global, sum: u64, file: Vec<u8>) -> Result<u64, Fail> {
+fn with_line(alloc: Global, sum: u64, file: Vec<u8>) -> Result<u64, AllocError> {
     let line = line_of(alloc, &file)?;
     Ok(digest(sum, &line))
 }
 
-/// The digest of the lines of a file cut at each length and changed at each byte.
-fn digest_of_damage(alloc: Global, words: &str) -> Result<u64, Fail> {
-    let bytes = file_of(alloc, words)?;
+/// The digest of the lines of a file cut at each length.
+fn digest_of_fronts(alloc: Global, bytes: &[u8]) -> Result<u64, AllocError> {
     let mut sum = BASIS;
     for length in 0..bytes.len() {
-        sum = with_line(alloc, sum, cut(alloc, &bytes, length)?)?;
+        sum = with_line(alloc, sum, cut(alloc, bytes, length)?)?;
     }
+    Ok(sum)
+}
+
+/// The digest of the lines of a file cut at each length and changed at each byte.
+fn digest_of_damage(alloc: Global, words: &str) -> Result<u64, AllocError> {
+    let bytes = file_of(alloc, words)?;
+    let mut sum = digest_of_fronts(alloc, &bytes)?;
     for place in 0..bytes.len() {
         for byte in [0u8, 1, 0x7f, 0xff] {
             sum = with_line(alloc, sum, with_byte(alloc, &bytes, place, byte)?)?;

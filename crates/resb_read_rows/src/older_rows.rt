@@ -1,19 +1,19 @@
 //! Aliases and strings of the older form: a count in the body, and behind it so many units. They
 //! are read of files beside a pool bundle or beside none, as here, and are refused where a file is
 //! read alone. The tests are in `rows`.
-use crate::answers::{line_of_refusal, line_of_tree, same};
+use crate::answers::{Answer, Line, agreed, line_of_read, line_of_tree, said};
 use crate::asks::asked;
-use crate::files::{file_of, file_of_words};
+use crate::files::file_of;
 use crate::hostile_rows::ends_of;
-use crate::measure_rows::{fit, line_of_sums};
+use crate::measure_rows::{fit, line_of_measured, other_limit};
 use crate::places::place_below;
+use crate::type_rows::parts_of;
 use resb_format::Resource;
 use resb_read::{
     Cursor, Measured, count_resources_with_pool, from_bytes_counted_with_pool, measure_with_pool,
     tree_from_bytes_with_pool, tree_from_bytes_within_with_pool,
 };
-use std::alloc::Global;
-use std::test::Fail;
+use std::alloc::{AllocError, Global};
 
 /// Files, and what is answered of each beside no pool. An alias is shown by its path behind an `@`.
 /// The unit 0 that stands behind a text in real files is looked at by nobody.
@@ -116,19 +116,18 @@ pub(crate) const MEASURES: &str = "\
 9 7 8 b b 0 0 9 aaaa0000 3 620061 => Invalid resource bundle data: unexpected end of input;
 ";
 
-/// Arrays whose members all lead to one text but for the last: the word of the others, how many
-/// pairs of units the text has, how many members there are, and the last one. The tree, and what it
-/// adds up to.
+/// Arrays whose members all lead to one text of 503 pairs of units but for the last: 500 aliases,
+/// and 1000 strings. The tree, and what it adds up to.
 pub(crate) const ONE_TEXT: &str = "\
-30000009 503 500 0 =>
+80000201 7 8 3f6 3f6 0 0 9 aaaa0000 3ee dc02d800*503 1f4 30000009*499 0 =>
     501 [@\"\u{10002}\u{10002}\u{10002}\u{10002}\u{10002}\u{10002} and \
     \u{10002}\u{10002}\u{10002}\",\"\",] in 1005993 bytes,
     501: 0, 0, 0, 1003988, 0, 0; 3048036 bytes;
-9 503 1000 0 =>
+80000201 7 8 5ea 5ea 0 0 9 aaaa0000 3ee dc02d800*503 3e8 9*999 0 =>
     1001 [\"\u{10002}\u{10002}\u{10002}\u{10002}\u{10002}\u{10002} and \
     \u{10002}\u{10002}\u{10002}\",\"\",] in 2012995 bytes,
     1001: 0, 0, 0, 2009988, 0, 0; 6102036 bytes;
-30000009 503 500 3000000a =>
+80000201 7 8 3f6 3f6 0 0 9 aaaa0000 3ee dc02d800*503 1f4 30000009*499 3000000a =>
     Invalid resource bundle data: unexpected end of input,
     Invalid resource bundle data: unexpected end of input;
 ";
@@ -136,134 +135,93 @@ pub(crate) const ONE_TEXT: &str = "\
 /// The same of a text of a million units, and what the tree adds up to that nobody makes. A look at
 /// the whole text for each member would take minutes.
 pub(crate) const LONG_TEXT: &str = "\
-30000009 524288 262144 0 => 262145: 0, 0, 0, 549753716736, 0, 0; 1649280024648 bytes;
-9 524288 262144 30000000 => 262145: 0, 0, 0, 549753716736, 0, 0; 1649280024648 bytes;
+8008000a 7 8 c000b c000b 0 0 9 aaaa0000 100000 dc02d800*524288 40000 30000009*262143 0 =>
+    262145: 0, 0, 0, 549753716736, 0, 0; 1649280024648 bytes;
+8008000a 7 8 c000b c000b 0 0 9 aaaa0000 100000 dc02d800*524288 40000 9*262143 30000000 =>
+    262145: 0, 0, 0, 549753716736, 0, 0; 1649280024648 bytes;
 ";
 
-/// The line of a file beside no pool, by `from_bytes_counted_with_pool`.
-fn line_by_counted(alloc: Global, bytes: &[u8]) -> Result<String, Fail> {
-    match from_bytes_counted_with_pool::<Resource<'_>>(alloc, bytes, None) {
-        Ok((tree, count)) => line_of_tree(alloc, count, &tree),
-        Err(error) => line_of_refusal(alloc, error),
-    }
+/// The answer for a file beside no pool, by `from_bytes_counted_with_pool`.
+fn answer_by_counted(alloc: Global, bytes: &[u8]) -> Answer {
+    let (tree, count) = from_bytes_counted_with_pool::<Resource<'_>>(alloc, bytes, None)?;
+    Ok(line_of_tree(alloc, count, &tree)?)
 }
 
-/// The line of a file beside no pool, by its count and its tree.
-fn line_by_tree(alloc: Global, bytes: &[u8]) -> Result<String, Fail> {
-    match count_resources_with_pool(alloc, bytes, None) {
-        Ok(count) => {
-            let tree = tree_from_bytes_with_pool(alloc, bytes, None)?;
-            line_of_tree(alloc, count, &tree)
-        }
-        Err(error) => line_of_refusal(alloc, error),
-    }
+/// The answer for a file beside no pool, by its count and its tree.
+fn answer_by_tree(alloc: Global, bytes: &[u8]) -> Answer {
+    let count = count_resources_with_pool(alloc, bytes, None)?;
+    line_of_read(alloc, count, tree_from_bytes_with_pool(alloc, bytes, None))
 }
 
 /// The line of a file beside no pool, which is the same by each of the calls.
-fn line_of(alloc: Global, bytes: &[u8]) -> Result<String, Fail> {
-    same(line_by_counted(alloc, bytes)?, line_by_tree(alloc, bytes)?)
+fn line_of(alloc: Global, bytes: &[u8]) -> Line {
+    agreed(
+        alloc,
+        answer_by_counted(alloc, bytes),
+        answer_by_tree(alloc, bytes),
+    )
 }
 
-/// The line of a file of these words, beside no pool.
-pub(crate) fn line_beside(alloc: Global, words: &str) -> Result<String, Fail> {
+/// The answer for a file of these words, beside no pool.
+pub(crate) fn answer_beside(alloc: Global, words: &str) -> Answer {
     let bytes = file_of(alloc, words)?;
-    line_of(alloc, &bytes)
+    Ok(line_of(alloc, &bytes)?)
 }
 
-/// The line of what is asked for at a place of a file, beside no pool.
-pub(crate) fn line_of_ask(alloc: Global, input: &str) -> Result<String, Fail> {
-    let (words, rest) = input.split_once(" / ").ok_or("a row without a place")?;
-    let (path, rest) = rest.split_once(" / ").ok_or("a row without a budget")?;
-    let (left, ask) = rest.split_once(' ').ok_or("a row that asks for nothing")?;
-    let left = left.parse::<usize>()?;
+/// The answer to what is asked for at a place of a file, beside no pool.
+pub(crate) fn answer_to_ask(alloc: Global, row: &str) -> Answer {
+    let (words, path, left, ask) = parts_of(row);
     let bytes = file_of(alloc, words)?;
     let (root, walk) = Cursor::root_with_pool(&bytes, None)?;
-    asked(alloc, ask, place_below(root, walk, path)?, left)
+    Ok(asked(alloc, ask, place_below(root, walk, path)?, left)?)
 }
 
-/// The line of what was measured.
-fn line_of_measured(alloc: Global, measured: Measured) -> Result<String, Fail> {
-    let (count, sums) = (measured.resources, line_of_sums(alloc, measured.sums)?);
-    let limit = fit(measured.tree_bytes())?;
-    Ok(format!(in alloc; "{count}: {sums}; {limit} bytes")?)
+/// What a file adds up to, beside no pool.
+fn measured_of(alloc: Global, bytes: &[u8]) -> Answer {
+    let measured = measure_with_pool(alloc, bytes, None)?;
+    Ok(line_of_measured(alloc, measured)?)
 }
 
-/// The line of what a file adds up to, beside no pool.
-fn measured_of(alloc: Global, bytes: &[u8]) -> Result<String, Fail> {
-    match measure_with_pool(alloc, bytes, None) {
-        Ok(measured) => line_of_measured(alloc, measured),
-        Err(error) => line_of_refusal(alloc, error),
-    }
+/// The answer for a file's tree beside no pool, where it is read within a limit.
+fn answer_within(alloc: Global, bytes: &[u8], count: usize, limit: u64) -> Answer {
+    let read = tree_from_bytes_within_with_pool(alloc, bytes, None, limit);
+    line_of_read(alloc, count, read)
 }
 
 /// Whether the tree of a file is read within just its bytes, and not within fewer.
-fn is_within(alloc: Global, bytes: &[u8]) -> Result<bool, Fail> {
-    let measured = match measure_with_pool(alloc, bytes, None) {
-        Ok(measured) => measured,
-        Err(_) => return Ok(true),
-    };
-    let limit = fit(measured.tree_bytes())?;
-    let tree = tree_from_bytes_within_with_pool(alloc, bytes, None, limit)?;
-    let line = line_of_tree(alloc, measured.resources, &tree)?;
-    let fewer = tree_from_bytes_within_with_pool(alloc, bytes, None, limit.saturating_sub(1));
-    Ok(line == line_by_tree(alloc, bytes)? && fewer.is_err())
+fn is_within(alloc: Global, bytes: &[u8], measured: Measured) -> Result<bool, AllocError> {
+    let (count, limit) = (measured.resources, fit(measured.tree_bytes()));
+    let fewer = answer_within(alloc, bytes, count, limit.saturating_sub(1));
+    let within = said(alloc, answer_within(alloc, bytes, count, limit))?;
+    let whole = said(alloc, answer_by_tree(alloc, bytes))?;
+    Ok(within == whole && fewer.is_err())
 }
 
-/// The line of what a file of these words adds up to, beside no pool.
-pub(crate) fn line_of_measure(alloc: Global, words: &str) -> Result<String, Fail> {
+/// What a file adds up to beside no pool, where its tree is read within just its bytes.
+fn measured_within(alloc: Global, bytes: &[u8]) -> Answer {
+    let measured = measure_with_pool(alloc, bytes, None)?;
+    if !is_within(alloc, bytes, measured)? {
+        return Err(other_limit());
+    }
+    Ok(line_of_measured(alloc, measured)?)
+}
+
+/// What a file of these words adds up to, beside no pool.
+pub(crate) fn answer_to_measure(alloc: Global, words: &str) -> Answer {
     let bytes = file_of(alloc, words)?;
-    if !is_within(alloc, &bytes)? {
-        return Err("another tree within the limit")?;
-    }
-    measured_of(alloc, &bytes)
+    measured_within(alloc, &bytes)
 }
 
-/// An array of so many members: one word again and again, and a last one. A text of so many pairs
-/// of units has its count at word 9.
-fn of_one_text(
-    alloc: Global,
-    word: u32,
-    pairs: u32,
-    members: u32,
-    last: u32,
-) -> Result<Vec<u8>, Fail> {
-    let place = pairs.saturating_add(10);
-    let root = place.saturating_add(0x8000_0000);
-    let end = members.saturating_add(place).saturating_add(1);
-    let count = pairs.saturating_mul(2);
-    let mut words = Vec::from_slice(alloc, &[root, 7, 8, end, end, 0, 0, 9, 0xaaaa_0000, count])?;
-    for _ in 0..pairs {
-        words.push(0xdc02_d800)?;
-    }
-    words.push(members)?;
-    for _ in 1..members {
-        words.push(word)?;
-    }
-    words.push(last)?;
-    file_of_words(alloc, &words)
-}
-
-/// The file of a row that says word, pairs, members and the last one.
-fn file_of_one_text(alloc: Global, row: &str) -> Result<Vec<u8>, Fail> {
-    let (word, rest) = row.split_once(' ').ok_or("a row without pairs")?;
-    let (pairs, rest) = rest.split_once(' ').ok_or("a row without a count")?;
-    let (members, last) = rest.split_once(' ').ok_or("a row without a last word")?;
-    let word = u32::from_str_radix(word, 16)?;
-    let last = u32::from_str_radix(last, 16)?;
-    let (pairs, members) = (pairs.parse::<u32>()?, members.parse::<u32>()?);
-    of_one_text(alloc, word, pairs, members, last)
-}
-
-/// The line of such an array, and of what it adds up to.
-pub(crate) fn line_of_one_text(alloc: Global, row: &str) -> Result<String, Fail> {
-    let bytes = file_of_one_text(alloc, row)?;
+/// The answer for the file of such an array, and what it adds up to.
+pub(crate) fn answer_for_one_text(alloc: Global, words: &str) -> Answer {
+    let bytes = file_of(alloc, words)?;
     let tree = ends_of(alloc, line_of(alloc, &bytes)?)?;
-    let sums = measured_of(alloc, &bytes)?;
+    let sums = said(alloc, measured_of(alloc, &bytes))?;
     Ok(format!(in alloc; "{tree},\n    {sums}")?)
 }
 
-/// The line of what such an array adds up to.
-pub(crate) fn line_of_long_text(alloc: Global, row: &str) -> Result<String, Fail> {
-    let bytes = file_of_one_text(alloc, row)?;
+/// What such an array adds up to.
+pub(crate) fn sums_of_long_text(alloc: Global, words: &str) -> Answer {
+    let bytes = file_of(alloc, words)?;
     measured_of(alloc, &bytes)
 }

@@ -1,6 +1,8 @@
 //! A pool bundle and a file over it, as ICU's `genrb` writes the two, through each call that reads
-//! them. Damaged ones are read by the program `resb`, in `tests/pools.py`.
-use crate::files::file_of_words;
+//! them. Damaged ones are read by the program `resb`, in `tests/pools.py`,
+//! and the test is in `rows`.
+use crate::answers::Answer;
+use crate::files::file_of;
 use resb_format::{BinaryDeserializerError, Resource};
 use resb_head::FormatVersion;
 use resb_path::{find_in, find_with_pool};
@@ -11,19 +13,15 @@ use resb_read::{
 };
 use std::alloc::Global;
 use std::collections::BTreeMap;
-use std::test::Fail;
 
 /// The keys `alpha`, `beta` and `gamma`: the words behind the header.
-const POOL: [u32; 15] = [
-    0x20000000, 8, 0xe, 0xf, 0xf, 0, 3, 0xf, 0x1baba403, 0x68706c61, 0x65620061, 0x67006174,
-    0x616d6d61, 0xaaaaaa00, 0xaaaa0000,
-];
+const POOL: &str = "\
+    20000000 8 e f f 0 3 f 1baba403 68706c61 65620061 67006174 616d6d61 aaaaaa00 aaaa0000";
 
 /// `a{alpha{"one two three"}beta{"x"}}` over that pool.
-const OVER_POOL: [u32; 20] = [
-    0x50000011, 8, 9, 0x14, 0x14, 2, 4, 0x14, 0x1baba403, 0x780000, 0x6f0000, 0x65006e, 0x740020,
-    0x6f0077, 0x740020, 0x720068, 0x650065, 0x20000, 0x60000, 0x10003,
-];
+const OVER_POOL: &str = "\
+    50000011 8 9 14 14 2 4 14 1baba403 780000 6f0000 65006e 740020 6f0077 740020 720068 650065 \
+    20000 60000 10003";
 
 /// The bytes that its tree takes: three resources, 14 bytes of text, a table and two entries.
 const TREE_BYTES: u64 = 3 * 72 + 14 * 3 + 1024 + 2 * 192;
@@ -111,19 +109,25 @@ fn is_one_tree(
     Ok(same == tree && count == 3)
 }
 
-#[test]
-fn a_file_over_a_pool_bundle_is_read(rt: HostRuntime) -> Result<(), Fail> {
-    let alloc = rt.alloc();
-    let (pool, file) = (
-        file_of_words(alloc, &POOL)?,
-        file_of_words(alloc, &OVER_POOL)?,
-    );
-    let bundle = PoolBundle::read(&pool)?;
-    let heads = are_heads(&pool, &file)?;
-    let strings = are_strings(alloc, &file, bundle)?
-        && are_found(&file, bundle)?
-        && are_led(&file, bundle)?;
-    let measured = is_measured(alloc, &file, bundle)?;
-    assert!(rt; heads && strings && measured && is_one_tree(alloc, &file, bundle)?);
-    Ok(())
+/// Whether the file is read in each way.
+fn is_read(alloc: Global, pool: &[u8], file: &[u8]) -> Result<bool, BinaryDeserializerError> {
+    let bundle = PoolBundle::read(pool)?;
+    Ok(
+        are_heads(pool, file)?
+            && are_strings(alloc, file, bundle)?
+            && are_found(file, bundle)?
+            && are_led(file, bundle)?
+            && is_measured(alloc, file, bundle)?
+            && is_one_tree(alloc, file, bundle)?,
+    )
 }
+
+/// Whether a file over a pool bundle is read in each way.
+pub(crate) fn answer_over_pool(alloc: Global, _: &str) -> Answer {
+    let (pool, file) = (file_of(alloc, POOL)?, file_of(alloc, OVER_POOL)?);
+    let is_read = is_read(alloc, &pool, &file)?;
+    Ok(format!(in alloc; "{is_read}")?)
+}
+
+/// The row of them all.
+pub(crate) const OVER_POOLS: &str = "a file over its pool bundle => true;\n";

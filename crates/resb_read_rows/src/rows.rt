@@ -1,8 +1,9 @@
 //! The tests of the rows that are lines of text: what answers a row of each kind, and one loop,
 //! which is proved once. The rows and what answers them stand in the other modules.
-use crate::answers::parts;
+use crate::answers::{Answer, parts, said};
 use crate::{
-    both_rows, cursor_rows, file_rows, head_rows, hostile_rows, measure_rows, older_rows, type_rows,
+    both_rows, cursor_rows, file_rows, head_rows, hostile_rows, measure_rows, older_rows,
+    pool_rows, type_rows,
 };
 use std::alloc::Global;
 use std::process::Abort;
@@ -19,11 +20,15 @@ enum Kind {
     File,
     End,
     Change,
+    Hiding,
+    Fronts,
     Index,
     Longer,
     Order,
     Laid,
     Hostile,
+    ManyKeys,
+    Deep,
     Measure,
     Type,
     Sweep,
@@ -32,97 +37,133 @@ enum Kind {
     MeasureBeside,
     OneText,
     LongText,
+    OverPool,
 }
 
-/// The line of a row of this kind.
-fn answered(alloc: Global, kind: Kind, input: &str) -> Result<String, Fail> {
+/// The answer to a row of this kind.
+fn answered(alloc: Global, kind: Kind, input: &str) -> Answer {
     match kind {
-        Kind::Alone => both_rows::line_alone(alloc, input),
-        Kind::InMap => both_rows::line_in_map(alloc, input),
-        Kind::InList => both_rows::line_in_list(alloc, input),
-        Kind::Step => cursor_rows::line_of_step(alloc, input),
-        Kind::Named => cursor_rows::line_of_named(alloc, input),
-        Kind::File => file_rows::line_of_file(alloc, input),
-        Kind::End => file_rows::line_of_end(alloc, input),
-        Kind::Change => head_rows::line_of_change(alloc, input),
-        Kind::Index => file_rows::line_of_words(alloc, input),
-        Kind::Longer => head_rows::line_of_longer(alloc, input),
-        Kind::Order => head_rows::line_of_order(alloc, input),
-        Kind::Laid => head_rows::line_of_laid(alloc, input),
-        Kind::Hostile => hostile_rows::line_of_hostile(alloc, input),
-        Kind::Measure => measure_rows::line_of_measure(alloc, input),
-        Kind::Type => type_rows::line_of_ask(alloc, input),
-        Kind::Sweep => type_rows::line_of_places(alloc, input),
-        Kind::Beside => older_rows::line_beside(alloc, input),
-        Kind::AskBeside => older_rows::line_of_ask(alloc, input),
-        Kind::MeasureBeside => older_rows::line_of_measure(alloc, input),
-        Kind::OneText => older_rows::line_of_one_text(alloc, input),
-        Kind::LongText => older_rows::line_of_long_text(alloc, input),
+        Kind::Alone => both_rows::answer_alone(alloc, input),
+        Kind::InMap => both_rows::answer_in_map(alloc, input),
+        Kind::InList => both_rows::answer_in_list(alloc, input),
+        Kind::Step => cursor_rows::answer_to_step(alloc, input),
+        Kind::Named => cursor_rows::answer_of_named(alloc, input),
+        Kind::File => file_rows::answer_for_file(alloc, input),
+        Kind::End => file_rows::answer_for_end(alloc, input),
+        Kind::Change => head_rows::answer_to_change(alloc, input),
+        Kind::Hiding => head_rows::count_of_hiding(alloc, input),
+        Kind::Fronts => head_rows::answer_for_fronts(alloc, input),
+        Kind::Index => file_rows::answer_for_words(alloc, input),
+        Kind::Longer => head_rows::answer_for_longer(alloc, input),
+        Kind::Order => head_rows::answer_of_order(alloc, input),
+        Kind::Laid => head_rows::answer_laid(alloc, input),
+        Kind::Hostile => hostile_rows::answer_for_hostile(alloc, input),
+        Kind::ManyKeys => hostile_rows::answer_for_many_keys(alloc, input),
+        Kind::Deep => hostile_rows::count_of_deep(alloc, input),
+        Kind::Measure => measure_rows::answer_to_measure(alloc, input),
+        Kind::Type => type_rows::answer_to_ask(alloc, input),
+        Kind::Sweep => type_rows::answer_at_places(alloc, input),
+        Kind::Beside => older_rows::answer_beside(alloc, input),
+        Kind::AskBeside => older_rows::answer_to_ask(alloc, input),
+        Kind::MeasureBeside => older_rows::answer_to_measure(alloc, input),
+        Kind::OneText => older_rows::answer_for_one_text(alloc, input),
+        Kind::LongText => older_rows::sums_of_long_text(alloc, input),
+        Kind::OverPool => pool_rows::answer_over_pool(alloc, input),
     }
 }
 
-/// Each row of a table has its answer.
+/// A row has its answer.
+fn assert_row(rt: &impl Abort, alloc: Global, kind: Kind, row: &str) -> Result<(), Fail> {
+    let (input, wanted) = parts(row);
+    let found = said(alloc, answered(alloc, kind, input))?;
+    assert_eq!(rt; found.as_str(), wanted, "of {input}");
+    Ok(())
+}
+
+/// Each row of a table has its answer. A row ends with a `;` and a line feed.
 fn assert_rows(rt: &impl Abort, alloc: Global, kind: Kind, rows: &str) -> Result<(), Fail> {
     for row in rows.split_terminator(";\n") {
-        let (input, said) = parts(row)?;
-        assert_row(rt, answered(alloc, kind, input)?, said, input);
+        assert_row(rt, alloc, kind, row)?;
     }
     Ok(())
 }
 
-/// The line of a row is the one that is wanted.
-fn assert_row(rt: &impl Abort, found: String, said: &str, input: &str) {
-    assert_eq!(rt; found.as_str(), said, "of {input}");
+/// Each row of some tables has its answer.
+fn assert_tables(rt: &impl Abort, alloc: Global, tables: &[(Kind, &str)]) -> Result<(), Fail> {
+    for (kind, rows) in tables {
+        assert_rows(rt, alloc, *kind, rows)?;
+    }
+    Ok(())
 }
+
+const TYPES_OF_A_USER: [(Kind, &str); 3] = [
+    (Kind::Alone, both_rows::ALONE),
+    (Kind::InMap, both_rows::MAP),
+    (Kind::InList, both_rows::LIST),
+];
 
 #[test]
 fn types_of_a_users_own_are_read(rt: HostRuntime) -> Result<(), Fail> {
-    assert_rows(&rt, rt.alloc(), Kind::Alone, both_rows::ALONE)?;
-    assert_rows(&rt, rt.alloc(), Kind::InMap, both_rows::MAP)?;
-    assert_rows(&rt, rt.alloc(), Kind::InList, both_rows::LIST)
+    assert_tables(&rt, rt.alloc(), &TYPES_OF_A_USER)
 }
+
+const READINGS: [(Kind, &str); 3] = [
+    (Kind::Step, cursor_rows::STEPS),
+    (Kind::Named, cursor_rows::NAMED),
+    (Kind::OverPool, pool_rows::OVER_POOLS),
+];
 
 #[test]
 fn steps_of_a_reading_are_answered(rt: HostRuntime) -> Result<(), Fail> {
-    assert_rows(&rt, rt.alloc(), Kind::Step, cursor_rows::STEPS)?;
-    assert_rows(&rt, rt.alloc(), Kind::Named, cursor_rows::NAMED)
+    assert_tables(&rt, rt.alloc(), &READINGS)
 }
+
+const WHOLE_FILES: [(Kind, &str); 2] = [
+    (Kind::File, file_rows::FILES),
+    (Kind::End, file_rows::ENDS),
+];
 
 #[test]
 fn files_and_damaged_files_are_answered(rt: HostRuntime) -> Result<(), Fail> {
-    assert_rows(&rt, rt.alloc(), Kind::File, file_rows::FILES)?;
-    assert_rows(&rt, rt.alloc(), Kind::End, file_rows::ENDS)
+    assert_tables(&rt, rt.alloc(), &WHOLE_FILES)
 }
+
+const HEADS: [(Kind, &str); 7] = [
+    (Kind::Change, head_rows::CHANGES),
+    (Kind::Hiding, head_rows::HIDING),
+    (Kind::Fronts, head_rows::FRONTS),
+    (Kind::Index, head_rows::INDICES),
+    (Kind::Longer, head_rows::LONGER),
+    (Kind::Order, head_rows::ORDERS),
+    (Kind::Laid, head_rows::LAID),
+];
 
 #[test]
 fn heads_are_judged(rt: HostRuntime) -> Result<(), Fail> {
-    assert_rows(&rt, rt.alloc(), Kind::Change, head_rows::CHANGES)?;
-    assert_rows(&rt, rt.alloc(), Kind::Index, head_rows::INDICES)?;
-    assert_rows(&rt, rt.alloc(), Kind::Longer, head_rows::LONGER)?;
-    assert_rows(&rt, rt.alloc(), Kind::Order, head_rows::ORDERS)?;
-    assert_rows(&rt, rt.alloc(), Kind::Laid, head_rows::LAID)
+    assert_tables(&rt, rt.alloc(), &HEADS)
 }
 
-#[test]
-fn shared_bodies_are_paid_for_each_time(rt: HostRuntime) -> Result<(), Fail> {
-    assert_rows(&rt, rt.alloc(), Kind::Hostile, hostile_rows::SHARED)?;
-    assert_rows(&rt, rt.alloc(), Kind::Hostile, hostile_rows::ONE_TEXT)
-}
+const HOSTILE: [(Kind, &str); 5] = [
+    (Kind::Hostile, hostile_rows::SHARED),
+    (Kind::Hostile, hostile_rows::ONE_TEXT),
+    (Kind::Hostile, hostile_rows::WIDE),
+    (Kind::ManyKeys, hostile_rows::MANY_KEYS),
+    (Kind::Deep, hostile_rows::DEEP),
+];
 
 #[test]
-fn deep_files_are_read_and_dropped(rt: HostRuntime) -> Result<(), Fail> {
-    assert_rows(&rt, rt.alloc(), Kind::Hostile, hostile_rows::DEEP)
+fn hostile_files_are_answered(rt: HostRuntime) -> Result<(), Fail> {
+    assert_tables(&rt, rt.alloc(), &HOSTILE)
 }
 
-#[test]
-fn tables_of_many_entries_are_read(rt: HostRuntime) -> Result<(), Fail> {
-    assert_rows(&rt, rt.alloc(), Kind::Hostile, hostile_rows::WIDE)
-}
+const PLACES: [(Kind, &str); 2] = [
+    (Kind::Type, type_rows::TYPES),
+    (Kind::Sweep, type_rows::SWEEPS),
+];
 
 #[test]
 fn types_are_read_at_places(rt: HostRuntime) -> Result<(), Fail> {
-    assert_rows(&rt, rt.alloc(), Kind::Type, type_rows::TYPES)?;
-    assert_rows(&rt, rt.alloc(), Kind::Sweep, type_rows::SWEEPS)
+    assert_tables(&rt, rt.alloc(), &PLACES)
 }
 
 #[test]
@@ -130,13 +171,17 @@ fn trees_are_measured_before_they_are_made(rt: HostRuntime) -> Result<(), Fail> 
     assert_rows(&rt, rt.alloc(), Kind::Measure, measure_rows::MEASURES)
 }
 
+const OLDER: [(Kind, &str); 5] = [
+    (Kind::Beside, older_rows::BESIDE),
+    (Kind::Index, older_rows::ALONE),
+    (Kind::AskBeside, older_rows::TYPES),
+    (Kind::MeasureBeside, older_rows::MEASURES),
+    (Kind::OneText, older_rows::ONE_TEXT),
+];
+
 #[test]
 fn aliases_and_older_strings_are_read_beside_no_pool(rt: HostRuntime) -> Result<(), Fail> {
-    assert_rows(&rt, rt.alloc(), Kind::Beside, older_rows::BESIDE)?;
-    assert_rows(&rt, rt.alloc(), Kind::Index, older_rows::ALONE)?;
-    assert_rows(&rt, rt.alloc(), Kind::AskBeside, older_rows::TYPES)?;
-    assert_rows(&rt, rt.alloc(), Kind::MeasureBeside, older_rows::MEASURES)?;
-    assert_rows(&rt, rt.alloc(), Kind::OneText, older_rows::ONE_TEXT)
+    assert_tables(&rt, rt.alloc(), &OLDER)
 }
 
 #[test]

@@ -1,12 +1,12 @@
 //! Types that are read at places of files with so much of a budget: the value, or why it is
 //! refused, and what is left. A row ends with a `;` and a line feed. Whole trees are in
 //! `file_rows`, and the tests in `rows`.
-use crate::answers::{BASIS, digest};
-use crate::asks::{ALL, asked};
+use crate::answers::{Answer, BASIS, digest, halves, named, number_of};
+use crate::asks::{ASKS, Ask, asked};
 use crate::files::file_of;
 use crate::places::place;
+use resb_format::BinaryDeserializerError;
 use std::alloc::Global;
-use std::test::Fail;
 
 /// Files, places in them, what is left of a budget and what is asked for, and the answer.
 pub(crate) const TYPES: &str = "\
@@ -106,31 +106,55 @@ f0000000 7 8 9 9 0 0 9 aaaa0000 / root => 70db23325c888c84;
 6000ffff 7 8 9 9 0 0 9 aaaa0000 / root => 28c1ab18786c42c8;
 ";
 
-/// The line of what is asked for.
-pub(crate) fn line_of_ask(alloc: Global, input: &str) -> Result<String, Fail> {
-    let (words, rest) = input.split_once(" / ").ok_or("a row without a place")?;
-    let (path, rest) = rest.split_once(" / ").ok_or("a row without a budget")?;
-    let (left, ask) = rest.split_once(' ').ok_or("a row that asks for nothing")?;
-    let left = left.parse::<usize>()?;
+/// The parts of a row: a file, a place in it, what is left of a budget, and what is asked for.
+pub(crate) fn parts_of(row: &str) -> (&str, &str, usize, Ask) {
+    let (words, rest) = halves(row, " / ");
+    let (path, rest) = halves(rest, " / ");
+    let (left, name) = halves(rest, " ");
+    let ask = named(&ASKS, name).unwrap_or(Ask::Type);
+    (words, path, number_of(left), ask)
+}
+
+/// The answer to what is asked for.
+pub(crate) fn answer_to_ask(alloc: Global, row: &str) -> Answer {
+    let (words, path, left, ask) = parts_of(row);
     let bytes = file_of(alloc, words)?;
-    asked(alloc, ask, place(&bytes, path)?, left)
+    Ok(asked(alloc, ask, place(&bytes, path)?, left)?)
+}
+
+/// The digest so far, and all that is answered at a place of a file to one thing that is asked for.
+fn digest_of_ask(
+    alloc: Global,
+    before: u64,
+    bytes: &[u8],
+    path: &str,
+    ask: Ask,
+) -> Result<u64, BinaryDeserializerError> {
+    let mut sum = before;
+    for left in [0usize, 1, 2, 50] {
+        let line = asked(alloc, ask, place(bytes, path)?, left)?;
+        sum = digest(sum, &line);
+    }
+    Ok(sum)
 }
 
 /// The digest so far, and all that is answered at a place of a file.
-fn digest_of_place(alloc: Global, before: u64, bytes: &[u8], path: &str) -> Result<u64, Fail> {
+fn digest_of_place(
+    alloc: Global,
+    before: u64,
+    bytes: &[u8],
+    path: &str,
+) -> Result<u64, BinaryDeserializerError> {
     let mut sum = before;
-    for ask in ALL.split_whitespace() {
-        for left in [0usize, 1, 2, 50] {
-            let line = asked(alloc, ask, place(bytes, path)?, left)?;
-            sum = digest(sum, &line);
-        }
+    for (_, ask) in ASKS {
+        sum = digest_of_ask(alloc, sum, bytes, path, ask)?;
     }
     Ok(sum)
 }
 
 /// The digest of all that is answered at the places of a row.
-pub(crate) fn line_of_places(alloc: Global, row: &str) -> Result<String, Fail> {
-    let (words, paths) = row.split_once(" / ").ok_or("a row without places")?;
+pub(crate) fn answer_at_places(alloc: Global, row: &str) -> Answer {
+    let (words, paths) = halves(row, " / ");
     let bytes = file_of(alloc, words)?;
     let mut sum = BASIS;
     for path in paths.split(", ") {

@@ -1,5 +1,6 @@
 //! Where a byte stands first, where a string in quotes may end, and where a word or a comment does.
-//! Blanks are passed in `resb_grammar`; what stands behind them is found in `text_pieces`.
+//! Blanks are passed in `resb_grammar`; what stands behind them is found in `warning` and
+//! `text_pieces`.
 ghost use Rattle.std.specs.Prelude.{◌≡◌, ◌+◌, ◌<◌, ◌≤◌, length, slice_index};
 ghost use Rattle.resb_grammar.specs.Ascii as ascii;
 ghost use Rattle.resb_grammar.specs.ByteRuns as spec;

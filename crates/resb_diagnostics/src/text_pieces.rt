@@ -1,4 +1,5 @@
-//! The pieces of a text: strings, types, braces and commas, found from place to place.
+//! The pieces of a text: strings, types, braces and commas. Strings and types are found here, from
+//! place to place; braces and commas are seen in `warning`.
 //! Where a string or a comment ends is found in `runs`; what the pieces say of groups is in
 //! `groups`.
 ghost use Rattle.std.specs.Prelude.{◌≡◌, ◌==◌, ◌+◌, ◌<◌, length, slice_index, true, false};

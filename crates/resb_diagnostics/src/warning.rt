@@ -1,8 +1,8 @@
 //! What a person may not have meant in a text that is a bundle: most of it is taken otherwise by
 //! another reader, ICU's `genrb`.
 //! A warning changes nothing about what is made. Why a text is refused isn't found here.
-ghost use Rattle.std.specs.Prelude.{◌≡◌, ◌++◌, ◌<◌, ◌≤◌, [], Some, None, length, option_map, IfOk, OnOk};
-ghost use Rattle.std.specs.Prelude.{slice_index};
+ghost use Rattle.std.specs.Prelude.{◌≡◌, ◌++◌, ◌<◌, ◌≤◌, [], Some, None, length, option_map};
+ghost use Rattle.std.specs.Prelude.{IfOk, OnOk, slice_index};
 ghost use Rattle.std.specs.Prelude.{IsPermutation};
 ghost use Rattle.std.specs.List.Sorted.{IsSortedByKey};
 ghost use Rattle.std.specs.Ordering.{nat_cmp};
@@ -10,8 +10,8 @@ ghost use Rattle.resb_diagnostics.specs.Groups as spec;
 ghost use Rattle.resb_diagnostics.specs.Groups.{groups_behind};
 ghost use Rattle.resb_diagnostics.specs.Warnings.{warned, of_end};
 ghost use Rattle.resb_diagnostics.specs.Inner.Looks.{text_piece_of, HasInner, ShowsNesting};
-ghost use Rattle.resb_diagnostics.specs.Inner.Tokens.{of_some_backslash, one_byte_piece, HasScanned};
-ghost use Rattle.resb_diagnostics.specs.Inner.Tokens.{IsBetween, IsToken, Passes};
+ghost use Rattle.resb_diagnostics.specs.Inner.Tokens.{of_some_backslash, one_byte_piece};
+ghost use Rattle.resb_diagnostics.specs.Inner.Tokens.{HasScanned, IsBetween, IsToken, Passes};
 
 use crate::groups::Groups;
 use crate::text_pieces::{Piece, Token, token_at};

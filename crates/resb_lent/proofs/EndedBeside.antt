@@ -1,6 +1,7 @@
 -- Which of a compact file's own strings are tops among themselves, but end a text of the pool.
-use Rattle.std.proofs.Common.{◌≡◌, ℕ, zero, suc, ◌<◌, ◌≤◌, List, [], ◌∷◌, ◌++◌, length, Option, Some}
-use Rattle.std.proofs.Common.{None, Bool, true, false, ◌⊎◌, inl, inr, refl, sym, ◌∙◌, ap, subst, arith}
+use Rattle.std.proofs.Common.{◌≡◌, ℕ, zero, suc, ◌<◌, ◌≤◌, List, [], ◌∷◌, ◌++◌, length, Option}
+use Rattle.std.proofs.Common.{Some, None, Bool, true, false, ◌⊎◌, inl, inr, refl, sym, ◌∙◌, ap}
+use Rattle.std.proofs.Common.{subst, arith}
 use Rattle.std.proofs.Common.{true≢false, append_assoc, length-append, ◌+◌, get_or, take, Bor}
 use Rattle.std.specs.List.{All, Contains}
 use Rattle.std.specs.Str.{IsUtf8, bytes_eq}
@@ -20,7 +21,8 @@ use Rattle.resb_pool.specs.declared.packing.Packing.{Packing}
 use Rattle.resb_pool.specs.declared.packing.Packing.TheVariants.{Plain, Compact}
 use Rattle.resb_lent.specs.Entries.{pairs, pair_of}
 use Rattle.resb_lent.specs.Lending.{LendsTexts}
-use Rattle.resb_lent.specs.LentBeside.{IsLent, IsTextBeside, LentBeside, beside_empty, beside_within}
+use Rattle.resb_lent.specs.LentBeside.{IsLent, IsTextBeside, LentBeside, beside_empty}
+use Rattle.resb_lent.specs.LentBeside.{beside_within}
 use Rattle.resb_lent.specs.LentTexts.{IsLentRecord}
 use Rattle.resb_lent.specs.PlanWithPool.{AreLentBy, lent_more, lacking}
 use Rattle.resb_lent.specs.Inner.LentEndings.{IsLentEnd, NotesEnd, AreLentEnds}

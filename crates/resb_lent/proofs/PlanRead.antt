@@ -142,7 +142,8 @@ same_somes (i ∷ is) (j ∷ js) e =
 pub one_plan_with : OnePlanWith
 one_plan_with way block S us vs is js limit other short small x y =
     let found = one_found way block S S x.found y.found x.lent y.lent in
-    let moved = subst (λ os. IsPlanAmong way (IsTextBeside block S) (lacking S os) us x.offset) found x.plan in
+    let moved = subst (λ os. IsPlanAmong way (IsTextBeside block S) (lacking S os) us
+    x.offset) found x.plan in
     let pool = one_pool way (lacking S y.found) us vs x.offset y.offset moved y.plan in
     let offsets = same_somes x.offsets y.offsets (sym x.offsets_are
     ∙ (λ k. map (pool.1 k) (lacking S (found k))) ∙ y.offsets_are) in

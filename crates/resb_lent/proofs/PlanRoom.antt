@@ -130,7 +130,8 @@ lacking_sum f (s ∷ S) (None ∷ os) = omega (
 
 -- one more than the greatest own offset is at most the number of units
 pub own_within : (way : Packing) {B : List ℕ → Type 0} (T : List (List ℕ)) (us : List ℕ)
-    (offset : List ℕ → Option ℕ) → IsPlanAmong way B T us offset → (ts : List (List ℕ)) (ks : List ℕ) → map offset ts ≡ map Some ks
+    (offset : List ℕ → Option ℕ) → IsPlanAmong way B T us offset
+    → (ts : List (List ℕ)) (ks : List ℕ) → map offset ts ≡ map Some ks
     → limit_of ks ≤ length us
 own_within way T us offset plan ts [] e = omega arith
 own_within way T us offset plan [] (k ∷ ks) e = absurd (omega (arith, ap length e))

@@ -77,8 +77,8 @@ StandAt S is offset =
     → (n : ℕ) × (slice_get S n ≡ Some s) × (slice_get is n ≡ Some i)
 
 -- The strings that the pool has stand there, and the limit is behind the greatest index that is
--- used. The others are planned among all texts of the file and of the pool, and stand from the limit
--- on.
+-- used. The others are planned among all texts of the file and of the pool, and stand from the
+-- limit on.
 pub record IsPlanWithBy (way : Packing) (block : List ℕ) (S : List (List ℕ)) (us is : List ℕ)
     (limit short : ℕ) : Type 0 where
   pub texts : All IsUtf8 S

@@ -116,9 +116,11 @@ module _ (S T : TextList) (order : List ℕ) (turns : AreTurns S T order) where
           (has_text T q m)));
     }
       where
-        tops : (q i : ℕ) → indexed_text S i ≡ indexed_text T q → IsTop (Contains T) (indexed_text T q)
+        tops : (q i : ℕ) → indexed_text S i ≡ indexed_text T q
+            → IsTop (Contains T) (indexed_text T q)
             → IsTop (Contains S) (indexed_text S i)
-        tops q i e top = subst (IsTop (Contains S)) (sym e) (top_from T S same (indexed_text T q) top)
+        tops q i e top = subst (IsTop (Contains S)) (sym e)
+            (top_from T S same (indexed_text T q) top)
 
         by : (q : ℕ) → q < length T → IsTop (Contains T) (indexed_text T q)
             → (i : ℕ) × (i < length S) × (indexed_text S i ≡ indexed_text T q)

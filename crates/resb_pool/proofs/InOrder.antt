@@ -105,7 +105,8 @@ neighbours_differ (x ∷ xs) (suc k) d h e = neighbours_differ xs k d.1 (omega a
 module _ (way : Packing) (A : List ℕ → Type 0) (S T : TextList) (x y : Record)
     (ux : x.unit_count ≡ length (units (record_text T x)))
     (uy : y.unit_count ≡ length (units (record_text T y)))
-    (sx : Saved way A S (record_text T x) x.saved) (sy : Saved way A S (record_text T y) y.saved) where
+    (sx : Saved way A S (record_text T x) x.saved)
+    (sy : Saved way A S (record_text T y) y.saved) where
   pub in_order : is_lt (record_cmp T y x) ≡ false → (record_text T x ≡ record_text T y → ⊥)
       → Precedes way A S (record_text T x) (record_text T y)
   in_order h ne = elim (cmp_cases y.unit_count x.unit_count) [

@@ -336,7 +336,8 @@ module _ (way : Packing) (S T : TextList) (ms : List Measure) (given : AreTexts 
                 ]
 
             pub planned : (A : List ℕ → Type 0) → AreHidden way A T hidden
-                → IsSorted (record_cmp T) v → All (λ s. length (units s) ≤ 4294967295) S → (us : List ℕ) (offset : List ℕ → Option ℕ)
+                → IsSorted (record_cmp T) v → All (λ s. length (units s) ≤ 4294967295) S
+                → (us : List ℕ) (offset : List ℕ → Option ℕ)
                 → us ≡ 0 ∷ flat_map record_units (record_texts T v)
                 → ((s : List ℕ) → MatchOption (offset s) (Contains T s → ⊥) (λ k. (i : ℕ)
                 × (i < length T) × (indexed_text T i ≡ s) × (k ≡ get_or os i 0)))

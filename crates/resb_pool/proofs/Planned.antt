@@ -19,7 +19,8 @@ abbrev pub offset_in : List (Bor (List ℕ)) → List ℕ → List ℕ → Optio
 offset_in keys os s =
     option_and_then (slice_get os) (position (λ (k : Bor (List ℕ)). bytes_eq s k.now) keys)
 
-module _ (way : Packing) (A : List ℕ → Type 0) (S : TextList) (keys : List (Bor (List ℕ))) (ms : List Measure)
+module _ (way : Packing) (A : List ℕ → Type 0) (S : TextList) (keys : List (Bor (List ℕ)))
+    (ms : List Measure)
     (us os : List ℕ)
     (texts : AreTexts S (nows keys) ms) (p : HaveOffsets way A (nows keys) ms us os) where
   fits : length os ≡ length keys
@@ -30,7 +31,8 @@ module _ (way : Packing) (A : List ℕ → Type 0) (S : TextList) (keys : List (
   plan_of_keys short small =
       let b = p.block in
       planned way S (nows keys) ms texts small p.containers p.containers_are p.hidden b.sums
-      b.lying b.rows b.records b.each p.ends b.len b.ends os p.offsets_are A p.hidden_are b.ascend (none_too_long S short) us
+      b.lying b.rows b.records b.each p.ends b.len b.ends os p.offsets_are A p.hidden_are
+      b.ascend (none_too_long S short) us
       (offset_in keys os) b.units (λ s. offset_at s keys os fits)
 
   pub turns_of_keys : (turns : List ℕ) → AreTurns S (nows keys) turns

@@ -88,7 +88,8 @@ module _ (way : Packing) (S T : TextList) (ms : List Measure) (given : AreTexts 
       kept = record_texts T (saving least v);
       pool =
           pool_is way S T ms given small ranked.containers ranked.containers_are ranked.hidden
-          ranked.sums ranked.lying v ranked.records ranked.each (Contains S) hidden_are ranked.ascend
+          ranked.sums ranked.lying v ranked.records ranked.each
+          (Contains S) hidden_are ranked.ascend
           (0 ∷ flat_map record_units (record_texts T v)) refl;
       worth =
           worth_of way S T least v (saved_at way S T ms given small ranked.containers

@@ -123,7 +123,8 @@ module _ (T : TextList) (utf8 : All IsUtf8 T) (once : EachOnce T) (rows : List R
     same_top r t = record {
       own = t.own;
       ends = ends_trans r p s t.ends x.ends;
-      greatest = still_greatest T utf8 once rows o k d l (IsTop (Contains T)) (λ q w. w.given) no_top r t.own
+      greatest = still_greatest T utf8 once rows o k d l (IsTop (Contains T)) (λ q w. w.given)
+          no_top r t.own
           t.ends t.greatest;
     }
 

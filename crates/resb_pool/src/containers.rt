@@ -78,7 +78,8 @@ fn find_plain(alloc: Global, texts: &[&str]) -> Result<Vec<u32>, AllocError>
 pub(crate) struct Containers {
     /// The index of that record's text.
     pub(crate) of: Vec<u32>,
-    /// The indexes of the records that save nothing, since another text ends with them.
+    /// The indexes of texts that save nothing if they are records, since another text ends with
+    /// them.
     pub(crate) hidden: Vec<u32>,
 }
 

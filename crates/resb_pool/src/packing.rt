@@ -13,6 +13,6 @@ pub enum Packing {
     /// here, and there by 16-bit units: a key that other keys end with lies at the
     /// end of one of them, and the empty string has the word 0. A string without a marker that
     /// others end with lies in the greatest of the strings that end with it and that no other one
-    /// ends with; a record at the end of another string saves nothing.
+    /// ends with; a record at the end of another string, of the file or beside it, saves nothing.
     Compact,
 }

@@ -137,8 +137,7 @@ impl Serializer {
     /// other one of these ends with. Of the pool's keys that end with a key the last one is looked
     /// at, by their bytes from the last to the first, where an end is the greatest. The key lies in
     /// it unless the one in which `to_bytes_compact` lays the key is behind it. So ICU's `genrb`
-    /// writes it, but for what `to_bytes_compact` says, and but for the order of strings of over 40
-    /// units that stand more than once in the file and end a string of the pool.
+    /// writes it, but for what `to_bytes_compact` says.
     ///
     /// Refused is what `to_bytes_with_pool` refuses.
     pub fn to_bytes_compact_with_pool(

@@ -90,7 +90,7 @@ levels_of (g ∷ gs) = levels_of gs ++ level_of g ∷ []
 abbrev pub HasInner : CodeGroups → Type 0
 HasInner c = c.depth < length c.groups.items
 
--- of the groups that the code keeps these are open, so many in the text itself
+-- of the groups that the code keeps, those up to this depth are these open ones
 pub record ShowsOpen (xs : List CodeGroup) (depth : ℕ) (g : OpenGroup) (gs : List OpenGroup) :
     Type 0 where
   pub fits : depth < length xs

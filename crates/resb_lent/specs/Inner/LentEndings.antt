@@ -1,13 +1,15 @@
 -- Which of some texts a text of the pool ends with.
 --     IsLentEnd block s           a text of the pool ends with s
---     NotesEnd block s n es fs   fs are es, and the number n if a text of the pool ends with s
+--     NotesEnd block s n es fs    fs are es, and the number n if a text of the pool ends with s
 --     AreLentEndsBy way block S es    es are the numbers of these texts of S
-use Rattle.std.specs.Prelude.{◌≡◌, ℕ, ◌<◌, List, [], ◌∷◌, ◌++◌, length, ◌⊎◌, Contains, slice_index_or}
+use Rattle.std.specs.Prelude.{◌≡◌, ℕ, ◌<◌, List, [], ◌∷◌, ◌++◌, length, ◌⊎◌, Contains}
+use Rattle.std.specs.Prelude.{slice_index_or}
 use Rattle.resb_pool.specs.Records.{EndsWith}
 use Rattle.resb_pool.specs.declared.packing.Packing.{Packing}
 use Rattle.resb_pool.specs.declared.packing.Packing.TheVariants.{Plain, Compact}
 use Rattle.resb_lent.specs.LentBeside.{IsLent}
 
+-- a text of the pool ends with s
 abbrev pub IsLentEnd : List ℕ → List ℕ → Type 0
 IsLentEnd block s = (t : List ℕ) × IsLent block t × EndsWith t s
 

@@ -72,7 +72,7 @@ IsToldHidden A T hs i =
     IsRecord T (indexed_text T i) → (IsTop A (indexed_text T i) × (Contains hs i → ⊥))
     ⊎ ((IsTop A (indexed_text T i) → ⊥) × Contains hs i)
 
--- the texts that hs tells to be such records, and no others
+-- of the records of T, hs has just those that another text of A ends with
 pub record AreAllHidden (A : List ℕ → Type 0) (T : List (List ℕ)) (hs : List ℕ) : Type 0 where
   pub within : All (λ h. h < length T) hs
   pub each : (i : ℕ) → i < length T → IsToldHidden A T hs i

@@ -102,7 +102,8 @@ loop-row-preserved c =
             told_keep T step (get_or rows j d).index (λ e. apart j d b (sym e)) (v.told j d b)
         | inr e ↦
             let q = is_row d ∙ ap (λ z. get_or rows z d) (sym e) in
-            subst (λ (z : Row). IsToldHidden (Contains T) T c.step.new.hidden.items z.index) q made.told
+            subst (λ (z : Row). IsToldHidden (Contains T) T c.step.new.hidden.items z.index)
+            q made.told
       ];
       only = λ h d x. elim (hidden_more step h x) [
         | inl w ↦ (let y = v.only h d w in (y.0, omega (arith, y.1), y.2))

@@ -22,7 +22,8 @@ invariant-loop-row l = record {
       → LiesAt Compact (nows l.texts) (get_or l.row-items j d).index
       (get_or l.of.items (get_or l.row-items j d).index 0);
   told : (j : ℕ) (d : Row) → j < l.row-index
-      → IsToldHidden (Contains (nows l.texts)) (nows l.texts) l.hidden.items (get_or l.row-items j d).index;
+      → IsToldHidden (Contains (nows l.texts)) (nows l.texts) l.hidden.items
+      (get_or l.row-items j d).index;
   only : (h : ℕ) (d : Row) → Contains l.hidden.items h
       → (j : ℕ) × (j < l.row-index) × ((get_or l.row-items j d).index ≡ h);
 }

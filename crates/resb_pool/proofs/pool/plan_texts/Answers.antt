@@ -31,13 +31,15 @@ returns-in_err-units-clause-err c =
 
 -- the texts as they stand once they are placed
 laid : (c : In_ok-units) → (S : List (List ℕ)) → HaveOffsets Plain (Contains S)
-    (nows c.args.texts.distinct.keys) c.args.texts.measures.items c.in_ok-units.units.items c.in_ok-units.offsets.items
+    (nows c.args.texts.distinct.keys) c.args.texts.measures.items
+    c.in_ok-units.units.items c.in_ok-units.offsets.items
 laid c S =
     let keys = c.args.texts.distinct.keys in
     let us = c.in_ok-units.units.items in
     let os = c.in_ok-units.offsets.items in
     subst (λ z. HaveOffsets Plain (Contains S) (nows keys) z us os) c.deref.ensures.value
-    (subst (λ (z : List (Bor (List ℕ))). HaveOffsets Plain (Contains S) (nows z) c.deref.result.now us os)
+    (subst (λ (z : List (Bor (List ℕ))). HaveOffsets Plain (Contains S) (nows z)
+    c.deref.result.now us os)
     c.as_slice.ensures.keys (c.in_ok-units.ensures S refl))
 
 pub returns-clause-ok : goal.returns-clause-ok

@@ -230,6 +230,12 @@ words 2 20000017 7 e 1e 1e 4 0 17 620061 45442525 444e4550 59434e45 64006300 aa0
   60000005 5000000c 60000001 > wanted.res
 told 0 '' '' genrb -q -s source -d built --compact order.txt
 same built/order.res wanted.res
+# but an array of that name which a text has itself stands in its turn
+printf 'own{ a{"f.brk"} %%%%DEPENDENCY:array{"f.brk"} }' > source/own.txt
+words 2 20000011 7 c 15 15 2 0 11 25250061 45504544 4e45444e aa005943 660000 62002e 6b0072 10000 \
+  aaaa0001 220002 aaaa0020 90000007 60000001 > wanted.res
+told 0 '' '' genrb -q -s source -d built --compact own.txt
+same built/own.res wanted.res
 # of what rules leave, a key comes where it stands first
 printf 'f{ a{ keep{"1"} b{"2"} } b{"one two three"} c{ keep{"2"} x{"3"} } }' > source/f.txt
 printf 'g{ b{"one two three"} keep{"two three"} }' > source/g.txt
@@ -247,9 +253,9 @@ same over/f.res wanted.res
 told 3 '' 'source/f.txt: its file has format 3.0, and --formatVersion asks for 2' \
   genrb -q -s source -d over --formatVersion 2 --filterDir rules --usePoolBundle shared f.txt
 # a binary form comes behind all else of its type
-printf 'de{ z{"1"} collations{ standard{ Version{"1"} Sequence{"&a<b"} m{"x"} } x{"y"} } a{"b"} }' \
+printf 'de{ z{"1"} collations{ standard{ Version{"1"} Sequence{"&a<b"} m{"x"} } x{y{"1"}} } a{"b"} }' \
   > source/coll.txt
-printf 'de{ z{"1"} collations{ standard{ Version{"1"} Sequence{"&a<b"} m{"x"} %s } x{"y"} } %s }' \
+printf 'de{ z{"1"} collations{ standard{ Version{"1"} Sequence{"&a<b"} m{"x"} %s } x{y{"1"}} } %s }' \
   '%%CollationBin:bin{00ff}' 'a{"b"}' > forms.txt
 told 0 '' '' compile --icu --compact forms.txt -o forms/de.res
 told 0 '' '' genrb -q -s source -d built --compact --collation forms coll.txt

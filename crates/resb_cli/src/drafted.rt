@@ -1,7 +1,7 @@
 //! The files of texts in ICU's own form, by their drafts: without what rules leave out, with the
 //! binary forms of rules of collation, and laid out as is asked.
 //! Texts in the plain form are compiled in `compile`.
-ghost use Rattle.std.specs.Prelude.{◌≡◌, true};
+ghost use Rattle.std.specs.Prelude.{◌≡◌, true, IfOk};
 ghost use Rattle.resb_draft.specs.Drafts.{is_ready};
 
 use crate::collation::{BINARY, check_collations, forms_in, refuse_lacking, unbuilt};
@@ -139,6 +139,33 @@ fn listed<'k>(mut keys: Vec<Key<'k>>, name: &'k str) -> Result<Vec<Key<'k>>, All
     Ok(keys)
 }
 
+/// A bundle with the binary forms that a file has for the types of collation of the text of a name.
+fn with_forms<'s>(
+    rt: &HostRuntime,
+    text_name: &str,
+    built: Built<'s>,
+    bundle: DraftBundle<'s>,
+) -> Result<DraftBundle<'s>, u8>
+    requires { is_ready bundle.root ≡ true }
+    ensures { IfOk result (λ r. is_ready r.root ≡ true) }
+{
+    let types = unbuilt_in(rt, text_name, &bundle.root)?;
+    let forms = forms_in(rt, built.name, built.root, types.as_slice())?;
+    let DraftBundle {
+        name,
+        root,
+        is_locale_fallback_enabled,
+    } = bundle;
+    let Ok(root) = with_collation_forms(rt.alloc(), root, forms.as_slice()) else {
+        return Err(refuse_memory(rt, text_name));
+    };
+    Ok(DraftBundle {
+        name,
+        root,
+        is_locale_fallback_enabled,
+    })
+}
+
 /// The bytes of a text's file with the binary forms that a file has, before rules leave something
 /// out. The text is read once more: its draft and the forms are lent for one time.
 fn collated_file<'s>(
@@ -152,26 +179,13 @@ fn collated_file<'s>(
     let (bundle, read) = draft_of(rt, name, text, wanted.limit)?;
     let ReadKeys {
         keys,
-        root: read_root,
-    } = read;
-    let types = unbuilt_in(rt, name, &bundle.root)?;
-    let forms = forms_in(rt, built.name, built.root, types.as_slice())?;
-    let DraftBundle {
-        name: bundle_name,
         root,
-        is_locale_fallback_enabled,
-    } = bundle;
-    let (Ok(root), Ok(keys)) = (
-        with_collation_forms(rt.alloc(), root, forms.as_slice()),
-        listed(keys, BINARY),
-    ) else {
+        has_dependencies,
+    } = read;
+    let Ok(keys) = listed(keys, BINARY) else {
         return Err(refuse_memory(rt, name));
     };
-    let bundle = DraftBundle {
-        name: bundle_name,
-        root,
-        is_locale_fallback_enabled,
-    };
+    let bundle = with_forms(rt, name, built, bundle)?;
     let bundle = filtered(rt, name, bundle, wanted.filters)?;
     // of types that rules of the filter leave, each needs its form
     if let [key, ..] = unbuilt_in(rt, name, &bundle.root)?.as_slice() {
@@ -180,7 +194,8 @@ fn collated_file<'s>(
     let bundle = without_rules(rt, name, bundle, wanted.omits_rules)?;
     let read = ReadKeys {
         keys,
-        root: read_root,
+        root,
+        has_dependencies,
     };
     written(rt, name, bundle, read, layout)
 }

@@ -42,8 +42,12 @@ pub(crate) fn draft_of<'t>(
             |e| refuse_limited(rt, name, text, limit, e),
         )?,
     };
-    let root = bundle.root.root;
-    Ok((bundle, ReadKeys { keys, root }))
+    let read = ReadKeys {
+        keys,
+        root: bundle.root.root,
+        has_dependencies: text.has_dependencies(),
+    };
+    Ok((bundle, read))
 }
 
 /// Says why a text isn't read within a limit, and gives the status of that.

@@ -8,7 +8,8 @@ use resb_tree::{Key, NoMemory};
 use std::alloc::Global;
 
 /// The key at which a root has the names of the files that it depends on. ICU's compiler lists it
-/// right before the key of the first of them.
+/// right before the key of the first of them; here that is the first string of its name that is
+/// left.
 const DEPENDENCIES: &str = "%%DEPENDENCY";
 
 /// A value of a draft.
@@ -38,6 +39,8 @@ pub(crate) struct ReadKeys<'a> {
     pub(crate) keys: Vec<Key<'a>>,
     /// The number of the root.
     pub(crate) root: u32,
+    /// Whether the text depends on files.
+    pub(crate) has_dependencies: bool,
 }
 
 /// The keys of a draft in the order in which they are laid. Where a compact file is asked for, and
@@ -48,11 +51,19 @@ pub(crate) fn laid_keys<'a>(
     read: ReadKeys<'a>,
     is_compact: bool,
 ) -> Result<Vec<Key<'a>>, NoMemory> {
-    let ReadKeys { keys, root } = read;
-    let dependency = first_dependency(draft);
-    if !is_compact || (draft.root == root && dependency.is_none()) {
+    let ReadKeys {
+        keys,
+        root,
+        has_dependencies,
+    } = read;
+    if !is_compact || (draft.root == root && !has_dependencies) {
         return Ok(keys);
     }
+    let dependency = if has_dependencies {
+        first_dependency(draft)
+    } else {
+        None
+    };
     listed_keys(alloc, draft, dependency, root)
 }
 

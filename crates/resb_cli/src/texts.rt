@@ -35,6 +35,14 @@ impl<'s> SourceText<'s> {
         }
     }
 
+    /// Whether the text depends on files.
+    pub(crate) fn has_dependencies(&self) -> bool {
+        match self.taken {
+            Some(taken) => !taken.dependencies().is_empty(),
+            None => false,
+        }
+    }
+
     /// Where a place of the text that is compiled stands in the file.
     pub(crate) fn place_in_file(&self, place: usize) -> usize {
         match self.taken {

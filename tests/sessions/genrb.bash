@@ -236,6 +236,13 @@ words 2 20000011 7 c 15 15 2 0 11 25250061 45504544 4e45444e aa005943 660000 620
   aaaa0001 220002 aaaa0020 90000007 60000001 > wanted.res
 told 0 '' '' genrb -q -s source -d built --compact own.txt
 same built/own.res wanted.res
+# and where the first one was that rules leave out
+printf 'out{ a{"v"} e:process(dependency){"y"} f{"w"} }' > source/out.txt
+printf -- '-/e\n' > rules/out.txt
+words 2 20000012 7 d 17 17 3 0 12 25250061 45504544 4e45444e 66005943 aaaaaa00 760000 770000 \
+  790000 10000 aaaa0005 220003 2f0020 90000007 60000001 60000003 > wanted.res
+told 0 '' '' genrb -q -s source -d built --compact --filterDir rules out.txt
+same built/out.res wanted.res
 # of what rules leave, a key comes where it stands first
 printf 'f{ a{ keep{"1"} b{"2"} } b{"one two three"} c{ keep{"2"} x{"3"} } }' > source/f.txt
 printf 'g{ b{"one two three"} keep{"two three"} }' > source/g.txt

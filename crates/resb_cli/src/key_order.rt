@@ -8,8 +8,7 @@ use resb_tree::{Key, NoMemory};
 use std::alloc::Global;
 
 /// The key at which a root has the names of the files that it depends on. ICU's compiler lists it
-/// right before the key of the first of them; here that is the first string of its name that is
-/// left.
+/// right before the key of the first of them; here that is the first string of its name.
 const DEPENDENCIES: &str = "%%DEPENDENCY";
 
 /// A value of a draft.
@@ -17,11 +16,11 @@ const DEPENDENCIES: &str = "%%DEPENDENCY";
 struct Value<'a> {
     /// Its key, if it stands in a table.
     key: Option<&'a str>,
-    /// The number that its piece had when it was read: a reader numbers pieces in the order of the
-    /// text. Of a value that wasn't read, the greatest number.
+    /// The number of its piece as it was read: a reader numbers pieces in the order of the text. Of
+    /// a value that wasn't read, the greatest number.
     read: u32,
-    /// The number of the piece that stands there now.
-    now: u32,
+    /// The number of the piece that stands there now, if the value is left.
+    now: Option<u32>,
 }
 
 /// What is listed of a draft, and what isn't looked at yet.
@@ -88,7 +87,7 @@ fn listed_keys<'a>(
     listing.pending.push(Value {
         key: None,
         read: read_root,
-        now: draft.root,
+        now: Some(draft.root),
     })?;
     for _ in 0..u64::MAX {
         let Some(value) = listing.pending.pop() else {
@@ -102,7 +101,7 @@ fn listed_keys<'a>(
 }
 
 impl<'a> Listing<'a> {
-    /// Lists the key of a value.
+    /// Lists the key of a value, if it is left.
     fn list(
         &mut self,
         draft: &Draft<'a>,
@@ -112,38 +111,54 @@ impl<'a> Listing<'a> {
         let Some(key) = value.key else {
             return Ok(());
         };
-        if dependency.is_some() && text_at(draft, value.now) == dependency {
+        if dependency.is_some() && text_at(draft, value.read) == dependency {
             self.keys.list(DEPENDENCIES)?;
         }
-        self.keys.list(key)
+        if value.now.is_some() {
+            self.keys.list(key)?;
+        }
+        Ok(())
     }
 
     /// Has the values right inside a value wait, the first one of the text as the last.
     fn push_inner(&mut self, draft: &Draft<'a>, value: Value<'a>) -> Result<(), NoMemory> {
         let first = self.pending.len();
-        if let Some(members) = members_at(draft, value.now) {
-            for member in members.iter().copied() {
-                self.pending.push(Value {
-                    key: None,
-                    read: member,
-                    now: member,
-                })?;
-            }
-        }
+        self.push_members(draft, value)?;
         self.push_entries(draft, value)?;
+        self.push_others(draft, value)?;
         if let Some((_, inner)) = self.pending.split_at_mut_checked(first) {
             inner.sort_unstable_by_key(|value| u32::MAX - value.read);
         }
         Ok(())
     }
 
-    /// Has the values of a table wait.
-    fn push_entries(&mut self, draft: &Draft<'a>, table: Value<'a>) -> Result<(), NoMemory> {
-        let Some((keys, values)) = entries_at(draft, table.now) else {
+    /// Has the members of an array wait: they are left where it is.
+    fn push_members(&mut self, draft: &Draft<'a>, array: Value<'a>) -> Result<(), NoMemory> {
+        let Some(members) = members_at(draft, array.read) else {
             return Ok(());
         };
-        for (key, now) in keys.iter().copied().zip(values.iter().copied()) {
-            let read = read_number(draft, table, key, now);
+        for read in members.iter().copied() {
+            let now = if array.now.is_some() {
+                Some(read)
+            } else {
+                None
+            };
+            self.pending.push(Value {
+                key: None,
+                read,
+                now,
+            })?;
+        }
+        Ok(())
+    }
+
+    /// Has the values of a table wait that it had when it was read.
+    fn push_entries(&mut self, draft: &Draft<'a>, table: Value<'a>) -> Result<(), NoMemory> {
+        let Some((keys, values)) = entries_at(draft, table.read) else {
+            return Ok(());
+        };
+        for (key, read) in keys.iter().copied().zip(values.iter().copied()) {
+            let now = number_now(draft, table, key, read);
             self.pending.push(Value {
                 key: Some(key),
                 read,
@@ -152,12 +167,36 @@ impl<'a> Listing<'a> {
         }
         Ok(())
     }
+
+    /// Has the values of a table wait that weren't read.
+    fn push_others(&mut self, draft: &Draft<'a>, table: Value<'a>) -> Result<(), NoMemory> {
+        let Some(now) = table.now else {
+            return Ok(());
+        };
+        if now == table.read {
+            return Ok(());
+        }
+        let Some((keys, values)) = entries_at(draft, now) else {
+            return Ok(());
+        };
+        for (key, number) in keys.iter().copied().zip(values.iter().copied()) {
+            if value_at(draft, table.read, key).is_none() {
+                self.pending.push(Value {
+                    key: Some(key),
+                    read: u32::MAX,
+                    now: Some(number),
+                })?;
+            }
+        }
+        Ok(())
+    }
 }
 
-/// The number that the value of a table's entry had when it was read.
-fn read_number(draft: &Draft<'_>, table: Value<'_>, key: &str, now: u32) -> u32 {
-    if table.read == table.now {
-        return now;
+/// The number of what became of the value of a table's entry, if it is left.
+fn number_now(draft: &Draft<'_>, table: Value<'_>, key: &str, read: u32) -> Option<u32> {
+    let now = table.now?;
+    if now == table.read {
+        return Some(read);
     }
-    value_at(draft, table.read, key).unwrap_or(u32::MAX)
+    value_at(draft, now, key)
 }

@@ -1,6 +1,6 @@
 #!/usr/bin/env python3
-"""Compares `resb genrb --compact` with ICU's genrb, byte for byte: pool bundles of random texts, and
-files over them, with and without rules that leave parts out.
+"""Compares `resb genrb --compact` with ICU's genrb, byte for byte: pool bundles of random texts,
+and files over them, with and without rules that leave parts out.
 
     genrb_pools_compare.py [--resb PROGRAM] [--far] [ROUNDS [SEED]]
 

@@ -51,7 +51,8 @@ def pool_bundle(rng, keys, texts, version):
     keys_end = 9 + len(key_block) // 4
     end = keys_end + len(block) // 4
     index = struct.pack('<9I', 0x20000000, 8, keys_end, end, end, 0, 3, end, rng.randrange(1 << 32))
-    header = bytes.fromhex('2000da27140000000000020052657342') + bytes([version, 0, 0, 0, 1, 4, 0, 0])
+    header = bytes.fromhex('2000da27140000000000020052657342')
+    header += bytes([version, 0, 0, 0, 1, 4, 0, 0])
     return header + bytes(8) + index + key_block + block
 
 
@@ -92,7 +93,8 @@ def main():
             print('differ: %s\n    %s\n    %s' % (data.hex(), mine[:400], theirs[:400]))
             if differ == 5:
                 break
-    print('%d files, %d over strings of a pool, %d refused, %d differ' % (count, lent, refused, differ))
+    print('%d files, %d over strings of a pool, %d refused, %d differ'
+          % (count, lent, refused, differ))
     sys.exit(1 if differ else 0)
 
 

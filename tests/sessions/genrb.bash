@@ -131,6 +131,12 @@ told 0 '{"collations":{"private-x":{},"standard":{"%%CollationBin":{"binary":"00
 '"Version":"1"}}}' '' dump --json built/de.res
 told 0 '' '' genrb -q -R -C -s source -d built coll.txt
 told 0 '{"collations":{"private-x":{},"standard":{"Version":"1"}}}' '' dump --json built/de.res
+# a file with other rules
+printf 'de{ collations{ standard{ Sequence{"&a<c"} %%%%CollationBin:bin{00ff} } } }' > other.txt
+mkdir -p other
+told 0 '' '' compile --icu other.txt -o other/de.res
+told 3 '' "other/de.res: the rules of collation 'standard' have no binary form here: the file's is \
+of other rules" genrb -q -s source -d built --collation other coll.txt
 # what rules leave out goes once its binary form is there
 printf -- '-/collations/standard/Sequence\n' > rules/coll.txt
 told 0 '' '' genrb -q -s source -d built --collation forms --filterDir rules coll.txt
@@ -260,10 +266,20 @@ same over/f.res wanted.res
 told 3 '' 'source/f.txt: its file has format 3.0, and --formatVersion asks for 2' \
   genrb -q -s source -d over --formatVersion 2 --filterDir rules --usePoolBundle shared f.txt
 # a binary form comes behind all else of its type
-printf 'de{ z{"1"} collations{ standard{ Version{"1"} Sequence{"&a<b"} m{"x"} } x{y{"1"}} } a{"b"} }' \
-  > source/coll.txt
-printf 'de{ z{"1"} collations{ standard{ Version{"1"} Sequence{"&a<b"} m{"x"} %s } x{y{"1"}} } %s }' \
-  '%%CollationBin:bin{00ff}' 'a{"b"}' > forms.txt
+printf 'de{ z{"1"} collations{ standard{ %s m{"x"} } x{y{"1"}} } a{"b"} }' \
+  'Version{"1"} Sequence{"&a<b"}' > source/coll.txt
+printf 'de{ z{"1"} collations{ standard{ %s m{"x"} %s } x{y{"1"}} } a{"b"} }' \
+  'Version{"1"} Sequence{"&a<b"}' '%%CollationBin:bin{00ff}' > forms.txt
 told 0 '' '' compile --icu --compact forms.txt -o forms/de.res
 told 0 '' '' genrb -q -s source -d built --compact --collation forms coll.txt
 same built/de.res forms/de.res
+# and a pool bundle has its key there
+printf 'root{ b{"hello"} d{"x"} }' > source/other.txt
+printf 'de{ z{"1"} collations{ standard{ Sequence{"&a<b"} Version{"1"} } } zz{"x"} }' \
+  > source/zz.txt
+told 0 '' '' genrb -q -s source -d built --compact --collation forms --writePoolBundle shared \
+  other.txt zz.txt
+words 3 20000000 8 18 19 19 0 3 19 4172b36e 6f630062 74616c6c 736e6f69 61747300 7261646e \
+  65530064 6e657571 56006563 69737265 25006e6f 6c6f4325 6974616c 69426e6f 7a7a006e aaaaaa00 \
+  aaaa0000 > wanted.res
+same shared/pool.res wanted.res

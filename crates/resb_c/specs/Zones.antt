@@ -33,8 +33,8 @@ LacksZone reads file name e = (info : ZoneInfo) × reads file info × HasNoZone 
 
 -- the offset of the zone of this name at the moment; that the name isn't UTF-8, which is told
 -- first; that there is no such zone, or why it has no offsets; or why the file has no records
-unfoldable pub TellsOffset : (List ℕ → ZoneInfo → Type 0) → (List ℕ → ReadingError → Type 0) → List ℕ
-    → List ℕ → ℤ → Result ℤ Fault → Type 0
+unfoldable pub TellsOffset : (List ℕ → ZoneInfo → Type 0) → (List ℕ → ReadingError → Type 0)
+    → List ℕ → List ℕ → ℤ → Result ℤ Fault → Type 0
 TellsOffset reads refuses file name moment (Ok x) =
     IsUtf8 name × HasOffset reads file name moment x
 TellsOffset reads refuses file name moment (Err (NotUtf8 n)) = IsNotUtf8 name n

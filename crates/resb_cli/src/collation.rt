@@ -1,20 +1,18 @@
-//! Rules of collation in drafts of ICU's texts. ICU's compiler makes a binary form of them, without
-//! which ICU opens no collator; this program makes none, but takes it from that compiler's files.
-//! How such a draft becomes a file is in `drafted`.
+//! Rules of collation in drafts of ICU's texts: which of them need a binary form, without which ICU
+//! opens no collator, and what is said where they have none.
+//! How they are given one is in `forms`.
 use crate::entries::{entries_at, text_at, value_at};
 use crate::say::{complain, refuse_memory};
 use resb_draft::Draft;
-use resb_filter::CollationForm;
-use resb_opened::{Found, Handle};
 use resb_words::{Collation, CompileWords};
 use std::alloc::{AllocError, Global};
 use std::fmt;
 
 /// The key of a root's table in which each type of collation has a table.
-const COLLATIONS: &str = "collations";
+pub(crate) const COLLATIONS: &str = "collations";
 
 /// The key of a type's rules.
-const RULES: &str = "Sequence";
+pub(crate) const RULES: &str = "Sequence";
 
 /// The key of the binary form of a type's rules.
 pub(crate) const BINARY: &str = "%%CollationBin";
@@ -24,13 +22,15 @@ const PRIVATE: &str = "private-";
 
 /// What is said of the rules of a type.
 #[derive(Clone, Copy)]
-enum Said {
+pub(crate) enum Said {
     /// They have no binary form, and are refused.
     Refused,
     /// They are compiled without one.
     Unbuilt,
     /// The file that should have one has none.
     Lacking,
+    /// It has one of other rules.
+    Foreign,
 }
 
 /// What is said of the rules of the type of a key.
@@ -43,12 +43,13 @@ struct OfType<'k> {
 impl fmt::Display for OfType<'_> {
     fn fmt<W: fmt::Write>(&self, f: &mut fmt::Formatter<W>) -> fmt::Result {
         let key = self.key;
-        write!(f, "the rules of collation '{key}' have no binary form")?;
-        match self.said {
-            Said::Refused => f.write_str(", which ICU's genrb makes; see --collation"),
-            Said::Unbuilt => f.write_str(": ICU opens no collator by them"),
-            Said::Lacking => f.write_str(" here"),
-        }
+        let rest = match self.said {
+            Said::Refused => ", which ICU's genrb makes; see --collation",
+            Said::Unbuilt => ": ICU opens no collator by them",
+            Said::Lacking => " here",
+            Said::Foreign => " here: the file's is of other rules",
+        };
+        write!(f, "the rules of collation '{key}' have no binary form{rest}")
     }
 }
 
@@ -63,10 +64,8 @@ pub(crate) fn check_collations(
     let [key, ..] = types else {
         return Ok(0);
     };
-    if wanted.collation != Collation::Unbuilt {
-        let said = Said::Refused;
-        complain(rt, name, OfType { key, said });
-        return Err(1);
+    if wanted.file.collation != Collation::Unbuilt {
+        return Err(refuse_form(rt, name, key, Said::Refused));
     }
     if !wanted.is_quiet {
         let said = Said::Unbuilt;
@@ -75,8 +74,25 @@ pub(crate) fn check_collations(
     Ok(u8::from(wanted.is_strict))
 }
 
-/// The keys of the types of collation whose rules have no binary form and need one.
-pub(crate) fn unbuilt<'a>(alloc: Global, draft: &Draft<'a>) -> Result<Vec<&'a str>, AllocError> {
+/// Says of a file of a name why there is no binary form for the rules of the type of a key, and
+/// gives the status of that.
+pub(crate) fn refuse_form(rt: &HostRuntime, name: &str, key: &str, said: Said) -> u8 {
+    complain(rt, name, OfType { key, said });
+    1
+}
+
+/// The keys of the types of collation of the text of a name whose rules have no binary form and
+/// need one.
+pub(crate) fn unbuilt_in<'t>(
+    rt: &HostRuntime,
+    name: &str,
+    draft: &Draft<'t>,
+) -> Result<Vec<&'t str>, u8> {
+    unbuilt(rt.alloc(), draft).map_err(|_| refuse_memory(rt, name))
+}
+
+/// The same, and nothing is said.
+fn unbuilt<'a>(alloc: Global, draft: &Draft<'a>) -> Result<Vec<&'a str>, AllocError> {
     let mut unbuilt = Vec::new(alloc);
     let types = value_at(draft, draft.root, COLLATIONS);
     let Some((keys, tables)) = types.and_then(|types| entries_at(draft, types)) else {
@@ -98,41 +114,9 @@ fn is_unbuilt(draft: &Draft<'_>, table: u32, key: &str) -> bool {
         && value_at(draft, table, BINARY).is_none()
 }
 
-/// Says that a file of a name has no binary form for the rules of the type of a key, and gives the
-/// status of that.
-pub(crate) fn refuse_lacking(rt: &HostRuntime, name: &str, key: &str) -> u8 {
-    let said = Said::Lacking;
-    complain(rt, name, OfType { key, said });
-    1
-}
-
-/// The binary forms that a file of a name has for types of these keys, but for types that aren't
-/// there at all, as rules leave some out; or the status, once it is said of which it has none.
-pub(crate) fn forms_in<'f>(
-    rt: &HostRuntime,
-    name: &str,
-    root: Handle<'f>,
-    types: &[&'f str],
-) -> Result<Vec<CollationForm<'f>>, u8> {
-    let mut forms = Vec::new(rt.alloc());
-    for key in types.iter().copied() {
-        let Some(bytes) = form_in(root, key) else {
-            if root.get(&[COLLATIONS, key]).is_none() {
-                continue;
-            }
-            return Err(refuse_lacking(rt, name, key));
-        };
-        if forms.push(CollationForm { key, bytes }).is_err() {
-            return Err(refuse_memory(rt, name));
-        }
-    }
-    Ok(forms)
-}
-
-/// The binary form that a file has for the type of a key.
-fn form_in<'f>(root: Handle<'f>, key: &str) -> Option<&'f [u8]> {
-    match root.get(&[COLLATIONS, key, BINARY])? {
-        Found::Resource(handle) => handle.bytes(),
-        Found::Number(_) => None,
-    }
+/// The rules that a draft has for the type of a key.
+pub(crate) fn rules_of<'d>(draft: &'d Draft<'_>, key: &str) -> Option<&'d str> {
+    let types = value_at(draft, draft.root, COLLATIONS)?;
+    let rules = value_at(draft, value_at(draft, types, key)?, RULES)?;
+    text_at(draft, rules)
 }

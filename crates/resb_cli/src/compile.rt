@@ -55,7 +55,7 @@ struct Work<'w, 'c, 'p> {
 
 /// Compiles each text. One that fails doesn't stop the others; the status says whether one did.
 pub(crate) fn compile(rt: &HostRuntime, wanted: &CompileWords<'_>) -> u8 {
-    match wanted.pool {
+    match wanted.file.pool {
         Some(name) => settled(compile_over(rt, wanted, name)),
         None => compile_texts(rt, Work { wanted, pool: None }),
     }
@@ -140,7 +140,7 @@ fn compile_one(
     let source = source_of(rt, name, wanted.limit)?;
     let read = text_in(rt, name, source.as_slice())?;
     let whole = if wanted.is_icu {
-        taken_in(rt, name, read, wanted.files, wanted.limit)?
+        taken_in(rt, name, read, wanted.file.takes_from, wanted.limit)?
     } else {
         None
     };

@@ -1,13 +1,14 @@
 //! The files of texts in ICU's own form, by their drafts: without what rules leave out, with the
 //! binary forms of rules of collation, and laid out as is asked.
 //! Texts in the plain form are compiled in `compile`.
-ghost use Rattle.std.specs.Prelude.{◌≡◌, true, IfOk};
+ghost use Rattle.std.specs.Prelude.{◌≡◌, true};
 ghost use Rattle.resb_draft.specs.Drafts.{is_ready};
 
-use crate::collation::{BINARY, check_collations, forms_in, refuse_lacking, unbuilt};
+use crate::collation::{Said, check_collations, refuse_form, unbuilt_in};
 use crate::compile::{BundleFile, NO_FILE_NAME, is_file_name};
 use crate::filter::{draft_of, filtered, refuse_text, without_rules};
 use crate::format_version::check_version;
+use crate::forms::{Built, Forms, with_forms};
 use crate::input::Input;
 use crate::key_order::{ReadKeys, laid_keys};
 use crate::say::{or_fail, refuse_memory};
@@ -15,27 +16,17 @@ use crate::show::opened_of;
 use crate::streams::made;
 use crate::texts::SourceText;
 use resb_compile::IcuCompileError;
-use resb_draft::{Draft, DraftBundle};
-use resb_filter::with_collation_forms;
-use resb_opened::Handle;
+use resb_draft::DraftBundle;
 use resb_pool_bundle::PoolBundle;
-use resb_tree::Key;
 use resb_words::{Collation, CompileWords};
 use resb_write::Serializer;
-use std::alloc::{AllocError, Global};
+use std::alloc::Global;
 
 /// A text and its name.
 #[derive(Clone, Copy)]
 struct Source<'n, 's> {
     name: &'n str,
     text: SourceText<'s>,
-}
-
-/// A file that has binary forms of rules of collation, and its name.
-#[derive(Clone, Copy)]
-struct Built<'f> {
-    name: &'f str,
-    root: Handle<'f>,
 }
 
 /// How a file is laid out.
@@ -60,13 +51,13 @@ pub(crate) fn drafted_file<'t>(
 ) -> Result<BundleFile<'t>, u8> {
     let layout = Layout {
         pool,
-        is_compact: wanted.is_compact,
-        version: wanted.version,
+        is_compact: wanted.file.is_compact,
+        version: wanted.file.version,
     };
     let (draft, keys) = draft_of(rt, name, text, wanted.limit)?;
     let bundle_name = draft.name;
     let bundle = Some(bundle_name);
-    if let Collation::From(folder) = wanted.collation {
+    if let Collation::From(folder) = wanted.file.collation {
         if !unbuilt_in(rt, name, &draft.root)?.is_empty() {
             let path = or_fail(rt, name, forms_file(rt.alloc(), folder, bundle_name))?;
             let bytes = built_file(rt, Source { name, text }, path.as_str(), wanted, layout)?;
@@ -78,22 +69,16 @@ pub(crate) fn drafted_file<'t>(
             });
         }
     }
-    let draft = filtered(rt, name, draft, wanted.filters)?;
+    let draft = filtered(rt, name, draft, wanted.file.filters)?;
     let types = unbuilt_in(rt, name, &draft.root)?;
     let status = check_collations(rt, name, types.as_slice(), wanted)?;
-    let draft = without_rules(rt, name, draft, wanted.omits_rules)?;
+    let draft = without_rules(rt, name, draft, wanted.file.omits_rules)?;
     let bytes = written(rt, name, draft, keys, layout)?;
     Ok(BundleFile {
         bytes,
         bundle,
         status,
     })
-}
-
-/// The keys of the types of collation of the text of a name whose rules have no binary form and
-/// need one.
-fn unbuilt_in<'t>(rt: &HostRuntime, name: &str, root: &Draft<'t>) -> Result<Vec<&'t str>, u8> {
-    unbuilt(rt.alloc(), root).map_err(|_| refuse_memory(rt, name))
 }
 
 /// The name of the file in a folder that has the binary forms for the bundle of a name.
@@ -128,44 +113,6 @@ fn built_file(
     )
 }
 
-/// Keys, and this one if it isn't among them.
-fn listed<'k>(mut keys: Vec<Key<'k>>, name: &'k str) -> Result<Vec<Key<'k>>, AllocError> {
-    for key in keys.as_slice() {
-        if key.as_str() == name {
-            return Ok(keys);
-        }
-    }
-    keys.push(Key::from(name))?;
-    Ok(keys)
-}
-
-/// A bundle with the binary forms that a file has for the types of collation of the text of a name.
-fn with_forms<'s>(
-    rt: &HostRuntime,
-    text_name: &str,
-    built: Built<'s>,
-    bundle: DraftBundle<'s>,
-) -> Result<DraftBundle<'s>, u8>
-    requires { is_ready bundle.root ≡ true }
-    ensures { IfOk result (λ r. is_ready r.root ≡ true) }
-{
-    let types = unbuilt_in(rt, text_name, &bundle.root)?;
-    let forms = forms_in(rt, built.name, built.root, types.as_slice())?;
-    let DraftBundle {
-        name,
-        root,
-        is_locale_fallback_enabled,
-    } = bundle;
-    let Ok(root) = with_collation_forms(rt.alloc(), root, forms.as_slice()) else {
-        return Err(refuse_memory(rt, text_name));
-    };
-    Ok(DraftBundle {
-        name,
-        root,
-        is_locale_fallback_enabled,
-    })
-}
-
 /// The bytes of a text's file with the binary forms that a file has, before rules leave something
 /// out. The text is read once more: its draft and the forms are lent for one time.
 fn collated_file<'s>(
@@ -176,28 +123,15 @@ fn collated_file<'s>(
     layout: Layout<'_, '_>,
 ) -> Result<Vec<u8>, u8> {
     let Source { name, text } = source;
-    let (bundle, read) = draft_of(rt, name, text, wanted.limit)?;
-    let ReadKeys {
-        keys,
-        root,
-        has_dependencies,
-    } = read;
-    let Ok(keys) = listed(keys, BINARY) else {
-        return Err(refuse_memory(rt, name));
-    };
-    let bundle = with_forms(rt, name, built, bundle)?;
-    let bundle = filtered(rt, name, bundle, wanted.filters)?;
+    let (bundle, keys) = draft_of(rt, name, text, wanted.limit)?;
+    let (bundle, keys) = with_forms(rt, name, Forms::Of(built), bundle, keys)?;
+    let bundle = filtered(rt, name, bundle, wanted.file.filters)?;
     // of types that rules of the filter leave, each needs its form
     if let [key, ..] = unbuilt_in(rt, name, &bundle.root)?.as_slice() {
-        return Err(refuse_lacking(rt, built.name, key));
+        return Err(refuse_form(rt, built.name, key, Said::Lacking));
     }
-    let bundle = without_rules(rt, name, bundle, wanted.omits_rules)?;
-    let read = ReadKeys {
-        keys,
-        root,
-        has_dependencies,
-    };
-    written(rt, name, bundle, read, layout)
+    let bundle = without_rules(rt, name, bundle, wanted.file.omits_rules)?;
+    written(rt, name, bundle, keys, layout)
 }
 
 /// The file of a bundle, laid out like this.

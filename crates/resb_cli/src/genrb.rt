@@ -4,6 +4,7 @@
 use crate::below::{as_names, below};
 use crate::compile::{compile, source_of, text_in};
 use crate::filter::{draft_of, filtered, without_rules};
+use crate::forms::{Forms, with_forms};
 use crate::format_version::check_version;
 use crate::input::pool_in;
 use crate::key_order::laid_keys;
@@ -14,7 +15,7 @@ use crate::show::settled;
 use crate::streams::{NO_MEMORY, made};
 use crate::texts::{SourceText, taken_in};
 use resb_pool_maker::{PoolMaker, PoolMakerError};
-use resb_words::{CompileWords, GenrbWords};
+use resb_words::{Collation, CompileWords, FileWords, GenrbWords};
 use std::alloc::{AllocError, Global};
 use std::path::PathBuf;
 
@@ -77,13 +78,7 @@ fn compile_texts(rt: &HostRuntime, wanted: &GenrbWords<'_>, texts: &[PathBuf]) -
             is_by_name: true,
             is_icu: true,
             limit: None,
-            pool: wanted.used_pool,
-            filters: wanted.filters,
-            collation: wanted.collation,
-            omits_rules: wanted.omits_rules,
-            is_compact: wanted.is_compact,
-            version: wanted.version,
-            files: wanted.files,
+            file: wanted.file,
             dependencies: Some(wanted.destination),
             is_check: false,
             is_quiet: wanted.is_quiet,
@@ -104,33 +99,37 @@ fn write_pool(
     let place = or_fail(rt, name, place_of(rt, name))?;
     let mut maker = PoolMaker::new(rt.alloc());
     for text in texts {
-        add_text(rt, &mut maker, text.as_path().as_str(), wanted)?;
+        add_text(rt, &mut maker, text.as_path().as_str(), &wanted.file)?;
     }
-    let pool = if wanted.is_compact {
+    let pool = if wanted.file.is_compact {
         maker.finish_compact(rt.alloc())
     } else {
         maker.finish(rt.alloc())
     }
     .map_err(|e| refuse_pool(rt, name, e))?;
-    check_version(rt, name, pool.as_slice(), wanted.version)?;
+    check_version(rt, name, pool.as_slice(), wanted.file.version)?;
     let done = save(rt, &place, &Bytes(pool.as_slice()));
     or_fail(rt, name, saved(&place, done))?;
     Ok(0)
 }
 
 /// Adds the bundle of the text of a name, read once more, to those of which a pool bundle is made.
-/// Binary forms of rules of collation lend nothing to it.
+/// Of binary forms of rules of collation it has the key alone.
 fn add_text(
     rt: &HostRuntime,
     maker: &mut PoolMaker,
     name: &str,
-    wanted: &GenrbWords<'_>,
+    wanted: &FileWords<'_>,
 ) -> Result<(), u8> {
     let source = source_of(rt, name, None)?;
     let read = text_in(rt, name, source.as_slice())?;
-    let taken = taken_in(rt, name, read, wanted.files, None)?;
+    let taken = taken_in(rt, name, read, wanted.takes_from, None)?;
     let text = SourceText::new(read, taken.as_ref());
     let (bundle, keys) = draft_of(rt, name, text, None)?;
+    let (bundle, keys) = match wanted.collation {
+        Collation::From(_) => with_forms(rt, name, Forms::Empty, bundle, keys)?,
+        _ => (bundle, keys),
+    };
     let bundle = filtered(rt, name, bundle, wanted.filters)?;
     let bundle = without_rules(rt, name, bundle, wanted.omits_rules)?;
     let keys = laid_keys(rt.alloc(), &bundle.root, keys, wanted.is_compact).map_err(

@@ -5,7 +5,7 @@ use crate::entries::{entries_at, members_at, text_at, value_at};
 use resb_draft::Draft;
 use resb_grammar::KeyList;
 use resb_tree::{Key, NoMemory};
-use std::alloc::Global;
+use std::alloc::{AllocError, Global};
 
 /// The key at which a root has the names of the files that it depends on. ICU's compiler lists it
 /// right before the key of the first of them; here that is the first string of its name.
@@ -40,6 +40,17 @@ pub(crate) struct ReadKeys<'a> {
     pub(crate) root: u32,
     /// Whether the text depends on files.
     pub(crate) has_dependencies: bool,
+}
+
+impl<'a> ReadKeys<'a> {
+    /// Lists a key, if it isn't listed.
+    pub(crate) fn list(&mut self, key: &'a str) -> Result<(), AllocError> {
+        if self.keys.iter().any(|known| known.as_str() == key) {
+            return Ok(());
+        }
+        self.keys.push(Key::from(key))?;
+        Ok(())
+    }
 }
 
 /// The keys of a draft in the order in which they are laid. Where a compact file is asked for, and

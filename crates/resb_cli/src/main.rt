@@ -16,6 +16,7 @@ mod entries;
 mod filter;
 mod folders;
 mod format_version;
+mod forms;
 mod genrb;
 mod get;
 mod hints;

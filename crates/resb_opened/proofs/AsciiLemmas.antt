@@ -72,16 +72,18 @@ pub of_units : (b : ℕ) (us : List ℕ) → b < 128
     → has b (encode_utf8_all (utf16_lossy_chars us)) ≡ has b us
 unfolding utf16_chars
 of_units b [] h = refl
-of_units b (u ∷ []) h = of_more b (unwrap_or (lone_unit_char u) 0xFFFD) u [] [] h (of_lone b u h) refl
+of_units b (u ∷ []) h =
+    of_more b (unwrap_or (lone_unit_char u) 0xFFFD) u [] [] h (of_lone b u h) refl
 of_units b (u ∷ v ∷ us) h =
-    cases (is_high_surrogate u) (is_low_surrogate v) refl refl (of_units b (v ∷ us) h) (of_units b us h)
+    cases (is_high_surrogate u) (is_low_surrogate v) refl refl (of_units b (v ∷ us) h)
+    (of_units b us h)
   where
     alone : is_high_surrogate u && is_low_surrogate v ≡ false
         → has b (encode_utf8_all (utf16_lossy_chars (v ∷ us))) ≡ has b (v ∷ us)
         → has b (encode_utf8_all (utf16_lossy_chars (u ∷ v ∷ us))) ≡ has b (u ∷ v ∷ us)
     alone e more =
-        rw e (of_more b (unwrap_or (lone_unit_char u) 0xFFFD) u (utf16_lossy_chars (v ∷ us)) (v ∷ us) h
-        (of_lone b u h) more)
+        rw e (of_more b (unwrap_or (lone_unit_char u) 0xFFFD) u (utf16_lossy_chars (v ∷ us))
+        (v ∷ us) h (of_lone b u h) more)
 
     cases : (x y : Bool) → is_high_surrogate u ≡ x → is_low_surrogate v ≡ y
         → has b (encode_utf8_all (utf16_lossy_chars (v ∷ us))) ≡ has b (v ∷ us)

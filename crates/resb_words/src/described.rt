@@ -94,7 +94,8 @@ pub(crate) fn command_of<'a>(
         .about(described.about)
         .after_help(described.example);
     if let Some(version) = described.version {
-        command = command.version(version);
+        // a tool of ICU's, for which the last of an option's values counts
+        command = command.version(version).args_override_self(true);
     }
     for argument in described.arguments {
         command = with_argument(alloc, command, argument)?;

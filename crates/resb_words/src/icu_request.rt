@@ -1,9 +1,9 @@
 //! What is asked in the words of ICU's own tools, `genrb` and `derb`.
 //! The words that they take are in `icu_command`.
-use crate::collation::{Collation, asked_collation};
+use crate::collation::asked_collation;
 use crate::error::WordsError;
 use crate::icu_command::{IcuTool, NOT_DONE};
-use crate::request::{Request, names};
+use crate::request::{FileWords, Request, names};
 use clap::ArgMatches;
 use std::alloc::Global;
 use std::path::Path;
@@ -17,22 +17,10 @@ pub struct GenrbWords<'w> {
     pub source: &'w str,
     /// The folder for the files.
     pub destination: &'w str,
-    /// The folder of the pool bundle over which the files are written.
-    pub used_pool: Option<&'w str>,
     /// The folder for a pool bundle, if one is written.
     pub written_pool: Option<&'w str>,
-    /// The rules by which parts are left out of the files, if there are some.
-    pub filters: Option<Filters<'w>>,
-    /// What becomes of rules of collation.
-    pub collation: Collation<'w>,
-    /// Whether rules of collation are left out of the files.
-    pub omits_rules: bool,
-    /// Whether the files are laid out as ICU's compiler lays them out.
-    pub is_compact: bool,
-    /// The version of the format that the files must have, 2 or 3, if one is asked for.
-    pub version: Option<u8>,
-    /// The folder of the files that texts take in, if it isn't that of each text.
-    pub files: Option<&'w str>,
+    /// How each file is made.
+    pub file: FileWords<'w>,
     /// Whether warnings are left unsaid.
     pub is_quiet: bool,
 }
@@ -107,14 +95,16 @@ fn genrb<'w>(alloc: Global, matches: &ArgMatches<'w>) -> Result<Request<'w>, Wor
         texts: names(alloc, matches, "FILE")?,
         source,
         destination,
-        used_pool: pool(matches, "usePoolBundle", source),
         written_pool: pool(matches, "writePoolBundle", destination),
-        filters: rules_of(matches, source),
-        collation: asked_collation(matches),
-        omits_rules: matches.get_flag("omitCollationRules"),
-        is_compact: matches.get_flag("compact"),
-        version,
-        files: source_said(matches),
+        file: FileWords {
+            pool: pool(matches, "usePoolBundle", source),
+            filters: rules_of(matches, source),
+            collation: asked_collation(matches),
+            omits_rules: matches.get_flag("omitCollationRules"),
+            is_compact: matches.get_flag("compact"),
+            version,
+            takes_from: source_said(matches),
+        },
         is_quiet: matches.get_flag("quiet"),
     }))
 }

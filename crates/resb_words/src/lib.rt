@@ -14,5 +14,6 @@ pub use collation::Collation;
 pub use error::WordsError;
 pub use icu_request::{DerbWords, Filters, GenrbWords, are_of_icu};
 pub use request::{
-    CheckWords, CompileWords, DiffWords, DumpWords, ExtractWords, GetWords, Request, request_of,
+    CheckWords, CompileWords, DiffWords, DumpWords, ExtractWords, FileWords, GetWords, Request,
+    request_of,
 };

@@ -47,20 +47,8 @@ pub struct CompileWords<'w> {
     pub is_icu: bool,
     /// The most bytes that reading a text may make.
     pub limit: Option<u64>,
-    /// The name of the pool bundle over which the files are written.
-    pub pool: Option<&'w str>,
-    /// The rules by which parts are left out of the files, if there are some.
-    pub filters: Option<Filters<'w>>,
-    /// What becomes of rules of collation.
-    pub collation: Collation<'w>,
-    /// Whether rules of collation are left out of the files.
-    pub omits_rules: bool,
-    /// Whether the files are laid out as ICU's compiler lays them out.
-    pub is_compact: bool,
-    /// The version of the format that the files must have, 2 or 3, if one is asked for.
-    pub version: Option<u8>,
-    /// The folder of the files that texts take in, if it isn't that of each text.
-    pub files: Option<&'w str>,
+    /// How each file is made.
+    pub file: FileWords<'w>,
     /// The folder where the files should be that texts depend on, if these are looked for.
     pub dependencies: Option<&'w str>,
     /// Whether no file is written.
@@ -69,6 +57,25 @@ pub struct CompileWords<'w> {
     pub is_quiet: bool,
     /// Whether a warning makes the status 1.
     pub is_strict: bool,
+}
+
+/// How the file of a text is made, which `compile` and `genrb` ask alike.
+#[derive(Clone, Copy)]
+pub struct FileWords<'w> {
+    /// The pool bundle over which the file is written: its name, or that of its folder.
+    pub pool: Option<&'w str>,
+    /// The rules by which parts are left out of the file, if there are some.
+    pub filters: Option<Filters<'w>>,
+    /// What becomes of rules of collation.
+    pub collation: Collation<'w>,
+    /// Whether rules of collation are left out of the file.
+    pub omits_rules: bool,
+    /// Whether the file is laid out as ICU's compiler lays it out.
+    pub is_compact: bool,
+    /// The version of the format that the file must have, 2 or 3, if one is asked for.
+    pub version: Option<u8>,
+    /// The folder of the files that the text takes in, if it isn't that of the text.
+    pub takes_from: Option<&'w str>,
 }
 
 /// What is asked of files that are checked.
@@ -189,13 +196,15 @@ fn compile<'w>(alloc: Global, matches: &ArgMatches<'w>) -> Result<Request<'w>, W
         is_by_name: matches.get_flag("by-name"),
         is_icu,
         limit,
-        pool: matches.get_str("POOL"),
-        filters: None,
-        collation: asked_collation(matches),
-        omits_rules: false,
-        is_compact,
-        version: None,
-        files: None,
+        file: FileWords {
+            pool: matches.get_str("POOL"),
+            filters: None,
+            collation: asked_collation(matches),
+            omits_rules: false,
+            is_compact,
+            version: None,
+            takes_from: None,
+        },
         dependencies: None,
         is_check: matches.get_flag("check"),
         is_quiet: matches.get_flag("quiet"),

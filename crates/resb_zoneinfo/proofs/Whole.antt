@@ -54,7 +54,8 @@ pub refused_there : {X : Type 0} (counts : Place → ℕ → Type 0)
     → p ≡ place_of_root (over None bytes) → left ≡ budget bytes
     → IfErr r (λ e. (left' ≤ left) × LacksOrMemory (counts p) left e)
     → IfErr r (refuses p left left')
-    → IfErr r (λ e. LacksOrMemory (λ n. HoldsAt (λ q. counts q n) (over None bytes)) (budget bytes) e
+    → IfErr r (λ e.
+    LacksOrMemory (λ n. HoldsAt (λ q. counts q n) (over None bytes)) (budget bytes) e
     × RefusesAt refuses (over None bytes) e)
 refused_there counts refuses bytes p left left' (Ok x) none same all a b = tt
 refused_there counts refuses bytes p left left' (Err e) none same all (falls, a) b = (

@@ -49,14 +49,16 @@ filter_piece-loop-entry-preserved t c =
     (rw c.in-Some.is at c.in_ok-entries.ensures) in
     elim c.match-branch-4.branch [
       | filter_piece-in-Some-2+in_ok-push w ↦
-          stays_more d c.loop-entry.draft c.filter_entry.new.draft (entry_left (rules_left c.args.rules.now)) es
+          stays_more d c.loop-entry.draft c.filter_entry.new.draft
+          (entry_left (rules_left c.args.rules.now)) es
           c.loop-entry.entry-index _ c.loop-entry.left.items c.match-branch-4.left.items
           c.in_ok-value.field-0 w.in-Some-2.value c.loop-entry-test.true c.loop-entry.invariant
           are.whole
           c.in_ok-value.ensures.keeps c.in_ok-value.ensures.stays w.in-Some-2.is
           (ap (λ v. v.items) w.left-is ∙ w.in_ok-push.ensures.items)
       | filter_piece-in_default-2 w ↦
-          goes_more d c.loop-entry.draft c.filter_entry.new.draft (entry_left (rules_left c.args.rules.now)) es
+          goes_more d c.loop-entry.draft c.filter_entry.new.draft
+          (entry_left (rules_left c.args.rules.now)) es
           c.loop-entry.entry-index _ c.loop-entry.left.items c.match-branch-4.left.items
           c.in_ok-value.field-0 c.loop-entry-test.true c.loop-entry.invariant are.whole
           c.in_ok-value.ensures.keeps c.in_ok-value.ensures.stays w.in_default-2.is
@@ -77,6 +79,7 @@ filter_piece-returns-clause-made t c =
     (omega (arith, c.loop-entry-test.false, c.loop-entry.auto.entry-index-end)) in
     let so : LeftSoFar start d (entry_left rs) es c.deref.result.now =
     subst (LeftSoFar start d (entry_left rs) es) (sym c.deref.ensures.value)
-    (subst (λ ps. LeftSoFar start d (entry_left rs) ps c.loop-entry.left.items) all c.loop-entry.invariant) in
+    (subst (λ ps. LeftSoFar start d (entry_left rs) ps c.loop-entry.left.items) all
+    c.loop-entry.invariant) in
     subst (λ u. IfOk c.push_table.result (λ m. IsMade c.push_table.new.draft m u))
     (left_made start d n rs es c.deref.result.now are so) (c.push_table.ensures.made so.whole)

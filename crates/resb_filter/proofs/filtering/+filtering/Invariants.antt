@@ -13,5 +13,5 @@ decreases-filter_entry l = 2 * longest (rules_left l.rules.now)
 
 abbrev pub invariant-filter_piece-loop-entry : goal.invariant-filter_piece-loop-entry
 invariant-filter_piece-loop-entry l =
-    LeftSoFar l.fn.draft l.draft (entry_left (rules_left l.rules)) (take l.entry-index l.entry-items)
-    l.left.items
+    LeftSoFar l.fn.draft l.draft (entry_left (rules_left l.rules))
+    (take l.entry-index l.entry-items) l.left.items

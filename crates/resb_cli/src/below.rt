@@ -3,8 +3,28 @@
 use std::alloc::{AllocError, Global};
 use std::path::{Path, PathBuf};
 
+/// The paths of files of these names below a folder, with this ending behind each name that has
+/// none, if one is said.
+pub(crate) fn all_below(
+    alloc: Global,
+    folder: &str,
+    names: &[&str],
+    ending: Option<&str>,
+) -> Result<Vec<PathBuf>, AllocError> {
+    let mut paths = Vec::new(alloc);
+    for name in names.iter().copied() {
+        paths.push(match ending {
+            Some(ending) if Path::new(name).extension().is_none() => {
+                below(alloc, folder, format!(in alloc; "{name}{ending}")?.as_str())?
+            }
+            _ => below(alloc, folder, name)?,
+        })?;
+    }
+    Ok(paths)
+}
+
 /// The path of the file of a name below a folder; below the current one it is the name alone.
-pub(crate) fn below(alloc: Global, folder: &str, name: &str) -> Result<PathBuf, AllocError> {
+fn below(alloc: Global, folder: &str, name: &str) -> Result<PathBuf, AllocError> {
     if folder == "." {
         return PathBuf::from_str(alloc, name);
     }

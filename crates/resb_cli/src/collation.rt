@@ -49,7 +49,10 @@ impl fmt::Display for OfType<'_> {
             Said::Lacking => " here",
             Said::Foreign => " here: the file's is of other rules",
         };
-        write!(f, "the rules of collation '{key}' have no binary form{rest}")
+        write!(
+            f,
+            "the rules of collation '{key}' have no binary form{rest}"
+        )
     }
 }
 

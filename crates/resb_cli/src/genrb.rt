@@ -1,11 +1,11 @@
 //! The command `genrb`: texts in ICU's own form to files, by the words and the statuses of ICU's
 //! compiler.
 //! How a text is compiled is in `compile`, and which words are taken in `resb_words`.
-use crate::below::{as_names, below};
+use crate::below::{all_below, as_names};
 use crate::compile::{compile, source_of, text_in};
 use crate::filter::{draft_of, filtered, without_rules};
-use crate::forms::{Forms, with_forms};
 use crate::format_version::check_version;
+use crate::forms::{Forms, with_forms};
 use crate::input::pool_in;
 use crate::key_order::laid_keys;
 use crate::place::place_of;
@@ -16,7 +16,6 @@ use crate::streams::{NO_MEMORY, made};
 use crate::texts::{SourceText, taken_in};
 use resb_pool_maker::{PoolMaker, PoolMakerError};
 use resb_words::{Collation, CompileWords, FileWords, GenrbWords};
-use std::alloc::{AllocError, Global};
 use std::path::PathBuf;
 
 /// What is said to fail where no text does.
@@ -47,21 +46,17 @@ pub(crate) fn genrb(rt: &HostRuntime, wanted: &GenrbWords<'_>) -> u8 {
 
 /// The same, with the program's own status.
 fn make_all(rt: &HostRuntime, wanted: &GenrbWords<'_>) -> Result<u8, u8> {
-    let texts = or_fail(rt, NAME, made(texts_below(rt.alloc(), wanted)))?;
+    let names = wanted.texts.as_slice();
+    let texts = or_fail(
+        rt,
+        NAME,
+        made(all_below(rt.alloc(), wanted.source, names, None)),
+    )?;
     let status = compile_texts(rt, wanted, texts.as_slice());
     match wanted.written_pool {
         Some(folder) if status == 0 => write_pool(rt, wanted, texts.as_slice(), folder),
         _ => Ok(status),
     }
-}
-
-/// The names of the texts, with the source folder's before each.
-fn texts_below(alloc: Global, wanted: &GenrbWords<'_>) -> Result<Vec<PathBuf>, AllocError> {
-    let mut texts = Vec::new(alloc);
-    for text in wanted.texts.iter().copied() {
-        texts.push(below(alloc, wanted.source, text)?)?;
-    }
-    Ok(texts)
 }
 
 /// Compiles texts of these names.

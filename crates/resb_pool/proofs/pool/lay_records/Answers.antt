@@ -52,13 +52,13 @@ find_records-requires-clause-containers c = (
       c.requires.containers,
 )
 
-pub ordered-requires-clause-utf8 : goal.ordered-requires-clause-utf8
-ordered-requires-clause-utf8 c =
+pub ordered-records-requires-clause-utf8 : goal.ordered-records-requires-clause-utf8
+ordered-records-requires-clause-utf8 c =
     let g = c.requires.given in
     texts_utf8 g.0 (nows c.args.texts.now) c.args.measures.now g.2
 
-pub ordered-requires-clause-each : goal.ordered-requires-clause-each
-ordered-requires-clause-each c = (c.deref-2.result.now, c.in_ok-found.ensures.each)
+pub ordered-records-requires-clause-each : goal.ordered-records-requires-clause-each
+ordered-records-requires-clause-each c = (c.deref-2.result.now, c.in_ok-found.ensures.each)
 
 pub lay-requires-clause-counts : goal.lay-requires-clause-counts
 lay-requires-clause-counts c =

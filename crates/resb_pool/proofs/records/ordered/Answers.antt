@@ -27,14 +27,14 @@ returns-then-are_compared_by_units-clause-ascend c =
 pub returns-clause-ascend : goal.returns-clause-ascend
 returns-clause-ascend c =
     let T = nows c.args.texts.now in
-    let sorted = c.sort_unstable_by.new.self.items in
+    let sorted = c.sort_unstable_by-2.new.self.items in
     let sums = c.requires.each.0 in
     let each = All-permutation (IsRecordOf T sums) c.args.records.items sorted
-    c.sort_unstable_by.ensures.permutation c.requires.each.1 in
+    c.sort_unstable_by-2.ensures.permutation c.requires.each.1 in
     near_records c.args.packing T c.requires.utf8
     (c.are_compared_by_units.ensures.no c.if-are_compared_by_units.false) sums sorted each
     (in_order T sums sorted each
-    (c.sort_unstable_by.ensures.sorted (λ (x y : Record). is_lt (fronted_cmp T x y))
+    (c.sort_unstable_by-2.ensures.sorted (λ (x y : Record). is_lt (fronted_cmp T x y))
     (fronted_order T)
     (always_returns_same _ (λ a r. is_lt r ≡ is_lt (fronted_cmp T a.0.now a.1.0.now)) _
     (λ a r f q. (let e : r ≡ fronted_cmp T a.0.now a.1.0.now = search rules in

@@ -42,15 +42,15 @@ returns-then-are_compared_by_units c =
 pub returns : goal.returns
 returns c =
     let rows = c.in_ok-rows.rows.items in
-    let sorted = c.sort_unstable_by.new.self.items in
-    let moved = c.sort_unstable_by.ensures.permutation in
+    let sorted = c.sort_unstable_by-2.new.self.items in
+    let moved = c.sort_unstable_by-2.ensures.permutation in
     let T = nows c.args.texts.now in
     let each = All-permutation (IsRowOf T) rows sorted moved c.in_ok-rows.ensures.each in
     ordered c.args.packing T rows sorted c.in_ok-rows.ensures.texts c.in_ok-rows.ensures.each moved
     (near_rows c.args.packing T
     (c.are_compared_by_units.ensures.no c.if-are_compared_by_units.false) sorted each
     (in_suffix_order T c.requires.utf8 sorted each
-    (c.sort_unstable_by.ensures.sorted (λ (x y : Row). is_lt (keyed_cmp T x y))
+    (c.sort_unstable_by-2.ensures.sorted (λ (x y : Row). is_lt (keyed_cmp T x y))
     (keyed_order T)
     (always_returns_same _ (λ a r. is_lt r ≡ is_lt (keyed_cmp T a.0.now a.1.0.now)) _
     (λ a r f q. (let e : r ≡ keyed_cmp T a.0.now a.1.0.now = search rules in

@@ -2,13 +2,13 @@
 """Compares `resb genrb --compact` with ICU's genrb, byte for byte: pool bundles of random texts,
 and files over them, with and without rules that leave parts out.
 
-    genrb_pools_compare.py [--resb PROGRAM] [--far] [ROUNDS [SEED]]
+    genrb_pools_compare.py [--resb PROGRAM] [ROUNDS [SEED]]
 
 PROGRAM is the proved one if none is named. In each round a pool bundle is made of some texts, and
 files over it of these and others. Keys and strings often end with one another, and some strings
-have more than 40 units, so that they have a marker. Some rounds have rules for each text
-(`--filterDir`), some texts depend on files. With --far some strings have characters beyond U+FFFF,
-which stand elsewhere by their 16-bit units. What differs is printed, with the folder of the round,
+have more than 40 units, so that they have a marker. In half of the rounds some have characters
+beyond U+FFFF, which stand elsewhere by their 16-bit units. Some rounds have rules for each text
+(`--filterDir`), some texts depend on files. What differs is printed, with the folder of the round,
 which is kept. The last line counts; the status is 1 where anything differs.
 """
 import argparse
@@ -23,15 +23,15 @@ TOP = pathlib.Path(__file__).resolve().parent.parent
 PROVED = TOP / 'crates/resb_cli/out/resb_cli'
 LETTERS = ['a', 'b', 'ab', 'ba', 'c', 'xa']
 NEAR = ['a', 'b', 'ab', 'c', ' ', '\u00e9', '\u6f22', '\ue000']
-FAR = ['\U00010000', '\U0001f600', '\U0001f601', '\U00100000', '\ufffd']
+FAR = NEAR + ['\U00010000', '\U0001f600', '\U0001f601', '\U00100000', '\ufffd']
 
 
 class Texts:
     """Random texts over common strings and keys."""
 
-    def __init__(self, rng, is_far):
+    def __init__(self, rng):
         self.rng = rng
-        self.letters = NEAR + FAR if is_far else NEAR
+        self.letters = rng.choice([NEAR, FAR])
         self.strings = ['']
         for _ in range(rng.choice([4, 12, 30])):
             front = self.some(rng.choice([0, 1, 3, 12, 35]))
@@ -90,9 +90,9 @@ def made(program, folder, out, names, pooled, words):
     return {str(file.relative_to(out)): file.read_bytes() for file in sorted(out.rglob('*.res'))}
 
 
-def round_of(rng, program, folder, is_far):
+def round_of(rng, program, folder):
     """What both make of random texts."""
-    texts = Texts(rng, is_far)
+    texts = Texts(rng)
     names = ['t%d.txt' % number for number in range(12)]
     words = []
     if rng.randrange(2):
@@ -112,7 +112,6 @@ def round_of(rng, program, folder, is_far):
 def main():
     words = argparse.ArgumentParser(usage=__doc__)
     words.add_argument('--resb', type=pathlib.Path, default=PROVED, metavar='PROGRAM')
-    words.add_argument('--far', action='store_true')
     words.add_argument('rounds', metavar='ROUNDS', type=int, nargs='?', default=100)
     words.add_argument('seed', metavar='SEED', type=int, nargs='?', default=1)
     given = words.parse_args()
@@ -120,7 +119,7 @@ def main():
     equal = differ = 0
     for _ in range(given.rounds):
         folder = pathlib.Path(tempfile.mkdtemp())
-        ours, theirs = round_of(rng, given.resb.resolve(), folder, given.far)
+        ours, theirs = round_of(rng, given.resb.resolve(), folder)
         wrong = [name for name in ours.keys() | theirs.keys()
                  if ours.get(name) != theirs.get(name)]
         equal += len(ours.keys() | theirs.keys()) - len(wrong)

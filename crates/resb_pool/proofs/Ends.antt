@@ -1,7 +1,7 @@
 -- How two texts compare once an end that they share is left out.
 use Rattle.std.proofs.Common.{◌≡◌, ℕ, List, [], ◌∷◌, ◌++◌, length, refl, ◌∙◌, ap, reverse}
 use Rattle.std.proofs.Common.{encode_utf8, append-nil}
-use Rattle.std.proofs.lemmas.List.{nil_from_length, reverse-append}
+use Rattle.std.proofs.lemmas.List.{nil_from_length}
 use Rattle.std.specs.Char.{IsScalar}
 use Rattle.std.specs.Char.Escape.{encode_utf16}
 use Rattle.std.specs.List.{flat_map}

@@ -225,7 +225,8 @@ module _ (way : Packing) (S T : TextList) (ms : List Measure) (given : AreTexts 
             (sorted k no_record (omega arith) b) ne))
 
         pub pool_is : (A : List ℕ → Type 0) → AreHidden way A T hidden
-            → IsSorted (record_cmp way T) v → (us : List ℕ) → us ≡ 0 ∷ flat_map record_units (record_texts T v)
+            → IsSorted (record_cmp way T) v → (us : List ℕ)
+            → us ≡ 0 ∷ flat_map record_units (record_texts T v)
             → IsPool way A S (record_texts T v) us
         pool_is A hidden_are sorted us u = record {
           records = in_given;

@@ -8,4 +8,4 @@ pub returns-in-Compact-clause-no : goal.returns-in-Compact-clause-no
 returns-in-Compact-clause-no c =
     let T = nows c.args.texts.now in
     λ e. subst (λ w. HaveCharLetters w T) (sym c.in-Compact.is)
-        (near_texts T c.requires (sym c.are_far.ensures ∙ e))
+    (near_texts T c.requires (sym c.are_far.ensures ∙ e))

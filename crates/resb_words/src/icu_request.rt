@@ -158,7 +158,10 @@ fn pool<'w>(matches: &ArgMatches<'w>, word: &str, usual: &'w str) -> Option<&'w 
     if !matches.contains_id(word) {
         return None;
     }
-    match matches.get_str(word) {
+    match matches
+        .get_strs(word)
+        .and_then(|folders| folders.last().copied())
+    {
         None | Some("") => Some(usual),
         folder => folder,
     }

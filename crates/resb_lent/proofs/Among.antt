@@ -2,7 +2,7 @@
 use Rattle.std.proofs.Common.{ℕ, List, inl, inr, ◌↔◌, Option}
 use Rattle.resb_pool.specs.Container.{IsTop}
 use Rattle.resb_pool.specs.Plan.{IsPlanAmong}
-use Rattle.resb_pool.specs.Pool.{Saved, Precedes, fewer_units, saves_more, smaller_bytes}
+use Rattle.resb_pool.specs.Pool.{Saved, Precedes, fewer_units, saves_more, smaller_text}
 use Rattle.resb_pool.specs.declared.packing.Packing.{Packing}
 use Rattle.resb_pool.specs.declared.packing.Packing.TheVariants.{Plain, Compact}
 
@@ -36,8 +36,8 @@ module _ (A B : List ℕ → Type 0) (same : (t : List ℕ) → A t ↔ B t) whe
     precedes_among r q (fewer_units h) = fewer_units h
     precedes_among r q (saves_more m n e a b l) =
         saves_more m n e (saved_among r m a) (saved_among q n b) l
-    precedes_among r q (smaller_bytes n e a b l) =
-        smaller_bytes n e (saved_among r n a) (saved_among q n b) l
+    precedes_among r q (smaller_text n e a b l) =
+        smaller_text n e (saved_among r n a) (saved_among q n b) l
 
     pub plan_among : (us : List ℕ) (offset : List ℕ → Option ℕ) → IsPlanAmong way A S us offset
         → IsPlanAmong way B S us offset

@@ -17,6 +17,7 @@ use Rattle.std.proofs.lemmas.List.Sorted.{sorted_far}
 use Rattle.resb_format.specs.Units.{size}
 use Rattle.resb_pool.specs.Order.{suffix_cmp, end_last_cmp}
 use Rattle.resb_pool.specs.Records.{EndsWith}
+use Rattle.resb_pool.specs.declared.packing.Packing.TheVariants.{Plain}
 use Rattle.resb_pool.specs.Inner.Cuts.{chars_backwards}
 use Rattle.resb_pool.specs.Inner.Extends.{Before, NotAfter}
 use Rattle.resb_pool.proofs.Cut.{key_same, ends_extends, extends_ends}
@@ -136,9 +137,9 @@ lies_somewhere block s i full (lent_within {r = r} {at = at} more lies e) =
 
 -- of one text, what stands at a lower place comes later
 sorted_later : (t : List ℕ) (p at : ℕ) (q : List ℕ × ℕ) → q ≡ (t, p) → p < at
-    → ordering_then (suffix_cmp t q.0) (nat_cmp q.1 at) ≡ Less
+    → ordering_then (suffix_cmp Plain t q.0) (nat_cmp q.1 at) ≡ Less
 sorted_later t p at q f less =
-    ap (λ (q : List ℕ × ℕ). ordering_then (suffix_cmp t q.0) (nat_cmp q.1 at)) f
+    ap (λ (q : List ℕ × ℕ). ordering_then (suffix_cmp Plain t q.0) (nat_cmp q.1 at)) f
     ∙ ap (λ o. ordering_then o (nat_cmp p at)) (tied_itself end_last_total (letters t))
     ∙ sym (nat_cmp_is p at Less less)
 
@@ -166,14 +167,14 @@ module _ (l : LentTexts) (block : List ℕ) (h : LendsTexts l block) where
       true≢false (sym (ap is_lt e) ∙ f)
 
   texts_far : (i j : ℕ) (d : LentRecord) → i ≤ j → j < length es
-      → suffix_cmp (text (get_or es j d)) (text (get_or es i d)) ≡ Less → ⊥
+      → suffix_cmp Plain (text (get_or es j d)) (text (get_or es i d)) ≡ Less → ⊥
   texts_far i j d m n e =
       entries_far i j d m n (ap (λ o. ordering_then o (nat_cmp (get_or es i d).at
       (get_or es j d).at)) e)
 
   module _ (s : List ℕ) (u : IsUtf8 s) (count : ℕ)
       (behind : (d : LentRecord) → count < length es
-      → suffix_cmp (text (get_or es count d)) s ≡ Greater) where
+      → suffix_cmp Plain (text (get_or es count d)) s ≡ Greater) where
     -- a record that ends with the text is among the first ones
     among_ends : (r : List ℕ) (at : ℕ) (d : LentRecord) → IsLentRecord block r at → EndsWith r s
         → (j : ℕ) × (j < count) × (j < length es) × (pair_of (get_or es j d) ≡ (r, at))
@@ -209,7 +210,7 @@ module _ (l : LentTexts) (block : List ℕ) (h : LendsTexts l block) where
     none_holds r at z x y = none_ends r at z x (ends_of r s y)
 
     module _ (k : ℕ) (d : LentRecord) (is : count ≡ k + 1) (in_list : k < length es)
-        (before : suffix_cmp (text (get_or es k d)) s ≡ Greater → ⊥) where
+        (before : suffix_cmp Plain (text (get_or es k d)) s ≡ Greater → ⊥) where
       abbrev e : LentRecord
       e = get_or es k d
 

@@ -5,8 +5,9 @@ use Rattle.std.specs.declared.cmp.Ordering.{Ordering}
 use Rattle.std.specs.declared.cmp.Ordering.TheVariants.{Less, Equal, Greater}
 use Rattle.resb_format.specs.Units.{size}
 use Rattle.resb_pool.specs.Order.{suffix_cmp}
-use Rattle.resb_pool.specs.Inner.Cuts.{chars_backwards}
+use Rattle.resb_pool.specs.Inner.Cuts.{chars_backwards, letters_backwards}
 use Rattle.resb_pool.proofs.Cut.{key_same}
+use Rattle.resb_pool.proofs.EndLetters.{letters_same}
 use Rattle.resb_pool.proofs.SuffixOrder.{tied_same}
 use Rattle.resb_lent.specs.Laws.{OneIndex, OnePlace}
 use Rattle.resb_pool.specs.declared.packing.Packing.{Packing}
@@ -18,9 +19,9 @@ use Rattle.resb_lent.specs.LentBeside.{beside_empty, beside_within}
 use Rattle.resb_lent.proofs.Lying.{turned}
 
 one_record : (block s r q : List ℕ) (at p : ℕ) → LiesAt block s r at → LiesAt block s q p → r ≡ q
-one_record block s r q at p x y = by (suffix_cmp r q) refl
+one_record block s r q at p x y = by (suffix_cmp Plain r q) refl
   where
-    by : (o : Ordering) → suffix_cmp r q ≡ o → r ≡ q
+    by : (o : Ordering) → suffix_cmp Plain r q ≡ o → r ≡ q
     by Less e = absurd (x.greatest q p y.own y.holds
         (turned (chars_backwards r) (chars_backwards q) Less e))
     by Equal e = key_same r q x.own.stands.utf8 y.own.stands.utf8
@@ -58,13 +59,13 @@ one_place keys key a b x y = omega (arith, x.lowest b y.whole, y.lowest a x.whol
 module _ (block : List ℕ) (S : List (List ℕ)) (s : List ℕ) where
   one_beside : (r q : List ℕ) (at p : ℕ) → LiesBeside block S s r at → LiesBeside block S s q p
       → r ≡ q
-  one_beside r q at p x y = by (suffix_cmp r q) refl
+  one_beside r q at p x y = by (suffix_cmp Compact r q) refl
     where
-      by : (o : Ordering) → suffix_cmp r q ≡ o → r ≡ q
+      by : (o : Ordering) → suffix_cmp Compact r q ≡ o → r ≡ q
       by Less e = absurd (x.greatest q y.may y.holds
-          (turned (chars_backwards r) (chars_backwards q) Less e))
-      by Equal e = key_same r q x.own.stands.utf8 y.own.stands.utf8
-          (tied_same (chars_backwards r) (chars_backwards q) e)
+          (turned (letters_backwards Compact r) (letters_backwards Compact q) Less e))
+      by Equal e = letters_same Compact r q x.own.stands.utf8 y.own.stands.utf8
+          (tied_same (letters_backwards Compact r) (letters_backwards Compact q) e)
       by Greater e = absurd (y.greatest r x.may x.holds e)
 
   one_place_beside : (r q : List ℕ) (at p : ℕ) → LiesBeside block S s r at

@@ -17,10 +17,10 @@ use Rattle.std.proofs.lemmas.List.Elements.{Contains-append_right, Contains-appe
 use Rattle.resb_pool.specs.Container.{IsContainer, IsTop}
 use Rattle.resb_pool.specs.Order.{suffix_cmp}
 use Rattle.resb_pool.specs.Records.{EndsWith, IsRecord, IsHeldBy}
-use Rattle.resb_pool.specs.Inner.Cuts.{chars_backwards}
+use Rattle.resb_pool.specs.Inner.Cuts.{letters_backwards}
 use Rattle.resb_pool.specs.declared.packing.Packing.TheVariants.{Compact}
-use Rattle.resb_pool.proofs.Cut.{key_same}
-use Rattle.resb_pool.proofs.SuffixOrder.{tied_same}
+use Rattle.resb_pool.proofs.EndLetters.{letters_same, letters_extend}
+use Rattle.resb_pool.proofs.SuffixOrder.{tied_same, extends_not_after}
 use Rattle.resb_lent.specs.Entries.{pairs}
 use Rattle.resb_lent.specs.Lending.{LendsTexts}
 use Rattle.resb_lent.specs.LentBeside.{IsLent, IsTextBeside, MayHoldBeside}
@@ -30,7 +30,7 @@ use Rattle.resb_lent.specs.LentTexts.{lent_within}
 use Rattle.resb_lent.specs.Inner.Within.{NoneHolds, StandsWithin, lent_list, record_bytes}
 use Rattle.resb_lent.specs.declared.records.LentRecord.{LentRecord}
 use Rattle.resb_lent.specs.declared.texts.LentTexts.{LentTexts}
-use Rattle.resb_lent.proofs.Lying.{turned, holds_not_after, ends_of}
+use Rattle.resb_lent.proofs.Lying.{turned, ends_of}
 
 -- the empty text has the same index in files of either packing
 pub empty_beside : (block : List ℕ) (S : List (List ℕ)) (s : List ℕ) (o : Option ℕ)
@@ -120,7 +120,9 @@ module _ (l : LentTexts) (block : List ℕ) (h : LendsTexts l block) (S : List (
       own = w.own;
       may = inl ((w.at, w.own), refl);
       holds = w.holds;
-      greatest = λ q m y g. holds_not_after q s (may_utf8 s q m) u y g;
+      greatest = λ q m y g. extends_not_after (letters_backwards Compact q)
+          (letters_backwards Compact s)
+          (letters_extend Compact q s (may_utf8 s q m) u (ends_of q s y)) g;
       first = w.first;
     }) w.place
 
@@ -149,7 +151,7 @@ module _ (l : LentTexts) (block : List ℕ) (h : LendsTexts l block) (S : List (
       module _ (more : NoneHolds block c s) (r : List ℕ) (at : ℕ) (x : IsLentRecord block r at)
           (t : IsTop (IsTextBeside block S) r) (y : Holds r s)
           (greatest : (q : List ℕ) → MayHoldBeside block S s q → Holds q s
-          → suffix_cmp q r ≡ Greater → ⊥) where
+          → suffix_cmp Compact q r ≡ Greater → ⊥) where
         held : IsHeldBy s r
         held = elim y [ inl e ↦ absurd (other r at x e) | inr g ↦ g ]
 
@@ -177,14 +179,14 @@ module _ (l : LentTexts) (block : List ℕ) (h : LendsTexts l block) (S : List (
         }
 
         nowhere : ⊥
-        nowhere = by (suffix_cmp r c) refl
+        nowhere = by (suffix_cmp Compact r c) refl
           where
-            by : (o : Ordering) → suffix_cmp r c ≡ o → ⊥
+            by : (o : Ordering) → suffix_cmp Compact r c ≡ o → ⊥
             by Less e = greatest c (inr (top_to c top_of)) (inr held_too)
-                (turned (chars_backwards r) (chars_backwards c) Less e)
+                (turned (letters_backwards Compact r) (letters_backwards Compact c) Less e)
             by Equal e =
-                let same = key_same r c x.stands.utf8 v
-                (tied_same (chars_backwards r) (chars_backwards c) e) in
+                let same = letters_same Compact r c x.stands.utf8 v
+                (tied_same (letters_backwards Compact r) (letters_backwards Compact c) e) in
                 more at (subst (λ z. IsLentRecord block z at) same x)
                 (subst (λ z. Holds z s) same y)
             by Greater e = k.greatest r (record_from r t) (ends_of r s y) (inr (top_from r t)) e

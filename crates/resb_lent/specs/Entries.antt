@@ -8,6 +8,7 @@ use Rattle.std.specs.String.{string_bytes}
 use Rattle.std.specs.declared.cmp.Ordering.{Ordering}
 use Rattle.resb_format.specs.Units.{size}
 use Rattle.resb_pool.specs.Order.{suffix_cmp}
+use Rattle.resb_pool.specs.declared.packing.Packing.TheVariants.{Plain}
 use Rattle.resb_lent.specs.LentTexts.{IsLentRecord}
 use Rattle.resb_lent.specs.declared.records.LentRecord.{LentRecord}
 
@@ -24,7 +25,8 @@ pub record IsLentEntry (block : List ℕ) (e : LentRecord) : Type 0 where
   pub own : IsLentRecord block (string_bytes e.text) e.at
   pub end : e.end ≡ e.at + size (string_bytes e.text)
 
--- by the texts in the order from the end, and of one text the later record first
+-- by the texts in a plain file's order from the end, and of one text the later record first
 abbrev pub entry_cmp : LentRecord → LentRecord → Ordering
 entry_cmp x y =
-    ordering_then (suffix_cmp (string_bytes x.text) (string_bytes y.text)) (nat_cmp y.at x.at)
+    ordering_then (suffix_cmp Plain (string_bytes x.text) (string_bytes y.text))
+    (nat_cmp y.at x.at)

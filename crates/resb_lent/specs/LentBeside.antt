@@ -29,14 +29,14 @@ IsTextBeside block S r = Contains S r ⊎ IsLent block r
 abbrev pub MayHoldBeside : List ℕ → List (List ℕ) → List ℕ → List ℕ → Type 0
 MayHoldBeside block S s r = (IsLent block r × (r ≡ s)) ⊎ IsTop (IsTextBeside block S) r
 
--- Of what may hold s, be it of the file or of the pool, the greatest in the order from the end is a
--- record of the pool, the first one of its text: s lies there.
+-- Of what may hold s, be it of the file or of the pool, the greatest in a compact file's order from
+-- the end is a record of the pool, the first one of its text: s lies there.
 pub record LiesBeside (block : List ℕ) (S : List (List ℕ)) (s r : List ℕ) (at : ℕ) : Type 0 where
   pub own : IsLentRecord block r at
   pub may : MayHoldBeside block S s r
   pub holds : Holds r s
-  pub greatest : (q : List ℕ) → MayHoldBeside block S s q → Holds q s → suffix_cmp q r ≡ Greater
-      → ⊥
+  pub greatest : (q : List ℕ) → MayHoldBeside block S s q → Holds q s
+      → suffix_cmp Compact q r ≡ Greater → ⊥
   pub first : (p : ℕ) → IsLentRecord block r p → at ≤ p
 
 -- the empty text has index 0, where the block begins with 0; any other's marker and units end where

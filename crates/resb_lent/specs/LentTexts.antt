@@ -12,6 +12,7 @@ use Rattle.resb_format.specs.Units.{size}
 use Rattle.resb_pool.specs.Order.{suffix_cmp}
 use Rattle.resb_pool.specs.Pool.{record_units}
 use Rattle.resb_pool.specs.Records.{IsHeldBy}
+use Rattle.resb_pool.specs.declared.packing.Packing.TheVariants.{Plain}
 
 -- a record stands at this unit: the text's marker, its units and 0, all below unit 2^28, since
 -- indexes have 28 bits
@@ -36,13 +37,13 @@ pub record IsLentRecord (block r : List ℕ) (at : ℕ) : Type 0 where
 abbrev pub Holds : List ℕ → List ℕ → Type 0
 Holds r s = (r ≡ s) ⊎ IsHeldBy s r
 
--- s lies in the greatest record that holds it, in the order from the end, and in the first one of
--- the same text
+-- s lies in the greatest record that holds it, in a plain file's order from the end, and in the
+-- first one of the same text
 pub record LiesAt (block s r : List ℕ) (at : ℕ) : Type 0 where
   pub own : IsLentRecord block r at
   pub holds : Holds r s
   pub greatest : (q : List ℕ) (p : ℕ) → IsLentRecord block q p → Holds q s
-      → suffix_cmp q r ≡ Greater → ⊥
+      → suffix_cmp Plain q r ≡ Greater → ⊥
   pub first : (p : ℕ) → IsLentRecord block r p → at ≤ p
 
 -- the empty text has index 0, where the block begins with 0; any other's marker and units end where

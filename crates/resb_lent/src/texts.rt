@@ -8,6 +8,7 @@ ghost use Rattle.std.specs.declared.cmp.Ordering.TheVariants.{Greater};
 ghost use Rattle.resb_format.specs.Units.{size};
 ghost use Rattle.resb_pool.specs.Order.{suffix_cmp};
 ghost use Rattle.resb_pool.specs.Records.{EndsWith};
+ghost use Rattle.resb_pool.specs.declared.packing.Packing.TheVariants.{Plain};
 ghost use Rattle.resb_lent.specs.LentTexts.{Holds};
 ghost use Rattle.resb_lent.specs.Inner.Listed.{HasPlace};
 ghost use Rattle.resb_lent.specs.Entries.{entry_cmp};
@@ -15,6 +16,7 @@ ghost use Rattle.resb_lent.specs.declared.records.LentRecord.{LentRecord as Entr
 
 use crate::records::{LentRecord, records_in, units_in};
 use resb_format::{is_unmarked, utf16_len};
+use resb_pool::Packing;
 use resb_pool::suffix_order::compare;
 use resb_tree::NoMemory;
 use std::alloc::Global;
@@ -24,7 +26,7 @@ use std::cmp::Ordering;
 /// marker. (ICU's `uresdata.h`: pool bundles.)
 #[derive(Drop)]
 pub struct LentTexts {
-    /// In the order from the end, and of one text the later record first.
+    /// In a plain file's order from the end, and of one text the later record first.
     pub(crate) records: Vec<LentRecord>,
     /// Whether the pool's block begins with 0: only such a pool lends texts.
     pub(crate) lends: bool,
@@ -41,12 +43,12 @@ fn begins_with_zero(units: &[u16]) -> bool
     }
 }
 
-/// How two records compare: by their texts in the order from the end, and of one text the later
-/// record first.
+/// How two records compare: by their texts in a plain file's order from the end, and of one text
+/// the later record first.
 fn compare_records(left: &LentRecord, right: &LentRecord) -> Ordering
     ensures { result ≡ entry_cmp left.now right.now }
 {
-    match compare(&left.text, &right.text) {
+    match compare(Packing::Plain, &left.text, &right.text) {
         Ordering::Equal => right.at.cmp(&left.at),
         other => other,
     }
@@ -56,17 +58,17 @@ fn compare_records(left: &LentRecord, right: &LentRecord) -> Ordering
 fn count_up_to(records: &[LentRecord], text: &str) -> usize
     ensures within { result ≤ length records.now }
     ensures before { (k : ℕ) (d : Entry) → result ≡ k + 1
-        → suffix_cmp (string_bytes (slice_index_or records.now k d).text) text.now ≡ Greater
+        → suffix_cmp Plain (string_bytes (slice_index_or records.now k d).text) text.now ≡ Greater
         → ⊥ }
     ensures behind { (d : Entry) → result < length records.now
-        → suffix_cmp (string_bytes (slice_index_or records.now result d).text) text.now
+        → suffix_cmp Plain (string_bytes (slice_index_or records.now result d).text) text.now
         ≡ Greater }
 {
     let mut low = 0;
     let mut high = records.len();
     'halves: while low < high {
         let middle = low + (high - low) / 2;
-        if compare(&records[middle].text, text) == Ordering::Greater {
+        if compare(Packing::Plain, &records[middle].text, text) == Ordering::Greater {
             high = middle;
         } else {
             low = middle + 1;

@@ -47,7 +47,7 @@ key_cut t f s h = ap chars_backwards h.is ∙ ap reverse (chars-append f s h.res
 pub cut_extends : (t f s : List ℕ) → IsCut t f s → Extends (chars_backwards t) (chars_backwards s)
 cut_extends t f s h = record { rest = chars_backwards f; is = key_cut t f s h }
 
-chars_encode : (c : ℕ) → IsScalar c → chars (encode_utf8 c) ≡ c ∷ []
+pub chars_encode : (c : ℕ) → IsScalar c → chars (encode_utf8 c) ≡ c ∷ []
 chars_encode c s =
     let u : IsUtf8 (encode_utf8 c) = IsUtf8-encode c s in
     ap chars (sym (append-nil (encode_utf8 c))) ∙ chars-encodes (c ∷ []) (one_scalar c s)

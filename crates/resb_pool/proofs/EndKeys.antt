@@ -1,6 +1,7 @@
 -- Rows whose keys differ compare as these do.
 use Rattle.std.proofs.Common.{◌≡◌, ℕ, zero, suc, ◌+◌, ◌-◌, ◌*◌, ◌<◌, ◌≤◌, List, [], ◌∷◌}
 use Rattle.std.proofs.Common.{get_or, length, inl, inr, false, refl, sym, ◌∙◌, ap, subst, arith}
+use Rattle.std.proofs.Common.{reverse}
 use Rattle.std.specs.List.{All}
 use Rattle.std.specs.List.Sorted.{IsSorted}
 use Rattle.std.specs.Cmp.{IsTotalOrder, IsStrictWeakOrder}
@@ -15,11 +16,14 @@ use Rattle.std.proofs.lemmas.List.{get_or_past}
 use Rattle.std.proofs.lemmas.List.Elements.{All-tail}
 use Rattle.std.proofs.lemmas.Str.{IsUtf8-nil}
 use Rattle.resb_pool.specs.Order.{end_last_cmp}
-use Rattle.resb_pool.specs.Inner.Cuts.{chars_backwards}
+use Rattle.resb_pool.specs.Inner.Cuts.{chars_backwards, letters_backwards}
 use Rattle.resb_pool.specs.Inner.Suffixes.{digits_backwards, key_of_digits, digits_bound}
 use Rattle.resb_pool.specs.Inner.Suffixes.{keyed_cmp, row_cmp}
 use Rattle.resb_pool.specs.Inner.Suffixes.{row_key, row_text, IsKeyed, IsRowOf}
 use Rattle.resb_pool.specs.Inner.Placing.{indexed_text}
+use Rattle.resb_pool.specs.Inner.Ranks.{HaveCharLetters}
+use Rattle.resb_pool.specs.declared.packing.Packing.{Packing}
+use Rattle.resb_pool.specs.declared.packing.Packing.TheVariants.{Plain}
 use Rattle.resb_pool.specs.declared.suffix_order.Row.{Row}
 use Rattle.resb_pool.proofs.SuffixOrder.{end_last_total}
 use Rattle.resb_pool.proofs.Digits.{IsSmall, small_key, digits_order}
@@ -131,7 +135,7 @@ module _ (T : List (List ℕ)) where
   module _ (utf8 : All IsUtf8 T) where
     -- the greater number stands after the other
     after_too : (x y : Row) → IsKeyed T x → IsKeyed T y → row_key y < row_key x
-        → is_lt (row_cmp T x y) ≡ false
+        → is_lt (row_cmp Plain T x y) ≡ false
     after_too x y h k m =
         let s = row_text T x in
         let t = row_text T y in
@@ -142,9 +146,9 @@ module _ (T : List (List ℕ)) where
         (omega (arith, m, h.key_is, k.key_is)))))
 
     before_too : (x y : Row) → IsKeyed T x → IsKeyed T y → is_lt (keyed_cmp T x y) ≡ false
-        → is_lt (row_cmp T x y) ≡ false
+        → is_lt (row_cmp Plain T x y) ≡ false
     before_too x y h k e =
-        let texts = row_cmp T x y in
+        let texts = row_cmp Plain T x y in
         let second = ordering_then (nat_cmp x.before y.before) texts in
         three_ways (is_lt texts ≡ false) x.last y.last
         (λ f. absurd (less_is_first (nat_cmp x.last y.last) second f e))
@@ -156,7 +160,23 @@ module _ (T : List (List ℕ)) where
         (λ m. after_too x y h k (omega (arith, m, h.small, k.small)))
 
     pub in_suffix_order : (rows : List Row) → All (IsRowOf T) rows → IsSorted (keyed_cmp T) rows
-        → IsSorted (row_cmp T) rows
+        → IsSorted (row_cmp Plain T) rows
     in_suffix_order rows each up k d l m =
         before_too (get_or rows (k + 1) d) (get_or rows k d) (each (k + 1) d m).keyed
         (each k d (omega (arith, m))).keyed (up k d l m)
+
+-- by all letters
+pub letters_order : (way : Packing) (T : List (List ℕ))
+    → IsStrictWeakOrder (λ (x y : Row). is_lt (row_cmp way T x y))
+letters_order way T = ranks_by end_last_total (λ (r : Row). letters_backwards way (row_text T r))
+
+-- where letters are characters, texts stand as in a plain file
+pub near_rows : (way : Packing) (T : List (List ℕ)) → HaveCharLetters way T → (rows : List Row)
+    → All (IsRowOf T) rows → IsSorted (row_cmp Plain T) rows → IsSorted (row_cmp way T) rows
+near_rows way T near rows each up k d l m =
+    let x = get_or rows (k + 1) d in
+    let y = get_or rows k d in
+    let e = near x.index [] (each (k + 1) d m).within in
+    let f = near y.index [] (each k d (omega (arith, m))).within in
+    ap (λ s. is_lt (end_last_cmp (reverse s) (letters_backwards way (row_text T y)))) e
+    ∙ ap (λ s. is_lt (end_last_cmp (chars_backwards (row_text T x)) (reverse s))) f ∙ up k d l m

@@ -12,6 +12,7 @@ use Rattle.std.proofs.lemmas.Cmp.{nat_cmp_total, tied_itself, then_total, on_tot
 use Rattle.std.proofs.lemmas.List.MinMax.{ranks_by}
 use Rattle.resb_pool.specs.Inner.Placing.{AreBytes, front_bytes, record_cmp, bytes_cmp}
 use Rattle.resb_pool.specs.Inner.Placing.{fronted_cmp, IsRecordOf, record_text}
+use Rattle.resb_pool.specs.declared.packing.Packing.TheVariants.{Plain}
 use Rattle.resb_pool.specs.declared.records.Record.{Record}
 use Rattle.resb_pool.proofs.Numbers.{ordering_then_less, ordering_then_equal, three_ways}
 use Rattle.resb_pool.proofs.Numbers.{less_is_first, tied_first, ordering_then_not_before}
@@ -138,7 +139,7 @@ module _ (T : List (List ℕ)) where
         (λ m. greater 8 x y h k (omega (arith, m, h.front_is, k.front_is)))
 
     pub in_order : (rs : List Record) → All (IsRecordOf T sums) rs → IsSorted (fronted_cmp T) rs
-        → IsSorted (record_cmp T) rs
+        → IsSorted (record_cmp Plain T) rs
     in_order rs each up k d l m =
         let x = get_or rs (k + 1) d in let y = get_or rs k d in
         ordering_then_not_before (nat_cmp x.unit_count y.unit_count) _ _

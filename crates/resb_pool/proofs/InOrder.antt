@@ -11,16 +11,17 @@ use Rattle.std.proofs.lemmas.Bool.{cases_eq}
 use Rattle.std.proofs.lemmas.List.{get_or-take, length-take-le, map_more, map-append}
 use Rattle.std.proofs.lemmas.List.{take-append-drop, drop_more, take-take}
 use Rattle.std.proofs.lemmas.List.Elements.{All-more, All-take}
-use Rattle.std.specs.Str.{bytes_eq}
-use Rattle.std.specs.Cmp.Lexicographic.{slice_cmp, bytes_decides}
+use Rattle.std.specs.Str.{bytes_eq, IsUtf8}
+use Rattle.std.specs.Cmp.Lexicographic.{bytes_decides}
 use Rattle.std.specs.Ordering.{nat_cmp, ordering_then, is_lt}
 use Rattle.std.specs.declared.cmp.Ordering.{Ordering}
 use Rattle.std.proofs.lemmas.List.Sums.{sum_by-cons, sum_by-append}
 use Rattle.std.proofs.lemmas.List.Sorted.{sum_by-IsPermutation, Contains-permutation}
 use Rattle.std.proofs.lemmas.List.Sorted.{IsPermutation-sym}
 use Rattle.resb_format.specs.Units.{units, marker, size}
+use Rattle.resb_pool.specs.Order.{start_cmp}
 use Rattle.resb_pool.specs.Records.{EachOnce, IsRecords}
-use Rattle.resb_pool.specs.Pool.{Saved, Precedes, fewer_units, saves_more, smaller_bytes}
+use Rattle.resb_pool.specs.Pool.{Saved, Precedes, fewer_units, saves_more, smaller_text}
 use Rattle.resb_pool.specs.Pool.{record_units, ClosesAt}
 use Rattle.resb_pool.specs.Inner.Placing.{AreEnds, indexed_text, record_text, record_texts}
 use Rattle.resb_pool.specs.Inner.Placing.{record_cmp}
@@ -28,7 +29,7 @@ use Rattle.resb_pool.specs.declared.records.Record.{Record}
 use Rattle.resb_pool.specs.declared.packing.Packing.{Packing}
 use Rattle.resb_pool.proofs.TextLists.{TextList}
 use Rattle.resb_pool.proofs.Numbers.{cmp_cases}
-use Rattle.resb_pool.proofs.Lists.{text_order}
+use Rattle.resb_pool.proofs.StartOrder.{start_order}
 
 -- how often x stands among the texts
 abbrev one : List ℕ → List ℕ → ℕ
@@ -107,9 +108,10 @@ module _ (way : Packing) (A : List ℕ → Type 0) (S T : TextList) (x y : Recor
     (uy : y.unit_count ≡ length (units (record_text T y)))
     (sx : Saved way A S (record_text T x) x.saved)
     (sy : Saved way A S (record_text T y) y.saved) where
-  pub in_order : is_lt (record_cmp T y x) ≡ false → (record_text T x ≡ record_text T y → ⊥)
+  pub in_order : IsUtf8 (record_text T x) → IsUtf8 (record_text T y)
+      → is_lt (record_cmp way T y x) ≡ false → (record_text T x ≡ record_text T y → ⊥)
       → Precedes way A S (record_text T x) (record_text T y)
-  in_order h ne = elim (cmp_cases y.unit_count x.unit_count) [
+  in_order u v h ne = elim (cmp_cases y.unit_count x.unit_count) [
     | inl l ↦ absurd (true≢false (sym (ap (λ o. is_lt (ordering_then o later)) l.0) ∙ h))
     | inr (inr g) ↦ fewer_units (omega (arith, ux, uy, g.1))
     | inr (inl e) ↦
@@ -119,15 +121,15 @@ module _ (way : Packing) (A : List ℕ → Type 0) (S T : TextList) (x y : Recor
         elim (cmp_cases x.saved y.saved) [
           | inl l ↦ absurd (true≢false (sym (ap (λ o. is_lt (ordering_then o last)) l.0) ∙ h2))
           | inr (inr g) ↦ saves_more x.saved y.saved units_same sx sy g.1
-          | inr (inl f) ↦ smaller_bytes x.saved units_same sx
+          | inr (inl f) ↦ smaller_text x.saved units_same sx
               (subst (Saved way A S (record_text T y)) (sym f.1) sy)
-              (text_order (record_text T x) (record_text T y)
+              (start_order way (record_text T x) (record_text T y) u v
               (sym (ap (λ o. is_lt (ordering_then o last)) f.0) ∙ h2) ne)
         ])
   ]
     where
       last : Ordering
-      last = slice_cmp nat_cmp (record_text T y) (record_text T x)
+      last = start_cmp way (record_text T y) (record_text T x)
 
       later : Ordering
       later = ordering_then (nat_cmp x.saved y.saved) last

@@ -22,6 +22,11 @@ pub mod OnePool
 pub mod Least
 pub mod SuffixOrder
 pub mod Cut
+pub mod EndLetters
+mod UnitsOrder
+mod Utf8Order
+mod StartOrder
+mod Starts
 mod Ends
 mod Digits
 mod EndKeys

@@ -4,12 +4,11 @@ use Rattle.std.proofs.Common.{slice_index_or, Option, Some, None, MatchOption, i
 use Rattle.std.proofs.Common.{refl, sym, ◌∙◌, ap, subst, arith}
 use Rattle.std.specs.List.{All, Contains, sum_by, flat_map}
 use Rattle.std.specs.Str.{IsUtf8}
-use Rattle.std.proofs.lemmas.Cmp.{nat_list_cmp_total}
 use Rattle.std.proofs.lemmas.List.Elements.{Contains-append_right}
 use Rattle.resb_format.specs.Units.{size}
 use Rattle.resb_pool.specs.Records.{EachOnce}
 use Rattle.resb_pool.specs.Pool.{SizeIn, size_none, size_here, size_elsewhere, Saved, Precedes}
-use Rattle.resb_pool.specs.Pool.{fewer_units, saves_more, smaller_bytes, record_units, ClosesAt}
+use Rattle.resb_pool.specs.Pool.{fewer_units, saves_more, smaller_text, record_units, ClosesAt}
 use Rattle.resb_pool.specs.Pool.{Off, off_empty, off_within}
 use Rattle.resb_pool.specs.Plan.{IsPlanAmong}
 use Rattle.resb_pool.specs.declared.packing.Packing.{Packing}
@@ -17,7 +16,7 @@ use Rattle.resb_pool.specs.declared.packing.Packing.TheVariants.{Plain, Compact}
 use Rattle.resb_pool.proofs.Distinct.{cons_cases, Contains-first}
 use Rattle.resb_pool.proofs.Sharing.{one_container}
 use Rattle.resb_pool.proofs.TextLists.{TextList}
-use Rattle.resb_pool.proofs.Lists.{bytes_asym}
+use Rattle.resb_pool.proofs.StartOrder.{start_asym, start_total}
 
 module _ (way : Packing) (A : List ℕ → Type 0) (S : TextList) where
   size_once : (r : List ℕ) (ss : TextList) (m n : ℕ) → SizeIn way S r ss m → SizeIn way S r ss n
@@ -44,32 +43,32 @@ module _ (way : Packing) (A : List ℕ → Type 0) (S : TextList) where
   asym : (r q : List ℕ) → Precedes way A S r q → Precedes way A S q r → ⊥
   asym r q (fewer_units h) (fewer_units k) = absurd (omega (arith, h, k))
   asym r q (fewer_units h) (saves_more m n e a b l) = absurd (omega (arith, h, e))
-  asym r q (fewer_units h) (smaller_bytes n e a b l) = absurd (omega (arith, h, e))
+  asym r q (fewer_units h) (smaller_text n e a b l) = absurd (omega (arith, h, e))
   asym r q (saves_more m n e a b l) (fewer_units k) = absurd (omega (arith, k, e))
   asym r q (saves_more m n e a b l) (saves_more m' n' e' a' b' l') =
       absurd (omega (arith, saved_once r m n' a b', saved_once q n m' b a', l, l'))
-  asym r q (saves_more m n e a b l) (smaller_bytes n' e' a' b' l') =
+  asym r q (saves_more m n e a b l) (smaller_text n' e' a' b' l') =
       absurd (omega (arith, saved_once r m n' a b', saved_once q n n' b a', l))
-  asym r q (smaller_bytes n e a b l) (fewer_units k) = absurd (omega (arith, k, e))
-  asym r q (smaller_bytes n e a b l) (saves_more m' n' e' a' b' l') =
+  asym r q (smaller_text n e a b l) (fewer_units k) = absurd (omega (arith, k, e))
+  asym r q (smaller_text n e a b l) (saves_more m' n' e' a' b' l') =
       absurd (omega (arith, saved_once q n m' b a', saved_once r n n' a b', l'))
-  asym r q (smaller_bytes n e a b l) (smaller_bytes n' e' a' b' l') = bytes_asym r q l l'
+  asym r q (smaller_text n e a b l) (smaller_text n' e' a' b' l') = start_asym way r q l l'
 
   onward : (r q p : List ℕ) → Precedes way A S r q → Precedes way A S q p → Precedes way A S r p
   onward r q p (fewer_units h) (fewer_units k) = fewer_units (omega (arith, h, k))
   onward r q p (fewer_units h) (saves_more m n e a b l) = fewer_units (omega (arith, h, e))
-  onward r q p (fewer_units h) (smaller_bytes n e a b l) = fewer_units (omega (arith, h, e))
+  onward r q p (fewer_units h) (smaller_text n e a b l) = fewer_units (omega (arith, h, e))
   onward r q p (saves_more m n e a b l) (fewer_units k) = fewer_units (omega (arith, k, e))
   onward r q p (saves_more m n e a b l) (saves_more m' n' e' a' b' l') =
       saves_more m n' (e ∙ e') a b' (omega (arith, l, l', saved_once q n m' b a'))
-  onward r q p (saves_more m n e a b l) (smaller_bytes n' e' a' b' l') =
+  onward r q p (saves_more m n e a b l) (smaller_text n' e' a' b' l') =
       saves_more m n' (e ∙ e') a b' (omega (arith, l, saved_once q n n' b a'))
-  onward r q p (smaller_bytes n e a b l) (fewer_units k) = fewer_units (omega (arith, k, e))
-  onward r q p (smaller_bytes n e a b l) (saves_more m' n' e' a' b' l') =
+  onward r q p (smaller_text n e a b l) (fewer_units k) = fewer_units (omega (arith, k, e))
+  onward r q p (smaller_text n e a b l) (saves_more m' n' e' a' b' l') =
       saves_more n n' (e ∙ e') a b' (omega (arith, l', saved_once q n m' b a'))
-  onward r q p (smaller_bytes n e a b l) (smaller_bytes n' e' a' b' l') =
-      smaller_bytes n (e ∙ e') a (subst (Saved way A S p) (sym (saved_once q n n' b a')) b')
-      (nat_list_cmp_total.trans r q p l l')
+  onward r q p (smaller_text n e a b l) (smaller_text n' e' a' b' l') =
+      smaller_text n (e ∙ e') a (subst (Saved way A S p) (sym (saved_once q n n' b a')) b')
+      ((start_total way).trans r q p l l')
 
   abbrev IsOrdered : TextList → Type 0
   IsOrdered Q = (k : ℕ) → k + 1 < length Q

@@ -9,11 +9,12 @@ use Rattle.std.proofs.lemmas.Str.{chars-nil}
 use Rattle.std.specs.List.{All, Contains, sum_by, flat_map, position_or_len}
 use Rattle.std.specs.List.Sorted.{IsSorted}
 use Rattle.std.specs.Option.{option_and_then}
-use Rattle.std.specs.Str.{bytes_eq}
+use Rattle.std.specs.Str.{bytes_eq, IsUtf8}
 use Rattle.std.specs.Cmp.Lexicographic.{bytes_decides}
 use Rattle.std.proofs.lemmas.Bool.{cases_lt, ltb-true, ltb-false}
-use Rattle.std.proofs.lemmas.List.{get_or-map, length-map, nil_from_length}
+use Rattle.std.proofs.lemmas.List.{get_or-map, length-map, nil_from_length, get_or_default}
 use Rattle.std.proofs.lemmas.Option.{slice_get-get_or}
+use Rattle.std.proofs.lemmas.List.Elements.{All-contains}
 use Rattle.std.proofs.lemmas.List.Sums.{sum_by-cons, sum_by-append}
 use Rattle.resb_format.specs.Units.{units, size, length_marker}
 use Rattle.resb_pool.specs.Records.{IsRecord, IsRecords}
@@ -65,6 +66,10 @@ texts_few S T ms given small =
     into_least size (λ p r. p ≡ r) (λ p q r e f. e ∙ sym f) T S given.once
     (λ q c. (q, (given.same q).0 c, refl, omega arith)) in
     omega (arith, each_sized T, within, sizes_within S, small)
+
+pub texts_utf8 : (S T : TextList) (ms : List Measure) → AreTexts S T ms → All IsUtf8 T
+texts_utf8 S T ms given i d l = All-contains IsUtf8 S (get_or T i d) given.utf8
+    ((given.same (get_or T i d)).0 (i, l, get_or_default T i (get_or T i d) d l))
 
 module _ (way : Packing) (S T : TextList) (ms : List Measure) (given : AreTexts S T ms)
     (small : texts_size S < 2 ^ 28)
@@ -190,8 +195,11 @@ module _ (way : Packing) (S T : TextList) (ms : List Measure) (given : AreTexts 
             let e = each i d l in
             saved_by A hidden_are r.saved r.index e.within (is_record i d l) e.saved_is
 
+        utf8_at : (i : ℕ) (d : Record) → i < length v → IsUtf8 (record_text T (get_or v i d))
+        utf8_at i d l = texts_utf8 S T ms given (get_or v i d).index [] (each i d l).within
+
         -- each record stands before the next
-        precedes : (A : List ℕ → Type 0) → AreHidden way A T hidden → IsSorted (record_cmp T) v
+        precedes : (A : List ℕ → Type 0) → AreHidden way A T hidden → IsSorted (record_cmp way T) v
             → (k : ℕ) → k + 1 < length (record_texts T v)
             → Precedes way A S (get_or (record_texts T v) k [])
             (get_or (record_texts T v) (k + 1) [])
@@ -213,10 +221,12 @@ module _ (way : Packing) (S T : TextList) (ms : List Measure) (given : AreTexts 
             (in_order way A S T x y (each k no_record a).units_is
             (each (k + 1) no_record b).units_is
             (saved_at A hidden_are k no_record a) (saved_at A hidden_are (k + 1) no_record b)
+            (utf8_at k no_record a) (utf8_at (k + 1) no_record b)
             (sorted k no_record (omega arith) b) ne))
 
-        pub pool_is : (A : List ℕ → Type 0) → AreHidden way A T hidden → IsSorted (record_cmp T) v
-            → (us : List ℕ) → us ≡ 0 ∷ flat_map record_units (record_texts T v)
+        pub pool_is : (A : List ℕ → Type 0) → AreHidden way A T hidden
+            → IsSorted (record_cmp way T) v → (us : List ℕ)
+            → us ≡ 0 ∷ flat_map record_units (record_texts T v)
             → IsPool way A S (record_texts T v) us
         pool_is A hidden_are sorted us u = record {
           records = in_given;
@@ -336,7 +346,7 @@ module _ (way : Packing) (S T : TextList) (ms : List Measure) (given : AreTexts 
                 ]
 
             pub planned : (A : List ℕ → Type 0) → AreHidden way A T hidden
-                → IsSorted (record_cmp T) v → All (λ s. length (units s) ≤ 4294967295) S
+                → IsSorted (record_cmp way T) v → All (λ s. length (units s) ≤ 4294967295) S
                 → (us : List ℕ) (offset : List ℕ → Option ℕ)
                 → us ≡ 0 ∷ flat_map record_units (record_texts T v)
                 → ((s : List ℕ) → MatchOption (offset s) (Contains T s → ⊥) (λ k. (i : ℕ)

@@ -1,13 +1,14 @@
 -- A text lies in one record, and what the texts that lie in a record take.
 use Rattle.std.proofs.Common.{◌≡◌, ℕ, zero, suc, ◌<◌, ◌≤◌, List, [], length, Bool, true, false}
-use Rattle.std.proofs.Common.{cond, refl, sym, ◌∙◌, ap, subst, arith, reverse, length-append, inl}
+use Rattle.std.proofs.Common.{cond, refl, sym, ◌∙◌, ap, subst, arith, length-append, inl}
 use Rattle.std.specs.List.{All, Contains}
-use Rattle.std.specs.Str.{IsUtf8, chars}
+use Rattle.std.specs.Str.{IsUtf8}
 use Rattle.std.specs.Ordering.{ordering_reverse}
 use Rattle.std.specs.declared.cmp.Ordering.{Ordering}
 use Rattle.std.specs.declared.cmp.Ordering.TheVariants.{Less, Equal, Greater}
 use Rattle.std.proofs.lemmas.List.Elements.{All-contains}
 use Rattle.resb_format.specs.Units.{units, is_unmarked, marker, size, length_marker}
+use Rattle.resb_pool.specs.Inner.Cuts.{letters_backwards}
 use Rattle.resb_pool.specs.Order.{suffix_cmp}
 use Rattle.resb_pool.specs.Container.{IsContainer, MayHold}
 use Rattle.resb_pool.specs.declared.packing.Packing.{Packing}
@@ -15,7 +16,7 @@ use Rattle.resb_pool.specs.declared.packing.Packing.TheVariants.{Plain, Compact}
 use Rattle.resb_pool.specs.Pool.{LiesIn, SizeIn, size_none, size_here, size_elsewhere}
 use Rattle.resb_pool.specs.Records.{IsRecord}
 use Rattle.resb_pool.proofs.SuffixOrder.{end_last_total, tied_same, extends_not_after}
-use Rattle.resb_pool.proofs.Cut.{key_same, ends_extends}
+use Rattle.resb_pool.proofs.EndLetters.{letters_same, letters_extend}
 use Rattle.resb_pool.proofs.Least.{units_end}
 use Rattle.resb_pool.proofs.TextLists.{TextList}
 use Rattle.resb_pool.proofs.Numbers.{size_le}
@@ -23,13 +24,15 @@ use Rattle.resb_pool.proofs.Numbers.{size_le}
 module _ (way : Packing) (S : TextList) (texts : All IsUtf8 S) where
   pub one_container : (s r q : List ℕ) → IsContainer way S s r → IsContainer way S s q → r ≡ q
   one_container s r q a b =
-      key_same r q (All-contains IsUtf8 S r texts a.own.given)
-      (All-contains IsUtf8 S q texts b.own.given) (by (suffix_cmp r q) refl)
+      letters_same way r q (All-contains IsUtf8 S r texts a.own.given)
+      (All-contains IsUtf8 S q texts b.own.given) (by (suffix_cmp way r q) refl)
     where
-      by : (o : Ordering) → suffix_cmp r q ≡ o → reverse (chars r) ≡ reverse (chars q)
+      by : (o : Ordering) → suffix_cmp way r q ≡ o
+          → letters_backwards way r ≡ letters_backwards way q
       by Less e = absurd (a.greatest q b.own b.ends b.holds
-          (end_last_total.antisymm (reverse (chars q)) (reverse (chars r)) ∙ ap ordering_reverse e))
-      by Equal e = tied_same (reverse (chars r)) (reverse (chars q)) e
+          (end_last_total.antisymm (letters_backwards way q) (letters_backwards way r)
+          ∙ ap ordering_reverse e))
+      by Equal e = tied_same (letters_backwards way r) (letters_backwards way q) e
       by Greater e = absurd (b.greatest r a.own a.ends a.holds e)
 
 -- a record is its own container
@@ -40,7 +43,7 @@ own_container way S texts s own = record {
   ends = record { front = []; is = refl };
   holds = by way;
   greatest = λ q x y z. extends_not_after _ _
-      (ends_extends q s (All-contains IsUtf8 S q texts x.given)
+      (letters_extend way q s (All-contains IsUtf8 S q texts x.given)
       (All-contains IsUtf8 S s texts own.given) y);
 }
   where

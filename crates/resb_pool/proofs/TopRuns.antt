@@ -11,13 +11,13 @@ use Rattle.std.proofs.lemmas.List.Elements.{Contains-push_cases}
 use Rattle.resb_format.specs.Units.{is_unmarked}
 use Rattle.resb_pool.specs.Records.{EachOnce, IsRecord}
 use Rattle.resb_pool.specs.Container.{IsTop}
-use Rattle.resb_pool.specs.Inner.Cuts.{chars_backwards}
+use Rattle.resb_pool.specs.Inner.Cuts.{letters_backwards}
 use Rattle.resb_pool.specs.Inner.Placing.{indexed_text, LiesAt, IsToldHidden}
 use Rattle.resb_pool.specs.Inner.Suffixes.{AreInOrder, IsEnd, row_text}
 use Rattle.resb_pool.specs.Inner.Tops.{IsTopOf, StepsTo, new_top, shares, hides}
 use Rattle.resb_pool.specs.declared.packing.Packing.TheVariants.{Compact}
 use Rattle.resb_pool.specs.declared.suffix_order.Row.{Row}
-use Rattle.resb_pool.proofs.Cut.{ends_extends}
+use Rattle.resb_pool.proofs.EndLetters.{letters_extend}
 use Rattle.resb_pool.proofs.SuffixOrder.{extends_not_after}
 use Rattle.resb_pool.proofs.SuffixRuns.{ends_trans, in_texts, is_utf8, one_place, none_ends}
 use Rattle.resb_pool.proofs.SuffixRuns.{lies_itself, still_greatest}
@@ -61,7 +61,7 @@ told_keep T step x other told r = elim (told r) [
 ]
 
 module _ (T : TextList) (utf8 : All IsUtf8 T) (once : EachOnce T) (rows : List Row)
-    (o : AreInOrder T rows) where
+    (o : AreInOrder Compact T rows) where
   abbrev at : ℕ → Row → List ℕ
   at j d = row_text T (get_or rows j d)
 
@@ -79,21 +79,22 @@ module _ (T : TextList) (utf8 : All IsUtf8 T) (once : EachOnce T) (rows : List R
       record {
         own = is_top pos;
         ends = record { front = []; is = refl };
-        greatest = λ q x y. extends_not_after (chars_backwards q) (chars_backwards (at i d))
-            (ends_extends q (at i d) (All-contains IsUtf8 T q utf8 x.given)
-            (is_utf8 T utf8 once rows o i d l) y);
+        greatest = λ q x y. extends_not_after (letters_backwards Compact q)
+            (letters_backwards Compact (at i d))
+            (letters_extend Compact q (at i d) (All-contains IsUtf8 T q utf8 x.given)
+            (is_utf8 Compact T utf8 once rows o i d l) y);
       },
     );
-    lies = lies_itself T utf8 once rows o Compact i d l
+    lies = lies_itself Compact T utf8 once rows o i d l
         (λ pos. record_of_top T (at i d) (is_top pos));
     told = λ r. inl (is_top r.nonempty, fresh);
   }
     where
       is_top : 0 < length (at i d) → IsTop (Contains T) (at i d)
       is_top pos = record {
-        given = in_texts T utf8 once rows o i d l;
+        given = in_texts Compact T utf8 once rows o i d l;
         nonempty = pos;
-        alone = none_ends T utf8 once rows o i d l
+        alone = none_ends Compact T utf8 once rows o i d l
             (λ k e x. none k e (record { nonempty = pos; ends = x }));
       }
 
@@ -109,8 +110,8 @@ module _ (T : TextList) (utf8 : All IsUtf8 T) (once : EachOnce T) (rows : List R
 
     no_top : IsTop (Contains T) s → ⊥
     no_top h =
-        let e = h.alone p (in_texts T utf8 once rows o k d m) x.ends in
-        omega (arith, one_place T utf8 once rows o k (k + 1) d m l e)
+        let e = h.alone p (in_texts Compact T utf8 once rows o k d m) x.ends in
+        omega (arith, one_place Compact T utf8 once rows o k (k + 1) d m l e)
 
     no_record : is_unmarked s ≡ true → IsRecord T s → ⊥
     no_record u h = elim h.alone [
@@ -123,9 +124,8 @@ module _ (T : TextList) (utf8 : All IsUtf8 T) (once : EachOnce T) (rows : List R
     same_top r t = record {
       own = t.own;
       ends = ends_trans r p s t.ends x.ends;
-      greatest = still_greatest T utf8 once rows o k d l (IsTop (Contains T)) (λ q w. w.given)
-          no_top r t.own
-          t.ends t.greatest;
+      greatest = still_greatest Compact T utf8 once rows o k d l (IsTop (Contains T))
+          (λ q w. w.given) no_top r t.own t.ends t.greatest;
     }
 
     module _ (h : ℕ) (previous : 0 < length p → (h < length T) × IsTopOf T p (indexed_text T h))
@@ -166,8 +166,8 @@ module _ (T : TextList) (utf8 : All IsUtf8 T) (once : EachOnce T) (rows : List R
             → IsMade T s (index_at (k + 1) d) h (index_at (k + 1) d) (hs ++ index_at (k + 1) d ∷ [])
         made_hidden u hs = record {
           next = λ pos. next;
-          lies = lies_itself T utf8 once rows o Compact (k + 1) d l (λ pos. record {
-            given = in_texts T utf8 once rows o (k + 1) d l;
+          lies = lies_itself Compact T utf8 once rows o (k + 1) d l (λ pos. record {
+            given = in_texts Compact T utf8 once rows o (k + 1) d l;
             nonempty = pos;
             alone = inl u;
           });

@@ -68,6 +68,12 @@ unwrapped : (cs : List ℕ) → map (λ o. unwrap_or o 0xFFFD) (map Some cs) ≡
 unwrapped [] = refl
 unwrapped (c ∷ cs) = ap (λ l. c ∷ l) (unwrapped cs)
 
+-- characters are those that their units spell
+pub same_chars : (cs ds : List ℕ) → scalars cs ≡ true → scalars ds ≡ true
+    → flat_map encode_utf16 cs ≡ flat_map encode_utf16 ds → cs ≡ ds
+same_chars cs ds s t e = sym (unwrapped cs) ∙ ap (map (λ o. unwrap_or o 0xFFFD))
+    (sym (utf16_chars-units cs s) ∙ ap utf16_chars e ∙ utf16_chars-units ds t) ∙ unwrapped ds
+
 pub text_of_units-units : (s : List ℕ) → IsUtf8 s → text_of_units (units s) ≡ Some s
 text_of_units-units s u =
     let e : utf16_chars (units s) ≡ map Some (chars s) = utf16_chars-units (chars s)
@@ -133,3 +139,47 @@ first_unit (c ∷ cs) s =
 pub units-first : (s : List ℕ) → IsUtf8 s → (get_or (units s) 0 0 ≤ 0xdbff)
     ⊎ (0xdfff < get_or (units s) 0 0)
 units-first s u = first_unit (chars s) (scalars-chars s u)
+
+-- the second unit of a pair begins no text
+no_second : (v : ℕ) (us ds : List ℕ) → 0xDC00 ≤ v → v ≤ 0xDFFF → scalars ds ≡ true
+    → v ∷ us ≡ flat_map encode_utf16 ds → ⊥
+no_second v us ds l m t e =
+    let f : v ≡ get_or (flat_map encode_utf16 ds) 0 0 = ap (λ z. get_or z 0 0) e in
+    elim (first_unit ds t) [ inl h ↦ omega (arith, f, h, l) | inr h ↦ omega (arith, f, h, m) ]
+
+-- where the units of characters end with those of others, the characters end with these
+pub chars_end : (cs us ds : List ℕ) → scalars cs ≡ true → scalars ds ≡ true
+    → flat_map encode_utf16 cs ≡ us ++ flat_map encode_utf16 ds → (ws : List ℕ) × (cs ≡ ws ++ ds)
+chars_end cs [] ds s t e = ([], same_chars cs ds s t e)
+chars_end [] (u ∷ us) ds s t e = (let f : [] ≡ u ∷ (us ++ flat_map encode_utf16 ds) = e in cc)
+chars_end (c ∷ cs) (u ∷ []) ds s t e =
+    let p = and_parts (scalar c) (scalars cs) s in
+    elim (cases_lt c 0x1_0000) [
+      | inl h ↦
+          let f : c ∷ flat_map encode_utf16 cs ≡ u ∷ flat_map encode_utf16 ds =
+          sym (ap (λ l. l ++ flat_map encode_utf16 cs) (low_char c h)) ∙ e in
+          let k = chars_end cs [] ds p.1 t (cc f) in
+          (c ∷ k.0, ap (λ l. c ∷ l) k.1)
+      | inr h ↦
+          let v : ℕ = 0xDC00 + (c - 0x1_0000) % 0x400 in
+          let f : (0xD800 + (c - 0x1_0000) / 0x400) ∷ v ∷ flat_map encode_utf16 cs
+          ≡ u ∷ flat_map encode_utf16 ds =
+          sym (ap (λ l. l ++ flat_map encode_utf16 cs) (high_char c h)) ∙ e in
+          let g : v ∷ flat_map encode_utf16 cs ≡ flat_map encode_utf16 ds = cc f in
+          absurd (no_second v (flat_map encode_utf16 cs) ds (omega arith) (omega arith) t g)
+    ]
+chars_end (c ∷ cs) (u ∷ v ∷ us) ds s t e =
+    let p = and_parts (scalar c) (scalars cs) s in
+    elim (cases_lt c 0x1_0000) [
+      | inl h ↦
+          let f : c ∷ flat_map encode_utf16 cs ≡ u ∷ v ∷ (us ++ flat_map encode_utf16 ds) =
+          sym (ap (λ l. l ++ flat_map encode_utf16 cs) (low_char c h)) ∙ e in
+          let k = chars_end cs (v ∷ us) ds p.1 t (cc f) in
+          (c ∷ k.0, ap (λ l. c ∷ l) k.1)
+      | inr h ↦
+          let f : (0xD800 + (c - 0x1_0000) / 0x400) ∷ (0xDC00 + (c - 0x1_0000) % 0x400)
+          ∷ flat_map encode_utf16 cs ≡ u ∷ v ∷ (us ++ flat_map encode_utf16 ds) =
+          sym (ap (λ l. l ++ flat_map encode_utf16 cs) (high_char c h)) ∙ e in
+          let k = chars_end cs us ds p.1 t (cc f) in
+          (c ∷ k.0, ap (λ l. c ∷ l) k.1)
+    ]

@@ -28,4 +28,4 @@ pub record IsContainer (way : Packing) (S : List (List ℕ)) (s r : List ℕ) : 
   pub ends : EndsWith r s
   pub holds : MayHold way S s r
   pub greatest : (q : List ℕ) → IsRecord S q → EndsWith q s → MayHold way S s q
-      → suffix_cmp q r ≡ Greater → ⊥
+      → suffix_cmp way q r ≡ Greater → ⊥

@@ -10,3 +10,4 @@ pub mod Firsts
 pub mod Listing
 pub mod Ranked
 pub mod Tops
+pub mod Ranks

@@ -9,10 +9,9 @@
 use Rattle.std.specs.Prelude.{◌≡◌, ℕ, ◌+◌, ◌<◌, List, [], ◌∷◌, ◌++◌, length, slice_index_or, sum_by}
 use Rattle.std.specs.Prelude.{◌⊎◌}
 use Rattle.std.specs.List.{flat_map}
-use Rattle.std.specs.Cmp.Lexicographic.{slice_cmp}
-use Rattle.std.specs.Ordering.{nat_cmp}
 use Rattle.std.specs.declared.cmp.Ordering.TheVariants.{Less}
 use Rattle.resb_format.specs.Units.{units, marker, size}
+use Rattle.resb_pool.specs.Order.{start_cmp}
 use Rattle.resb_pool.specs.Records.{IsRecords}
 use Rattle.resb_pool.specs.Container.{IsContainer, IsTop}
 use Rattle.resb_pool.specs.declared.packing.Packing.{Packing}
@@ -40,14 +39,14 @@ Saved Plain A S r n = SizeIn Plain S r S (n + size r)
 Saved Compact A S r n = (IsTop A r × SizeIn Compact S r S (n + size r))
     ⊎ ((IsTop A r → ⊥) × (n ≡ 0))
 
--- by the text's own units, then by what is saved, the most first, then by the bytes
+-- by the number of the text's own units, then by what is saved, the most first, then from the start
 pub data Precedes (way : Packing) (A : List ℕ → Type 0) (S : List (List ℕ)) (r q : List ℕ)
     : Type 0 where
   fewer_units : length (units r) < length (units q) → Precedes way A S r q
   saves_more : (m n : ℕ) → length (units r) ≡ length (units q) → Saved way A S r m
       → Saved way A S q n → n < m → Precedes way A S r q
-  smaller_bytes : (n : ℕ) → length (units r) ≡ length (units q) → Saved way A S r n
-      → Saved way A S q n → slice_cmp nat_cmp r q ≡ Less → Precedes way A S r q
+  smaller_text : (n : ℕ) → length (units r) ≡ length (units q) → Saved way A S r n
+      → Saved way A S q n → start_cmp way r q ≡ Less → Precedes way A S r q
 
 -- a record: the text's marker, its units, and 0
 abbrev pub record_units : List ℕ → List ℕ

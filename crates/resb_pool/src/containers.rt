@@ -59,7 +59,7 @@ fn find_plain(alloc: Global, texts: &[&str]) -> Result<Vec<u32>, AllocError>
 {
     // asked for before the rows, so that what these give back isn't parted by it
     let mut containers = vec![in alloc; 0; texts.len()]?;
-    let rows = in_suffix_order(alloc, texts)?;
+    let rows = in_suffix_order(alloc, Packing::Plain, texts)?;
     // the empty text ends with no other, so that the first text lies in itself
     let mut previous = row_of("", texts.len() as u32);
     let mut container = 0;
@@ -161,7 +161,7 @@ fn find_compact(alloc: Global, texts: &[&str]) -> Result<Containers, AllocError>
 {
     let mut of = vec![in alloc; 0; texts.len()]?;
     let mut hidden = Vec::new(alloc);
-    let rows = in_suffix_order(alloc, texts)?;
+    let rows = in_suffix_order(alloc, Packing::Compact, texts)?;
     // the empty text ends with no other, so that the first text is a top
     let mut previous = row_of("", texts.len() as u32);
     let mut top = 0;

@@ -7,6 +7,7 @@ mod error;
 mod firsts;
 pub mod holders;
 pub mod laws;
+mod letters;
 mod listed_texts;
 mod measure;
 mod offsets;

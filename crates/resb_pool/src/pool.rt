@@ -9,7 +9,6 @@ ghost use Rattle.resb_pool.specs.Ended.{AreEnded};
 ghost use Rattle.resb_pool.specs.Inner.Placing.{AreTexts, AreContainers};
 ghost use Rattle.resb_pool.specs.Inner.LaidRecords.{IsBlock, HaveOffsets};
 ghost use Rattle.resb_pool.specs.Inner.ToldApart.{ToldApart};
-ghost use Rattle.resb_pool.specs.declared.packing.Packing.{Packing};
 
 use crate::containers::{Containers, find_containers, find_sums};
 use crate::error::PlanError;
@@ -19,29 +18,30 @@ use crate::measure::{Measure, check_lengths};
 use crate::offsets::{Plan, find_offsets};
 use crate::packed::plan_packed;
 use crate::packing::Packing;
-use crate::records::{Block, lay, ordered};
+use crate::records::{Block, find_records, lay, ordered};
 use crate::texts::{Sample, Texts, gather};
 use std::alloc::{AllocError, Global};
 
-/// The records of distinct texts, laid in their order. Of each text `containers` has the index of
-/// the one in which it lies.
+/// The records of distinct texts, laid in their order in a file that is packed this way. Of each
+/// text `containers` has the index of the one in which it lies.
 fn lay_records(
     alloc: Global,
+    packing: Packing,
     texts: &[&str],
     containers: &Containers,
     measures: &[Measure],
 ) -> Result<Block, AllocError>
     requires given { (strings : List (List ℕ)) × (texts_size strings < 2 ^ 28)
         × AreTexts strings (nows texts.now) measures.now }
-    requires containers { (way : Packing) × AreContainers way (nows texts.now)
-        containers.now.of.items }
+    requires containers { AreContainers packing (nows texts.now) containers.now.of.items }
     requires hidden { All (λ h. h < length texts.now) containers.now.hidden.items }
-    ensures { IfOk result (λ b. IsBlock (nows texts.now) containers.now.hidden.items
+    ensures { IfOk result (λ b. IsBlock packing (nows texts.now) containers.now.hidden.items
         containers.now.of.items measures.now b.units.items b.ends.items) }
 {
     let sums = find_sums(alloc, containers, measures)?;
-    let records = ordered(alloc, texts, &containers.of, measures, &sums)?;
+    let found = find_records(alloc, texts, &containers.of, measures, &sums)?;
     drop(sums);
+    let records = ordered(packing, texts, found);
     lay(alloc, texts, &records)
 }
 
@@ -63,7 +63,7 @@ pub(crate) fn place(
 {
     let mut containers = find_containers(alloc, packing, texts)?;
     containers.hide(ended)?;
-    let block = lay_records(alloc, texts, &containers, measures)?;
+    let block = lay_records(alloc, packing, texts, &containers, measures)?;
     let offsets = find_offsets(alloc, &containers.of, measures, &block.ends)?;
     Ok((block.units, offsets))
 }

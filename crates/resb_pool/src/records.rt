@@ -1,12 +1,12 @@
 //! The records in their order, and their units.
 //! Which texts are records is said in `containers`.
-ghost use Rattle.std.specs.Prelude.{◌≡◌, ◌++◌, ◌∷◌, ◌+◌, ◌*◌, ◌<◌, ◌^◌, length, map};
+ghost use Rattle.std.specs.Prelude.{◌≡◌, ℕ, List, ◌++◌, ◌∷◌, ◌+◌, ◌*◌, ◌<◌, ◌^◌, length, map};
 ghost use Rattle.std.specs.Prelude.{All, IfOk, OnOk, sum_by, slice_index, slice_index_or};
 ghost use Rattle.std.specs.Prelude.{nat_eq, not, ◌&&◌};
 ghost use Rattle.std.specs.Char.Escape.{encode_utf16};
 ghost use Rattle.std.specs.Cmp.Lexicographic.{slice_cmp};
 ghost use Rattle.std.specs.List.{flat_map};
-ghost use Rattle.std.specs.List.Sorted.{IsSorted};
+ghost use Rattle.std.specs.List.Sorted.{IsPermutation, IsSorted};
 ghost use Rattle.std.specs.Ordering.{nat_cmp};
 ghost use Rattle.resb_format.specs.Units.{units as units_of, marker, size};
 ghost use Rattle.resb_pool.specs.Pool.{record_units};
@@ -16,10 +16,14 @@ ghost use Rattle.resb_pool.specs.Inner.Placing.{AreContainers, AreSums, AreEnds}
 ghost use Rattle.resb_pool.specs.Inner.Placing.{IsRecordOf, record_text, record_texts};
 ghost use Rattle.resb_pool.specs.Inner.Placing.{record_cmp, bytes_cmp, fronted_cmp};
 ghost use Rattle.resb_pool.specs.declared.records.Record.{Record};
+ghost use Rattle.std.specs.Str.{IsUtf8};
 ghost use Rattle.resb_pool.specs.declared.packing.Packing.{Packing};
+ghost use Rattle.resb_pool.specs.declared.packing.Packing.TheVariants.{Compact};
 ghost use Rattle.resb_pool.specs.Inner.Placing.{AreBytes, front_bytes};
 
+use crate::letters::{are_compared_by_units, compare_units};
 use crate::measure::{Measure, is_unmarked};
+use crate::packing::Packing;
 use crate::texts::indexed_text;
 use std::alloc::{AllocError, Global};
 use std::cmp::Ordering;
@@ -94,7 +98,7 @@ fn next_of(bytes: &[u8]) -> u32
 }
 
 /// The records among texts: those that aren't empty and lie in themselves.
-fn find_records(
+pub(crate) fn find_records(
     alloc: Global,
     texts: &[&str],
     containers: &[u32],
@@ -169,26 +173,37 @@ fn compare_records(texts: &[&str], left: &Record, right: &Record) -> Ordering
     }
 }
 
-/// The records among texts, in the order in which they stand in the block.
-pub(crate) fn ordered(
-    alloc: Global,
-    texts: &[&str],
-    containers: &[u32],
-    measures: &[Measure],
-    sums: &[u32],
-) -> Result<Vec<Record>, AllocError>
-    requires distinct { EachOnce (nows texts.now) }
-    requires few { length texts.now < 2 ^ 32 }
-    requires containers { (way : Packing) × AreContainers way (nows texts.now) containers.now }
-    requires sums { AreSums (nows texts.now) measures.now sums.now }
-    ensures records { IfOk result (λ v. IsRecords (nows texts.now)
-        (record_texts (nows texts.now) v.items)) }
-    ensures each { IfOk result (λ v. All (IsRecordOf (nows texts.now) sums.now) v.items) }
-    ensures ascend { IfOk result (λ v. IsSorted (record_cmp (nows texts.now)) v.items) }
+/// How two records compare in a compact file: the same, but by their texts' 16-bit units at last.
+fn compare_by_units(texts: &[&str], left: &Record, right: &Record) -> Ordering
+    ensures { result ≡ record_cmp Compact (nows texts.now) left.now right.now }
 {
-    let mut records = find_records(alloc, texts, containers, measures, sums)?;
+    let by_count = left.unit_count.cmp(&right.unit_count);
+    match by_count {
+        Ordering::Equal => match right.saved.cmp(&left.saved) {
+            Ordering::Equal => compare_units(
+                indexed_text(texts, left.index),
+                indexed_text(texts, right.index),
+            ),
+            other => other,
+        },
+        other => other,
+    }
+}
+
+/// Records of texts, in the order in which they stand in the block of a file that is packed this
+/// way. In a compact file the first bytes tell it only where no text has a character beyond U+FFFF.
+pub(crate) fn ordered(packing: Packing, texts: &[&str], mut records: Vec<Record>) -> Vec<Record>
+    requires utf8 { All IsUtf8 (nows texts.now) }
+    requires each { (sums : List ℕ) × All (IsRecordOf (nows texts.now) sums) records.items }
+    ensures moved { IsPermutation records.items result.items }
+    ensures ascend { IsSorted (record_cmp packing (nows texts.now)) result.items }
+{
+    if are_compared_by_units(packing, texts) {
+        records.sort_unstable_by(|left, right| compare_by_units(texts, left, right));
+        return records;
+    }
     records.sort_unstable_by(|left, right| compare_records(texts, left, right));
-    Ok(records)
+    records
 }
 
 /// Appends numbers as units.

@@ -13,7 +13,7 @@ use crate::error::PlanError;
 use crate::measure::Measure;
 use crate::packing::Packing;
 use crate::pool::texts_of;
-use crate::records::{Record, lay, ordered};
+use crate::records::{Record, find_records, lay, ordered};
 use crate::texts::indexed_text;
 use std::alloc::{AllocError, Global};
 
@@ -30,7 +30,8 @@ fn rank(
 {
     let containers = find_containers(alloc, packing, texts)?;
     let sums = find_sums(alloc, &containers, measures)?;
-    ordered(alloc, texts, &containers.of, measures, &sums)
+    let records = find_records(alloc, texts, &containers.of, measures, &sums)?;
+    Ok(ordered(packing, texts, records))
 }
 
 /// The texts of records.

@@ -1,16 +1,20 @@
-//! Texts in the order of their characters from the end, in which what ends with a text stands
-//! before it. In which record a text lies is said in `containers`.
+//! Texts in the order of their characters from the end, or in a compact file of their 16-bit units.
+//! What ends with a text stands before it. In which record a text lies is said in `containers`.
 ghost use Rattle.std.specs.Prelude.{◌≡◌, ◌<◌, ◌≤◌, ◌-◌, ◌∷◌, ◌++◌, ◌^◌, ℕ, List, length, reverse};
 ghost use Rattle.std.specs.Prelude.{[], All, IfOk, IfSome, slice_index_or, true, false};
 ghost use Rattle.std.specs.Str.{IsUtf8};
 ghost use Rattle.resb_pool.specs.Order.{suffix_cmp};
 ghost use Rattle.resb_pool.specs.Plan.{nows};
 ghost use Rattle.resb_pool.specs.Inner.Cuts.{IsCut, IsShared};
-ghost use Rattle.resb_pool.specs.Inner.Suffixes.{AreInOrder, IsRowOf, row_texts, keyed_cmp};
+ghost use Rattle.resb_pool.specs.Inner.Suffixes.{AreInOrder, IsRowOf, row_texts, row_cmp};
+ghost use Rattle.resb_pool.specs.Inner.Suffixes.{keyed_cmp};
 ghost use Rattle.resb_pool.specs.Inner.Suffixes.{char_digits, digits_backwards, key_of_digits};
 ghost use Rattle.resb_pool.specs.Inner.Suffixes.{row_key, row_text, IsPart, IsKeyed};
 ghost use Rattle.resb_pool.specs.Inner.Suffixes.{IsWholeInRow, TellsEnd};
+ghost use Rattle.resb_pool.specs.declared.packing.Packing.TheVariants.{Compact};
 
+use crate::letters::{are_compared_by_units, last_rank};
+use crate::packing::Packing;
 use crate::texts::indexed_text;
 use std::alloc::{AllocError, Global};
 use std::cmp::Ordering;
@@ -268,11 +272,12 @@ fn strip_shared<'a, 'b>(left: &'a str, right: &'b str) -> (&'a str, &'b str)
     }
 }
 
-/// How two texts compare by their characters, last first. The end of a text is the greatest. This
-/// call is kept out of the sort, which for most rows only compares numbers.
+/// How two texts compare in a file that is packed this way: by their characters, last first, or in
+/// a compact file by their 16-bit units. The end of a text is the greatest. This call is kept out
+/// of the sort, which for most rows only compares numbers.
 #[inline(never)]
-pub fn compare(left: &str, right: &str) -> Ordering
-    ensures { result ≡ suffix_cmp left.now right.now }
+pub fn compare(packing: Packing, left: &str, right: &str) -> Ordering
+    ensures { result ≡ suffix_cmp packing left.now right.now }
 {
     let (left_long, right_long) = strip_blocks(left, right, LONG_BLOCK);
     let (left_rest, right_rest) = strip_shared(left_long, right_long);
@@ -281,7 +286,7 @@ pub fn compare(left: &str, right: &str) -> Ordering
     loop {
         match (lefts.next_back(), rights.next_back()) {
             (Some(x), Some(y)) if x == y => {}
-            (Some(x), Some(y)) => return x.cmp(&y),
+            (Some(x), Some(y)) => return last_rank(packing, x).cmp(&last_rank(packing, y)),
             (Some(_), None) => return Ordering::Less,
             (None, Some(_)) => return Ordering::Greater,
             (None, None) => return Ordering::Equal,
@@ -297,6 +302,7 @@ fn compare_rows(texts: &[&str], left: &Row, right: &Row) -> Ordering
     match left.last.cmp(&right.last) {
         Ordering::Equal => match left.before.cmp(&right.before) {
             Ordering::Equal => compare(
+                Packing::Plain,
                 indexed_text(texts, left.index),
                 indexed_text(texts, right.index),
             ),
@@ -304,6 +310,17 @@ fn compare_rows(texts: &[&str], left: &Row, right: &Row) -> Ordering
         },
         other => other,
     }
+}
+
+/// How the texts of two rows compare by their 16-bit units.
+fn compare_by_units(texts: &[&str], left: &Row, right: &Row) -> Ordering
+    ensures { result ≡ row_cmp Compact (nows texts.now) left.now right.now }
+{
+    compare(
+        Packing::Compact,
+        indexed_text(texts, left.index),
+        indexed_text(texts, right.index),
+    )
 }
 
 /// The row of a text.
@@ -379,13 +396,22 @@ fn rows_of(alloc: Global, texts: &[&str]) -> Result<Vec<Row>, AllocError>
     Ok(rows)
 }
 
-/// The rows of texts, in suffix order.
-pub(crate) fn in_suffix_order(alloc: Global, texts: &[&str]) -> Result<Vec<Row>, AllocError>
+/// The rows of texts, in suffix order in a file that is packed this way. In a compact file the
+/// digits, which are those of characters, tell it only where no text has a character beyond U+FFFF.
+pub(crate) fn in_suffix_order(
+    alloc: Global,
+    packing: Packing,
+    texts: &[&str],
+) -> Result<Vec<Row>, AllocError>
     requires utf8 { All IsUtf8 (nows texts.now) }
     requires few { length texts.now < 2 ^ 32 }
-    ensures { IfOk result (λ v. AreInOrder (nows texts.now) v.items) }
+    ensures { IfOk result (λ v. AreInOrder packing (nows texts.now) v.items) }
 {
     let mut rows = rows_of(alloc, texts)?;
+    if are_compared_by_units(packing, texts) {
+        rows.sort_unstable_by(|left, right| compare_by_units(texts, left, right));
+        return Ok(rows);
+    }
     rows.sort_unstable_by(|left, right| compare_rows(texts, left, right));
     Ok(rows)
 }

@@ -17,6 +17,7 @@ use Rattle.std.specs.declared.cmp.Ordering.{Ordering}
 use Rattle.resb_format.specs.Units.{units, size}
 use Rattle.resb_pool.specs.Records.{IsRecord, EachOnce}
 use Rattle.resb_pool.specs.Container.{IsContainer, IsTop}
+use Rattle.resb_pool.specs.Order.{start_cmp}
 use Rattle.resb_pool.specs.Pool.{ClosesAt}
 use Rattle.resb_pool.specs.declared.measure.Measure.{Measure}
 use Rattle.resb_pool.specs.declared.packing.Packing.{Packing}
@@ -133,11 +134,11 @@ pub record IsRecordOf (T : List (List ℕ)) (sums : List ℕ) (r : Record) : Typ
   pub bytes : AreBytes (record_text T r)
 
 -- the order of records: by their texts' units, then by what is saved, the most first, then by their
--- texts
-abbrev pub record_cmp : List (List ℕ) → Record → Record → Ordering
-record_cmp T x y = ordering_then (nat_cmp x.unit_count y.unit_count)
+-- texts from the start
+abbrev pub record_cmp : Packing → List (List ℕ) → Record → Record → Ordering
+record_cmp way T x y = ordering_then (nat_cmp x.unit_count y.unit_count)
     (ordering_then (nat_cmp y.saved x.saved)
-    (slice_cmp nat_cmp (record_text T x) (record_text T y)))
+    (start_cmp way (record_text T x) (record_text T y)))
 
 -- the order of records' texts: by their first bytes, and then by themselves
 abbrev pub bytes_cmp : List (List ℕ) → Record → Record → Ordering

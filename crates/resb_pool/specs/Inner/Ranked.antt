@@ -22,7 +22,7 @@ pub record AreRanked (way : Packing) (T : List (List ℕ)) (ms : List Measure)
   pub lying : AreCounted hidden containers ms sums
   pub records : IsRecords T (record_texts T rows)
   pub each : All (IsRecordOf T sums) rows
-  pub ascend : IsSorted (record_cmp T) rows
+  pub ascend : IsSorted (record_cmp way T) rows
 
 abbrev pub saving : ℕ → List Record → List Record
 saving least rows = filter (λ r. nat_le least r.saved) rows

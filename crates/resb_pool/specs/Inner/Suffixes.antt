@@ -1,5 +1,5 @@
 -- Distinct texts in suffix order. T are the texts; each goes by its index there.
---     AreInOrder T rows       the rows are the texts T, in suffix order
+--     AreInOrder way T rows   the rows are the texts T, in suffix order in a file packed this way
 --     TellsEnd answer t s     the answer is whether t ends with s, if s has few digits
 --     IsSharedEnd p s         s may lie in the record of p
 use Rattle.std.specs.Prelude.{◌≡◌, ℕ, zero, suc, ◌+◌, ◌*◌, ◌^◌, ◌<◌, List, [], ◌∷◌, length, map}
@@ -13,6 +13,8 @@ use Rattle.resb_pool.specs.Order.{suffix_cmp}
 use Rattle.resb_pool.specs.Records.{EndsWith}
 use Rattle.resb_pool.specs.Inner.Cuts.{chars_backwards}
 use Rattle.resb_pool.specs.Inner.Placing.{indexed_text}
+use Rattle.resb_pool.specs.declared.packing.Packing.{Packing}
+use Rattle.resb_pool.specs.declared.packing.Packing.TheVariants.{Plain}
 use Rattle.resb_pool.specs.declared.suffix_order.Row.{Row}
 use Rattle.resb_pool.specs.declared.suffix_order.EndKey.{EndKey}
 
@@ -68,19 +70,19 @@ pub record IsRowOf (T : List (List ℕ)) (r : Row) : Type 0 where
 abbrev pub row_texts : List (List ℕ) → List Row → List (List ℕ)
 row_texts T rows = map (row_text T) rows
 
--- by all characters
-abbrev pub row_cmp : List (List ℕ) → Row → Row → Ordering
-row_cmp T x y = suffix_cmp (row_text T x) (row_text T y)
+-- by all letters
+abbrev pub row_cmp : Packing → List (List ℕ) → Row → Row → Ordering
+row_cmp way T x y = suffix_cmp way (row_text T x) (row_text T y)
 
 -- by the first 16 digits, and then by all characters
 abbrev pub keyed_cmp : List (List ℕ) → Row → Row → Ordering
 keyed_cmp T x y = ordering_then (nat_cmp x.last y.last)
-    (ordering_then (nat_cmp x.before y.before) (row_cmp T x y))
+    (ordering_then (nat_cmp x.before y.before) (row_cmp Plain T x y))
 
-pub record AreInOrder (T : List (List ℕ)) (rows : List Row) : Type 0 where
+pub record AreInOrder (way : Packing) (T : List (List ℕ)) (rows : List Row) : Type 0 where
   pub all : IsPermutation T (row_texts T rows)
   pub each : All (IsRowOf T) rows
-  pub ascend : IsSorted (row_cmp T) rows
+  pub ascend : IsSorted (row_cmp way T) rows
 
 -- yes, where t ends with s; and only there, where s has fewer than 16 digits
 pub record TellsEnd (answer : Bool) (t s : List ℕ) : Type 0 where

@@ -7,12 +7,14 @@ use Rattle.resb_format.specs.Units.{is_unmarked}
 use Rattle.resb_pool.specs.Container.{IsTop}
 use Rattle.resb_pool.specs.Order.{suffix_cmp}
 use Rattle.resb_pool.specs.Records.{EndsWith}
+use Rattle.resb_pool.specs.declared.packing.Packing.TheVariants.{Compact}
 use Rattle.resb_pool.specs.Inner.Suffixes.{IsEnd}
 
 pub record IsTopOf (T : List (List ℕ)) (s r : List ℕ) : Type 0 where
   pub own : IsTop (Contains T) r
   pub ends : EndsWith r s
-  pub greatest : (q : List ℕ) → IsTop (Contains T) q → EndsWith q s → suffix_cmp q r ≡ Greater → ⊥
+  pub greatest : (q : List ℕ) → IsTop (Contains T) q → EndsWith q s
+      → suffix_cmp Compact q r ≡ Greater → ⊥
 
 -- The text that stands right behind p and doesn't end it is a top, and the one up to now is left
 -- behind. One that ends it lies in the top, or, where it has a marker, in itself, and is hidden.

@@ -49,8 +49,8 @@ loop-row-preserved c =
     let i = c.loop-row.row-index in
     let v = c.loop-row.invariant in
     let l : i < length rows = c.loop-row-test.true in
-    let o : AreInOrder T rows = subst (AreInOrder T) (sym c.deref-row-items.ensures.value)
-    c.in_ok-rows.ensures in
+    let o : AreInOrder Compact T rows =
+    subst (AreInOrder Compact T) (sym c.deref-row-items.ensures.value) c.in_ok-rows.ensures in
     let u = c.requires.utf8 in
     let once = c.requires.distinct in
     let r = get_or rows i no_row in
@@ -61,7 +61,7 @@ loop-row-preserved c =
     } in
     let is_row : (d : Row) → r ≡ get_or rows i d = (λ d. get_or_default rows i no_row d l) in
     let apart : (j : ℕ) (d : Row) → j < i → (get_or rows j d).index ≡ r.index → ⊥ = (λ j d b e.
-    let f = one_row T u once rows o j i d (omega (arith, b, l)) l
+    let f = one_row Compact T u once rows o j i d (omega (arith, b, l)) l
     (e ∙ ap (λ (z : Row). z.index) (is_row d)) in
     omega (arith, b, f)) in
     let hs = c.loop-row.hidden.items in
@@ -115,14 +115,14 @@ pub returns-clause-containers : goal.returns-clause-containers
 returns-clause-containers c =
     let T = nows c.args.texts.now in
     let rows = c.deref-row-items.result.now in
-    let o : AreInOrder T rows = subst (AreInOrder T) (sym c.deref-row-items.ensures.value)
-    c.in_ok-rows.ensures in
+    let o : AreInOrder Compact T rows =
+    subst (AreInOrder Compact T) (sym c.deref-row-items.ensures.value) c.in_ok-rows.ensures in
     let es = c.loop-row.of.items in
     let n = length-nows c.args.texts.now in
     record {
       len = c.loop-row.invariant.len ∙ sym n;
       lies = λ i l.
-          let r = row_of T c.requires.utf8 c.requires.distinct rows o i no_row l in
+          let r = row_of Compact T c.requires.utf8 c.requires.distinct rows o i no_row l in
           subst (λ z. LiesAt Compact T z (get_or es z 0)) r.2
           (c.loop-row.invariant.lies r.0 no_row (omega (arith, r.1, c.loop-row-test.false)));
     }
@@ -131,8 +131,8 @@ pub returns-clause-hidden : goal.returns-clause-hidden
 returns-clause-hidden c =
     let T = nows c.args.texts.now in
     let rows = c.deref-row-items.result.now in
-    let o : AreInOrder T rows = subst (AreInOrder T) (sym c.deref-row-items.ensures.value)
-    c.in_ok-rows.ensures in
+    let o : AreInOrder Compact T rows =
+    subst (AreInOrder Compact T) (sym c.deref-row-items.ensures.value) c.in_ok-rows.ensures in
     let hs = c.loop-row.hidden.items in
     let v = c.loop-row.invariant in
     record {
@@ -141,7 +141,7 @@ returns-clause-hidden c =
           let w = o.each y.0 no_row (omega (arith, y.1, c.loop-row.auto.row-index-end)) in
           omega (arith, w.within, y.2);
       each = λ i l.
-          let r = row_of T c.requires.utf8 c.requires.distinct rows o i no_row l in
+          let r = row_of Compact T c.requires.utf8 c.requires.distinct rows o i no_row l in
           subst (IsToldHidden (Contains T) T hs) r.2
           (v.told r.0 no_row (omega (arith, r.1, c.loop-row-test.false)));
     }

@@ -47,8 +47,8 @@ loop-row-preserved c =
     let i = c.loop-row.row-index in
     let v = c.loop-row.invariant in
     let l : i < length rows = c.loop-row-test.true in
-    let o : AreInOrder T rows = subst (AreInOrder T) (sym c.deref-row-items.ensures.value)
-    c.in_ok-rows.ensures in
+    let o : AreInOrder Plain T rows =
+    subst (AreInOrder Plain T) (sym c.deref-row-items.ensures.value) c.in_ok-rows.ensures in
     let u = c.requires.utf8 in
     let once = c.requires.distinct in
     let r = get_or rows i no_row in
@@ -85,7 +85,7 @@ loop-row-preserved c =
         | inl b ↦
             let k = (get_or rows j d).index in
             let ne : k ≡ r.index → ⊥ = (λ e.
-            let f = one_row T u once rows o j i d (omega (arith, b, l)) l
+            let f = one_row Plain T u once rows o j i d (omega (arith, b, l)) l
             (e ∙ ap (λ (z : Row). z.index) (is_row d)) in
             omega (arith, b, f)) in
             subst (LiesAt Plain T k) (sym (get_or-set_other es r.index k new 0 ne)) (v.lies j d b)
@@ -101,14 +101,14 @@ pub returns : goal.returns
 returns c =
     let T = nows c.args.texts.now in
     let rows = c.deref-row-items.result.now in
-    let o : AreInOrder T rows = subst (AreInOrder T) (sym c.deref-row-items.ensures.value)
-    c.in_ok-rows.ensures in
+    let o : AreInOrder Plain T rows =
+    subst (AreInOrder Plain T) (sym c.deref-row-items.ensures.value) c.in_ok-rows.ensures in
     let es = c.loop-row.containers.items in
     let n = length-nows c.args.texts.now in
     record {
       len = c.loop-row.invariant.len ∙ sym n;
       lies = λ i l.
-          let r = row_of T c.requires.utf8 c.requires.distinct rows o i no_row l in
+          let r = row_of Plain T c.requires.utf8 c.requires.distinct rows o i no_row l in
           subst (λ z. LiesAt Plain T z (get_or es z 0)) r.2
           (c.loop-row.invariant.lies r.0 no_row (omega (arith, r.1, c.loop-row-test.false)));
     }

@@ -1,23 +1,19 @@
-use Rattle.std.proofs.Common.{ℕ, List, ◌<◌, length, get_or, sym, ap, subst, arith}
+use Rattle.std.proofs.Common.{ℕ, List, ◌<◌, length, sym, ap, subst, arith}
 use Rattle.std.specs.List.{All, Contains}
-use Rattle.std.specs.Str.{IsUtf8}
-use Rattle.std.proofs.lemmas.List.{get_or_default}
-use Rattle.std.proofs.lemmas.List.Elements.{All-append, All-contains}
+use Rattle.std.proofs.lemmas.List.Elements.{All-append}
 use Rattle.resb_pool.specs.Plan.{nows}
 use Rattle.resb_pool.specs.Inner.Placing.{AreContainers, AreHidden, AreOffsets, AllClose}
 use Rattle.resb_pool.proofs.Interning.{length-nows}
 use Rattle.resb_pool.proofs.Endings.{hidden_too}
 use Rattle.resb_pool.proofs.PlacingLemmas.{hidden_within}
-use Rattle.resb_pool.proofs.PlanLemmas.{all_close, texts_few}
+use Rattle.resb_pool.proofs.PlanLemmas.{all_close, texts_few, texts_utf8}
 use Rattle.resb_pool.proofs.pool.place.Goals as goal
 use Rattle.resb_pool.proofs.pool.place.Goals.{In_ok-hide}
 
 pub find_containers-requires-clause-utf8 : goal.find_containers-requires-clause-utf8
 find_containers-requires-clause-utf8 c =
-    let T = nows c.args.texts.now in
-    let g = c.requires.given.2 in
-    λ i d l. All-contains IsUtf8 c.requires.given.0 (get_or T i d) g.utf8
-    ((g.same (get_or T i d)).0 (i, l, get_or_default T i (get_or T i d) d l))
+    let g = c.requires.given in
+    texts_utf8 g.0 (nows c.args.texts.now) c.args.measures.now g.2
 
 pub find_containers-requires-clause-few : goal.find_containers-requires-clause-few
 find_containers-requires-clause-few c =
@@ -37,7 +33,7 @@ at c = subst (λ (z : List ℕ). AreContainers c.args.packing (nows c.args.texts
 
 pub lay_records-requires-clause-containers : goal.lay_records-requires-clause-containers
 lay_records-requires-clause-containers c =
-    (c.args.packing, at (goal.at.lay_records-requires-clause-containers c).In_ok-hide)
+    at (goal.at.lay_records-requires-clause-containers c).In_ok-hide
 
 pub lay_records-requires-clause-hidden : goal.lay_records-requires-clause-hidden
 lay_records-requires-clause-hidden c =

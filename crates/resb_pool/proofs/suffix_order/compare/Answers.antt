@@ -1,6 +1,7 @@
 -- What is left of both texts stands before an end that they share.
 use Rattle.std.proofs.Common.{rules, ◌≡◌, ◌++◌, sym, ◌∙◌, encode_utf8, subst, ℕ, List}
 use Rattle.std.specs.Char.{IsScalar}
+use Rattle.std.specs.Ordering.{nat_cmp}
 use Rattle.std.specs.Str.Iter.{chars_rest}
 use Rattle.std.proofs.lemmas.Option.{MatchOption-at_none}
 use Rattle.resb_pool.specs.Inner.Cuts.{IsCut, IsShared}
@@ -42,7 +43,9 @@ returns-in-Some-Some-2 c =
     let a = c.in-Some-Some in
     let s : IsScalar a.x = search rules in
     let t : IsScalar a.y = search rules in
-    c.cmp.ensures ∙ sym (by_last c.args.left.now c.args.right.now (chars_rest c.loop-x.lefts)
+    c.cmp.ensures
+    ∙ (λ i. nat_cmp (c.last_rank.ensures i) (c.last_rank-in-Some-Some-2.ensures i))
+    ∙ sym (by_last c.args.packing c.args.left.now c.args.right.now (chars_rest c.loop-x.lefts)
     (chars_rest c.loop-x.rights) c.loop-x.invariant (chars_rest c.next_back.new.self)
     (chars_rest c.next_back-in-loop-x.new.self) a.x a.y a.ensures.steps a.ensures'.steps s t
     c.if-x-y.false)
@@ -51,7 +54,7 @@ pub returns-in-Some-None : goal.returns-in-Some-None
 returns-in-Some-None c =
     let a = c.in-Some-None in
     let s : IsScalar a.field-0-0 = search rules in
-    sym (left_longer c.args.left.now c.args.right.now (chars_rest c.loop-x.lefts)
+    sym (left_longer c.args.packing c.args.left.now c.args.right.now (chars_rest c.loop-x.lefts)
     (chars_rest c.loop-x.rights) c.loop-x.invariant (chars_rest c.next_back.new.self) a.field-0-0
     a.ensures.steps s
     (MatchOption-at_none _ _ a.is-1 c.next_back-in-loop-x.ensures.steps).0)
@@ -60,7 +63,7 @@ pub returns-in-None-Some : goal.returns-in-None-Some
 returns-in-None-Some c =
     let a = c.in-None-Some in
     let s : IsScalar a.field-0-1 = search rules in
-    sym (right_longer c.args.left.now c.args.right.now (chars_rest c.loop-x.lefts)
+    sym (right_longer c.args.packing c.args.left.now c.args.right.now (chars_rest c.loop-x.lefts)
     (chars_rest c.loop-x.rights) c.loop-x.invariant (chars_rest c.next_back-in-loop-x.new.self)
     a.field-0-1 a.ensures.steps s
     (MatchOption-at_none _ _ a.is-0 c.next_back.ensures.steps).0)
@@ -68,7 +71,7 @@ returns-in-None-Some c =
 pub returns-in-None-None : goal.returns-in-None-None
 returns-in-None-None c =
     let a = c.in-None-None in
-    sym (both_end c.args.left.now c.args.right.now (chars_rest c.loop-x.lefts)
+    sym (both_end c.args.packing c.args.left.now c.args.right.now (chars_rest c.loop-x.lefts)
     (chars_rest c.loop-x.rights) c.loop-x.invariant
     (MatchOption-at_none _ _ a.is-0 c.next_back.ensures.steps).0
     (MatchOption-at_none _ _ a.is-1 c.next_back-in-loop-x.ensures.steps).0)

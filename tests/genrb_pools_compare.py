@@ -8,8 +8,8 @@ PROGRAM is the proved one if none is named. In each round a pool bundle is made 
 files over it of these and others. Keys and strings often end with one another, and some strings
 have more than 40 units, so that they have a marker. Some rounds have rules for each text
 (`--filterDir`), some texts depend on files. With --far some strings have characters beyond U+FFFF,
-by which ICU orders otherwise (docs/PROGRAM.md). What differs is printed, with the folder of the
-round, which is kept. The last line counts; the status is 1 where anything differs.
+which stand elsewhere by their 16-bit units. What differs is printed, with the folder of the round,
+which is kept. The last line counts; the status is 1 where anything differs.
 """
 import argparse
 import pathlib

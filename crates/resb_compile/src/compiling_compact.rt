@@ -14,8 +14,8 @@ use resb_write::Serializer;
 use std::alloc::Global;
 
 /// The bytes of the compact `.res` file of a bundle's text in ICU's own form, which are those of
-/// ICU's `genrb` where both read the text as the same bundle and no string has a character beyond
-/// U+FFFF. `Serializer::to_bytes_compact` says what a compact file is.
+/// ICU's `genrb` where both read the text as the same bundle. `Serializer::to_bytes_compact` says
+/// what a compact file is.
 pub fn compile_icu_compact(alloc: Global, text: &str) -> Result<Vec<u8>, IcuCompileError>
     // The text is a bundle in ICU's form, and the compact file denotes its tree where aliases are
     // read, with its flag in the index.

@@ -1,6 +1,4 @@
--- What a compact file is: what ICU's `genrb` writes without a pool bundle, byte by byte, but where
--- strings differ by a character beyond U+FFFF: ICU orders texts by 16-bit units, and this by
--- characters.
+-- What a compact file is: what ICU's `genrb` writes without a pool bundle, byte by byte.
 --     WrittenCompact bytes t f ks     the file of a bundle of t, with locale fallback or not
 use Rattle.std.specs.Prelude.{◌≡◌, ℕ, ◌+◌, ◌*◌, ◌≤◌, List, [], length, drop, Bool, false, None}
 use Rattle.std.specs.Prelude.{Contains}

@@ -4,8 +4,7 @@
 --     pool_keys_by q bs       the keys that the pool of the bundles bs has, packed like this
 --     GiveRecords bs S        S are the records that the bundles bs give
 --     IsPoolOf bytes bs       the bytes are the pool bundle of the bundles bs
---     IsCompactPoolOf bytes bs    they are the compact one, which ICU's `genrb` makes of them, but
---                             where strings differ by a character beyond U+FFFF
+--     IsCompactPoolOf bytes bs    they are the compact one, which ICU's `genrb` makes of them
 use Rattle.std.specs.Prelude.{◌≡◌, ℕ, ◌<◌, ◌≤◌, ◌^◌, List, [], ◌∷◌, ◌++◌, length, slice_index}
 use Rattle.std.specs.Prelude.{if◌then◌else◌, false}
 use Rattle.std.specs.List.{flat_map, fold, list_any}

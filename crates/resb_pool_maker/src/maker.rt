@@ -142,8 +142,8 @@ impl PoolMaker {
     /// The compact pool bundle of the bundles that were added: what `finish` gives, but that a key
     /// that other keys end with, of its bundle or of the pool, lies at the end of the greatest of
     /// them, by their bytes from the last to the first; that a record which another string ends
-    /// with saves nothing; and that the version is 3.0 in any case. So ICU's `genrb` makes it, but
-    /// where strings differ by a character beyond U+FFFF.
+    /// with saves nothing; that strings are ordered by their 16-bit units; and that the version is
+    /// 3.0 in any case. So ICU's `genrb` makes it.
     ///
     /// Refused is what `finish` refuses, where the keys are those that lie in themselves.
     pub fn finish_compact(&self, alloc: Global) -> Result<Vec<u8>, PoolMakerError>

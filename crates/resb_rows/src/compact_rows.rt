@@ -8,7 +8,8 @@ use std::alloc::Global;
 use std::test::Fail;
 
 /// Texts that both forms read alike, and their files by `genrb` 72.1, without a pool bundle. In the
-/// last one a string has a marker and is the end of another one: `xx` lies in that one.
+/// last one a string has a marker and is the end of another one: `xx` lies in that one. In the one
+/// before it `a` lies in the text whose units are greater from the end, and not its characters.
 pub(crate) const COMPACT: &str = r#"b{ab{"x"}b{"y"}} =>
     0500005007000000090000000e0000000e00000002000000000000000e000000616200aa0000780000007900
     000002002000210001000300;
@@ -45,6 +46,10 @@ b{ba{""}a:array{:table{a{""}b:int{5}}:array{""}}} =>
     13000020070000000a000000170000001700000002000000000000000c0000006261006200aaaaaa00000100
     0000aaaa020021002300aaaa0000000005000070020000000c00002001000090020021002000aaaa10000080
     00000000;
+b{a{"ｚｚa"}c{"😀a"}d{"a"}e{"ｚb"}f{"😀"}} =>
+    0f000050070000000b000000180000001800000005000000000000001800000061006300640065006600aaaa
+    00003dd800de00005aff620000005aff5aff610000003dd800de610000000500200022002400260028000700
+    0b00090004000100;
 b{a{"xxxxxxxxxxxxxxxxxxxxxxxxxxxxxxxxxxxxxxxxx"}
     c{"yxxxxxxxxxxxxxxxxxxxxxxxxxxxxxxxxxxxxxxxxx"}d{"xx"}
     e{"xxxxxxxxxxxxxxxxxxxxxxxxxxxxxxxxxxxxxxxxx"}} =>

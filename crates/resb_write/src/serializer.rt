@@ -78,9 +78,9 @@ impl Serializer {
     /// The compact `.res` file of a bundle: what `to_bytes` gives, but that a key that other keys
     /// end with lies at the end of the greatest of them, by their bytes from the last to the first,
     /// that an empty string has the word 0, and that strings share ends only with strings that no
-    /// other one ends with. So ICU's `genrb` writes files without a pool bundle, byte by byte, but
-    /// where strings differ by a character beyond U+FFFF: ICU orders texts by 16-bit units, and
-    /// this by characters. A file with word 0 is for readers of aliases.
+    /// other one ends with, where strings are ordered by their 16-bit units. So ICU's `genrb`
+    /// writes files without a pool bundle, byte by byte. A file with word 0 is for readers of
+    /// aliases.
     ///
     /// Refused is what `to_bytes` refuses.
     pub fn to_bytes_compact(

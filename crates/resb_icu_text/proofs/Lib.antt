@@ -8,8 +8,9 @@ mod NumbersLemmas
 mod EscapesLemmas
 mod StopsLemmas
 mod PiecesLemmas
-mod StringsLemmas
 mod LengthLemmas
+mod PartsLemmas
+mod StringsLemmas
 mod RowLemmas
 mod TypesLemmas
 mod DistinctLemmas

@@ -1,5 +1,5 @@
 -- Laws of the numbers of one hex digit or two, and of octal digits, that escapes say.
-use Rattle.std.proofs.Common.{◌≡◌, ◌≢◌, ℕ, ◌+◌, ◌-◌, ◌*◌, ◌<◌, ◌≤◌, true, false, List, arith, subst}
+use Rattle.std.proofs.Common.{◌≡◌, ◌≢◌, ℕ, ◌+◌, ◌-◌, ◌*◌, ◌<◌, true, false, List, arith, subst}
 use Rattle.std.proofs.Common.{sym, ap, ◌∙◌, encode_utf8}
 use Rattle.std.specs.Prelude.{slice_index}
 use Rattle.std.specs.Char.{is_ascii_alphanumeric}

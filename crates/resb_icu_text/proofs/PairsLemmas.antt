@@ -1,30 +1,25 @@
 -- Laws of the pairs of hex digits that unquoted strings in a row say.
-use Rattle.std.proofs.Common.{◌≡◌, ◌≢◌, ℕ, ◌+◌, ◌*◌, ◌-◌, ◌<◌, ◌≤◌, Bool, true, false, List, []}
-use Rattle.std.proofs.Common.{◌∷◌, ◌++◌, length, arith, subst, sym, refl, ap, ◌∙◌, append_assoc}
-use Rattle.std.proofs.Common.{append-nil}
+use Rattle.std.proofs.Common.{◌≡◌, ◌≢◌, ℕ, ◌+◌, ◌*◌, Bool, true, false, List, []}
+use Rattle.std.proofs.Common.{◌∷◌, ◌++◌, arith, subst, sym, refl, ap, ◌∙◌, append_assoc}
 use Rattle.std.specs.Prelude.{Result, Ok, Err, IfOk}
 use Rattle.std.specs.Prelude.{slice_index, MatchOption, Option, Some, None, ◌&&◌, ◌||◌, ◌==◌}
-use Rattle.std.specs.Prelude.{if◌then◌else◌}
 use Rattle.std.specs.List.{list_any}
 use Rattle.std.specs.Option.{option_map}
 use Rattle.std.proofs.lemmas.Bool.{false≢true}
 use Rattle.std.proofs.lemmas.Bool.Decides.{nat_tests}
-use Rattle.std.proofs.lemmas.List.{length-append}
 use Rattle.resb_grammar.specs.Ascii as ascii
 use Rattle.resb_grammar.specs.Group.{is_hex, hex_value, hex_bytes, byte_before}
-use Rattle.resb_icu_grammar.specs.Blanks.{Skip}
 use Rattle.resb_icu_grammar.specs.Groups.{spaced_bytes, digit_bytes}
-use Rattle.resb_icu_grammar.specs.Unquoted.{Unquoted, UnquotedRow}
-use Rattle.resb_icu_grammar.proofs.Lexical.{Skip-one, joined_first}
+use Rattle.resb_icu_grammar.specs.Unquoted.{UnquotedRow}
+use Rattle.resb_icu_grammar.proofs.Lexical.{joined_first}
 use Rattle.resb_icu_text.specs.Lexemes.{Verbatim, a_word, a_piece}
-use Rattle.resb_icu_text.specs.Inner.Digits.{SaysPairs, SaysNone, IsPairs, IsNoPairs, RowSaysPairs}
+use Rattle.resb_icu_text.specs.Inner.Digits.{SaysPairs, SaysNone, RowSaysPairs}
 use Rattle.resb_icu_text.specs.Inner.Digits.{RowSaysNone}
 use Rattle.resb_icu_text.specs.Inner.Found.{IsFound, Shows, is_whole}
 use Rattle.resb_icu_text.specs.declared.strings.Found.{Found}
 use Rattle.resb_icu_text.specs.declared.strings.Stands.{Stands}
 use Rattle.resb_icu_text.specs.declared.strings.Stands.TheVariants as found
-use Rattle.resb_icu_text.proofs.DigitsLemmas.{none_say, pairs_are, pairs_say}
-use Rattle.resb_icu_text.proofs.RowLemmas.{RowFrom, one_alone, and_others, row_from}
+use Rattle.resb_icu_text.specs.Inner.Unquoted.{StringOfRow}
 use Rattle.resb_icu_text.proofs.RowLemmas.{unquoted_no_blank, row_no_quote}
 use Rattle.std.specs.Borrow.{Bor}
 
@@ -122,7 +117,7 @@ spaced_none (a ∷ b ∷ w) s h e =
 
 module _ (text : List ℕ) (from : ℕ) (f : Found) where
   -- a string that is alone, or quoted pieces, say their pairs without blanks
-  pub whole_digits : (s : Bor (List ℕ)) → f.stands ≡ found.Whole s → (is : IsFound text from f)
+  whole_digits : (s : Bor (List ℕ)) → f.stands ≡ found.Whole s → (is : IsFound text from f)
       → digit_bytes text from is.said ≡ hex_bytes is.said
   whole_digits s e is = by (slice_index text from == ascii.quote) refl
     where
@@ -138,7 +133,7 @@ module _ (text : List ℕ) (from : ℕ) (f : Found) where
       by true q = rw q refl
       by false q = rw q (spaced_without is.said (no_blank q (is.slice.0 (ap is_whole e))))
 
-  pub pieces_digits : (n : ℕ) → f.stands ≡ found.InPieces n → (is : IsFound text from f)
+  pieces_digits : (n : ℕ) → f.stands ≡ found.InPieces n → (is : IsFound text from f)
       → digit_bytes text from is.said ≡ hex_bytes is.said
   pieces_digits n e is =
       let q = joined_first text from f.end is.said
@@ -178,15 +173,7 @@ pub some_said : (o : Option (List ℕ)) → o ≢ None → (bytes : List ℕ) ×
 some_said None h = absurd (h refl)
 some_said (Some bs) h = (bs, refl)
 
--- what is found of a string without blanks is found of it
-pub pairs_without : (text : List ℕ) (from : ℕ) (f : Found) (o : Option ℕ)
-    → ((is : IsFound text from f) → digit_bytes text from is.said ≡ hex_bytes is.said)
-    → MatchOption o (IsNoPairs text from f) (IsPairs text from f)
-    → MatchOption o (SaysNone text from f) (SaysPairs text from f)
-pairs_without text from f None same h = λ is. same is ∙ h is
-pairs_without text from f (Some n) same h = λ is. (let a = h is in (a.0, same is ∙ a.1, a.2))
-
--- and what is found of a row
+-- what is found of a row is found of its string
 pub pairs_in_row : (text : List ℕ) (from : ℕ) (f : Found) (o : Option ℕ)
     → ((is : IsFound text from f) → UnquotedRow text from f.end is.said
     × (digit_bytes text from is.said ≡ spaced_bytes is.said))
@@ -196,137 +183,65 @@ pairs_in_row text from f None same h = λ is. (let r = same is in r.1 ∙ h is.s
 pairs_in_row text from f (Some n) same h = λ is.
     (let r = same is in let a = h is.said r.0 in (a.0, r.1 ∙ a.1, a.2))
 
--- the bytes that are left of a row that says some so far: none where the rest says none, and else
--- those and what the rest says
-pub record PairsLeft (text : List ℕ) (at end n : ℕ) (said : List ℕ) : Type 0 where
+-- what the bytes are that a row says: those that are made, and what is left of it says the others
+pub record PairsLeft (text : List ℕ) (at end : ℕ) (made said : List ℕ) : Type 0 where
   pub rest : List ℕ
   pub row : UnquotedRow text at end rest
-  pub some : (bs : List ℕ) → spaced_bytes rest ≡ Some bs
-      → (bytes : List ℕ) × (spaced_bytes said ≡ Some bytes) × (length bytes ≡ n + length bs)
-  pub none : spaced_bytes rest ≡ None → spaced_bytes said ≡ None
+  pub whole : spaced_bytes said ≡ option_map (λ (l : List ℕ). made ++ l) (spaced_bytes rest)
 
 pub pairs_first : (text : List ℕ) (from end : ℕ) (said : List ℕ) → UnquotedRow text from end said
-    → PairsLeft text from end 0 said
-pairs_first text from end said r = record {
-  rest = said;
-  row = r;
-  some = λ bs e. (bs, e, omega arith);
-  none = λ e. e;
-}
-
-module _ (text : List ℕ) (at mid end : ℕ) (first said : List ℕ) (w : Unquoted text at mid first)
+    → PairsLeft text from end [] said
+pairs_first text from end said r =
+    record { rest = said; row = r; whole = same (spaced_bytes said) }
   where
-    -- a string that is no pairs: none are said
-    pub pairs_none : (n : ℕ) → hex_bytes first ≡ None → PairsLeft text at end n said
-        → spaced_bytes said ≡ None
-    pairs_none n e l = l.none (by l.rest (row_from text at mid end first l.rest w l.row))
-      where
-        by : (s : List ℕ) → RowFrom text mid end first s → spaced_bytes s ≡ None
-        by _ (one_alone same) = spaced_without first (unquoted_no_blank text at mid first w) ∙ e
-        by _ (and_others other later white skip j low) =
-            spaced_none first later (unquoted_no_blank text at mid first w) e
+    same : (o : Option (List ℕ)) → o ≡ option_map (λ (l : List ℕ). l) o
+    same None = refl
+    same (Some l) = refl
 
-    -- the last one
-    pub pairs_over : (n m : ℕ) (bs : List ℕ) → hex_bytes first ≡ Some bs → length bs ≡ m
-        → mid ≡ end → PairsLeft text at end n said
-        → (bytes : List ℕ) × (spaced_bytes said ≡ Some bytes) × (length bytes ≡ n + m)
-    pairs_over n m bs e c same l =
-        let a = l.some bs (by l.rest (row_from text at mid end first l.rest w l.row)) in
-        (a.0, a.1, omega (arith, a.2, c))
-      where
-        by : (s : List ℕ) → RowFrom text mid end first s → spaced_bytes s ≡ Some bs
-        by _ (one_alone t) = spaced_without first (unquoted_no_blank text at mid first w) ∙ e
-        by _ (and_others other later white skip j low) = absurd (omega (arith, low, same))
+no_blank : {text : List ℕ} {at end next : ℕ} {first : List ℕ} → StringOfRow text at end first next
+    → NoBlank first
+no_blank {text} {at} {end} {next} {first} s = unquoted_no_blank text at s.to first s.word
 
-    -- one more
-    pub pairs_more : (n m next : ℕ) (bs : List ℕ) → hex_bytes first ≡ Some bs → length bs ≡ m
-        → mid ≢ end → Skip text mid next → PairsLeft text at end n said
-        → PairsLeft text next end (n + m) said
-    pairs_more n m next bs e c ne k l =
-        by l.rest (row_from text at mid end first l.rest w l.row) l.some l.none
-      where
-        by : (s : List ℕ) → RowFrom text mid end first s
-            → ((cs : List ℕ) → spaced_bytes s ≡ Some cs
-            → (bytes : List ℕ) × (spaced_bytes said ≡ Some bytes) × (length bytes ≡ n + length cs))
-            → (spaced_bytes s ≡ None → spaced_bytes said ≡ None)
-            → PairsLeft text next end (n + m) said
-        by _ (one_alone t) f g = absurd (ne t)
-        by _ (and_others other later white skip j low) f g = record {
-          rest = later;
-          row = subst (λ i. UnquotedRow text i end later) (Skip-one text mid other next skip k) j;
-          some = λ cs h.
-              (let a = f (bs ++ cs) (spaced_pairs first bs (ascii.space ∷ later) (Some cs) e
-              (spaced_blank later ∙ h)) in
-              (a.0, a.1, omega (arith, a.2, c, length-append bs cs)));
-          none = λ h. g (spaced_pairs first bs (ascii.space ∷ later) None e
-              (spaced_blank later ∙ h));
-        }
-
--- what is left of a row of which these bytes are made
-pub record BytesLeft (text : List ℕ) (at end : ℕ) (made said : List ℕ) : Type 0 where
-  pub rest : List ℕ
-  pub row : UnquotedRow text at end rest
-  pub bytes : List ℕ
-  pub says : spaced_bytes rest ≡ Some bytes
-  pub whole : spaced_bytes said ≡ Some (made ++ bytes)
-
-module _ (text : List ℕ) (at mid end : ℕ) (first said made : List ℕ)
-    (w : Unquoted text at mid first) where
-  -- its first string is pairs
-  pub bytes_some : hex_bytes first ≡ None → BytesLeft text at end made said → ⊥
-  bytes_some e l = by l.rest (row_from text at mid end first l.rest w l.row) l.says
+module _ {text : List ℕ} {at end next : ℕ} {first made said : List ℕ}
+    (string : StringOfRow text at end first next) where
+  -- a string that is no pairs: none are said
+  pub pairs_none : hex_bytes first ≡ None → PairsLeft text at end made said
+      → spaced_bytes said ≡ None
+  pairs_none e l =
+      l.whole ∙ ap (λ o. option_map (λ (l : List ℕ). made ++ l) o) (by (next == end) refl)
     where
-      by : (s : List ℕ) → RowFrom text mid end first s → spaced_bytes s ≡ Some l.bytes → ⊥
-      by _ (one_alone same) g =
-          let n = sym (spaced_without first (unquoted_no_blank text at mid first w) ∙ e) ∙ g in
-          absurd cc
-      by _ (and_others other later white skip j low) g =
-          let n = sym (spaced_none first later (unquoted_no_blank text at mid first w) e) ∙ g in
-          absurd cc
+      by : (b : Bool) → (next == end) ≡ b → spaced_bytes l.rest ≡ None
+      by true q =
+          ap spaced_bytes (string.last (grind (arith, nat_tests, q)) l.rest l.row)
+          ∙ spaced_without first (no_blank string) ∙ e
+      by false q =
+          let o = string.on (λ n. grind (arith, nat_tests, q, n)) l.rest l.row in
+          ap spaced_bytes o.2 ∙ spaced_none first o.0 (no_blank string) e
 
-  pub bytes_over : (bs now : List ℕ) → hex_bytes first ≡ Some bs → mid ≡ end
-      → now ≡ made ++ bs → BytesLeft text at end made said → spaced_bytes said ≡ Some now
-  bytes_over bs now e same f l =
-      by l.rest (row_from text at mid end first l.rest w l.row) l.says
+  -- the last one
+  pub pairs_over : (bs : List ℕ) → hex_bytes first ≡ Some bs → next ≡ end
+      → PairsLeft text at end made said → spaced_bytes said ≡ Some (made ++ bs)
+  pairs_over bs e q l =
+      l.whole ∙ ap (λ o. option_map (λ (l : List ℕ). made ++ l) o)
+      (ap spaced_bytes (string.last q l.rest l.row) ∙ spaced_without first (no_blank string) ∙ e)
+
+  -- one more
+  pub pairs_more : (bs now : List ℕ) → hex_bytes first ≡ Some bs → next ≢ end → now ≡ made ++ bs
+      → PairsLeft text at end made said → PairsLeft text next end now said
+  pairs_more bs now e q f l =
+      let o = string.on q l.rest l.row in
+      record {
+        rest = o.0;
+        row = o.1;
+        whole = l.whole ∙ ap (λ o. option_map (λ (l : List ℕ). made ++ l) o)
+            (ap spaced_bytes o.2
+            ∙ spaced_pairs first bs (ascii.space ∷ o.0) _ e (spaced_blank o.0))
+            ∙ twice (spaced_bytes o.0);
+      }
     where
-      by : (s : List ℕ) → RowFrom text mid end first s → spaced_bytes s ≡ Some l.bytes
-          → spaced_bytes said ≡ Some now
-      by _ (one_alone t) g =
-          let n : Some bs ≡ Some l.bytes =
-          sym (spaced_without first (unquoted_no_blank text at mid first w) ∙ e) ∙ g in
-          let m : bs ≡ l.bytes = cc in
-          l.whole ∙ ap (λ (k : List ℕ). Some (made ++ k)) (sym m)
-          ∙ ap (λ (k : List ℕ). Some k) (sym f)
-      by _ (and_others other later white skip j low) g = absurd (omega (arith, low, same))
-
-  pub bytes_more : (next : ℕ) (bs now : List ℕ) → hex_bytes first ≡ Some bs → mid ≢ end
-      → Skip text mid next → now ≡ made ++ bs → BytesLeft text at end made said
-      → BytesLeft text next end now said
-  bytes_more next bs now e ne k f l =
-      by l.rest (row_from text at mid end first l.rest w l.row) l.says
-    where
-      left : (later : List ℕ) (o : Option (List ℕ)) → UnquotedRow text next end later
-          → spaced_bytes later ≡ o
-          → option_map (λ (c : List ℕ). bs ++ c) o ≡ Some l.bytes
-          → BytesLeft text next end now said
-      left later None j h g = absurd cc
-      left later (Some cs) j h g =
-          let m : bs ++ cs ≡ l.bytes = cc in
-          record {
-            rest = later;
-            row = j;
-            bytes = cs;
-            says = h;
-            whole = l.whole ∙ ap (λ (c : List ℕ). Some (made ++ c)) (sym m)
-                ∙ ap (λ (c : List ℕ). Some c) (sym (append_assoc made bs cs))
-                ∙ ap (λ (c : List ℕ). Some (c ++ cs)) (sym f);
-          }
-
-      by : (s : List ℕ) → RowFrom text mid end first s → spaced_bytes s ≡ Some l.bytes
-          → BytesLeft text next end now said
-      by _ (one_alone t) g = absurd (ne t)
-      by _ (and_others other later white skip j low) g =
-          left later (spaced_bytes later)
-          (subst (λ i. UnquotedRow text i end later) (Skip-one text mid other next skip k) j) refl
-          (sym (spaced_pairs first bs (ascii.space ∷ later) (spaced_bytes later) e
-          (spaced_blank later)) ∙ g)
+      twice : (o : Option (List ℕ))
+          → option_map (λ (l : List ℕ). made ++ l) (option_map (λ (l : List ℕ). bs ++ l) o)
+          ≡ option_map (λ (l : List ℕ). now ++ l) o
+      twice None = refl
+      twice (Some l) =
+          ap (λ (k : List ℕ). Some k) (sym (append_assoc made bs l) ∙ ap (λ u. u ++ l) (sym f))

@@ -1,4 +1,4 @@
-use Rattle.std.proofs.Common.{◌+◌, ◌*◌, arith, sym, ◌∙◌}
+use Rattle.std.proofs.Common.{arith, sym, ◌∙◌}
 use Rattle.resb_icu_text.proofs.RowLemmas.{joined_bytes, no_joined_bytes, said_once}
 use Rattle.resb_icu_text.proofs.strings.Found.bytes_made.Goals as goal
 

@@ -1,4 +1,4 @@
-use Rattle.std.proofs.Common.{◌≡◌, sym, ◌∙◌}
+use Rattle.std.proofs.Common.{sym, ◌∙◌}
 use Rattle.resb_icu_text.proofs.RowLemmas.{row_put_together, whole_not_together, pieces_not_here}
 use Rattle.resb_icu_text.proofs.strings.Found.is_put_together.Goals as goal
 

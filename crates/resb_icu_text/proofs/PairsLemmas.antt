@@ -10,6 +10,7 @@ use Rattle.std.proofs.lemmas.Bool.Decides.{nat_tests}
 use Rattle.resb_grammar.specs.Ascii as ascii
 use Rattle.resb_grammar.specs.Group.{is_hex, hex_value, hex_bytes, byte_before}
 use Rattle.resb_icu_grammar.specs.Groups.{spaced_bytes, digit_bytes}
+use Rattle.resb_icu_grammar.specs.Pieces.{Joined}
 use Rattle.resb_icu_grammar.specs.Unquoted.{UnquotedRow}
 use Rattle.resb_icu_grammar.proofs.Lexical.{joined_first}
 use Rattle.resb_icu_text.specs.Lexemes.{Verbatim, a_word, a_piece}
@@ -21,7 +22,6 @@ use Rattle.resb_icu_text.specs.declared.strings.Stands.{Stands}
 use Rattle.resb_icu_text.specs.declared.strings.Stands.TheVariants as found
 use Rattle.resb_icu_text.specs.Inner.Unquoted.{StringOfRow}
 use Rattle.resb_icu_text.proofs.RowLemmas.{unquoted_no_blank, row_no_quote}
-use Rattle.std.specs.Borrow.{Bor}
 
 -- no blank is among these bytes
 abbrev pub NoBlank : List ℕ → Type 0
@@ -115,52 +115,41 @@ spaced_none (a ∷ b ∷ w) s h e =
     by true false p k m g f = rw (other, k, m) refl
     by false y p k m g f = rw (other, k) refl
 
-module _ (text : List ℕ) (from : ℕ) (f : Found) where
-  -- a string that is alone, or quoted pieces, say their pairs without blanks
-  whole_digits : (s : Bor (List ℕ)) → f.stands ≡ found.Whole s → (is : IsFound text from f)
-      → digit_bytes text from is.said ≡ hex_bytes is.said
-  whole_digits s e is = by (slice_index text from == ascii.quote) refl
-    where
-      no_blank : (slice_index text from == ascii.quote) ≡ false → {said : List ℕ}
-          → Verbatim text from f.end said → NoBlank said
-      no_blank q {said} (a_word r w) = unquoted_no_blank text from f.end said w
-      no_blank q {said} (a_piece j p n) =
-          absurd (false≢true (sym q
-          ∙ ap (λ b. b == ascii.quote) (joined_first text from f.end said j)))
+-- unquoted strings in a row say their pairs with blanks
+pub row_digits : (text : List ℕ) (from : ℕ) (f : Found) (n : ℕ) → f.stands ≡ found.InRow n
+    → (is : IsFound text from f)
+    → UnquotedRow text from f.end is.said × (digit_bytes text from is.said ≡ spaced_bytes is.said)
+row_digits text from f n e is =
+    let r = (subst (λ (s : Stands). Shows text from f.end is.said s) e is.shows).1 in
+    (r, rw (row_no_quote text from f.end _ r) refl)
 
-      by : (x : Bool) → (slice_index text from == ascii.quote) ≡ x
-          → digit_bytes text from is.said ≡ hex_bytes is.said
-      by true q = rw q refl
-      by false q = rw q (spaced_without is.said (no_blank q (is.slice.0 (ap is_whole e))))
-
-  pieces_digits : (n : ℕ) → f.stands ≡ found.InPieces n → (is : IsFound text from f)
-      → digit_bytes text from is.said ≡ hex_bytes is.said
-  pieces_digits n e is =
-      let q = joined_first text from f.end is.said
-      (subst (λ (s : Stands). Shows text from f.end is.said s) e is.shows).1 in
-      let t : (slice_index text from == ascii.quote) ≡ true = ap (λ b. b == ascii.quote) q in
-      rw t refl
-
-  -- unquoted strings in a row say theirs with blanks
-  pub row_digits : (n : ℕ) → f.stands ≡ found.InRow n → (is : IsFound text from f)
-      → UnquotedRow text from f.end is.said
-      × (digit_bytes text from is.said ≡ spaced_bytes is.said)
-  row_digits n e is =
-      let r : UnquotedRow text from f.end is.said =
-      (subst (λ (s : Stands). Shows text from f.end is.said s) e is.shows).1 in
-      let t : (slice_index text from == ascii.quote) ≡ false = row_no_quote text from f.end _ r in
-      (r, rw t refl)
-
--- all but a row says its pairs without blanks
+-- all but those say them without
 pub other_digits : (text : List ℕ) (from : ℕ) (f : Found)
     → ((n : ℕ) → f.stands ≡ found.InRow n → ⊥) → (is : IsFound text from f)
     → digit_bytes text from is.said ≡ hex_bytes is.said
-other_digits text from f never is = by f.stands refl
+other_digits text from f never is = by (slice_index text from == ascii.quote) refl
   where
-    by : (s : Stands) → f.stands ≡ s → digit_bytes text from is.said ≡ hex_bytes is.said
-    by (found.Whole t) e = whole_digits text from f t e is
-    by (found.InPieces n) e = pieces_digits text from f n e is
-    by (found.InRow n) e = absurd (never n e)
+    quoted : {said : List ℕ} → Joined text from f.end said
+        → (slice_index text from == ascii.quote) ≡ true
+    quoted {said} j = ap (λ b. b == ascii.quote) (joined_first text from f.end said j)
+
+    whole : (slice_index text from == ascii.quote) ≡ false → {said : List ℕ}
+        → Verbatim text from f.end said → NoBlank said
+    whole q {said} (a_word r w) = unquoted_no_blank text from f.end said w
+    whole q {said} (a_piece j p n) = absurd (false≢true (sym q ∙ quoted j))
+
+    other : (slice_index text from == ascii.quote) ≡ false → (s : Stands) → f.stands ≡ s
+        → NoBlank is.said
+    other q (found.Whole t) e = whole q (is.slice.0 (ap is_whole e))
+    other q (found.InPieces n) e =
+        let j = (subst (λ (s : Stands). Shows text from f.end is.said s) e is.shows).1 in
+        absurd (false≢true (sym q ∙ quoted j))
+    other q (found.InRow n) e = absurd (never n e)
+
+    by : (x : Bool) → (slice_index text from == ascii.quote) ≡ x
+        → digit_bytes text from is.said ≡ hex_bytes is.said
+    by true q = rw q refl
+    by false q = rw q (spaced_without is.said (other q f.stands refl))
 
 -- what is said of an answer, said by other words
 pub ok_by : {T E : Type 0} (P Q : T → Type 0) (r : Result T E) → ((x : T) → P x → Q x)

@@ -2,8 +2,7 @@
 use Rattle.std.proofs.Common.{◌≡◌, ◌≢◌, ℕ, zero, suc, ◌+◌, ◌-◌, ◌<◌, ◌≤◌, Bool, true, false, List}
 use Rattle.std.proofs.Common.{[]}
 use Rattle.std.proofs.Common.{◌∷◌, ◌++◌, length, arith, subst, sym, refl, ap, ◌∙◌}
-use Rattle.std.specs.Prelude.{slice_index, slice_range, nat_lt, ◌==◌, ◌||◌, if◌then◌else◌}
-use Rattle.std.specs.Borrow.{Bor}
+use Rattle.std.specs.Prelude.{slice_index, slice_range, not, ◌==◌, ◌||◌, if◌then◌else◌}
 use Rattle.std.specs.List.{list_any}
 use Rattle.std.proofs.lemmas.Bool.{false≢true, and_parts}
 use Rattle.std.proofs.lemmas.Bool.Decides.{nat_tests}
@@ -69,18 +68,9 @@ row_from text at mid to first s h (one_more _ m n _ us vs p w k r) =
 -- where a row begins stands no quote
 pub row_no_quote : (text : List ℕ) (from to : ℕ) (s : List ℕ) → UnquotedRow text from to s
     → (slice_index text from == ascii.quote) ≡ false
-row_no_quote text from to s r = by (slice_index text from == ascii.quote) refl
-  where
-    by : (b : Bool) → (slice_index text from == ascii.quote) ≡ b
-        → (slice_index text from == ascii.quote) ≡ false
-    by false e = e
-    by true e = absurd (no_quote_row text from to s (grind (arith, nat_tests, e)) r)
-
--- a row has a string at its place
-pub row_has_one : (text : List ℕ) (from to : ℕ) (s : List ℕ) → UnquotedRow text from to s
-    → ((end : ℕ) (first : List ℕ) → Unquoted text from end first → ⊥) → ⊥
-row_has_one text from to s (last_one _ _ n _ p k h) f = f to s p
-row_has_one text from to s (one_more _ m n _ us vs p w k r) f = f m us p
+row_no_quote text from to s r =
+    let none : slice_index text from ≢ ascii.quote = λ e. no_quote_row text from to s e r in
+    grind (arith, nat_tests, none)
 
 -- a blank ends one
 blank_ends : (b : ℕ) → is_unquoted b ≡ true → (b == ascii.space) ≡ false
@@ -124,55 +114,27 @@ row_blank text from to s (last_one _ _ n _ p k h) f =
 row_blank text from to s (one_more _ m n _ us vs p w k r) f =
     any_append (λ b. b == ascii.space) us (ascii.space ∷ vs) refl
 
-module _ (text : List ℕ) (from : ℕ) (f : Found) where
-  -- unquoted strings in a row are put together
-  pub row_put_together : (n : ℕ) → f.stands ≡ found.InRow n → (is : IsFound text from f)
-      → slice_index text from ≢ ascii.quote
-      → is_put_together text from f.end is.said ≡ true
-  row_put_together n e is q =
-      let whole : is_whole f.stands ≡ false = ap is_whole e in
-      let shown : UnquotedRow text from f.end is.said =
-      (subst (λ (s : Stands). Shows text from f.end is.said s) e is.shows).1 in
-      let other : (slice_index text from == ascii.quote) ≡ false = grind (arith, nat_tests, q) in
-      rw other (row_blank text from f.end is.said shown
-      (λ v. false≢true (sym whole ∙ is.slice.1 v)))
+-- where no quote stands, a string is put together just where it is no slice
+pub unquoted_together : (text : List ℕ) (from : ℕ) (f : Found) (s : Stands) → f.stands ≡ s
+    → (is : IsFound text from f) → slice_index text from ≢ ascii.quote
+    → is_put_together text from f.end is.said ≡ not (is_whole s)
+unquoted_together text from f s e is q =
+    let other : (slice_index text from == ascii.quote) ≡ false = grind (arith, nat_tests, q) in
+    let shown = subst (λ (s : Stands). Shows text from f.end is.said s) e is.shows in
+    rw other (by s shown (λ h. is.slice.0 (ap is_whole e ∙ h)) (λ v. sym (ap is_whole e) ∙ is.slice.1 v))
+  where
+    no_blank_in : {said : List ℕ} → Verbatim text from f.end said
+        → list_any (λ b. b == ascii.space) said ≡ false
+    no_blank_in {said} (a_word r w) = unquoted_no_blank text from f.end said w
+    no_blank_in {said} (a_piece j p n) = absurd (q (joined_first text from f.end said j))
 
-  -- one alone is not
-  pub whole_not_together : (s : Bor (List ℕ)) → f.stands ≡ found.Whole s
-      → (is : IsFound text from f) → slice_index text from ≢ ascii.quote
-      → is_put_together text from f.end is.said ≡ false
-  whole_not_together s e is q =
-      let other : (slice_index text from == ascii.quote) ≡ false = grind (arith, nat_tests, q) in
-      rw other (by (is.slice.0 (ap is_whole e)))
-    where
-      by : {said : List ℕ} → Verbatim text from f.end said
-          → list_any (λ b. b == ascii.space) said ≡ false
-      by {said} (a_word r w) = unquoted_no_blank text from f.end said w
-      by {said} (a_piece j p n) = absurd (q (joined_first text from f.end said j))
-
-  -- nor are pieces where no quote stands
-  pub pieces_not_here : (n : ℕ) → f.stands ≡ found.InPieces n → (is : IsFound text from f)
-      → slice_index text from ≢ ascii.quote
-      → is_put_together text from f.end is.said ≡ false
-  pieces_not_here n e is q =
-      absurd (q (joined_first text from f.end is.said
-      (subst (λ (s : Stands). Shows text from f.end is.said s) e is.shows).1))
-
-  -- a quoted one is where it takes more of the text than what it says and two quotes
-  pub quoted_together : (n : ℕ) (b : Bool) → slice_index text from ≡ ascii.quote
-      → (is : IsFound text from f) → length is.said ≡ n → (b ≡ true → n + 2 < f.end - from)
-      → (b ≡ false → f.end - from ≤ n + 2)
-      → b ≡ is_put_together text from f.end is.said
-  quoted_together n true q is l above below =
-      let t : (slice_index text from == ascii.quote) ≡ true = ap (λ b. b == ascii.quote) q in
-      let more : from + length is.said + 2 < f.end = omega (arith, above refl, l, is.short) in
-      let lt : nat_lt (from + length is.said + 2) f.end ≡ true = grind (arith, nat_tests, more) in
-      rw t (sym lt)
-  quoted_together n false q is l above below =
-      let t : (slice_index text from == ascii.quote) ≡ true = ap (λ b. b == ascii.quote) q in
-      let more : f.end ≤ from + length is.said + 2 = omega (arith, below refl, l, is.after) in
-      let lt : nat_lt (from + length is.said + 2) f.end ≡ false = grind (arith, nat_tests, more) in
-      rw t (sym lt)
+    by : {said : List ℕ} (s : Stands) → Shows text from f.end said s
+        → (is_whole s ≡ true → Verbatim text from f.end said)
+        → (Verbatim text from f.end said → is_whole s ≡ true)
+        → list_any (λ b. b == ascii.space) said ≡ not (is_whole s)
+    by (found.Whole t) h f g = no_blank_in (f refl)
+    by {said} (found.InPieces n) h f g = absurd (q (joined_first text from _ said h.1))
+    by {said} (found.InRow n) h f g = row_blank text from _ said h.1 (λ v. false≢true (g v))
 
 -- the string that was found is the only one there
 pub said_once : (text : List ℕ) (from : ℕ) (f : Found) (is : IsFound text from f) (s : List ℕ)

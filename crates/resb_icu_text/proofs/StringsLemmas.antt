@@ -41,11 +41,6 @@ use Rattle.resb_icu_text.specs.declared.error.IcuTextError.{IcuTextError}
 use Rattle.resb_icu_text.proofs.PiecesLemmas.{inside_order, inside_closes, escape_order}
 use Rattle.resb_icu_text.proofs.Lists.{slice_none}
 
--- where a quote stands, no unquoted string does
-pub no_word : (text : List ℕ) (from to : ℕ) (s : List ℕ) → slice_index text from ≡ ascii.quote
-    → Unquoted text from to s → ⊥
-no_word text from to s q w = no_quote_word text from to s q w
-
 -- a quoted piece by its inside
 pub piece_of : (text : List ℕ) (from last : ℕ) (bytes : List ℕ)
     → slice_index text from ≡ ascii.quote → QuotedBytes text (from + 1) last bytes

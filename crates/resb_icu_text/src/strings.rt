@@ -94,8 +94,8 @@ impl<'a> Found<'a> {
         }
         match self.stands {
             Stands::InRow(_) => true,
+            Stands::InPieces(_) => true,
             Stands::Whole(_) => false,
-            Stands::InPieces(_) => false,
         }
     }
 

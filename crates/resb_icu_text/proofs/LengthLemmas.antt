@@ -24,10 +24,6 @@ use Rattle.resb_icu_grammar.specs.Unquoted.{Unquoted, UnquotedRow, last_one}
 use Rattle.resb_icu_grammar.specs.Unquoted as rows
 use Rattle.resb_icu_grammar.specs.Words.{Text, a_row, quoted}
 
-comment_order : (text : List ℕ) (from to : ℕ) → Comment text from to → from ≤ to
-comment_order text from to (line h k r) = omega (arith, r.order)
-comment_order text from to (block at h k f e) = omega (arith, f.order, e)
-
 comment_moves : (text : List ℕ) (from to : ℕ) → Comment text from to → from < to
 comment_moves text from to (line h k r) = omega (arith, r.order)
 comment_moves text from to (block at h k f e) = omega (arith, f.order, e)
@@ -37,7 +33,7 @@ pub blanks_order : (text : List ℕ) (from to : ℕ) → Blanks text from to →
 blanks_order text from to (none _) = omega arith
 blanks_order text from to (white _ _ w r) = omega (arith, blanks_order text (from + 1) to r)
 blanks_order text from to (comment _ k _ c r) =
-    omega (arith, comment_order text from k c, blanks_order text k to r)
+    omega (arith, comment_moves text from k c, blanks_order text k to r)
 
 encoded : (c : ℕ) → length (encode_utf8 c) ≤ 4
 encoded c = omega (arith, length-encode c, (len_utf8_bounds c).1)

@@ -19,7 +19,6 @@ mod QuotaLemmas
 mod MakingLemmas
 mod DraftLemmas
 mod DigitsLemmas
-mod PairsLemmas
 mod LeafLemmas
 mod ReadingLemmas
 mod StepsLemmas

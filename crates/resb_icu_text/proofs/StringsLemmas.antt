@@ -273,23 +273,15 @@ piece_found text from last next first slice opens h s n f e order fits =
 pub made_lexeme : (text : List ℕ) (from : ℕ) (f : Found) (s : Said) → IsFound text from f
     → IsSaid text from f s
     → IsLexeme text from (record { end = f.end; next = f.next; said = s })
-made_lexeme text from f s is m =
-    let e = sym (m.bytes is) in
-    record {
-      string = subst (λ (u : List ℕ). Text text from f.end u) e is.string;
-      key = (
-        λ b. subst (λ (u : List ℕ). KeyText text from f.end u) e (is.key.0 (sym m.key ∙ b)),
-        λ p. m.key ∙ is.key.1 (subst (λ (u : List ℕ). KeyText text from f.end u) (sym e) p),
-      );
-      slice = (
-        λ b. subst (λ (u : List ℕ). Verbatim text from f.end u) e (is.slice.0 (sym m.whole ∙ b)),
-        λ p. m.whole ∙ is.slice.1 (subst (λ (u : List ℕ). Verbatim text from f.end u) (sym e) p),
-      );
-      blanks = is.blanks;
-      after = is.after;
-      order = is.order;
-      fits = is.fits;
-    }
+made_lexeme text from f s is m = record {
+  string = rw (m.bytes is) is.string;
+  key = rw (m.bytes is, m.key) is.key;
+  slice = rw (m.bytes is, m.whole) is.slice;
+  blanks = is.blanks;
+  after = is.after;
+  order = is.order;
+  fits = is.fits;
+}
 
 -- a row of pieces by its first one
 abbrev pub Pieces : List ℕ → ℕ → Rows

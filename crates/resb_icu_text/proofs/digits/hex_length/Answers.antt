@@ -1,7 +1,7 @@
 use Rattle.std.proofs.Common.{arith, sym, ◌∙◌}
 use Rattle.std.proofs.lemmas.Bool.{false≢true}
 use Rattle.resb_icu_text.proofs.DigitsLemmas.{none_say, pairs_are, pairs_say}
-use Rattle.resb_icu_text.proofs.PairsLemmas.{other_digits, row_digits, pairs_in_row}
+use Rattle.resb_icu_text.proofs.RowLemmas.{other_digits, row_digits, pairs_in_row}
 use Rattle.resb_icu_text.proofs.digits.hex_length.Goals as goal
 
 pub returns-in-InRow-clause-pairs : goal.returns-in-InRow-clause-pairs

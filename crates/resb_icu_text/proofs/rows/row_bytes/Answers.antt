@@ -1,7 +1,7 @@
-use Rattle.std.proofs.Common.{◌≡◌, ◌+◌, ◌++◌, Some, arith, sym, ap, ◌∙◌, subst, rules}
+use Rattle.std.proofs.Common.{◌++◌, Some, arith, sym, ap, ◌∙◌, subst}
 use Rattle.resb_icu_text.proofs.LengthLemmas.{row_order}
-use Rattle.resb_icu_text.proofs.PairsLemmas.{PairsLeft, pairs_first, pairs_none, pairs_over}
-use Rattle.resb_icu_text.proofs.PairsLemmas.{pairs_more}
+use Rattle.resb_icu_text.proofs.RowLemmas.{PairsLeft, pairs_first, pairs_none, pairs_over}
+use Rattle.resb_icu_text.proofs.RowLemmas.{pairs_more}
 use Rattle.resb_icu_text.proofs.rows.row_bytes.Goals as goal
 
 pub row-init : goal.row-init

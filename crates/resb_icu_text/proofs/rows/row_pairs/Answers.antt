@@ -2,7 +2,7 @@ use Rattle.std.proofs.Common.{◌++◌, [], arith, sym, ap, length, ◌∙◌, r
 use Rattle.std.proofs.Common.{length-append}
 use Rattle.resb_grammar.specs.Group.{hex_bytes}
 use Rattle.resb_icu_text.proofs.LengthLemmas.{row_order}
-use Rattle.resb_icu_text.proofs.PairsLemmas.{pairs_first, pairs_none, pairs_over, pairs_more}
+use Rattle.resb_icu_text.proofs.RowLemmas.{pairs_first, pairs_none, pairs_over, pairs_more}
 use Rattle.resb_icu_text.proofs.rows.row_pairs.Goals as goal
 
 pub row-init : goal.row-init

@@ -1,6 +1,6 @@
 use Rattle.std.proofs.Common.{◌≡◌, ◌-◌, ◌≤◌, ◌<◌, List, ℕ, length}
 use Rattle.resb_icu_grammar.specs.Unquoted.{UnquotedRow}
-use Rattle.resb_icu_text.proofs.PairsLemmas.{PairsLeft}
+use Rattle.resb_icu_text.proofs.RowLemmas.{PairsLeft}
 use Rattle.resb_icu_text.proofs.rows.row_pairs.Given as goal
 
 abbrev pub invariant-row : goal.invariant-row

@@ -121,7 +121,8 @@ pub unquoted_together : (text : List ℕ) (from : ℕ) (f : Found) (s : Stands) 
 unquoted_together text from f s e is q =
     let other : (slice_index text from == ascii.quote) ≡ false = grind (arith, nat_tests, q) in
     let shown = subst (λ (s : Stands). Shows text from f.end is.said s) e is.shows in
-    rw other (by s shown (λ h. is.slice.0 (ap is_whole e ∙ h)) (λ v. sym (ap is_whole e) ∙ is.slice.1 v))
+    rw other (by s shown (λ h. is.slice.0 (ap is_whole e ∙ h))
+    (λ v. sym (ap is_whole e) ∙ is.slice.1 v))
   where
     no_blank_in : {said : List ℕ} → Verbatim text from f.end said
         → list_any (λ b. b == ascii.space) said ≡ false
@@ -300,8 +301,8 @@ pairs_first text from end said r =
     same None = refl
     same (Some l) = refl
 
-string_no_blank : {text : List ℕ} {at end next : ℕ} {first : List ℕ} → StringOfRow text at end first next
-    → NoBlank first
+string_no_blank : {text : List ℕ} {at end next : ℕ} {first : List ℕ}
+    → StringOfRow text at end first next → NoBlank first
 string_no_blank {text} {at} {end} {next} {first} s = unquoted_no_blank text at s.to first s.word
 
 module _ {text : List ℕ} {at end next : ℕ} {first made said : List ℕ}
@@ -325,7 +326,8 @@ module _ {text : List ℕ} {at end next : ℕ} {first made said : List ℕ}
       → PairsLeft text at end made said → spaced_bytes said ≡ Some (made ++ bs)
   pairs_over bs e q l =
       l.whole ∙ ap (λ o. option_map (λ (l : List ℕ). made ++ l) o)
-      (ap spaced_bytes (string.last q l.rest l.row) ∙ spaced_without first (string_no_blank string) ∙ e)
+      (ap spaced_bytes (string.last q l.rest l.row)
+      ∙ spaced_without first (string_no_blank string) ∙ e)
 
   -- one more
   pub pairs_more : (bs now : List ℕ) → hex_bytes first ≡ Some bs → next ≢ end → now ≡ made ++ bs

@@ -233,8 +233,8 @@ pub pieces_found : (text : List ℕ) (from at last next n m : ℕ) (s : List ℕ
     → Walked (QuotedPiece text) (Joined text) from at n
     → IsFound text from (record { end = last + 1; next = next; stands = found.InPieces m })
 pieces_found text from at last next n m s blanks order fits sum q i h either a =
-    let j = a.on (last + 1) s (last_piece at (last + 1) next s (piece_of text at last s q i) blanks h)
-    in
+    let p = piece_of text at last s q i in
+    let j = a.on (last + 1) s (last_piece at (last + 1) next s p blanks h) in
     together_found (found.InPieces m) (words.quoted j)
     (omega (arith, sum, a.counted, length-append a.said s), j) blanks order fits refl refl
     (never a.apart either)

@@ -55,7 +55,8 @@ pieces-preserved c =
           (λ to later j. one_more _ _ _ to h.said later piece blanks j)
           (omega (arith, h.counted)) c.skip-next.ensures.order
           (omega (arith, h.order, c.skip-next.ensures.order)) c.pieces.invariant.walked;
-      fault = λ to x f. c.pieces.invariant.fault to x (later_piece _ _ _ to h.said x piece blanks f);
+      fault = λ to x f. c.pieces.invariant.fault to x
+          (later_piece _ _ _ to h.said x piece blanks f);
       cost = omega (
         arith,
         c.pieces.invariant.cost,

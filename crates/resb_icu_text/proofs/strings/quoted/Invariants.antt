@@ -14,7 +14,8 @@ invariant-pieces l = record {
   opens : slice_index l.text l.at ≡ ascii.quote;
   short : l.length + l.from ≤ l.at;
   walked : Walked (QuotedPiece l.text) (Joined l.text) l.from l.at l.length;
-  fault : (to : ℕ) (x : IcuExpected) → StringFault l.text l.at to x → StringFault l.text l.from to x;
+  fault : (to : ℕ) (x : IcuExpected) → StringFault l.text l.at to x
+      → StringFault l.text l.from to x;
   cost : l.turns.count + 2 * l.from ≤ l.fn.turns.count + 2 * l.at;
 }
 

@@ -20,7 +20,8 @@ use Rattle.resb_icu_grammar.specs.Pieces.{one_more}
 use Rattle.resb_icu_grammar.proofs.Lexical.{Skip-one}
 use Rattle.resb_icu_text.proofs.EscapesLemmas.{hex_ascii}
 use Rattle.resb_icu_text.proofs.PiecesLemmas.{rest_escape, inside_order}
-use Rattle.resb_icu_text.proofs.StringsLemmas.{Row, one_alone, and_others, row}
+use Rattle.resb_icu_text.proofs.PartsLemmas.{one_alone, and_others}
+use Rattle.resb_icu_text.proofs.StringsLemmas.{Row, row}
 use Rattle.resb_icu_text.specs.Inner.Digits.{are_digits, DigitAt}
 
 -- digits that come in pairs say bytes, one for each pair
@@ -154,7 +155,7 @@ pub record Onward (text : List ℕ) (at end : ℕ) (said : List ℕ) : Type 0 wh
   pub last : ℕ
   pub inside : List ℕ
   pub stands : QuotedBytes text at last inside
-  pub others : Row text last end inside said
+  pub others : Row text (last + 1) end inside said
 
 -- the bytes that are left of what a row says are digits just where all are
 pub record DigitsLeft (text : List ℕ) (at end : ℕ) (said : List ℕ) : Type 0 where
@@ -187,9 +188,9 @@ pub onward_fits : (text : List ℕ) (at end : ℕ) (said : List ℕ) → Onward 
 onward_fits text at end said o =
     let low = inside_order text at o.last o.inside o.stands in by o.others (omega arith)
   where
-    by : {last : ℕ} {first s : List ℕ} → Row text last end first s → at ≤ last → at < end
+    by : {last : ℕ} {first s : List ℕ} → Row text (last + 1) end first s → at ≤ last → at < end
     by (one_alone e) low = omega arith
-    by (and_others n later k j h) low = omega arith
+    by (and_others n later k j h i) low = omega arith
 
 -- where a quote stands, the piece ends
 at_quote : (text : List ℕ) (at last : ℕ) (s : List ℕ) → slice_index text at ≡ ascii.quote
@@ -206,10 +207,10 @@ digits_over text at end said q e d =
     let z = at_quote text at o.last o.inside q o.stands in
     d.same ∙ ap are_digits (by o.others z.0 z.1)
   where
-    by : {last : ℕ} {first s : List ℕ} → Row text last end first s → last ≡ at → first ≡ []
+    by : {last : ℕ} {first s : List ℕ} → Row text (last + 1) end first s → last ≡ at → first ≡ []
         → s ≡ []
     by (one_alone same) l f = f
-    by (and_others n later k j h) l f = absurd (omega arith)
+    by (and_others n later k j h i) l f = absurd (omega arith)
 
 -- else the next piece is
 pub digits_on : (text : List ℕ) (at end next : ℕ) (said : List ℕ)
@@ -224,10 +225,10 @@ digits_on text at end next said q e k d =
       same = d.same;
     }
   where
-    by : {last : ℕ} {first s : List ℕ} → Row text last end first s → last ≡ at → first ≡ []
+    by : {last : ℕ} {first s : List ℕ} → Row text (last + 1) end first s → last ≡ at → first ≡ []
         → Onward text (next + 1) end s
     by (one_alone same) l f = absurd (e (omega arith))
-    by {last} {first} (and_others n later t j h) l f =
+    by {last} {first} (and_others n later t j h i) l f =
         let there = Skip-one text (at + 1) n next (subst (λ i. Skip text (i + 1) n) l t) k in
         subst (λ u. Onward text (next + 1) end (u ++ later)) (sym f)
         (enter text next end later (subst (λ i. Joined text i end later) there j))
@@ -246,11 +247,11 @@ digits_more text at end to said f d =
       same = d.same ∙ ap are_digits m.1 ∙ ap (λ b. b && are_digits m.0) a.is_digit;
     }
   where
-    by : {last c : ℕ} {first more s : List ℕ} → Row text last end first s → first ≡ c ∷ more
-        → (left : List ℕ) × (s ≡ c ∷ left) × Row text last end more left
+    by : {mid c : ℕ} {first more s : List ℕ} → Row text mid end first s → first ≡ c ∷ more
+        → (left : List ℕ) × (s ≡ c ∷ left) × Row text mid end more left
     by {more = more} (one_alone same) e = (more, e, one_alone same)
-    by {more = more} (and_others n later k j h) e =
-        (more ++ later, ap (λ u. u ++ later) e, and_others n later k j h)
+    by {more = more} (and_others n later k j h i) e =
+        (more ++ later, ap (λ u. u ++ later) e, and_others n later k j h i)
 
 -- where none is a digit, not all are
 pub digits_none : (text : List ℕ) (at end : ℕ) (said : List ℕ)
@@ -260,8 +261,8 @@ digits_none text at end said f d =
     let o = d.onward in
     d.same ∙ by o.others (f o.last o.inside o.stands)
   where
-    by : {last : ℕ} {first s : List ℕ} → Row text last end first s → are_digits first ≡ false
+    by : {mid : ℕ} {first s : List ℕ} → Row text mid end first s → are_digits first ≡ false
         → are_digits s ≡ false
     by (one_alone same) h = h
-    by {first = first} (and_others n later k j l) h =
+    by {first = first} (and_others n later k j l i) h =
         list_all-append is_hex first later ∙ ap (λ b. b && are_digits later) h

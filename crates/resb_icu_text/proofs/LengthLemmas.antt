@@ -1,7 +1,7 @@
 -- What a string stands for isn't longer than its text.
 use Rattle.std.proofs.Common.{◌≡◌, ℕ, ◌+◌, ◌-◌, ◌<◌, ◌≤◌, true, List, ◌∷◌, length, arith, ap, sym}
 use Rattle.std.proofs.Common.{◌∙◌, encode_utf8}
-use Rattle.std.specs.Prelude.{slice_index, nat_lt, Bool, false, cond, ◌*◌}
+use Rattle.std.specs.Prelude.{slice_index, nat_lt, Bool, false, cond}
 use Rattle.std.proofs.Common.{lit≤}
 use Rattle.std.proofs.lemmas.Bool.{false≢true}
 use Rattle.resb_grammar.specs.ByteRuns.{is_white}
@@ -24,10 +24,6 @@ use Rattle.resb_icu_grammar.specs.Unquoted.{Unquoted, UnquotedRow, last_one}
 use Rattle.resb_icu_grammar.specs.Unquoted as rows
 use Rattle.resb_icu_grammar.specs.Words.{Text, a_row, quoted}
 
-comment_order : (text : List ℕ) (from to : ℕ) → Comment text from to → from ≤ to
-comment_order text from to (line h k r) = omega (arith, r.order)
-comment_order text from to (block at h k f e) = omega (arith, f.order, e)
-
 comment_moves : (text : List ℕ) (from to : ℕ) → Comment text from to → from < to
 comment_moves text from to (line h k r) = omega (arith, r.order)
 comment_moves text from to (block at h k f e) = omega (arith, f.order, e)
@@ -37,7 +33,7 @@ pub blanks_order : (text : List ℕ) (from to : ℕ) → Blanks text from to →
 blanks_order text from to (none _) = omega arith
 blanks_order text from to (white _ _ w r) = omega (arith, blanks_order text (from + 1) to r)
 blanks_order text from to (comment _ k _ c r) =
-    omega (arith, comment_order text from k c, blanks_order text k to r)
+    omega (arith, comment_moves text from k c, blanks_order text k to r)
 
 encoded : (c : ℕ) → length (encode_utf8 c) ≤ 4
 encoded c = omega (arith, length-encode c, (len_utf8_bounds c).1)
@@ -107,14 +103,16 @@ inside_short text at to s (escape _ n _ xs vs b x r) =
       length-append xs vs,
     )
 
-joined_short : (text : List ℕ) (from to : ℕ) (s : List ℕ) → Joined text from to s
-    → length s + from ≤ to
+-- what quoted pieces say has two bytes less at least
+pub joined_short : (text : List ℕ) (from to : ℕ) (s : List ℕ) → Joined text from to s
+    → length s + from + 2 ≤ to
 joined_short text from to s (last_piece _ _ n _ p t h) =
     omega (arith, inside_short text (from + 1) p.last s p.inside, p.ends)
 joined_short text from to s (one_more _ m n _ us vs p t j) =
     omega (
       arith,
       inside_short text (from + 1) p.last us p.inside,
+      p.ends,
       blanks_order text m n t.blanks,
       joined_short text n to vs j,
       length-append us vs,
@@ -153,8 +151,15 @@ row_short text from to s (rows.one_more _ m n _ us vs p w k r) =
       length-append us (32 ∷ vs),
     )
 
--- what a string stands for has at most as many bytes as its text
+-- a row ends behind its first byte
+pub row_order : (text : List ℕ) (from to : ℕ) (s : List ℕ) → UnquotedRow text from to s → from < to
+row_order text from to s (last_one _ _ n _ p k h) = p.some
+row_order text from to s (rows.one_more _ m n _ us vs p w k r) =
+    omega (arith, p.some, white_moves text m n w k, row_order text n to vs r)
+
+-- what a string stands for has at most as many bytes as its text, which has one
 pub string_short : (text : List ℕ) (from to : ℕ) (s : List ℕ) → Text text from to s
-    → length s + from ≤ to
-string_short text from to s (a_row r) = row_short text from to s r
-string_short text from to s (quoted j) = joined_short text from to s j
+    → (length s + from ≤ to) × (from < to)
+string_short text from to s (a_row r) = (row_short text from to s r, row_order text from to s r)
+string_short text from to s (quoted j) =
+    let short = joined_short text from to s j in (omega (arith, short), omega (arith, short))

@@ -8,8 +8,9 @@ mod NumbersLemmas
 mod EscapesLemmas
 mod StopsLemmas
 mod PiecesLemmas
-mod StringsLemmas
 mod LengthLemmas
+mod PartsLemmas
+mod StringsLemmas
 mod RowLemmas
 mod TypesLemmas
 mod DistinctLemmas
@@ -18,7 +19,6 @@ mod QuotaLemmas
 mod MakingLemmas
 mod DraftLemmas
 mod DigitsLemmas
-mod PairsLemmas
 mod LeafLemmas
 mod ReadingLemmas
 mod StepsLemmas

@@ -1,5 +1,5 @@
 -- Laws of the numbers of one hex digit or two, and of octal digits, that escapes say.
-use Rattle.std.proofs.Common.{◌≡◌, ◌≢◌, ℕ, ◌+◌, ◌-◌, ◌*◌, ◌<◌, ◌≤◌, true, false, List, arith, subst}
+use Rattle.std.proofs.Common.{◌≡◌, ◌≢◌, ℕ, ◌+◌, ◌-◌, ◌*◌, ◌<◌, true, false, List, arith, subst}
 use Rattle.std.proofs.Common.{sym, ap, ◌∙◌, encode_utf8}
 use Rattle.std.specs.Prelude.{slice_index}
 use Rattle.std.specs.Char.{is_ascii_alphanumeric}
@@ -131,12 +131,7 @@ module _ (text : List ℕ) (at b : ℕ) (e : b ≡ slice_index text at)
       no_x : is_octal (slice_index text at) ≡ true → slice_index text at ≡ 120 → ⊥
       no_x h k = false≢true (sym (ap is_octal k) ∙ h)
 
-  -- so not where it says none
-  pub no_number_there : ((to c : ℕ) → ShortNumber text at to c → ⊥)
-      → (to : ℕ) (s : List ℕ) → Escape text at to s → ⊥
-  no_number_there f = numbered (λ to c p o. f to c p)
-
-  -- nor where it says one that is lost
+  -- so not where it says one that is lost
   pub lost_there : (k m : ℕ) → ShortNumber text at k m → is_lost b m ≡ true
       → (to : ℕ) (s : List ℕ) → Escape text at to s → ⊥
   lost_there k m q h = numbered (λ to c p o. other to c q p o)

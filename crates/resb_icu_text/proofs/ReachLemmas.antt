@@ -48,7 +48,7 @@ reach_word text from to run = pick (is_slash (slice_index text from)) (from == t
         let other : from ≢ to = grind (arith, nat_tests, e) in
         absurd (slash_no_word _ s (run.each from (omega arith) (omega (arith, other, run.order))))
 
-slash_begins_none : (b : ℕ) → b ≡ ascii.slash → may_begin b ≡ true → ⊥
+pub slash_begins_none : (b : ℕ) → b ≡ ascii.slash → may_begin b ≡ true → ⊥
 slash_begins_none b e h = grind (arith, nat_tests, e, h)
 
 -- no unquoted string begins with a slash

@@ -1,104 +1,38 @@
--- Laws of unquoted strings in a row, as the reader's functions use them.
+-- Laws of unquoted strings in a row, and of the pairs of hex digits that these say.
 use Rattle.std.proofs.Common.{◌≡◌, ◌≢◌, ℕ, zero, suc, ◌+◌, ◌-◌, ◌<◌, ◌≤◌, Bool, true, false, List}
-use Rattle.std.proofs.Common.{[]}
-use Rattle.std.proofs.Common.{◌∷◌, ◌++◌, length, arith, subst, sym, refl, ap, ◌∙◌, append_assoc}
-use Rattle.std.proofs.Common.{append-nil, ◌⊎◌, inl, inr, ⊎_elim}
-use Rattle.std.specs.Prelude.{slice_index, slice_range, nat_lt, ◌==◌, ◌||◌, ◌&&◌, if◌then◌else◌}
-use Rattle.std.specs.Borrow.{Bor}
+use Rattle.std.proofs.Common.{[], ◌∷◌, ◌++◌, length, arith, subst, sym, refl, ap, ◌∙◌, ◌*◌}
+use Rattle.std.proofs.Common.{append_assoc}
+use Rattle.std.specs.Prelude.{slice_index, slice_range, not, ◌==◌, ◌||◌, Result, Ok}
+use Rattle.std.specs.Prelude.{Err, IfOk, MatchOption, Option, Some, None, ◌&&◌}
 use Rattle.std.specs.List.{list_any}
-use Rattle.std.proofs.lemmas.Bool.{false≢true, and_parts, and_from}
+use Rattle.std.proofs.lemmas.Bool.{false≢true, and_parts}
 use Rattle.std.proofs.lemmas.Bool.Decides.{nat_tests}
-use Rattle.std.proofs.lemmas.List.{length-append}
-use Rattle.resb_grammar.specs.Ascii as ascii
 use Rattle.resb_grammar.specs.ByteRuns.{is_white}
-use Rattle.resb_grammar.specs.Group.{is_hex}
-use Rattle.resb_grammar.proofs.ReachLemmas.{reach_low, reach_high, reach_here}
+use Rattle.resb_grammar.proofs.ReachLemmas.{reach_here}
 use Rattle.resb_grammar.specs.Inner.Reach.{reach}
 use Rattle.resb_icu_grammar.specs.Blanks.{Skip}
 use Rattle.resb_icu_grammar.specs.Bytes.{is_unquoted}
 use Rattle.resb_icu_grammar.specs.Unquoted.{Unquoted, UnquotedRow, last_one, one_more, goes_on}
-use Rattle.resb_icu_grammar.specs.Unquoted.{begins_unquoted, may_begin}
-use Rattle.resb_icu_grammar.specs.Words as words
-use Rattle.resb_icu_grammar.specs.Limit.{is_put_together, joining_bytes}
-use Rattle.resb_grammar.specs.Limit.{request_bytes}
-use Rattle.resb_icu_grammar.specs.Words.{Text}
-use Rattle.resb_icu_grammar.proofs.Lexical.{Unquoted-one, Skip-one, row_first, joined_first}
-use Rattle.resb_icu_grammar.proofs.Lexical.{String-one}
-use Rattle.resb_icu_grammar.proofs.Lexical.{no_quote_word, no_quote_row}
+use Rattle.resb_icu_grammar.specs.Unquoted.{begins_unquoted}
+use Rattle.resb_icu_grammar.specs.Limit.{is_put_together}
+use Rattle.resb_icu_grammar.proofs.Lexical.{Unquoted-one, joined_first, no_quote_row}
 use Rattle.resb_icu_text.specs.Lexemes.{Verbatim, a_word, a_piece}
-use Rattle.resb_icu_text.specs.Inner.Digits.{are_digits}
-use Rattle.resb_icu_text.specs.Inner.Found.{IsFound, Shows, is_whole, length_of}
-use Rattle.resb_icu_text.specs.Inner.Unquoted.{row_goes_on, Following, no_more, more, StringsSeen}
-use Rattle.resb_icu_text.specs.Inner.Unquoted.{GoesToRowEnd}
-use Rattle.resb_icu_text.specs.declared.rows.Strings.{Strings}
+use Rattle.resb_icu_text.specs.Inner.Found.{IsFound, Shows, is_whole}
+use Rattle.resb_icu_text.specs.Inner.Unquoted.{row_goes_on, StringOfRow}
 use Rattle.resb_icu_text.specs.declared.strings.Found.{Found}
 use Rattle.resb_icu_text.specs.declared.strings.Stands.{Stands}
-use Rattle.resb_icu_text.specs.declared.strings.Stands.TheVariants as found
-use Rattle.resb_icu_text.proofs.LengthLemmas.{white_moves, row_short}
-use Rattle.resb_icu_text.proofs.ReachLemmas.{reach_row}
-use Rattle.resb_icu_text.proofs.StringsLemmas.{key_plain, slice_cons}
+use Rattle.resb_icu_text.proofs.ReachLemmas.{slash_begins_none}
+use Rattle.resb_icu_text.proofs.LengthLemmas.{white_moves, row_order}
+use Rattle.resb_icu_text.proofs.PartsLemmas.{Rows, RowFrom, one_alone, and_others}
+use Rattle.resb_icu_text.proofs.StringsLemmas.{slice_cons}
 use Rattle.resb_icu_text.proofs.Lists.{slice_none}
-
--- an unquoted string and those that follow it
-pub join_row : (text : List ℕ) (from mid next to : ℕ) (first later : List ℕ)
-    → Unquoted text from mid first → Skip text mid next → Following text mid next to later
-    → UnquotedRow text from to (first ++ later)
-join_row text from mid next to first later p s (no_more h) =
-    subst (λ (l : List ℕ). UnquotedRow text from mid l) (sym (append-nil first))
-    (last_one from mid next first p s h)
-join_row text from mid next to first later p s (more _ bytes w r) =
-    one_more from mid next to first bytes p w s r
-
--- how much is said so far, and what follows now of what followed
-pub record Walked (text : List ℕ) (end next at coming n m : ℕ) : Type 0 where
-  pub middle : List ℕ
-  pub whole : m ≡ n + length middle
-  pub on : (to : ℕ) (later : List ℕ) → Following text at coming to later
-      → Following text end next to (middle ++ later)
-
--- no string is added yet
-pub walked_none : (text : List ℕ) (end next n : ℕ) → Walked text end next end next n n
-walked_none text end next n =
-    record { middle = []; whole = omega arith; on = λ to later a. a }
-
--- one string more is added
-pub walked_one : (text : List ℕ) (end next at coming last behind n m k : ℕ) (bytes : List ℕ)
-    → is_white (slice_index text at) ≡ true → Unquoted text coming last bytes
-    → Skip text last behind → k ≡ m + 1 + length bytes → Walked text end next at coming n m
-    → Walked text end next last behind n k
-walked_one text end next at coming last behind n m k bytes w p s e a = record {
-  middle = a.middle ++ ascii.space ∷ bytes;
-  whole = omega (arith, e, a.whole, length-append a.middle (ascii.space ∷ bytes));
-  on = λ to later b. subst (λ (l : List ℕ). Following text end next to l)
-      (sym (append_assoc a.middle (ascii.space ∷ bytes) later))
-      (a.on to (ascii.space ∷ (bytes ++ later))
-      (more to (bytes ++ later) w (join_row text coming last behind to bytes later p s b)));
-}
-
--- no string follows any more
-pub walked_all : (text : List ℕ) (first all : Strings)
-    → row_goes_on text all.end all.next ≡ false → first.end ≤ all.end
-    → ((all.next ≡ first.next) × (all.end ≡ first.end)) ⊎ (first.end < all.end)
-    → StringsSeen text all
-    → Walked text first.end first.next all.end all.next first.length all.length
-    → GoesToRowEnd text first all
-walked_all text first all h order moved seen a = record {
-  later = a.middle ++ [];
-  following = a.on all.end [] (no_more h);
-  sum = a.whole ∙ ap (λ l. first.length + length l) (sym (append-nil a.middle));
-  order = order;
-  moves = λ q. ⊎_elim (λ (e : (all.next ≡ first.next) × (all.end ≡ first.end)).
-      absurd (false≢true (sym h ∙ same e.0 e.1 q)))
-      (λ (l : first.end < all.end). l) moved;
-  seen = seen;
-}
-  where
-    same : all.next ≡ first.next → all.end ≡ first.end
-        → row_goes_on text first.end first.next ≡ true
-        → row_goes_on text all.end all.next ≡ true
-    same e f q =
-        subst (λ i. row_goes_on text all.end i ≡ true) (sym e)
-        (subst (λ i. row_goes_on text i first.next ≡ true) (sym f) q)
+use Rattle.std.specs.Option.{option_map}
+use Rattle.resb_grammar.specs.Group.{is_hex, hex_value, hex_bytes, byte_before}
+use Rattle.resb_icu_grammar.specs.Groups.{spaced_bytes, digit_bytes}
+use Rattle.resb_icu_grammar.specs.Pieces.{Joined}
+use Rattle.resb_icu_text.specs.Inner.Digits.{SaysPairs, SaysNone, RowSaysPairs, RowSaysNone}
+use Rattle.resb_grammar.specs.Ascii as ascii
+use Rattle.resb_icu_text.specs.declared.strings.Stands.TheVariants as found
 
 -- where another string follows, one begins and a white character stands before
 pub follows_white : (text : List ℕ) (end next : ℕ) → row_goes_on text end next ≡ true
@@ -109,119 +43,34 @@ pub follows_begins : (text : List ℕ) (end next : ℕ) → row_goes_on text end
     → begins_unquoted text next ≡ true
 follows_begins text end next h = (and_parts _ _ h).1
 
-slash_begins_none : (b : ℕ) → b ≡ ascii.slash → may_begin b ≡ true → ⊥
-slash_begins_none b e h = grind (arith, nat_tests, e, h)
-
 -- where one begins, a reading has looked up to there
 pub reach_begun : (text : List ℕ) (at : ℕ) → begins_unquoted text at ≡ true
     → reach text at ≡ at
 reach_begun text at h =
     reach_here text at (λ e. slash_begins_none _ e (and_parts _ _ h).0)
 
--- a row whose first string ends there is that one, or it and those behind it
-pub data RowFrom (text : List ℕ) (mid to : ℕ) (first : List ℕ) : List ℕ → Type 0 where
-  one_alone : mid ≡ to → RowFrom text mid to first first
-  and_others : (next : ℕ) (later : List ℕ) → is_white (slice_index text mid) ≡ true
-      → Skip text mid next → UnquotedRow text next to later → mid < to
-      → RowFrom text mid to first (first ++ ascii.space ∷ later)
-
-pub row_order : (text : List ℕ) (from to : ℕ) (s : List ℕ) → UnquotedRow text from to s → from < to
-row_order text from to s (last_one _ _ n _ p k h) = p.some
-row_order text from to s (one_more _ m n _ us vs p w k r) =
-    omega (arith, p.some, white_moves text m n w k, row_order text n to vs r)
+-- a row by its first string
+abbrev pub Strings : List ℕ → ℕ → Rows
+Strings text to at s = UnquotedRow text at to s
 
 pub row_from : (text : List ℕ) (at mid to : ℕ) (first s : List ℕ) → Unquoted text at mid first
-    → UnquotedRow text at to s → RowFrom text mid to first s
+    → UnquotedRow text at to s → RowFrom text (Strings text to) (ascii.space ∷ []) mid to first s
 row_from text at mid to first s h (last_one _ _ n _ p k g) =
     let same = Unquoted-one text at mid to first s h p in
-    subst (λ (u : List ℕ). RowFrom text mid to first u) same.1 (one_alone same.0)
+    subst (RowFrom text (Strings text to) (ascii.space ∷ []) mid to first) same.1 (one_alone same.0)
 row_from text at mid to first s h (one_more _ m n _ us vs p w k r) =
     let same = Unquoted-one text at m mid us first p h in
-    let low = white_moves text m n w k in
-    let high = row_order text n to vs r in
-    subst (λ (u : List ℕ). RowFrom text mid to first (u ++ ascii.space ∷ vs)) (sym same.1)
-    (and_others n vs (subst (λ i. is_white (slice_index text i) ≡ true) same.0 w)
-    (subst (λ i. Skip text i n) same.0 k) r (omega (arith, same.0, low, high)))
-
--- what is left to be put together of a row, and what is there of it
-pub record RowLeft (text : List ℕ) (at end : ℕ) (old value said : List ℕ) : Type 0 where
-  pub rest : List ℕ
-  pub row : UnquotedRow text at end rest
-  pub whole : value ++ rest ≡ old ++ said
-
--- of a row that goes on behind a string, its others are left
-pub row_left_more : (text : List ℕ) (at mid end next : ℕ)
-    (first old value with blank said : List ℕ)
-    → Unquoted text at mid first → mid ≢ end → Skip text mid next
-    → with ≡ value ++ first → blank ≡ with ++ ascii.space ∷ []
-    → RowLeft text at end old value said → RowLeft text next end old blank said
-row_left_more text at mid end next first old value with blank said h n k e f l =
-    by l.rest (row_from text at mid end first l.rest h l.row) l.whole
-  where
-    by : (rest : List ℕ) → RowFrom text mid end first rest → value ++ rest ≡ old ++ said
-        → RowLeft text next end old blank said
-    by _ (one_alone same) w = absurd (n same)
-    by _ (and_others other later white skip j low) w = record {
-      rest = later;
-      row = subst (λ i. UnquotedRow text i end later) (Skip-one text mid other next skip k) j;
-      whole = ap (λ u. u ++ later) f
-          ∙ append_assoc with (ascii.space ∷ []) later
-          ∙ ap (λ u. u ++ ascii.space ∷ later) e
-          ∙ append_assoc value first (ascii.space ∷ later) ∙ w;
-    }
-
--- of one that ends with it, nothing is
-pub row_left_none : (text : List ℕ) (at mid end : ℕ) (first old value now said : List ℕ)
-    → Unquoted text at mid first → mid ≡ end → now ≡ value ++ first
-    → RowLeft text at end old value said → now ≡ old ++ said
-row_left_none text at mid end first old value now said h n e l =
-    by l.rest (row_from text at mid end first l.rest h l.row) l.whole
-  where
-    by : (rest : List ℕ) → RowFrom text mid end first rest → value ++ rest ≡ old ++ said
-        → now ≡ old ++ said
-    by _ (one_alone same) w = e ∙ w
-    by _ (and_others other later white skip j low) w = absurd (omega (arith, low, n))
-
--- its first string ends no later than the row, and the next one begins before its end
-pub row_ends : (text : List ℕ) (at mid end : ℕ) (first s : List ℕ)
-    → Unquoted text at mid first → UnquotedRow text at end s → mid ≤ end
-row_ends text at mid end first s h r = by s (row_from text at mid end first s h r)
-  where
-    by : (s : List ℕ) → RowFrom text mid end first s → mid ≤ end
-    by _ (one_alone same) = omega (arith, same)
-    by _ (and_others other later white skip j low) = omega (arith, low)
-
-pub row_goes_further : (text : List ℕ) (at mid end next : ℕ) (first s : List ℕ)
-    → Unquoted text at mid first → UnquotedRow text at end s → mid ≢ end → Skip text mid next
-    → (next < end) × (mid < next) × (begins_unquoted text next ≡ true)
-row_goes_further text at mid end next first s h r n k =
-    by s (row_from text at mid end first s h r)
-  where
-    by : (s : List ℕ) → RowFrom text mid end first s
-        → (next < end) × (mid < next) × (begins_unquoted text next ≡ true)
-    by _ (one_alone same) = absurd (n same)
-    by _ (and_others other later white skip j low) =
-        let same = Skip-one text mid other next skip k in (
-          omega (arith, row_order text other end later j, same),
-          white_moves text mid next white k,
-          subst (λ i. begins_unquoted text i ≡ true) same (row_first text other end later j),
-        )
+    subst (λ (u : List ℕ). RowFrom text (Strings text to) (ascii.space ∷ []) mid to first
+    (u ++ ascii.space ∷ vs)) (sym same.1)
+    (and_others n vs (subst (λ i. Skip text i n) same.0 k) r
+    (omega (arith, same.0, white_moves text m n w k)) (row_order text n to vs r))
 
 -- where a row begins stands no quote
 pub row_no_quote : (text : List ℕ) (from to : ℕ) (s : List ℕ) → UnquotedRow text from to s
     → (slice_index text from == ascii.quote) ≡ false
-row_no_quote text from to s r = by (slice_index text from == ascii.quote) refl
-  where
-    by : (b : Bool) → (slice_index text from == ascii.quote) ≡ b
-        → (slice_index text from == ascii.quote) ≡ false
-    by false e = e
-    by true e = absurd (no_quote_row text from to s (grind (arith, nat_tests, e)) r)
-
--- a row has a string at its place
-pub row_has_one : (text : List ℕ) (from to : ℕ) (s : List ℕ) → UnquotedRow text from to s
-    → ((end : ℕ) (first : List ℕ) → Unquoted text from end first → ⊥) → ⊥
-row_has_one text from to s (last_one _ _ n _ p k h) f = f to s p
-row_has_one text from to s (one_more _ m n _ us vs p w k r) f = f m us p
+row_no_quote text from to s r =
+    let none : slice_index text from ≢ ascii.quote = λ e. no_quote_row text from to s e r in
+    grind (arith, nat_tests, none)
 
 -- a blank ends one
 blank_ends : (b : ℕ) → is_unquoted b ≡ true → (b == ascii.space) ≡ false
@@ -265,143 +114,238 @@ row_blank text from to s (last_one _ _ n _ p k h) f =
 row_blank text from to s (one_more _ m n _ us vs p w k r) f =
     any_append (λ b. b == ascii.space) us (ascii.space ∷ vs) refl
 
-space_no_digit : (b : ℕ) → b ≡ 32 → is_hex b ≡ true → ⊥
-space_no_digit b e f = false≢true (sym (ap is_hex e) ∙ f)
-
--- where a blank is among bytes, not all are hex digits
-blank_no_digits : (s : List ℕ) → list_any (λ b. b == ascii.space) s ≡ true → are_digits s ≡ false
-blank_no_digits [] h = absurd (false≢true h)
-blank_no_digits (b ∷ s) h = pick (b == ascii.space) refl (is_hex b) refl (λ g. blank_no_digits s g)
+-- where no quote stands, a string is put together just where it is no slice
+pub unquoted_together : (text : List ℕ) (from : ℕ) (f : Found) (s : Stands) → f.stands ≡ s
+    → (is : IsFound text from f) → slice_index text from ≢ ascii.quote
+    → is_put_together text from f.end is.said ≡ not (is_whole s)
+unquoted_together text from f s e is q =
+    let other : (slice_index text from == ascii.quote) ≡ false = grind (arith, nat_tests, q) in
+    let shown = subst (λ (s : Stands). Shows text from f.end is.said s) e is.shows in
+    rw other (by s shown (λ h. is.slice.0 (ap is_whole e ∙ h))
+    (λ v. sym (ap is_whole e) ∙ is.slice.1 v))
   where
-    pick : (x : Bool) → (b == ascii.space) ≡ x → (y : Bool) → is_hex b ≡ y
-        → (list_any (λ b. b == ascii.space) s ≡ true → are_digits s ≡ false)
-        → are_digits (b ∷ s) ≡ false
-    pick x e false f rest = ap (λ c. c && are_digits s) f
-    pick true e true f rest = absurd (space_no_digit b (grind (arith, nat_tests, e)) f)
-    pick false e true f rest =
-        ap (λ c. c && are_digits s) f
-        ∙ rest (sym (ap (λ c. c || list_any (λ b. b == ascii.space) s) e) ∙ h)
+    no_blank_in : {said : List ℕ} → Verbatim text from f.end said
+        → list_any (λ b. b == ascii.space) said ≡ false
+    no_blank_in {said} (a_word r w) = unquoted_no_blank text from f.end said w
+    no_blank_in {said} (a_piece j p n) = absurd (q (joined_first text from f.end said j))
 
-module _ (text : List ℕ) (from : ℕ) (f : Found) where
-  -- unquoted strings in a row say no hex digits alone
-  pub row_no_digits : (n : ℕ) → f.stands ≡ found.InRow n → (is : IsFound text from f)
-      → are_digits is.said ≡ false
-  row_no_digits n e is =
-      let whole : is_whole f.stands ≡ false = ap is_whole e in
-      blank_no_digits is.said (row_blank text from f.end is.said (shown is)
-      (λ v. false≢true (sym whole ∙ is.slice.1 v)))
-    where
-      shown : (is : IsFound text from f) → UnquotedRow text from f.end is.said
-      shown is = (subst (λ (s : Stands). Shows text from f.end is.said s) e is.shows).1
+    by : {said : List ℕ} (s : Stands) → Shows text from f.end said s
+        → (is_whole s ≡ true → Verbatim text from f.end said)
+        → (Verbatim text from f.end said → is_whole s ≡ true)
+        → list_any (λ b. b == ascii.space) said ≡ not (is_whole s)
+    by (found.Whole t) h f g = no_blank_in (f refl)
+    by {said} (found.InPieces n) h f g = absurd (q (joined_first text from _ said h.1))
+    by {said} (found.InRow n) h f g = row_blank text from _ said h.1 (λ v. false≢true (g v))
 
-  -- and are put together
-  pub row_put_together : (n : ℕ) → f.stands ≡ found.InRow n → (is : IsFound text from f)
-      → slice_index text from ≢ ascii.quote
-      → is_put_together text from f.end is.said ≡ true
-  row_put_together n e is q =
-      let whole : is_whole f.stands ≡ false = ap is_whole e in
-      let shown : UnquotedRow text from f.end is.said =
-      (subst (λ (s : Stands). Shows text from f.end is.said s) e is.shows).1 in
-      let other : (slice_index text from == ascii.quote) ≡ false = grind (arith, nat_tests, q) in
-      rw other (row_blank text from f.end is.said shown
-      (λ v. false≢true (sym whole ∙ is.slice.1 v)))
+-- no blank is among these bytes
+abbrev pub NoBlank : List ℕ → Type 0
+NoBlank s = list_any (λ b. b == ascii.space) s ≡ false
 
-  -- one alone is not
-  pub whole_not_together : (s : Bor (List ℕ)) → f.stands ≡ found.Whole s
-      → (is : IsFound text from f) → slice_index text from ≢ ascii.quote
-      → is_put_together text from f.end is.said ≡ false
-  whole_not_together s e is q =
-      let other : (slice_index text from == ascii.quote) ≡ false = grind (arith, nat_tests, q) in
-      rw other (by (is.slice.0 (ap is_whole e)))
-    where
-      by : {said : List ℕ} → Verbatim text from f.end said
-          → list_any (λ b. b == ascii.space) said ≡ false
-      by {said} (a_word r w) = unquoted_no_blank text from f.end said w
-      by {said} (a_piece j p n) = absurd (q (joined_first text from f.end said j))
-
-  -- nor are pieces where no quote stands
-  pub pieces_not_here : (n : ℕ) → f.stands ≡ found.InPieces n → (is : IsFound text from f)
-      → slice_index text from ≢ ascii.quote
-      → is_put_together text from f.end is.said ≡ false
-  pieces_not_here n e is q =
-      absurd (q (joined_first text from f.end is.said
-      (subst (λ (s : Stands). Shows text from f.end is.said s) e is.shows).1))
-
-  -- a quoted one is where it takes more of the text than what it says and two quotes
-  pub quoted_together : (n : ℕ) (b : Bool) → slice_index text from ≡ ascii.quote
-      → (is : IsFound text from f) → length is.said ≡ n → (b ≡ true → n + 2 < f.end - from)
-      → (b ≡ false → f.end - from ≤ n + 2)
-      → b ≡ is_put_together text from f.end is.said
-  quoted_together n true q is l above below =
-      let t : (slice_index text from == ascii.quote) ≡ true = ap (λ b. b == ascii.quote) q in
-      let more : from + length is.said + 2 < f.end = omega (arith, above refl, l, is.short) in
-      let lt : nat_lt (from + length is.said + 2) f.end ≡ true = grind (arith, nat_tests, more) in
-      rw t (sym lt)
-  quoted_together n false q is l above below =
-      let t : (slice_index text from == ascii.quote) ≡ true = ap (λ b. b == ascii.quote) q in
-      let more : f.end ≤ from + length is.said + 2 = omega (arith, below refl, l, is.after) in
-      let lt : nat_lt (from + length is.said + 2) f.end ≡ false = grind (arith, nat_tests, more) in
-      rw t (sym lt)
-
--- the string that was found is the only one there
-pub said_once : (text : List ℕ) (from : ℕ) (f : Found) (is : IsFound text from f) (s : List ℕ)
-    → Text text from f.end s
-    → (is_put_together text from f.end s ≡ is_put_together text from f.end is.said)
-    × (length s ≡ length_of f.stands)
-said_once text from f is s p =
-    let same = (String-one text from f.end f.end s is.said p is.string).1 in
-    (ap (λ u. is_put_together text from f.end u) same, ap length same ∙ is.counted)
-
--- what is asked for a string that is put together, and for another
-pub joined_bytes : (text : List ℕ) (from to : ℕ) (s : List ℕ)
-    → is_put_together text from to s ≡ true
-    → joining_bytes text from to s ≡ request_bytes + length s
-joined_bytes text from to s h = ap (λ t. if t then request_bytes + length s else 0) h
-
-pub no_joined_bytes : (text : List ℕ) (from to : ℕ) (s : List ℕ)
-    → is_put_together text from to s ≡ false → joining_bytes text from to s ≡ 0
-no_joined_bytes text from to s h = ap (λ t. if t then request_bytes + length s else 0) h
-
--- unquoted strings in a row, of which some follow the first one
-pub row_found : (text : List ℕ) (from mid next n : ℕ) (first : List ℕ) (all : Strings)
-    → Unquoted text from mid first → Skip text mid next → row_goes_on text mid next ≡ true
-    → length first ≡ n
-    → GoesToRowEnd text (record { end = mid; next = next; length = n }) all
-    → IsFound text from (record {
-      end = all.end;
-      next = all.next;
-      stands = found.InRow all.length;
-    })
-row_found text from mid next n first all w s h c g =
-    let said = first ++ g.later in
-    let r = join_row text from mid next all.end first g.later w s g.following in
-    let same : length said ≡ all.length =
-    omega (arith, g.sum, c, length-append first g.later) in
-    record {
-      said = said;
-      shows = (sym same, r);
-      string = words.a_row r;
-      key = (
-        λ b. absurd (false≢true b),
-        λ b. absurd (never (key_plain text from all.end said b).0),
-      );
-      slice = (λ b. absurd (false≢true b), λ b. absurd (never b));
-      blanks = g.seen.blanks;
-      after = omega (arith, w.some, g.order);
-      order = g.seen.order;
-      fits = g.seen.fits;
-      counted = same;
-      short = row_short text from all.end said r;
-      here = reach_row text from all.end said r;
-      low = reach_low text all.next g.seen.fits;
-      high = reach_high text all.next g.seen.fits;
-    }
+blank_parts : (b : ℕ) (s : List ℕ) → NoBlank (b ∷ s) → ((b == ascii.space) ≡ false) × NoBlank s
+blank_parts b s h = by (b == ascii.space) refl h
   where
-    longer : mid < all.end
-    longer = g.moves h
+    by : (x : Bool) → (b == ascii.space) ≡ x
+        → (x || list_any (λ b. b == ascii.space) s) ≡ false
+        → ((b == ascii.space) ≡ false) × NoBlank s
+    by true e g = absurd (false≢true (sym g))
+    by false e g = (e, g)
 
-    never : {said : List ℕ} → Verbatim text from all.end said → ⊥
-    never {said} (a_word r v) =
-        omega (arith, longer, (Unquoted-one text from mid all.end first said w v).0)
-    never {said} (a_piece j p m) =
-        no_quote_word text from mid first (joined_first text from all.end said j) w
+hex_no_space : (b : ℕ) → is_hex b ≡ true → (b == ascii.space) ≡ false
+hex_no_space b h = grind (arith, nat_tests, h)
+
+-- without blanks pairs are just those
+pub spaced_without : (s : List ℕ) → NoBlank s → spaced_bytes s ≡ hex_bytes s
+spaced_without [] h = refl
+spaced_without (a ∷ []) h = rw ((blank_parts a [] h).0) refl
+spaced_without (a ∷ b ∷ s) h =
+    let p = blank_parts a (b ∷ s) h in
+    let q = blank_parts b s p.1 in
+    rw (p.0, spaced_without s q.1) refl
+
+-- behind pairs the others follow
+pub spaced_pairs : (w bs rest : List ℕ) (o : Option (List ℕ)) → hex_bytes w ≡ Some bs
+    → spaced_bytes rest ≡ o
+    → spaced_bytes (w ++ rest) ≡ option_map (λ (l : List ℕ). bs ++ l) o
+spaced_pairs [] bs rest o e f = by o f
+  where
+    same : [] ≡ bs
+    same = cc
+
+    by : (o : Option (List ℕ)) → spaced_bytes rest ≡ o
+        → spaced_bytes rest ≡ option_map (λ (l : List ℕ). bs ++ l) o
+    by None g = g
+    by (Some l) g = g ∙ ap (λ (k : List ℕ). Some (k ++ l)) same
+spaced_pairs (a ∷ []) bs rest o e f = absurd cc
+spaced_pairs (a ∷ b ∷ w) bs rest o e f =
+    by (is_hex a) (is_hex b) (hex_bytes w) refl refl e
+    (λ l g. spaced_pairs w l rest o g f) o refl
+  where
+    by : (x y : Bool) (p : Option (List ℕ)) → is_hex a ≡ x → is_hex b ≡ y
+        → byte_before (x && y) (hex_value a * 16 + hex_value b) p ≡ Some bs
+        → ((l : List ℕ) → p ≡ Some l
+        → spaced_bytes (w ++ rest) ≡ option_map (λ (k : List ℕ). l ++ k) o)
+        → (q : Option (List ℕ)) → o ≡ q
+        → spaced_bytes (a ∷ b ∷ (w ++ rest)) ≡ option_map (λ (l : List ℕ). bs ++ l) o
+    by true true (Some l) h k g f None n =
+        let other = hex_no_space a h in
+        let deeper = f l refl in
+        rw (other, h, k, deeper, n) refl
+    by true true (Some l) h k g f (Some m) n =
+        let other = hex_no_space a h in
+        let same : (hex_value a * 16 + hex_value b) ∷ l ≡ bs = cc in
+        let deeper = f l refl in
+        rw (other, h, k, deeper, n) (ap (λ (j : List ℕ). Some (j ++ m)) same)
+    by true true None h k g f q n = absurd cc
+    by true false p h k g f q n = absurd cc
+    by false y p h k g f q n = absurd cc
+
+-- a blank in front says nothing
+pub spaced_blank : (s : List ℕ) → spaced_bytes (ascii.space ∷ s) ≡ spaced_bytes s
+spaced_blank [] = refl
+spaced_blank (b ∷ s) = refl
+
+-- where no pairs stand before a blank, none are said
+pub spaced_none : (w s : List ℕ) → NoBlank w → hex_bytes w ≡ None
+    → spaced_bytes (w ++ ascii.space ∷ s) ≡ None
+spaced_none [] s h e = absurd cc
+spaced_none (a ∷ []) s h e = by (is_hex a) refl
+  where
+    by : (x : Bool) → is_hex a ≡ x → spaced_bytes (a ∷ ascii.space ∷ s) ≡ None
+    by true k = rw ((blank_parts a [] h).0, k) refl
+    by false k = rw ((blank_parts a [] h).0, k) refl
+spaced_none (a ∷ b ∷ w) s h e =
+    by (is_hex a) (is_hex b) (hex_bytes w) refl refl e
+    (λ g. spaced_none w s (blank_parts b w (blank_parts a (b ∷ w) h).1).1 g)
+  where
+    other : (a == ascii.space) ≡ false
+    other = (blank_parts a (b ∷ w) h).0
+
+    by : (x y : Bool) (p : Option (List ℕ)) → is_hex a ≡ x → is_hex b ≡ y
+        → byte_before (x && y) (hex_value a * 16 + hex_value b) p ≡ None
+        → (p ≡ None → spaced_bytes (w ++ ascii.space ∷ s) ≡ None)
+        → spaced_bytes (a ∷ b ∷ (w ++ ascii.space ∷ s)) ≡ None
+    by true true (Some l) k m g f = absurd cc
+    by true true None k m g f = rw (other, k, m, f refl) refl
+    by true false p k m g f = rw (other, k, m) refl
+    by false y p k m g f = rw (other, k) refl
+
+-- unquoted strings in a row say their pairs with blanks
+pub row_digits : (text : List ℕ) (from : ℕ) (f : Found) (n : ℕ) → f.stands ≡ found.InRow n
+    → (is : IsFound text from f)
+    → UnquotedRow text from f.end is.said × (digit_bytes text from is.said ≡ spaced_bytes is.said)
+row_digits text from f n e is =
+    let r = (subst (λ (s : Stands). Shows text from f.end is.said s) e is.shows).1 in
+    (r, rw (row_no_quote text from f.end _ r) refl)
+
+-- all but those say them without
+pub other_digits : (text : List ℕ) (from : ℕ) (f : Found)
+    → ((n : ℕ) → f.stands ≡ found.InRow n → ⊥) → (is : IsFound text from f)
+    → digit_bytes text from is.said ≡ hex_bytes is.said
+other_digits text from f never is = by (slice_index text from == ascii.quote) refl
+  where
+    quoted : {said : List ℕ} → Joined text from f.end said
+        → (slice_index text from == ascii.quote) ≡ true
+    quoted {said} j = ap (λ b. b == ascii.quote) (joined_first text from f.end said j)
+
+    whole : (slice_index text from == ascii.quote) ≡ false → {said : List ℕ}
+        → Verbatim text from f.end said → NoBlank said
+    whole q {said} (a_word r w) = unquoted_no_blank text from f.end said w
+    whole q {said} (a_piece j p n) = absurd (false≢true (sym q ∙ quoted j))
+
+    other : (slice_index text from == ascii.quote) ≡ false → (s : Stands) → f.stands ≡ s
+        → NoBlank is.said
+    other q (found.Whole t) e = whole q (is.slice.0 (ap is_whole e))
+    other q (found.InPieces n) e =
+        let j = (subst (λ (s : Stands). Shows text from f.end is.said s) e is.shows).1 in
+        absurd (false≢true (sym q ∙ quoted j))
+    other q (found.InRow n) e = absurd (never n e)
+
+    by : (x : Bool) → (slice_index text from == ascii.quote) ≡ x
+        → digit_bytes text from is.said ≡ hex_bytes is.said
+    by true q = rw q refl
+    by false q = rw q (spaced_without is.said (other q f.stands refl))
+
+-- what is said of an answer, said by other words
+pub ok_by : {T E : Type 0} (P Q : T → Type 0) (r : Result T E) → ((x : T) → P x → Q x)
+    → IfOk r P → IfOk r Q
+ok_by P Q (Ok x) f h = f x h
+ok_by P Q (Err e) f h = h
+
+-- what isn't none is some
+pub some_said : (o : Option (List ℕ)) → o ≢ None → (bytes : List ℕ) × (o ≡ Some bytes)
+some_said None h = absurd (h refl)
+some_said (Some bs) h = (bs, refl)
+
+-- what is found of a row is found of its string
+pub pairs_in_row : (text : List ℕ) (from : ℕ) (f : Found) (o : Option ℕ)
+    → ((is : IsFound text from f) → UnquotedRow text from f.end is.said
+    × (digit_bytes text from is.said ≡ spaced_bytes is.said))
+    → MatchOption o (RowSaysNone text from f.end) (RowSaysPairs text from f.end)
+    → MatchOption o (SaysNone text from f) (SaysPairs text from f)
+pairs_in_row text from f None same h = λ is. (let r = same is in r.1 ∙ h is.said r.0)
+pairs_in_row text from f (Some n) same h = λ is.
+    (let r = same is in let a = h is.said r.0 in (a.0, r.1 ∙ a.1, a.2))
+
+-- what the bytes are that a row says: those that are made, and what is left of it says the others
+pub record PairsLeft (text : List ℕ) (at end : ℕ) (made said : List ℕ) : Type 0 where
+  pub rest : List ℕ
+  pub row : UnquotedRow text at end rest
+  pub whole : spaced_bytes said ≡ option_map (λ (l : List ℕ). made ++ l) (spaced_bytes rest)
+
+pub pairs_first : (text : List ℕ) (from end : ℕ) (said : List ℕ) → UnquotedRow text from end said
+    → PairsLeft text from end [] said
+pairs_first text from end said r =
+    record { rest = said; row = r; whole = same (spaced_bytes said) }
+  where
+    same : (o : Option (List ℕ)) → o ≡ option_map (λ (l : List ℕ). l) o
+    same None = refl
+    same (Some l) = refl
+
+string_no_blank : {text : List ℕ} {at end next : ℕ} {first : List ℕ}
+    → StringOfRow text at end first next → NoBlank first
+string_no_blank {text} {at} {end} {next} {first} s = unquoted_no_blank text at s.to first s.word
+
+module _ {text : List ℕ} {at end next : ℕ} {first made said : List ℕ}
+    (string : StringOfRow text at end first next) where
+  -- a string that is no pairs: none are said
+  pub pairs_none : hex_bytes first ≡ None → PairsLeft text at end made said
+      → spaced_bytes said ≡ None
+  pairs_none e l =
+      l.whole ∙ ap (λ o. option_map (λ (l : List ℕ). made ++ l) o) (by (next == end) refl)
+    where
+      by : (b : Bool) → (next == end) ≡ b → spaced_bytes l.rest ≡ None
+      by true q =
+          ap spaced_bytes (string.last (grind (arith, nat_tests, q)) l.rest l.row)
+          ∙ spaced_without first (string_no_blank string) ∙ e
+      by false q =
+          let o = string.on (λ n. grind (arith, nat_tests, q, n)) l.rest l.row in
+          ap spaced_bytes o.2 ∙ spaced_none first o.0 (string_no_blank string) e
+
+  -- the last one
+  pub pairs_over : (bs : List ℕ) → hex_bytes first ≡ Some bs → next ≡ end
+      → PairsLeft text at end made said → spaced_bytes said ≡ Some (made ++ bs)
+  pairs_over bs e q l =
+      l.whole ∙ ap (λ o. option_map (λ (l : List ℕ). made ++ l) o)
+      (ap spaced_bytes (string.last q l.rest l.row)
+      ∙ spaced_without first (string_no_blank string) ∙ e)
+
+  -- one more
+  pub pairs_more : (bs now : List ℕ) → hex_bytes first ≡ Some bs → next ≢ end → now ≡ made ++ bs
+      → PairsLeft text at end made said → PairsLeft text next end now said
+  pairs_more bs now e q f l =
+      let o = string.on q l.rest l.row in
+      record {
+        rest = o.0;
+        row = o.1;
+        whole = l.whole ∙ ap (λ o. option_map (λ (l : List ℕ). made ++ l) o)
+            (ap spaced_bytes o.2
+            ∙ spaced_pairs first bs (ascii.space ∷ o.0) _ e (spaced_blank o.0))
+            ∙ twice (spaced_bytes o.0);
+      }
+    where
+      twice : (o : Option (List ℕ))
+          → option_map (λ (l : List ℕ). made ++ l) (option_map (λ (l : List ℕ). bs ++ l) o)
+          ≡ option_map (λ (l : List ℕ). now ++ l) o
+      twice None = refl
+      twice (Some l) =
+          ap (λ (k : List ℕ). Some k) (sym (append_assoc made bs l) ∙ ap (λ u. u ++ l) (sym f))

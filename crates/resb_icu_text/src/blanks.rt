@@ -115,8 +115,7 @@ pub fn skip(text: &str, from: usize, turns: &mut IcuTurns) -> usize
     let mut at = from;
     'skip: loop {
         let white = blanks_end(text.as_bytes(), at);
-        turns.add(white - at);
-        turns.add(1);
+        turns.add(white - at + 1);
         at = white;
         if byte(text, at) != b'/' {
             return at;

@@ -6,8 +6,8 @@ ghost use Rattle.resb_grammar.specs.Ascii as ascii;
 ghost use Rattle.resb_grammar.specs.Group as group;
 ghost use Rattle.resb_icu_grammar.specs.Pieces.{QuotedBytes, Joined};
 ghost use Rattle.resb_icu_text.specs.Inner.Digits.{are_digits, DigitAt, SaysPairs, SaysNone};
-ghost use Rattle.resb_icu_text.specs.Inner.Digits.{IsPairs, IsNoPairs};
 ghost use Rattle.resb_icu_text.specs.Inner.Found.{IsFound};
+ghost use Rattle.resb_icu_text.specs.declared.strings.Stands.TheVariants as the;
 
 use crate::blanks::{byte, skip};
 use crate::escapes::escape;
@@ -82,41 +82,23 @@ fn say_digits(text: &str, from: usize, end: usize) -> bool
     }
 }
 
-/// Whether a string says hex digits alone, where it was found at a place of a text.
+/// Whether a string says hex digits alone, where it was found at a place of a text, if it isn't
+/// unquoted ones in a row.
 fn says_digits(found: Found<'_>, text: &str, from: usize) -> bool
     requires found { IsFound text.now from found }
+    requires other { (n : ℕ) → found.stands ≡ the.InRow n → ⊥ }
     ensures { (is : IsFound text.now from found.entry) → result ≡ are_digits is.said }
 {
     match found.stands {
         Stands::Whole(slice) => are_hex(slice.as_bytes()),
         Stands::InPieces(_) => say_digits(text, from, found.end),
-        Stands::InRow(_) => false,
-    }
-}
-
-/// How many bytes a string says as pairs of hex digits without blanks, if it says such, where it
-/// was
-/// found at a place of a text.
-fn pairs_length(found: Found<'_>, text: &str, from: usize) -> Option<usize>
-    requires found { IsFound text.now from found }
-    ensures { MatchOption result (IsNoPairs text.now from found.entry)
-        (IsPairs text.now from found.entry) }
-{
-    if !says_digits(found, text, from) {
-        return None;
-    }
-    let length = found.length();
-    if length % 2 == 0 {
-        Some(length / 2)
-    } else {
-        None
+        Stands::InRow(_) => unreachable!(),
     }
 }
 
 /// How many bytes a string says as pairs of hex digits, if it says such, where it was found at a
 /// place of a text: unquoted strings in a row each whole pairs. Nothing is put together. Counts
-/// two turns for each byte of the text there: a
-/// digit is looked at here, and decoded later.
+/// two turns for each byte of the text there: a digit is looked at here, and decoded later.
 pub(crate) fn hex_length(
     found: Found<'_>,
     text: &str,
@@ -130,9 +112,16 @@ pub(crate) fn hex_length(
 {
     turns.add(found.end - from);
     turns.add(found.end - from);
-    match found.stands {
-        Stands::InRow(_) => row_pairs(text, from, found.end),
-        Stands::Whole(_) => pairs_length(found, text, from),
-        Stands::InPieces(_) => pairs_length(found, text, from),
+    if let Stands::InRow(_) = found.stands {
+        return row_pairs(text, from, found.end);
+    }
+    if !says_digits(found, text, from) {
+        return None;
+    }
+    let length = found.length();
+    if length % 2 == 0 {
+        Some(length / 2)
+    } else {
+        None
     }
 }

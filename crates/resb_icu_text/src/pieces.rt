@@ -63,8 +63,7 @@ pub(crate) fn piece_end(
         };
         length += stop - at;
         if byte(text, stop) == b'"' {
-            turns.add(stop - at);
-            turns.add(1);
+            turns.add(stop - at + 1);
             return Ok(Piece {
                 last: stop,
                 is_plain,

@@ -425,8 +425,7 @@ fn untyped_string<'a, X: Drop>(
         return Err(IcuTextError::new(at, IcuExpected::Key));
     };
     meter.quota.take(weights::TABLE + key_bytes(key))?;
-    let waiting = Waiting::Table(Vec::new(alloc), key);
-    Ok(Read::Step(Step::Group(waiting, next)))
+    Ok(Read::Step(Step::Group(Waiting::Table(Vec::new(alloc), key), next)))
 }
 
 /// From behind a group of which this was made to behind the blanks there, among what it stands in.

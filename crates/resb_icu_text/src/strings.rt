@@ -16,7 +16,7 @@ ghost use Rattle.resb_icu_grammar.specs.Words.{Text};
 ghost use Rattle.resb_tree.specs.Borrowing.{is_slice};
 ghost use Rattle.resb_tree.specs.Weights.{text_byte_weight};
 ghost use Rattle.resb_icu_text.specs.Lexemes.{IsLexeme};
-ghost use Rattle.resb_icu_text.specs.Inner.Ahead.{StringFails, AreSeen, GoesToEnd};
+ghost use Rattle.resb_icu_text.specs.Inner.Ahead.{StringFails};
 ghost use Rattle.resb_icu_text.specs.Inner.Found.{IsFound, Shows, length_of, fits_key};
 ghost use Rattle.resb_icu_text.specs.Inner.Found.{IsSaid, is_whole, turns_to_make};
 
@@ -24,7 +24,7 @@ use crate::blanks::{byte, skip};
 use crate::error::IcuTextError;
 use crate::pieces::{piece_end, push_piece};
 use crate::quota::{REQUEST, text_bytes};
-use crate::rows::{Strings, put_row, row_end, row_goes_on};
+use crate::rows::{put_row, row_goes_on};
 use crate::turns::IcuTurns;
 use crate::unquoted::unquoted;
 use resb_icu_grammar::{IcuExpected, are_key_bytes};
@@ -94,8 +94,8 @@ impl<'a> Found<'a> {
         }
         match self.stands {
             Stands::InRow(_) => true,
+            Stands::InPieces(_) => true,
             Stands::Whole(_) => false,
-            Stands::InPieces(_) => false,
         }
     }
 
@@ -267,46 +267,43 @@ pub(crate) fn found_or<'a>(
     if byte(text, from) == b'"' {
         return quoted(text, from, turns);
     }
-    match unquoted(text, from) {
-        Some((end, string)) => Ok(row(text, from, end, string, turns)),
-        None => {
-            turns.add(1);
-            Err(IcuTextError::new(from, expected))
-        }
+    match row(text, from, turns) {
+        Some(found) => Ok(found),
+        None => Err(IcuTextError::new(from, expected)),
     }
 }
 
-/// The unquoted string between these places, which is this one, with those that follow in its row.
+/// The unquoted strings in a row that begin here, if one does.
 #[tactic(auto, using(crate::proofs::ReachLemmas::reached))]
-fn row<'a>(
-    text: &'a str,
-    from: usize,
-    end: usize,
-    string: &'a str,
-    turns: &mut IcuTurns,
-) -> Found<'a>
-    requires stands { Unquoted text.now from end string.now }
-    ensures reads { IsFound text.now from result }
-    ensures cost { let bytes = result.end - from in
-        turns.new.count + 6 * reach text.now from + 3 + turns_to_make bytes result.stands
-        ≤ turns.old.count + 6 * reach text.now result.next }
+fn row<'a>(text: &'a str, from: usize, turns: &mut IcuTurns) -> Option<Found<'a>>
+    requires within { from ≤ length text.now }
+    ensures reads { MatchOption result ((to : ℕ) (s : List ℕ) → Unquoted text.now from to s → ⊥)
+        (IsFound text.now from) }
+    ensures cost { MatchOption result (turns.new.count ≤ turns.old.count + 1)
+        (λ f. let bytes = f.end - from in
+        turns.new.count + 6 * reach text.now from + 3 + turns_to_make bytes f.stands
+        ≤ turns.old.count + 6 * reach text.now f.next) }
 {
-    turns.add(end - from);
     turns.add(1);
-    let next = skip(text, end, turns);
-    if !row_goes_on(text, end, next) {
-        return Found {
-            end,
-            next,
-            stands: Stands::Whole(string),
+    let mut at = from;
+    let mut length = 0;
+    'row: loop {
+        let Some((end, string)) = unquoted(text, at) else {
+            return None;
         };
-    }
-    let length = string.len();
-    let all = row_end(text, Strings { end, next, length }, turns);
-    Found {
-        end: all.end,
-        next: all.next,
-        stands: Stands::InRow(all.length),
+        turns.add(end - at);
+        let next = skip(text, end, turns);
+        length += string.len();
+        if row_goes_on(text, end, next) {
+            length += 1;
+            at = next;
+        } else if at == from {
+            let stands = Stands::Whole(string);
+            return Some(Found { end, next, stands });
+        } else {
+            let stands = Stands::InRow(length);
+            return Some(Found { end, next, stands });
+        }
     }
 }
 
@@ -324,62 +321,21 @@ fn quoted<'a>(text: &'a str, from: usize, turns: &mut IcuTurns) -> Result<Found<
         (λ e. turns.new.count + 8 * reach text.now from
         ≤ turns.old.count + 8 * length text.now + 2) }
 {
-    let first = piece_end(text, from + 1, turns)?;
-    let end = first.last + 1;
-    let next = skip(text, end, turns);
-    if byte(text, next) != b'"' && first.is_plain {
-        return Ok(Found {
-            end,
-            next,
-            stands: Stands::Whole(&text[from + 1..first.last]),
-        });
-    }
-    let all = pieces_end(
-        text,
-        Pieces {
-            end,
-            next,
-            length: first.length,
-        },
-        turns,
-    )?;
-    Ok(Found {
-        end: all.end,
-        next: all.next,
-        stands: Stands::InPieces(all.length),
-    })
-}
-
-/// Some quoted pieces: the place behind the last of them, that behind the blanks there, and how
-/// many bytes they say.
-#[derive(Clone, Copy)]
-pub(crate) struct Pieces {
-    end: usize,
-    next: usize,
-    length: usize,
-}
-
-/// These pieces and all that follow them; or the fault of one of those.
-#[tactic(auto, using(crate::proofs::ReachLemmas::reached))]
-fn pieces_end(text: &str, first: Pieces, turns: &mut IcuTurns) -> Result<Pieces, IcuTextError>
-    requires seen { AreSeen text.now first }
-    ensures reads { MatchResult result (GoesToEnd text.now first)
-        (λ e. StringFault text.now first.next e.position e.expected) }
-    ensures cost { MatchResult result
-        (λ p. turns.new.count + 2 * reach text.now first.next
-        ≤ turns.old.count + 2 * reach text.now p.next)
-        (λ e. turns.new.count + 2 * reach text.now first.next
-        ≤ turns.old.count + 2 * length text.now) }
-{
-    let mut seen = first;
-    'pieces: while byte(text, seen.next) == b'"' {
-        let piece = piece_end(text, seen.next + 1, turns)?;
+    let mut at = from;
+    let mut length = 0;
+    'pieces: loop {
+        let piece = piece_end(text, at + 1, turns)?;
         let end = piece.last + 1;
-        seen = Pieces {
-            end,
-            next: skip(text, end, turns),
-            length: seen.length + piece.length,
-        };
+        let next = skip(text, end, turns);
+        length += piece.length;
+        if byte(text, next) == b'"' {
+            at = next;
+        } else if at == from && piece.is_plain {
+            let stands = Stands::Whole(&text[from + 1..piece.last]);
+            return Ok(Found { end, next, stands });
+        } else {
+            let stands = Stands::InPieces(length);
+            return Ok(Found { end, next, stands });
+        }
     }
-    Ok(seen)
 }

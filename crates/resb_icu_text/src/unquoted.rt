@@ -49,7 +49,11 @@ fn goes_on(text: &str, at: usize) -> bool
     requires inside { at < length text.now }
     ensures { result ≡ spec.goes_on text.now at }
 {
-    is_unquoted(byte(text, at)) && !(begins_comment(text, at) || is_no_letter(text, at))
+    let b = byte(text, at);
+    if b.is_ascii_alphanumeric() {
+        return true;
+    }
+    is_unquoted(b) && !(begins_comment(text, at) || is_no_letter(text, at))
 }
 
 /// Whether one may begin with a byte.

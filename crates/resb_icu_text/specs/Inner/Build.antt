@@ -4,7 +4,6 @@ use Rattle.std.specs.Borrow.{Bor}
 use Rattle.resb_tree.specs.Tree.{Tree}
 use Rattle.resb_draft.specs.Drafts.{EndsInEntries}
 use Rattle.resb_draft.specs.declared.draft.Draft.{Draft}
-use Rattle.resb_draft.specs.declared.draft.Piece.TheVariants as piece
 use Rattle.resb_icu_text.specs.Inner.Kept.{Test}
 use Rattle.std.specs.Prelude.{Bool, length}
 

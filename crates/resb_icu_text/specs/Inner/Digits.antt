@@ -1,7 +1,7 @@
 -- The hex digits that a string says.
 use Rattle.std.specs.Prelude.{◌≡◌, ℕ, Bool, true, List, ◌∷◌, length, Some, None}
 use Rattle.std.specs.List.{list_all}
-use Rattle.resb_grammar.specs.Group.{is_hex, hex_bytes}
+use Rattle.resb_grammar.specs.Group.{is_hex}
 use Rattle.resb_icu_grammar.specs.Groups.{spaced_bytes, digit_bytes}
 use Rattle.resb_icu_grammar.specs.Pieces.{QuotedBytes}
 use Rattle.resb_icu_grammar.specs.Unquoted.{UnquotedRow}
@@ -30,16 +30,6 @@ SaysPairs text from f n =
 -- it says no such pairs
 abbrev pub SaysNone : List ℕ → ℕ → Found → Type 0
 SaysNone text from f = (is : IsFound text from f) → digit_bytes text from is.said ≡ None
-
--- what it says is pairs of hex digits without blanks, for so many bytes
-abbrev pub IsPairs : List ℕ → ℕ → Found → ℕ → Type 0
-IsPairs text from f n =
-    (is : IsFound text from f)
-    → (bytes : List ℕ) × (hex_bytes is.said ≡ Some bytes) × (length bytes ≡ n)
-
--- it is no such pairs
-abbrev pub IsNoPairs : List ℕ → ℕ → Found → Type 0
-IsNoPairs text from f = (is : IsFound text from f) → hex_bytes is.said ≡ None
 
 -- the unquoted strings in a row between these places say pairs of hex digits, for so many bytes
 abbrev pub RowSaysPairs : List ℕ → ℕ → ℕ → ℕ → Type 0

@@ -1,8 +1,7 @@
-use Rattle.std.proofs.Common.{◌≡◌, ◌≢◌, Some, None, ap, sym, ◌∙◌}
+use Rattle.std.proofs.Common.{ap, sym, ◌∙◌}
 use Rattle.resb_grammar.specs.Group.{hex_bytes}
-use Rattle.resb_icu_grammar.specs.Groups.{digit_bytes, spaced_bytes}
-use Rattle.resb_icu_grammar.proofs.Lexical.{UnquotedRow-one}
-use Rattle.resb_icu_text.proofs.PairsLemmas.{row_digits, other_digits, some_said, ok_by}
+use Rattle.resb_icu_grammar.specs.Groups.{spaced_bytes}
+use Rattle.resb_icu_text.proofs.RowLemmas.{row_digits, other_digits, some_said, ok_by}
 use Rattle.resb_icu_text.proofs.leaf.decoded.Goals as goal
 
 pub row_bytes-requires-clause-row : goal.row_bytes-requires-clause-row

@@ -1,4 +1,4 @@
-use Rattle.std.proofs.Common.{◌*◌, arith, sym, ◌∙◌}
+use Rattle.std.proofs.Common.{arith, sym, ◌∙◌}
 use Rattle.std.proofs.lemmas.Bool.{false≢true}
 use Rattle.resb_icu_text.proofs.DigitsLemmas.{none_say, pairs_are, pairs_say}
 use Rattle.resb_icu_text.proofs.rows.pairs_in.Goals as goal

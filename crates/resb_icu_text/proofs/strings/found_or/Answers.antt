@@ -7,7 +7,7 @@ use Rattle.resb_icu_text.proofs.strings.found_or.Goals as goal
 pub returns-in-None-clause-reads : goal.returns-in-None-clause-reads
 returns-in-None-clause-reads c =
     unquoted_fails _ _ _ _ c.new.ensures (λ e. c.if-byte-eq34.false (c.byte.ensures.byte ∙ e))
-    c.in-None.ensures.none
+    c.in-None.ensures.reads
 
 pub returns-then-byte-eq34-clause-reads : goal.returns-then-byte-eq34-clause-reads
 returns-then-byte-eq34-clause-reads c =

@@ -1,4 +1,4 @@
-use Rattle.std.proofs.Common.{◌≤◌, arith}
+use Rattle.std.proofs.Common.{arith}
 use Rattle.resb_icu_text.proofs.UnquotedLemmas.{begins_no_more}
 use Rattle.resb_icu_text.proofs.unquoted.unquoted.Goals as goal
 

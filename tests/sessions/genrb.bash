@@ -142,6 +142,15 @@ printf -- '-/collations/standard/Sequence\n' > rules/coll.txt
 told 0 '' '' genrb -q -s source -d built --collation forms --filterDir rules coll.txt
 told 0 '{"collations":{"private-x":{"Sequence":"&c<d"},"standard":{'\
 '"%%CollationBin":{"binary":"00ff"},"Version":"1"}}}' '' dump --json built/de.res
+# and is needed, but where rules leave it out itself
+told 3 '' "source/coll.txt: the rules of collation 'standard' have no binary form, which ICU's \
+genrb makes; see --collation" genrb -q -s source -d built --filterDir rules coll.txt
+printf -- '-/collations/standard/%%%%CollationBin\n' > rules/coll.txt
+for words in '' '--collation forms' '--collation nowhere'; do
+  told 0 '' '' genrb -q -s source -d built $words --filterDir rules coll.txt
+  told 0 '{"collations":{"private-x":{"Sequence":"&c<d"},"standard":{'\
+'"Sequence":"&a<b","Version":"1"}}}' '' dump --json built/de.res
+done
 # a type that the file with binary forms hasn't at all: refused, unless rules leave it out here
 printf 'de{ collations{ private-y{ x{"1"} } } }' > none.txt
 mkdir -p lacking
@@ -262,6 +271,10 @@ same shared/pool.res wanted.res
 told 0 '' '' genrb -q -s source -d over --compact --filterDir rules --usePoolBundle shared f.txt
 words 3 2000000e 208 9 13 13 3 20004 e 1b50aaf0 320000 10000 30002 60001 aaaa0003 3 40002 \
   50000003 60000001 50000006 > wanted.res
+same over/f.res wanted.res
+# of an option that is said twice the last counts
+told 0 '' '' genrb -q -q -s none -s source -d none -d over --compact --filterDir none \
+  --filterDir rules --usePoolBundle none --usePoolBundle shared f.txt
 same over/f.res wanted.res
 told 3 '' 'source/f.txt: its file has format 3.0, and --formatVersion asks for 2' \
   genrb -q -s source -d over --formatVersion 2 --filterDir rules --usePoolBundle shared f.txt

@@ -4,7 +4,7 @@
 use crate::entries::{entries_at, text_at, value_at};
 use crate::say::{complain, refuse_memory};
 use resb_draft::Draft;
-use resb_words::{Collation, CompileWords};
+use resb_words::CompileWords;
 use std::alloc::{AllocError, Global};
 use std::fmt;
 
@@ -56,25 +56,19 @@ impl fmt::Display for OfType<'_> {
     }
 }
 
-/// The status of a draft with rules of types of these keys that have no binary form, once that is
-/// said of the first of them: as an error where they aren't compiled without it.
-pub(crate) fn check_collations(
+/// Says that the rules of the type of a key are compiled without a binary form, and gives the
+/// status of that.
+pub(crate) fn say_unbuilt(
     rt: &HostRuntime,
     name: &str,
-    types: &[&str],
+    key: &str,
     wanted: &CompileWords<'_>,
-) -> Result<u8, u8> {
-    let [key, ..] = types else {
-        return Ok(0);
-    };
-    if wanted.file.collation != Collation::Unbuilt {
-        return Err(refuse_form(rt, name, key, Said::Refused));
-    }
+) -> u8 {
     if !wanted.is_quiet {
         let said = Said::Unbuilt;
         complain(rt, name, OfType { key, said });
     }
-    Ok(u8::from(wanted.is_strict))
+    u8::from(wanted.is_strict)
 }
 
 /// Says of a file of a name why there is no binary form for the rules of the type of a key, and
@@ -117,9 +111,25 @@ fn is_unbuilt(draft: &Draft<'_>, table: u32, key: &str) -> bool {
         && value_at(draft, table, BINARY).is_none()
 }
 
+/// The number of the table that a draft has for the type of a key.
+fn type_at(draft: &Draft<'_>, key: &str) -> Option<u32> {
+    value_at(draft, value_at(draft, draft.root, COLLATIONS)?, key)
+}
+
 /// The rules that a draft has for the type of a key.
 pub(crate) fn rules_of<'d>(draft: &'d Draft<'_>, key: &str) -> Option<&'d str> {
-    let types = value_at(draft, draft.root, COLLATIONS)?;
-    let rules = value_at(draft, value_at(draft, types, key)?, RULES)?;
-    text_at(draft, rules)
+    text_at(draft, value_at(draft, type_at(draft, key)?, RULES)?)
+}
+
+/// Whether a draft has a binary form for the type of a key.
+pub(crate) fn has_form(draft: &Draft<'_>, key: &str) -> bool {
+    type_at(draft, key).is_some_and(|number| value_at(draft, number, BINARY).is_some())
+}
+
+/// The first of some types that a draft has.
+pub(crate) fn first_left<'k>(draft: &Draft<'_>, types: &[&'k str]) -> Option<&'k str> {
+    types
+        .iter()
+        .copied()
+        .find(|key| type_at(draft, key).is_some())
 }

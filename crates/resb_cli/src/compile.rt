@@ -48,9 +48,9 @@ pub(crate) struct BundleFile<'t> {
 
 /// What is asked of texts, and the pool bundle over which their files are written.
 #[derive(Clone, Copy)]
-struct Work<'w, 'c, 'p> {
-    wanted: &'w CompileWords<'c>,
-    pool: Option<PoolBundle<'p>>,
+pub(crate) struct Work<'w, 'c, 'p> {
+    pub(crate) wanted: &'w CompileWords<'c>,
+    pub(crate) pool: Option<PoolBundle<'p>>,
 }
 
 /// Compiles each text. One that fails doesn't stop the others; the status says whether one did.
@@ -244,7 +244,7 @@ fn file_at_once<'t>(
     work: Work<'_, '_, '_>,
 ) -> Result<BundleFile<'t>, u8> {
     if work.wanted.is_icu {
-        return drafted_file(rt, name, text, work.wanted, work.pool.as_ref());
+        return drafted_file(rt, name, text, work);
     }
     match compiled(rt.alloc(), text.whole(), work) {
         Ok(bytes) => Ok(BundleFile {

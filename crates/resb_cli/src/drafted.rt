@@ -4,11 +4,11 @@
 ghost use Rattle.std.specs.Prelude.{◌≡◌, true};
 ghost use Rattle.resb_draft.specs.Drafts.{is_ready};
 
-use crate::collation::{Said, check_collations, refuse_form, unbuilt_in};
-use crate::compile::{BundleFile, NO_FILE_NAME, is_file_name};
+use crate::collation::{Said, first_left, has_form, refuse_form, say_unbuilt, unbuilt_in};
+use crate::compile::{BundleFile, NO_FILE_NAME, Work, is_file_name};
 use crate::filter::{draft_of, filtered, refuse_text, without_rules};
 use crate::format_version::check_version;
-use crate::forms::{Built, Forms, with_forms};
+use crate::forms::{Built, Forms, why_lacking, with_forms};
 use crate::input::Input;
 use crate::key_order::{ReadKeys, laid_keys};
 use crate::say::{or_fail, refuse_memory};
@@ -16,9 +16,8 @@ use crate::show::opened_of;
 use crate::streams::made;
 use crate::texts::SourceText;
 use resb_compile::IcuCompileError;
-use resb_draft::DraftBundle;
-use resb_pool_bundle::PoolBundle;
-use resb_words::{Collation, CompileWords};
+use resb_draft::{Draft, DraftBundle};
+use resb_words::Collation;
 use resb_write::Serializer;
 use std::alloc::Global;
 
@@ -29,56 +28,91 @@ struct Source<'n, 's> {
     text: SourceText<'s>,
 }
 
-/// How a file is laid out.
-#[derive(Clone, Copy)]
-struct Layout<'p, 'b> {
-    /// The pool bundle that it is written over, if it uses one.
-    pool: Option<&'p PoolBundle<'b>>,
-    /// As ICU's compiler lays it out: keys may lie at the ends of others.
-    is_compact: bool,
-    /// The version of the format that it must have, if one is asked for.
-    version: Option<u8>,
-}
-
 /// The file of a text in ICU's own form, with the status of what is said of its rules of collation;
 /// or the status, once it is said why there is none.
 pub(crate) fn drafted_file<'t>(
     rt: &HostRuntime,
     name: &str,
     text: SourceText<'t>,
-    wanted: &CompileWords<'_>,
-    pool: Option<&PoolBundle<'_>>,
+    work: Work<'_, '_, '_>,
 ) -> Result<BundleFile<'t>, u8> {
-    let layout = Layout {
-        pool,
-        is_compact: wanted.file.is_compact,
-        version: wanted.file.version,
+    let (bundle, keys) = draft_of(rt, name, text, work.wanted.limit)?;
+    let bundle_name = bundle.name;
+    let (bytes, status) = if work.wanted.file.collation == Collation::Unbuilt {
+        file_without_forms(rt, name, bundle, keys, work)?
+    } else {
+        let bytes = file_with_forms(rt, Source { name, text }, bundle, keys, work)?;
+        (bytes, 0)
     };
-    let (draft, keys) = draft_of(rt, name, text, wanted.limit)?;
-    let bundle_name = draft.name;
-    let bundle = Some(bundle_name);
-    if let Collation::From(folder) = wanted.file.collation {
-        if !unbuilt_in(rt, name, &draft.root)?.is_empty() {
-            let path = or_fail(rt, name, forms_file(rt.alloc(), folder, bundle_name))?;
-            let bytes = built_file(rt, Source { name, text }, path.as_str(), wanted, layout)?;
-            let status = 0;
-            return Ok(BundleFile {
-                bytes,
-                bundle,
-                status,
-            });
-        }
-    }
-    let draft = filtered(rt, name, draft, wanted.file.filters)?;
-    let types = unbuilt_in(rt, name, &draft.root)?;
-    let status = check_collations(rt, name, types.as_slice(), wanted)?;
-    let draft = without_rules(rt, name, draft, wanted.file.omits_rules)?;
-    let bytes = written(rt, name, draft, keys, layout)?;
     Ok(BundleFile {
         bytes,
-        bundle,
+        bundle: Some(bundle_name),
         status,
     })
+}
+
+/// The file of a bundle whose rules of collation are compiled without binary forms, and the status
+/// of what is said of them.
+fn file_without_forms<'t>(
+    rt: &HostRuntime,
+    name: &str,
+    bundle: DraftBundle<'t>,
+    keys: ReadKeys<'t>,
+    work: Work<'_, '_, '_>,
+) -> Result<(Vec<u8>, u8), u8>
+    requires { is_ready bundle.root ≡ true }
+{
+    let types = unbuilt_in(rt, name, &bundle.root)?;
+    let bundle = filtered(rt, name, bundle, work.wanted.file.filters)?;
+    let status = match first_left(&bundle.root, types.as_slice()) {
+        Some(key) => say_unbuilt(rt, name, key, work.wanted),
+        None => 0,
+    };
+    let bytes = written(rt, name, bundle, keys, work)?;
+    Ok((bytes, status))
+}
+
+/// The file of a bundle whose rules of collation need binary forms, if there are such rules. Each
+/// gets an empty form first: a form that rules of the filter leave out isn't needed.
+fn file_with_forms<'t>(
+    rt: &HostRuntime,
+    source: Source<'_, 't>,
+    bundle: DraftBundle<'t>,
+    keys: ReadKeys<'t>,
+    work: Work<'_, '_, '_>,
+) -> Result<Vec<u8>, u8>
+    requires { is_ready bundle.root ≡ true }
+{
+    let name = source.name;
+    let bundle_name = bundle.name;
+    let types = unbuilt_in(rt, name, &bundle.root)?;
+    let (bundle, keys) = with_forms(rt, name, Forms::Empty, bundle, keys)?;
+    let bundle = filtered(rt, name, bundle, work.wanted.file.filters)?;
+    let needed = formed_in(rt, name, &bundle.root, types.as_slice())?;
+    match (needed.as_slice(), work.wanted.file.collation) {
+        ([], _) => written(rt, name, bundle, keys, work),
+        (needed, Collation::From(folder)) => {
+            let path = or_fail(rt, name, forms_file(rt.alloc(), folder, bundle_name))?;
+            built_file(rt, source, needed, path.as_str(), work)
+        }
+        ([key, ..], _) => Err(refuse_form(rt, name, key, Said::Refused)),
+    }
+}
+
+/// Those of some types for which the draft of a text of a name has a binary form.
+fn formed_in<'k>(
+    rt: &HostRuntime,
+    name: &str,
+    draft: &Draft<'_>,
+    types: &[&'k str],
+) -> Result<Vec<&'k str>, u8> {
+    let mut formed = Vec::new(rt.alloc());
+    for key in types.iter().copied() {
+        if has_form(draft, key) && formed.push(key).is_err() {
+            return Err(refuse_memory(rt, name));
+        }
+    }
+    Ok(formed)
 }
 
 /// The name of the file in a folder that has the binary forms for the bundle of a name.
@@ -89,17 +123,18 @@ fn forms_file(alloc: Global, folder: &str, bundle: &str) -> Result<String, &'sta
     made(format!(in alloc; "{folder}/{bundle}.res"))
 }
 
-/// The bytes of a text's file with the binary forms that the file of a name has.
+/// The bytes of a text's file with the binary forms that the file of a name has for these types.
 fn built_file(
     rt: &HostRuntime,
     source: Source<'_, '_>,
+    needed: &[&str],
     file: &str,
-    wanted: &CompileWords<'_>,
-    layout: Layout<'_, '_>,
+    work: Work<'_, '_, '_>,
 ) -> Result<Vec<u8>, u8> {
-    let input = Input::read(rt, file, wanted.limit)?;
+    let limit = work.wanted.limit;
+    let input = Input::read(rt, file, limit)?;
     let opened = input.open(rt, file)?;
-    let beside = opened.pool(rt, file, None, wanted.limit)?;
+    let beside = opened.pool(rt, file, None, limit)?;
     let built = opened_of(rt, file, opened.bytes, &beside, None)?;
     let root = built.root();
     // taken apart, so that the text is lent for as long as the forms
@@ -108,49 +143,49 @@ fn built_file(
         rt,
         Source { name, text },
         Built { name: file, root },
-        wanted,
-        layout,
+        needed,
+        work,
     )
 }
 
-/// The bytes of a text's file with the binary forms that a file has, before rules leave something
-/// out. The text is read once more: its draft and the forms are lent for one time.
+/// The same, where that file is open. The text is read once more: its draft and the forms are lent
+/// for one time.
 fn collated_file<'s>(
     rt: &HostRuntime,
     source: Source<'_, 's>,
     built: Built<'s>,
-    wanted: &CompileWords<'_>,
-    layout: Layout<'_, '_>,
+    needed: &[&str],
+    work: Work<'_, '_, '_>,
 ) -> Result<Vec<u8>, u8> {
     let Source { name, text } = source;
-    let (bundle, keys) = draft_of(rt, name, text, wanted.limit)?;
+    let (bundle, keys) = draft_of(rt, name, text, work.wanted.limit)?;
     let (bundle, keys) = with_forms(rt, name, Forms::Of(built), bundle, keys)?;
-    let bundle = filtered(rt, name, bundle, wanted.file.filters)?;
-    // of types that rules of the filter leave, each needs its form
-    if let [key, ..] = unbuilt_in(rt, name, &bundle.root)?.as_slice() {
-        return Err(refuse_form(rt, built.name, key, Said::Lacking));
+    let bundle = filtered(rt, name, bundle, work.wanted.file.filters)?;
+    for key in needed.iter().copied() {
+        if !has_form(&bundle.root, key) {
+            return Err(refuse_form(rt, built.name, key, why_lacking(built.root, key)));
+        }
     }
-    let bundle = without_rules(rt, name, bundle, wanted.file.omits_rules)?;
-    written(rt, name, bundle, keys, layout)
+    written(rt, name, bundle, keys, work)
 }
 
-/// The file of a bundle, laid out like this.
+/// The file of a bundle, laid out as is wanted.
 fn written<'t>(
     rt: &HostRuntime,
     name: &str,
     bundle: DraftBundle<'t>,
     read: ReadKeys<'t>,
-    layout: Layout<'_, '_>,
+    work: Work<'_, '_, '_>,
 ) -> Result<Vec<u8>, u8>
     requires { is_ready bundle.root ≡ true }
 {
+    let Work { wanted, pool } = work;
+    let bundle = without_rules(rt, name, bundle, wanted.file.omits_rules)?;
     let has_fallback = bundle.is_locale_fallback_enabled;
-    let (alloc, root) = (rt.alloc(), bundle.root);
-    let keys = laid_keys(alloc, &root, read, layout.is_compact).map_err(|_| refuse_memory(
-        rt, name,
-    ))?;
+    let (alloc, root, is_compact) = (rt.alloc(), bundle.root, wanted.file.is_compact);
+    let keys = laid_keys(alloc, &root, read, is_compact).map_err(|_| refuse_memory(rt, name))?;
     let keys = keys.as_slice();
-    let file = match (layout.pool, layout.is_compact) {
+    let file = match (&pool, is_compact) {
         (None, false) => Serializer::draft_to_bytes(alloc, root, has_fallback, keys),
         (None, true) => Serializer::draft_to_bytes_compact(alloc, root, has_fallback, keys),
         (Some(pool), false) => {
@@ -167,6 +202,6 @@ fn written<'t>(
         SourceText::new("", None),
         IcuCompileError::Writing(e),
     ))?;
-    check_version(rt, name, file.as_slice(), layout.version)?;
+    check_version(rt, name, file.as_slice(), wanted.file.version)?;
     Ok(file)
 }

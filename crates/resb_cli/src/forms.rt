@@ -4,7 +4,7 @@
 ghost use Rattle.std.specs.Prelude.{◌≡◌, true, IfOk};
 ghost use Rattle.resb_draft.specs.Drafts.{is_ready};
 
-use crate::collation::{BINARY, COLLATIONS, RULES, Said, refuse_form, rules_of, unbuilt_in};
+use crate::collation::{BINARY, COLLATIONS, RULES, Said, rules_of, unbuilt_in};
 use crate::key_order::ReadKeys;
 use crate::say::refuse_memory;
 use resb_draft::{Draft, DraftBundle};
@@ -29,8 +29,8 @@ pub(crate) struct Built<'f> {
     pub(crate) root: Handle<'f>,
 }
 
-/// The bundle of the text of a name with binary forms for the types of collation that need one, and
-/// its keys; or the status, once it is said of which type there is none.
+/// The bundle of the text of a name with binary forms for the types of collation that need one, as
+/// far as there are some, and its keys.
 pub(crate) fn with_forms<'s>(
     rt: &HostRuntime,
     text_name: &str,
@@ -87,9 +87,7 @@ fn empty_forms<'f>(alloc: Global, types: &[&'f str]) -> Result<Vec<CollationForm
     Ok(forms)
 }
 
-/// The binary forms that a file has for types of these keys of a draft, but for types that aren't
-/// there at all, as rules leave some out; or the status, once it is said of which it has none, or
-/// one of other rules.
+/// The binary forms that a file has for types of these keys, where its rules are those of a draft.
 fn forms_in<'f>(
     rt: &HostRuntime,
     built: Built<'f>,
@@ -100,21 +98,24 @@ fn forms_in<'f>(
     let mut forms = Vec::new(rt.alloc());
     for key in types.iter().copied() {
         let Some(bytes) = form_in(root, key) else {
-            if root.get(&[COLLATIONS, key]).is_none() {
-                continue;
-            }
-            return Err(refuse_form(rt, name, key, Said::Lacking));
+            continue;
         };
-        match has_other_rules(rt.alloc(), root, draft, key) {
-            Ok(false) => {}
-            Ok(true) => return Err(refuse_form(rt, name, key, Said::Foreign)),
-            Err(_) => return Err(refuse_memory(rt, name)),
-        }
-        if forms.push(CollationForm { key, bytes }).is_err() {
+        let Ok(is_foreign) = has_other_rules(rt.alloc(), root, draft, key) else {
+            return Err(refuse_memory(rt, name));
+        };
+        if !is_foreign && forms.push(CollationForm { key, bytes }).is_err() {
             return Err(refuse_memory(rt, name));
         }
     }
     Ok(forms)
+}
+
+/// Why a draft has no binary form for the type of a key, though a file was asked for it.
+pub(crate) fn why_lacking(root: Handle<'_>, key: &str) -> Said {
+    match form_in(root, key) {
+        Some(_) => Said::Foreign,
+        None => Said::Lacking,
+    }
 }
 
 /// The binary form that a file has for the type of a key.

@@ -92,6 +92,8 @@ fn file_with_forms<'t>(
     match (needed.as_slice(), work.wanted.file.collation) {
         ([], _) => written(rt, name, bundle, keys, work),
         (needed, Collation::From(folder)) => {
+            // it is read once more
+            drop(bundle);
             let path = or_fail(rt, name, forms_file(rt.alloc(), folder, bundle_name))?;
             built_file(rt, source, needed, path.as_str(), work)
         }

@@ -17,7 +17,7 @@ import tempfile
 
 from write_compare import string, strings
 
-ROWS = pathlib.Path(__file__).resolve().parent.parent / 'crates/resb_text_rows/src/rows.rt'
+ROWS = pathlib.Path(__file__).resolve().parent / 'rows/texts.txt'
 KEYS = ['k', 'l', 'key', 'ey', 'a', 'zz', '"é"', '"a b"', '""', 'K', '0', '"{"', '"/*"', '-']
 BATCH = 500
 
@@ -60,9 +60,9 @@ def text(rng, is_sorted):
 
 def rows():
     """The texts of the rows that are bundles."""
-    for line in ROWS.read_text().split('BUNDLES: &str = r#"')[1].split('"#;')[0].split('\n'):
-        if ' => ' in line:
-            yield line.split(' => ')[0].encode()
+    for row in ROWS.read_text(encoding='utf-8').split(';\n'):
+        if ' => ' in row and '␍' not in row:
+            yield row.split('\n')[-1].split(' => ')[0].encode()
 
 
 def compiled(program, folder, texts):

@@ -15,9 +15,9 @@ import subprocess
 import sys
 import tempfile
 
+from rows import rows_of
 from write_compare import string, strings
 
-ROWS = pathlib.Path(__file__).resolve().parent.parent / 'crates/resb_text_rows/src/rows.rt'
 KEYS = ['k', 'l', 'key', 'ey', 'a', 'zz', '"é"', '"a b"', '""', 'K', '0', '"{"', '"/*"', '-']
 BATCH = 500
 
@@ -60,9 +60,8 @@ def text(rng, is_sorted):
 
 def rows():
     """The texts of the rows that are bundles."""
-    for line in ROWS.read_text().split('BUNDLES: &str = r#"')[1].split('"#;')[0].split('\n'):
-        if ' => ' in line:
-            yield line.split(' => ')[0].encode()
+    for said, _ in rows_of('texts.txt', mark=' => '):
+        yield said.encode()
 
 
 def compiled(program, folder, texts):

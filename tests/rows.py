@@ -1,15 +1,13 @@
 #!/usr/bin/env python3
 """Rows of texts and files through the built programs `resb_tool` and `resb`.
 
-Each file of tests/rows says in its first lines what its rows are. What stands in
-crates/resb_text_rows/src/rows.rt, for the tests of public calls, is asked of the programs too:
-texts with their trees, and texts with the places where they are refused. All expected values come
-from the rules of texts and of files. The last line is 'N passed, M failed'.
+Each file of tests/rows says in its first lines what its rows are. All expected values come from the
+rules of texts and of files, or from ICU's programs. The last line is 'N passed, M failed'.
 """
-import ast
 import json
 import os
 import re
+import struct
 import subprocess
 import sys
 import tempfile
@@ -38,25 +36,13 @@ def ran(*words, given=b''):
 
 
 def rows_of(name, end=';\n', mark=' =>'):
-    """The rows of a file of tests/rows: what is asked, and what is wanted."""
+    """The rows of a file of tests/rows: what is asked, where '␍' is a carriage return and '␊' a
+    line feed, and what is wanted."""
     with open(f'{TOP}/tests/rows/{name}', encoding='utf-8', newline='') as it:
         text = re.sub(r'(?m)^# .*\n', '', it.read())
     for row in text.split(end)[:-1]:
         asked, _, wanted = row.partition(mark)
-        yield asked, wanted
-
-
-def shared_rows(name, lines):
-    """The rows of two constants of resb_text_rows: texts and their answers, a line each, and texts
-    of several lines, as tuples."""
-    with open(f'{TOP}/crates/resb_text_rows/src/rows.rt', encoding='utf-8') as it:
-        source = it.read()
-    text = re.search(rf'pub const {name}: &str = r#"(.*?)"#;', source, re.S)[1]
-    for row in text.split('\n')[:-1]:
-        asked, _, wanted = row.partition(' => ')
-        yield asked, wanted
-    text = re.search(rf'pub const {lines}: [^=]* = \[(.*?)\n\];', source, re.S)[1]
-    yield from ast.literal_eval(f'[{text}]')
+        yield asked.replace('␍', '\r').replace('␊', '\n'), wanted
 
 
 def written(name, content):
@@ -117,6 +103,33 @@ def files():
             seen(is_read_back(file), f'read back: {text}')
             same += is_same_in_icu(text, file)
     seen(same >= 20, f"texts that have one file in both forms: {same}")
+    for text, wanted in rows_of('aliases.txt'):
+        file, said = compiled(text, 'b', '--icu')
+        digits = HEADER.hex() + ''.join(wanted.split())
+        if seen(file == bytes.fromhex(digits), f"resb compile --icu: {text}: {said}"):
+            seen(is_read_back(file, ['--icu']), f"read back in ICU's form: {text}")
+
+
+def far_text(table):
+    """The text of a table with far keys, and its JSON."""
+    if table == 'numbers':
+        entries = {f'{number:05}': 0 for number in range(65536)}
+        return 'b{' + ''.join(f'{key}:int{{0}}' for key in entries) + '}', entries
+    count, keys = table.split(' ')
+    entries = {'K' * int(count) if key == 'L' else 'z': 'x' if key == 'L' else 'y' for key in keys}
+    return 'b{' + ''.join(f'{key}{{{value}}}' for key, value in entries.items()) + '}', entries
+
+
+def far():
+    """Tables with far keys, which are read back."""
+    for asked, wanted in rows_of('far.txt'):
+        table, numbers = asked.split(' | ')
+        text, entries = far_text(table)
+        file = compiled(text)[0] or b''
+        words = [file[32 + 4 * int(it):][:4] for it in numbers.split()]
+        found = [str(len(file)), *(f"{int.from_bytes(it, 'little'):x}" for it in words)]
+        seen(found == wanted.split(), f'{asked}: {found}')
+        seen(value_of(json_of(file)) == entries, f'read back: {asked}')
 
 
 def tree_of(words):
@@ -152,16 +165,34 @@ def signed(number, bits):
     return (number + half) % (2 * half) - half
 
 
-def bundles():
-    """Texts and the trees of their files, which are printed and read back, in ICU's form too."""
-    for text, wanted in shared_rows('BUNDLES', 'LINES'):
-        shown = wanted.partition(': ')[2].rpartition(', keys')[0]
-        words = re.findall(r"'[^']*'|[^\s:]*:|[^\s]+", shown)
-        file, said = compiled(text)
+def head_of(file):
+    """Whether a file has fallback, and its keys as they lie in it."""
+    _, count, keys_end, _, _, _, attributes = struct.unpack_from('<7I', file, 32)
+    keys = file[36 + 4 * count:32 + 4 * keys_end].split(b'\0')[:-1]
+    return attributes & 1 == 0, [it.decode() for it in keys]
+
+
+def is_bundle(file, wanted):
+    """Whether a file has the flag, the tree and the keys of a bundle, as rows of texts write it: a
+    file has the keys that are used, in the order in which they are discovered."""
+    head, _, rest = wanted.partition(': ')
+    shown, _, keys = rest.rpartition(', keys')
+    words = re.findall(r"'[^']*'|[^\s:]*:|[^\s]+", shown)
+    used = {it[:-1] for it in words if it.endswith(':')}
+    listed = [it for it in keys.split() if it in used]
+    has_fallback = not head.endswith(' without fallback')
+    return head_of(file) == (has_fallback, listed) and value_of(json_of(file)) == tree_of(words)
+
+
+def texts():
+    """Texts and the bundles of their files, which are printed and read back, in ICU's form too."""
+    for text, wanted in rows_of('texts.txt', mark=' => '):
+        name = wanted.partition(': ')[0].removesuffix(' without fallback')
+        file, said = compiled(text, name, '--by-name')
         if not seen(file, f'compile: {text}: {said}'):
             continue
-        found = json_of(file)
-        seen(value_of(found) == tree_of(words), f'tree of {text}: {found}')
+        seen(is_bundle(file, wanted), f'bundle of {text}: {json_of(file)}')
+        os.remove(f'{name}.res')
         seen(is_read_back(file), f'printed: {text}')
         if ran(RESB, 'dump', '--icu', '-', given=file)[2] == b'':
             seen(is_read_back(file, ['--icu']), f"printed in ICU's form: {text}")
@@ -169,11 +200,26 @@ def bundles():
 
 def refusals():
     """Texts and the places where they are refused."""
-    for text, wanted in shared_rows('REFUSALS', 'REFUSED_LINES'):
+    for text, wanted in rows_of('refusals.txt', mark=' => '):
         place, _, expected = wanted.removeprefix('at ').partition(': ')
         status, out, said = ran(TOOL, given=text.encode())
         told = REFUSED.format(place, expected)
         seen((status, out, said.decode()) == (1, b'', told), f'resb_tool: {text}')
+
+
+def limits():
+    """Texts that are read within limits of bytes, or refused."""
+    for asked, wanted in rows_of('limits.txt', mark=' => '):
+        limit, text = asked.split(' ', 1)
+        file, said = compiled(text, 'b', '--limit', limit)
+        if wanted.endswith('the limit'):
+            line = f'b.txt: reading this text takes more than the limit of {limit} bytes\n'
+            seen(file is None and said == line, f'{asked}: {said}')
+        elif wanted.startswith('at '):
+            expected = wanted.partition(': ')[2]
+            seen(file is None and f': expected {expected}' in said, f'{asked}: {said}')
+        else:
+            seen(file and is_bundle(file, wanted), f'{asked}: {said}')
 
 
 def nested():
@@ -232,31 +278,88 @@ def answers():
         seen(holds, f'get: {asked}')
 
 
-def file_of(text):
-    """The file of a text in which an apostrophe is a quote; or of the words that are given."""
+def file_of(text, *words):
+    """The file of a text; or of the words that are given."""
     if re.fullmatch('[0-9a-f ]+', text):
-        words = [int(it, 16).to_bytes(4, 'little') for it in text.split()]
-        return HEADER + b''.join(words)
-    file = compiled(text)[0] or b''
-    return file[:len(HEADER)] + file[len(HEADER):].replace(b"'", b'"')
+        numbers = [int(it, 16).to_bytes(4, 'little') for it in text.split()]
+        return HEADER + b''.join(numbers)
+    return compiled(text, 'b', *words)[0] or b''
+
+
+def printed_file(form, text):
+    """The form in which the file of a row is printed, and the file; in that of a text of the plain
+    form an apostrophe is a quote."""
+    form, _, other = form.partition(' of ')
+    if other:
+        return form, file_of(text, '--icu')
+    file = file_of(text)
+    return form, file[:len(HEADER)] + file[len(HEADER):].replace(b"'", b'"')
 
 
 def printed():
     """Files and the texts that they are printed as, or why they have none."""
     for asked, wanted in rows_of('printed.txt', mark=' =>\n'):
         form, name, text = asked.split(' | ', 2)
+        form, content = printed_file(form, text)
         words = ['--icu'] if form == 'icu' else []
-        file = written(f'{name}.res', file_of(text))
+        file = written(f'{name}.res', content)
         status, out, said = ran(RESB, 'dump', *words, file)
         seen((status, out.decode(), said) == (0, wanted, b''), f'{asked}: {out.decode()}')
     for asked, wanted in rows_of('causes.txt', mark=' => '):
         form, name, text = asked.split(' | ', 2)
+        form, content = printed_file(form, text)
         words, what = (['--icu'], "text in ICU's form") if form == 'icu' else ([], 'text')
-        file = written(f'{name}.res', file_of(text))
+        file = written(f'{name}.res', content)
         status, out, said = ran(RESB, 'dump', *words, file)
         line = f'{file}: this has no {what}, since {wanted}; here is its JSON\n'
         is_json = out == ran(RESB, 'dump', '--json', file)[1]
         seen(status == 0 and said.decode() == line and is_json, f'{asked}: {said.decode()}')
+
+
+def shown():
+    """Texts of ICU's form, their JSON and their warnings, and what differs between two texts."""
+    for text, wanted in rows_of('json.txt', mark=' => '):
+        file, said = compiled(text, 'b', '--icu')
+        seen(file and json_of(file) == f'{wanted}\n'.encode(), f'JSON of {text}: {said}')
+    for text, wanted in rows_of('warnings.txt', mark=' => '):
+        file, said = compiled(text, 'b', '--icu')
+        found = [it for it in said.split('\n') if it.startswith('b.txt:')]
+        place, _, what = wanted.partition(' ')
+        lines = [f'b.txt:{location(text, int(place))}: warning: {what}'] if what else []
+        seen(file and found == lines, f'warnings of {text}: {said}')
+    for asked, wanted in rows_of('diffs.txt', mark=' =>\n'):
+        old, new = asked.split(' | ')
+        old, new = written('old.res', file_of(old)), written('new.res', file_of(new))
+        answer = ran(RESB, 'diff', old, new)
+        seen(answer == (1 if wanted else 0, wanted.encode(), b''), f'{asked}: {answer}')
+
+
+FILTERED = 'r{a{x{"ax"}y{"ay"}z{p{"azp"}q{"azq"}}}b{x{"bx"}y{"by"}}c{"c"}}'
+
+
+def left_by(rules):
+    """The JSON of what rules leave of that text, or what is wrong with them."""
+    written('rules/r.txt', rules)
+    words = ['genrb', '-q', '-s', '.', '-d', '.', '--filterDir', 'rules', 'r.txt']
+    status, _, said = ran(RESB, *words)
+    if status:
+        return said.decode().removeprefix('rules/r.txt: ').rstrip('\n')
+    with open('r.res', 'rb') as it:
+        return json_of(it.read()).decode().rstrip('\n')
+
+
+def filters():
+    """Rules, and what they leave of a text."""
+    os.mkdir('rules')
+    written('r.txt', FILTERED)
+    for rules, wanted in rows_of('filters.txt', mark=' => '):
+        found = left_by(rules)
+        seen(found == wanted, f'rules {rules!r}: {found}')
+    found = left_by('-' + '/a' * 1000)
+    seen(found.startswith('{'), f'a path of 1000 pieces: {found}')
+    found = left_by('-' + '/a' * 1001)
+    wanted = "line 1: a rule's path has more than 1000 pieces"
+    seen(found == wanted, f'a path of 1001 pieces: {found}')
 
 
 def main():
@@ -267,7 +370,7 @@ def main():
             return 1
     with tempfile.TemporaryDirectory() as folder:
         os.chdir(folder)
-        for part in (files, bundles, refusals, nested, answers, printed):
+        for part in (files, far, texts, refusals, limits, nested, answers, printed, shown, filters):
             part()
     print(f'{counts[True]} passed, {counts[False]} failed')
     return 1 if counts[False] else 0

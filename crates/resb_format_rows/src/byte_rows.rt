@@ -6,13 +6,15 @@ use resb_format::bytes;
 const BYTES: [u8; 9] = [1, 2, 3, 4, 5, 6, 7, 8, 9];
 
 fn are_spelled(bytes: &[u8; 9]) -> bool {
-    bytes::unit_at(bytes, 3) == 0x0807
-        && bytes::word_at(bytes, 1) == 0x0807_0605
-        && bytes::byte_at(bytes, 8) == 9
-        && bytes::two_at(bytes, 7) == [8, 9]
-        && bytes::four_at(bytes, 5) == [6, 7, 8, 9]
-        && bytes::unit_in(bytes, 0, true) == 0x0102
-        && bytes::unit_in(bytes, 0, false) == 0x0201
+    let units = [
+        bytes::unit_at(bytes, 3),
+        bytes::unit_in(bytes, 0, true),
+        bytes::unit_in(bytes, 0, false),
+    ];
+    let (word, byte) = (bytes::word_at(bytes, 1), bytes::byte_at(bytes, 8));
+    let (two, four) = (bytes::two_at(bytes, 7), bytes::four_at(bytes, 5));
+    let are_numbers = units == [0x0807, 0x0102, 0x0201] && word == 0x0807_0605 && byte == 9;
+    are_numbers && two == [8, 9] && four == [6, 7, 8, 9]
 }
 
 #[test]
@@ -76,13 +78,18 @@ fn first_numbers(bytes: &[u8]) -> bool {
     unit == 0x0201 && behind_unit.len() == 7 && word == 0x0403_0201 && behind_word.len() == 5
 }
 
+/// Whether bytes that are too few are not cut, and have no first numbers.
+fn are_too_few(bytes: &[u8]) -> bool {
+    let is_cut = bytes::cut_at(bytes, 4).is_some();
+    let has_word = bytes::first_word(bytes).is_some();
+    let has_units = bytes::first_four_units(bytes).is_some();
+    !is_cut && !has_word && !has_units
+}
+
 #[test]
 fn bytes_are_cut_behind_their_first_numbers(rt: HostRuntime) {
-    assert!(rt; is_cut(&BYTES));
-    assert!(rt; bytes::cut_at(&BYTES, 10).is_none());
-    assert!(rt; first_numbers(&BYTES));
+    assert!(rt; is_cut(&BYTES) && first_numbers(&BYTES));
     assert!(rt; first_units(&BYTES) == Some((0x0201, 0x0403, 0x0605, 0x0807, 1)));
-    assert!(rt; bytes::first_unit(&[1]).is_none());
-    assert!(rt; bytes::first_word(&[1, 2, 3]).is_none());
-    assert!(rt; bytes::first_four_units(&[1, 2, 3, 4, 5, 6, 7]).is_none());
+    assert!(rt; are_too_few(&[1, 2, 3]));
+    assert!(rt; bytes::first_unit(&[1]).is_none() && first_units(&BYTES[2..]).is_none());
 }

@@ -44,21 +44,34 @@ fn is_item(item: Option<Item<'_>>, name: &str, bytes: &[u8]) -> bool {
     }
 }
 
+/// Names, and the items that are found by them.
+const NAMES: [(&str, Option<&[u8]>); 5] = [
+    ("a", Some(b"WXYZ")),
+    ("b", Some(b"!")),
+    ("", None),
+    ("aa", None),
+    ("c", None),
+];
+
+/// Whether a package finds its items by their names, and no others.
+fn finds(package: Package<'_>) -> bool {
+    for (name, item) in NAMES {
+        if package.get(name) != item {
+            return false;
+        }
+    }
+    true
+}
+
 /// Whether the package has its two items, and finds them and no others.
 fn has_its_items() -> bool {
     let Ok(package) = Package::read(PACKAGE.as_slice()) else {
         return false;
     };
-    package.len() == 2
-        && !package.is_empty()
-        && is_item(package.item(0), "a", b"WXYZ")
-        && is_item(package.item(1), "b", b"!")
-        && package.item(2).is_none()
-        && package.get("a") == Some(b"WXYZ".as_slice())
-        && package.get("b") == Some(b"!".as_slice())
-        && package.get("").is_none()
-        && package.get("aa").is_none()
-        && package.get("c").is_none()
+    let (first, second) = (package.item(0), package.item(1));
+    let are_items = is_item(first, "a", b"WXYZ") && is_item(second, "b", b"!");
+    let are_two = package.len() == 2 && !package.is_empty();
+    are_items && are_two && package.item(2).is_none() && finds(package)
 }
 
 /// Whether the bytes are refused for this.

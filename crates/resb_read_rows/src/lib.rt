@@ -6,6 +6,7 @@
 mod answers;
 #[cfg(test)]
 mod asks;
+#[cfg(test)]
 mod both;
 #[cfg(test)]
 mod both_rows;
@@ -31,5 +32,3 @@ mod pool_rows;
 mod rows;
 #[cfg(test)]
 mod type_rows;
-
-pub use both::Both;

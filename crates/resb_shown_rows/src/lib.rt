@@ -1,5 +1,6 @@
-//! The worked rows of what is shown: texts with the JSON of their trees and with their
-//! bundles' lines, writers that fail, trees with their differences, and what is told of texts.
+//! The worked rows of what is shown: lengths of JSON and of lines, writers that fail, deep trees
+//! with their differences, and what is told of texts. What stands in JSON and lines, what differs,
+//! and what texts are warned of are rows of `tests/rows.py`.
 //! Only tests stand here, so that no crate with code is proved twice.
 #![tactic(auto)]
 

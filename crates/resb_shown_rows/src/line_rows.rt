@@ -1,134 +1,81 @@
-//! Texts with the lines of their bundles in both forms, by the rules of printed texts, and whether
-//! each is a text of the form.
+//! The calls that show bundles as lines: their length, lines within a limit, and what keeps a
+//! bundle from having a text. Other bundles are asked of the program, by `tests/rows.py`.
 use resb_icu_text::IcuReader;
 use resb_lines::{
     Form, Icu, Plain, ShownBundle, find_cause, has_text, lines_length_within, lines_within,
     write_lines,
 };
-use std::alloc::Global;
+use resb_tree::ResourceBundle;
+use std::alloc::{AllocError, Global};
 use std::test::Fail;
 
-/// Texts whose lines are the same in both forms.
-const ROWS: [(&str, &str); 3] = [
-    ("b{}", "b{\n}\n"),
-    ("b{a{\"x\"}}", "b{\n    a{\"x\"}\n}\n"),
-    (
-        "b{w:table{}v:intvector{1,2}t{u:int{7}}l:array{\"y\",:bin{\"0a\"}}e:array{}}",
-        "b{\n    e:array{}\n    l:array{\n        \"y\",\n        :bin{\"0a\"},\n    }\n    \
-         t{\n        u:int{7}\n    }\n    v:intvector{1,2}\n    w:table{}\n}\n",
-    ),
-];
+/// A text, and its lines in both forms.
+const TEXT: &str = "b{w:table{}v:intvector{1,2}t{u:int{7}}l:array{\"y\",:bin{\"0a\"}}e:array{}}";
 
-/// The lines of a text's bundle in a form, and whether it has a text of that form.
-fn lines_of<F: Form>(alloc: Global, form: F, text: &str) -> Result<String, Fail> {
-    let (bundle, _) = IcuReader::read(alloc, text)?;
-    let mut lines = Vec::new(alloc);
-    write_lines(alloc, &mut lines, form, ShownBundle::of(&bundle))?;
-    let lines = str::from_utf8(lines.as_slice())?;
-    let has = has_text(alloc, form, ShownBundle::of(&bundle))?;
-    Ok(format!(in alloc; "{lines}{has}")?)
+const LINES: &str =
+    "b{\n    e:array{}\n    l:array{\n        \"y\",\n        :bin{\"0a\"},\n    }\n    \
+    t{\n        u:int{7}\n    }\n    v:intvector{1,2}\n    w:table{}\n}\n";
+
+/// How many bytes they have.
+const LENGTH: u64 = LINES.len() as u64;
+
+/// Whether a bundle has a text of a form, which is those lines, with their length within a limit of
+/// that, and not within a byte less.
+fn is_shown<F: Form>(alloc: Global, form: F, bundle: &ResourceBundle<'_>) -> Result<bool, Fail> {
+    let shown = ShownBundle::of(bundle);
+    let has_text = has_text(alloc, form, shown)?;
+    let within = lines_length_within(alloc, form, shown, LENGTH)?;
+    let over = lines_length_within(alloc, form, shown, LENGTH - 1)?;
+    let mut written = Vec::new(alloc);
+    write_lines(alloc, &mut written, form, shown)?;
+    let has_length = within == Some(LENGTH) && over.is_none();
+    Ok(has_text && has_length && written.as_slice() == LINES.as_bytes())
+}
+
+/// Whether a bundle's lines are made within a limit of their length, and not within a byte less.
+fn is_within(alloc: Global, bundle: &ResourceBundle<'_>) -> Result<bool, AllocError> {
+    let shown = ShownBundle::of(bundle);
+    let is_less = lines_within(alloc, Plain, shown, LENGTH - 1)?.is_some();
+    match lines_within(alloc, Plain, shown, LENGTH)? {
+        Some(made) => Ok(!is_less && made.as_str() == LINES),
+        None => Ok(false),
+    }
+}
+
+/// Whether the text has its lines by each call.
+fn has_lines(alloc: Global) -> Result<bool, Fail> {
+    let (bundle, _) = IcuReader::read(alloc, TEXT)?;
+    let is_shown = is_shown(alloc, Plain, &bundle)? && is_shown(alloc, Icu, &bundle)?;
+    Ok(is_shown && is_within(alloc, &bundle)?)
 }
 
 #[test]
 fn bundles_have_their_lines(rt: HostRuntime) -> Result<(), Fail> {
-    for (text, wanted) in ROWS {
-        let wanted = format!(in rt.alloc(); "{wanted}true")?;
-        let plain = lines_of(rt.alloc(), Plain, text)?;
-        assert_eq!(rt; plain.as_str(), wanted.as_str());
-        let icu = lines_of(rt.alloc(), Icu, text)?;
-        assert_eq!(rt; icu.as_str(), wanted.as_str());
-    }
+    assert!(rt; has_lines(rt.alloc())?);
     Ok(())
 }
 
-/// Whether the lines of a text's bundle have so many bytes within that limit, and are over a byte
-/// less.
-fn has_length<F: Form>(alloc: Global, form: F, text: &str, length: u64) -> Result<bool, Fail> {
+/// What keeps a bundle from having a plain text, and the path to it.
+fn cause_in(alloc: Global, bundle: &ResourceBundle<'_>) -> Result<String, AllocError> {
+    let shown = ShownBundle::of(bundle);
+    let has_text = has_text(alloc, Plain, shown)?;
+    match find_cause(alloc, Plain, shown)? {
+        Some((path, cause)) => format!(in alloc; "{cause:?} {path:?} {has_text}"),
+        None => String::from_str(alloc, "none"),
+    }
+}
+
+/// The same of a text.
+fn cause_of(alloc: Global, text: &str) -> Result<String, Fail> {
     let (bundle, _) = IcuReader::read(alloc, text)?;
-    let within = lines_length_within(alloc, form, ShownBundle::of(&bundle), length)?;
-    let over = lines_length_within(
-        alloc,
-        form,
-        ShownBundle::of(&bundle),
-        length.saturating_sub(1),
-    )?;
-    Ok(within == Some(length) && over.is_none())
+    Ok(cause_in(alloc, &bundle)?)
 }
 
-#[test]
-fn lines_have_their_length(rt: HostRuntime) -> Result<(), Fail> {
-    for (text, wanted) in ROWS {
-        let length = wanted.len() as u64;
-        assert!(rt; has_length(rt.alloc(), Plain, text, length)?, "{text}");
-        assert!(rt; has_length(rt.alloc(), Icu, text, length)?, "{text}");
-    }
-    Ok(())
-}
-
-#[test]
-fn quotes_and_aliases_have_no_plain_text(rt: HostRuntime) -> Result<(), Fail> {
-    let icu = lines_of(rt.alloc(), Icu, "b{q{\"a\\\"b\"}x:alias{\"/p\"}}")?;
-    assert_eq!(rt;
-        icu.as_str(),
-        "b{\n    q{\"a\\\"b\"}\n    x:alias{\"/p\"}\n}\ntrue"
-    );
-    let plain = lines_of(rt.alloc(), Plain, "b{x:alias{\"/p\"}}")?;
-    assert_eq!(rt; plain.as_str(), "b{\n    x:alias{\"/p\"}\n}\nfalse");
-    let plain = lines_of(rt.alloc(), Plain, "b{q{\"a\\\"b\"}}")?;
-    assert!(rt; plain.as_str().ends_with("false"));
-    Ok(())
-}
-
-/// Texts of ICU's form whose bundles have no plain text, each with the first cause of that and the
-/// path to it.
-const CAUSES: [(&str, &str); 4] = [
-    (
-        "b{t{l:array{\"y\",:alias{\"/p\"}}}u{\"\\\"\"}}",
-        "Alias [Key(\"t\"), Key(\"l\"), Member(1)]",
-    ),
-    (
-        "b{a:array{:array{},\"x\"}q{\"a\\\"b\"}x:alias{\"/p\"}}",
-        "QuoteInString [Key(\"q\")]",
-    ),
-    ("b{x:alias{\"/p\"}}", "Alias [Key(\"x\")]"),
-    ("b{e:table{}v:intvector{1}w{:bin{\"00\"}}}", "none"),
-];
-
-/// What keeps a text's bundle from having a plain text.
-fn cause_in(alloc: Global, text: &str) -> Result<String, Fail> {
-    let (bundle, _) = IcuReader::read(alloc, text)?;
-    match find_cause(alloc, Plain, ShownBundle::of(&bundle))? {
-        Some((path, cause)) => Ok(format!(in alloc; "{cause:?} {path:?}")?),
-        None => Ok(format!(in alloc; "none")?),
-    }
-}
-
+/// An alias that stands before a quote.
 #[test]
 fn the_first_cause_has_a_path(rt: HostRuntime) -> Result<(), Fail> {
-    for (text, wanted) in CAUSES {
-        let found = cause_in(rt.alloc(), text)?;
-        assert_eq!(rt; found.as_str(), wanted);
-    }
-    Ok(())
-}
-
-/// The lines of a text's bundle within a limit of bytes.
-fn within(alloc: Global, text: &str, limit: u64) -> Result<String, Fail> {
-    let (bundle, _) = IcuReader::read(alloc, text)?;
-    match lines_within(alloc, Plain, ShownBundle::of(&bundle), limit)? {
-        Some(lines) => Ok(lines),
-        None => Ok(format!(in alloc; "more")?),
-    }
-}
-
-#[test]
-fn lines_are_made_within_a_limit(rt: HostRuntime) -> Result<(), Fail> {
-    for (text, wanted) in ROWS {
-        let length = wanted.len() as u64;
-        let whole = within(rt.alloc(), text, length)?;
-        assert_eq!(rt; whole.as_str(), wanted);
-        let more = within(rt.alloc(), text, length.saturating_sub(1))?;
-        assert_eq!(rt; more.as_str(), "more");
-    }
+    let text = "b{t{l:array{\"y\",:alias{\"/p\"}}}u{\"\\\"\"}}";
+    let cause = cause_of(rt.alloc(), text)?;
+    assert!(rt; cause.as_str() == "Alias [Key(\"t\"), Key(\"l\"), Member(1)] false");
     Ok(())
 }

@@ -1,6 +1,6 @@
 //! Texts of ICU's form that name other files, and what they are taken in as beside some.
 //! What the program makes of such texts stands in `tests/sessions`.
-use resb_icu_files::{FilesError, TextFile, files_taken, with_files};
+use resb_icu_files::{TakenIn, TextFile, files_taken, with_files};
 use std::alloc::{AllocError, Global};
 use std::test::Fail;
 
@@ -12,7 +12,8 @@ const FILES: [(&str, &[u8]); 7] = [
     ("s", b"\\ud800 half"),
     (
         "c",
-        b"&\t[last \\u0061 # ]# '\r\n< '\\u0062 # \n' \\U00000063 < \\- [' d]'\\' e",
+        b"&\t[last \\u0061 # ]# '\r\n< '\\u0062 # \n' \
+          \\U00000063 < \\- [' d]'\\' e",
     ),
     ("d", b"& a < b # c"),
     ("e", b"& a < \\b"),
@@ -36,76 +37,104 @@ b{x:process(uca_rules){e}} => at byte 3: no collation rules in file e
 b{x:process(uca_rules){h}} => at byte 3: no file h
 "#;
 
+/// Adds a file.
+fn push_file(
+    alloc: Global,
+    files: &mut Vec<TextFile>,
+    name: &str,
+    bytes: &[u8],
+) -> Result<(), AllocError> {
+    let name = String::from_str(alloc, name)?;
+    let bytes = bytes.to_vec(alloc)?;
+    files.push(TextFile { name, bytes })?;
+    Ok(())
+}
+
 /// The files that stand beside the texts.
 fn files(alloc: Global) -> Result<Vec<TextFile>, AllocError> {
     let mut files = Vec::new(alloc);
     for (name, bytes) in FILES {
-        files.push(TextFile {
-            name: String::from_str(alloc, name)?,
-            bytes: bytes.to_vec(alloc)?,
-        })?;
+        push_file(alloc, &mut files, name, bytes)?;
     }
     Ok(files)
 }
 
 /// What a text is taken in as, or the refusal.
-fn taken(alloc: Global, text: &str) -> Result<String, AllocError> {
-    match with_files(alloc, text, files(alloc)?.as_slice()) {
+fn taken(alloc: Global, text: &str, files: &[TextFile]) -> Result<String, AllocError> {
+    match with_files(alloc, text, files) {
         Ok(taken) => String::from_str(alloc, taken.text()),
         Err(e) => format!(in alloc; "{e}"),
     }
 }
 
+/// Whether a row's text is taken in as its answer says.
+fn holds(alloc: Global, row: &str, files: &[TextFile]) -> Result<bool, AllocError> {
+    match row.split_once(" => ") {
+        Some((text, wanted)) => Ok(taken(alloc, text, files)?.as_str() == wanted),
+        None => Ok(false),
+    }
+}
+
 #[test]
-fn texts_are_taken_in(rt: HostRuntime) -> Result<(), Fail> {
+fn texts_are_taken_in(rt: HostRuntime) -> Result<(), AllocError> {
+    let files = files(rt.alloc())?;
     for row in ROWS.split_terminator('\n') {
-        let (text, wanted) = row.split_once(" => ").ok_or("a row without an answer")?;
-        let found = taken(rt.alloc(), text)?;
-        assert_eq!(rt; found.as_str(), wanted, "{text}");
+        assert!(rt; holds(rt.alloc(), row, files.as_slice())?, "{row}");
     }
     Ok(())
 }
 
-/// The place in a text of a place of what it is taken in as, or the place behind all.
-fn place_before(alloc: Global, text: &str, place: usize) -> Result<usize, AllocError> {
-    match with_files(alloc, text, files(alloc)?.as_slice()) {
-        Ok(taken) => Ok(taken.place_before(place)),
-        Err(FilesError::OutOfMemory) => Err(AllocError),
-        Err(_) => Ok(usize::MAX),
+/// Places in what a text is taken in as, and in the text, or behind all of it.
+const PLACES: [(usize, usize); 8] = [
+    (2, 2),
+    (3, 3),
+    (14, 3),
+    (15, 13),
+    (17, 14),
+    (26, 37),
+    (48, 37),
+    (49, 37),
+];
+
+/// Whether these are the places in what a text was taken in as.
+fn are_places(taken: &TakenIn) -> bool {
+    for (place, wanted) in PLACES {
+        if taken.place_before(place) != wanted {
+            return false;
+        }
+    }
+    true
+}
+
+/// Whether these are the places in what a text is taken in as.
+fn has_places(alloc: Global, text: &str, files: &[TextFile]) -> bool {
+    match with_files(alloc, text, files) {
+        Ok(taken) => are_places(&taken),
+        Err(_) => false,
     }
 }
 
 #[test]
-fn places_are_told(rt: HostRuntime) -> Result<(), Fail> {
+fn places_are_told(rt: HostRuntime) -> Result<(), AllocError> {
     let text = "b{x:import{g}y:process(dependency){z}}";
     // b{x:bin{"01ff"}y:string{z} %%DEPENDENCY:array{z,}}
-    for (place, wanted) in [
-        (2, 2),
-        (3, 3),
-        (14, 3),
-        (15, 13),
-        (17, 14),
-        (26, 37),
-        (48, 37),
-        (49, 37),
-    ] {
-        assert_eq!(rt; place_before(rt.alloc(), text, place)?, wanted, "{place}");
-    }
+    let files = files(rt.alloc())?;
+    assert!(rt; has_places(rt.alloc(), text, files.as_slice()));
     Ok(())
+}
+
+/// The names of the files that a text takes in, one behind the other.
+fn names_in(alloc: Global, text: &str) -> Result<String, Fail> {
+    let mut names = String::new(alloc);
+    for file in files_taken(alloc, text)?.as_slice() {
+        names.push_str(file.name.as_str())?;
+    }
+    Ok(names)
 }
 
 #[test]
 fn files_are_named(rt: HostRuntime) -> Result<(), Fail> {
     let text = "b{x:import{g}y:process(dependency){z}w:include{f}}";
-    let mut names = String::new(rt.alloc());
-    match files_taken(rt.alloc(), text) {
-        Ok(files) => {
-            for file in files.as_slice() {
-                names.push_str(file.name.as_str())?;
-            }
-        }
-        Err(_) => names.push_str("out of memory")?,
-    }
-    assert_eq!(rt; names.as_str(), "gf");
+    assert!(rt; names_in(rt.alloc(), text)?.as_str() == "gf");
     Ok(())
 }

@@ -1,5 +1,6 @@
-//! The worked rows of texts and trees: inputs with the answers that the rules ask for. Only rows
-//! and tests stand here, so that no crate with code is proved twice.
+//! The worked rows of texts and trees: inputs with the answers that the rules ask for. Only tests
+//! stand here, so that no crate with code is proved twice. Whole texts are asked of the programs,
+//! by `tests/rows.py`.
 #![tactic(auto)]
 
 #[cfg(test)]
@@ -8,7 +9,6 @@ mod files_rows;
 mod icu_rows;
 #[cfg(test)]
 mod print_rows;
-pub mod rows;
 #[cfg(test)]
 mod text_rows;
 #[cfg(test)]

@@ -9,19 +9,32 @@ use std::test::Fail;
 
 const DEPTH: u32 = 1_000_000;
 
+/// The array of a tree alone.
+fn array_of(alloc: Global, tree: Resource<'static>) -> Result<Resource<'static>, AllocError> {
+    let mut items = Vec::new(alloc);
+    items.push(tree)?;
+    Ok(Resource::Array(items))
+}
+
 fn nested_arrays(alloc: Global, depth: u32) -> Result<Resource<'static>, AllocError> {
     let mut tree = Resource::Integer(Int28::from(1u32));
     for _ in 0..depth {
-        tree = Resource::Array(vec![in alloc; tree]?);
+        tree = array_of(alloc, tree)?;
     }
     Ok(tree)
 }
 
+/// Puts a tree at a key.
+fn put<'a>(table: &mut Table<'a>, key: &'a str, tree: Resource<'a>) -> Result<(), AllocError> {
+    table.insert(Key::from(key), tree)?;
+    Ok(())
+}
+
 /// The table of a tree at a and of an empty table at b.
 fn table_of(alloc: Global, tree: Resource<'static>) -> Result<Resource<'static>, AllocError> {
-    let mut table: Table = BTreeMap::new(alloc);
-    table.insert(Key::from("a"), tree)?;
-    table.insert(Key::from("b"), Resource::Table(BTreeMap::new(alloc)))?;
+    let mut table: Table<'static> = BTreeMap::new(alloc);
+    put(&mut table, "a", tree)?;
+    put(&mut table, "b", Resource::Table(BTreeMap::new(alloc)))?;
     Ok(Resource::Table(table))
 }
 
@@ -33,19 +46,16 @@ fn nested_tables(alloc: Global, depth: u32) -> Result<Resource<'static>, AllocEr
     Ok(tree)
 }
 
-#[test]
-fn a_million_levels_of_arrays_are_dropped(rt: HostRuntime) -> Result<(), Fail> {
-    let tree = nested_arrays(rt.alloc(), DEPTH)?;
-    let deep = matches!(&tree, Resource::Array(_));
-    assert!(rt; deep);
-    Ok(())
+/// Whether so many arrays in one another are one, and so many tables. They are dropped.
+fn are_nested(alloc: Global, depth: u32) -> Result<(bool, bool), AllocError> {
+    let is_array = matches!(&nested_arrays(alloc, depth)?, Resource::Array(_));
+    let is_table = matches!(&nested_tables(alloc, depth)?, Resource::Table(_));
+    Ok((is_array, is_table))
 }
 
 #[test]
-fn a_million_levels_of_tables_are_dropped(rt: HostRuntime) -> Result<(), Fail> {
-    let tree = nested_tables(rt.alloc(), DEPTH)?;
-    let deep = matches!(&tree, Resource::Table(_));
-    assert!(rt; deep);
+fn a_million_levels_are_dropped(rt: HostRuntime) -> Result<(), AllocError> {
+    assert!(rt; are_nested(rt.alloc(), DEPTH)? == (true, true));
     Ok(())
 }
 
@@ -55,6 +65,14 @@ fn are_bytes_equal(alloc: Global, bytes: &[u8]) -> Result<bool, AllocError> {
     let borrowed = Resource::Binary(CowSlice::Borrowed(bytes));
     Ok(borrowed == owned && borrowed.equals(&owned))
 }
+
+/// How many levels tables have, how many others have, and whether they are equal.
+const LEVELS: [(u32, u32, bool); 4] = [
+    (2, 2, true),
+    (2, 3, false),
+    (200_000, 200_000, true),
+    (200_000, 200_001, false),
+];
 
 /// Whether tables of so many levels are equal, and whether they differ.
 fn are_tables_equal(alloc: Global, one: u32, other: u32) -> Result<(bool, bool), AllocError> {
@@ -69,24 +87,12 @@ fn is_no_vector(alloc: Global) -> Result<bool, AllocError> {
 }
 
 #[test]
-fn equal_trees_of_borrowed_and_owned_parts(rt: HostRuntime) -> Result<(), Fail> {
-    let are_equal = are_bytes_equal(rt.alloc(), b"ab")?;
-    assert!(rt; are_equal);
-    let shallow = are_tables_equal(rt.alloc(), 2, 2)?;
-    assert!(rt; shallow == (true, false));
-    let deeper = are_tables_equal(rt.alloc(), 2, 3)?;
-    assert!(rt; deeper == (false, true));
-    let is_other = is_no_vector(rt.alloc())?;
-    assert!(rt; is_other);
-    Ok(())
-}
-
-#[test]
-fn trees_of_two_hundred_thousand_levels_are_compared(rt: HostRuntime) -> Result<(), Fail> {
-    let alike = are_tables_equal(rt.alloc(), 200_000, 200_000)?;
-    assert!(rt; alike == (true, false));
-    let deeper = are_tables_equal(rt.alloc(), 200_000, 200_001)?;
-    assert!(rt; deeper == (false, true));
+fn trees_are_compared(rt: HostRuntime) -> Result<(), AllocError> {
+    for (one, other, wanted) in LEVELS {
+        assert!(rt; are_tables_equal(rt.alloc(), one, other)? == (wanted, !wanted));
+    }
+    assert!(rt; is_no_vector(rt.alloc())?);
+    assert!(rt; are_bytes_equal(rt.alloc(), b"ab")?);
     Ok(())
 }
 
@@ -97,20 +103,15 @@ fn hash_of(key: &Key<'_>) -> u64 {
     hasher.finish()
 }
 
-/// Whether a key is this text, and comes before another key.
-fn is_text_before(key: &Key<'_>, text: &str, later: &Key<'_>) -> bool {
-    key < later && key.as_bytes() == text.as_bytes() && key.as_str() == text
+/// Whether a key is this text.
+fn is_text(key: &Key<'_>, text: &str) -> bool {
+    key.as_bytes() == text.as_bytes() && key.as_str() == text
 }
 
-/// Whether two keys are the same, also by their hashes.
-fn are_one(one: &Key<'_>, other: &Key<'_>) -> bool {
-    one == other && hash_of(one) == hash_of(other)
-}
-
-/// Whether a key that owns a text is the one that borrows it.
+/// Whether a key that owns a text is the one that borrows it, also by their hashes.
 fn is_owned_key(alloc: Global, text: &str) -> Result<bool, AllocError> {
-    let owned = Key::from(String::from_str(alloc, text)?);
-    Ok(are_one(&Key::from(text), &owned))
+    let (owned, borrowed) = (Key::from(String::from_str(alloc, text)?), Key::from(text));
+    Ok(owned == borrowed && hash_of(&owned) == hash_of(&borrowed))
 }
 
 /// Whether a clone is the key.
@@ -118,23 +119,21 @@ fn has_clone(alloc: Global, key: &Key<'_>) -> Result<bool, NoMemory> {
     Ok(key.try_clone(alloc)? == *key)
 }
 
-/// The text of a key that owns it.
-fn text_of_owned(alloc: Global, text: &str) -> Result<String, Fail> {
+/// Whether the text of a key that owns one is that.
+fn has_own_text(alloc: Global, text: &str) -> Result<bool, AllocError> {
     match Key::from(String::from_str(alloc, text)?).into_string(alloc) {
-        Ok(text) => Ok(text),
-        Err(_) => Err(NoMemory)?,
+        Ok(own) => Ok(own.as_str() == text),
+        Err(_) => Ok(false),
     }
 }
 
 #[test]
 fn a_key_is_its_text(rt: HostRuntime) -> Result<(), Fail> {
-    assert!(rt; is_text_before(&Key::from("key"), "key", &Key::from("kez")));
-    let is_one = is_owned_key(rt.alloc(), "key")?;
-    assert!(rt; is_one);
-    let has_clone = has_clone(rt.alloc(), &Key::from("key"))?;
-    assert!(rt; has_clone);
-    let text = text_of_owned(rt.alloc(), "key")?;
-    assert_eq!(rt; text.as_str(), "key");
+    assert!(rt; is_text(&Key::from("key"), "key"));
+    assert!(rt; Key::from("key") < Key::from("kez"));
+    assert!(rt; is_owned_key(rt.alloc(), "key")?);
+    assert!(rt; has_own_text(rt.alloc(), "key")?);
+    assert!(rt; has_clone(rt.alloc(), &Key::from("key"))?);
     Ok(())
 }
 
@@ -163,26 +162,30 @@ fn integers_are_kept_modulo_two_to_the_28(rt: HostRuntime) {
     }
 }
 
-/// Whether a bundle holds this name and this root, and has no fallback.
-fn holds<'a>(bundle: &ResourceBundle<'a>, name: &str, root: &Resource<'a>) -> bool {
-    bundle.name() == name && *bundle.root() == *root && !bundle.is_locale_fallback_enabled
+/// The bundle of a string, without fallback.
+fn bundle_of<'a>(name: &'a str, text: &'a str) -> ResourceBundle<'a> {
+    let root = Resource::String(CowStr::Borrowed(text));
+    ResourceBundle::new(CowStr::Borrowed(name), root, false)
 }
 
-/// Whether a bundle holds what it is made of.
-fn is_held(name: &str, text: &str) -> bool {
-    let root = Resource::String(CowStr::Borrowed(text));
-    let bundle = ResourceBundle::new(CowStr::Borrowed(name), root, false);
-    holds(&bundle, name, &Resource::String(CowStr::Borrowed(text)))
+/// Whether the root of a bundle is this string.
+fn is_root(bundle: &ResourceBundle<'_>, text: &str) -> bool {
+    match bundle.root() {
+        Resource::String(root) => root.as_str() == text,
+        _ => false,
+    }
 }
 
 #[test]
 fn a_bundle_holds_name_root_and_flag(rt: HostRuntime) {
-    assert!(rt; is_held("root", "x"));
+    let bundle = bundle_of("root", "x");
+    assert!(rt; bundle.name() == "root" && !bundle.is_locale_fallback_enabled);
+    assert!(rt; is_root(&bundle, "x"));
 }
 
 #[test]
-fn want_of_memory_is_named(rt: HostRuntime) -> Result<(), Fail> {
+fn want_of_memory_is_named(rt: HostRuntime) -> Result<(), AllocError> {
     let text = format!(in rt.alloc(); "{NoMemory}")?;
-    assert_eq!(rt; text.as_str(), "out of memory");
+    assert!(rt; text.as_str() == "out of memory");
     Ok(())
 }

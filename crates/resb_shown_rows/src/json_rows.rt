@@ -75,7 +75,7 @@ fn failing_writers_have_a_part(rt: HostRuntime) {
 
 /// A text with each type, and the JSON of its tree.
 const TYPES: [&str; 2] = [
-    r#"b{k{"é\u0001\u0008\""}a:array{"x",:int{-1}}t:table{}v:intvector{1}d:bin{"0f"}x:alias{"/p"}}"#,
+    r#"b{k{"é\u0001\u0008\""}a{"x",:int{-1}}t:table{}v:intvector{1}d:bin{"0f"}x:alias{"/p"}}"#,
     r#"{"a":["x",-1],"d":{"binary":"0f"},"k":"é\u0001\b\"","t":{},"v":[1],"x":{"alias":"/p"}}"#,
 ];
 

@@ -22,7 +22,7 @@ const FILES: [(&str, &[u8]); 7] = [
 /// Texts, each with what it is taken in as, or with the refusal.
 const ROWS: &str = r#"b{x{"y"}} => b{x{"y"}}
 b{x:process(dependency){"y"}} => b{x:string{"y"} %%DEPENDENCY:array{"y",}}
-b{x:process(dependency) { y }/**/ } /* } */} => b{x:string{ y }/**/ } /* } */ %%DEPENDENCY:array{ y ,}}
+b{x:process(dependency) { y }/**/ } /*}*/} => b{x:string{ y }/**/ } /*}*/ %%DEPENDENCY:array{ y ,}}
 b{x:include{f}} => b{x:string{"a \"b\"\u000a"}}
 b{x:import {"g"} } => b{x:bin{"01ff"} }
 b{x:process(transliterator){r}} => b{x:string{"x > b ;'z # ' ;"}}

@@ -43,20 +43,31 @@ fn are_heads(pool: &[u8], file: &[u8]) -> Result<bool, BinaryDeserializerError> 
     )
 }
 
-/// Whether the strings are read by their keys.
-fn are_strings(
+/// Whether a text is read by its key in a map.
+fn is_long(
     alloc: Global,
     file: &[u8],
     pool: PoolBundle<'_>,
 ) -> Result<bool, BinaryDeserializerError> {
     let names: BTreeMap<&str, String> = from_bytes_with_pool(alloc, file, Some(pool))?;
-    let long = names
-        .get("alpha")
-        .is_some_and(|it| it.as_str() == "one two three");
+    match names.get("alpha") {
+        Some(text) => Ok(text.as_str() == "one two three"),
+        None => Ok(false),
+    }
+}
+
+/// Whether a text is read as the value of its key.
+fn is_short(
+    alloc: Global,
+    file: &[u8],
+    pool: PoolBundle<'_>,
+) -> Result<bool, BinaryDeserializerError> {
     let (root, mut walk) = Cursor::root_with_pool(file, Some(pool))?;
     let table = root.read_table(&mut walk)?;
-    let short = table.value::<String>(alloc, "beta", &mut walk)?;
-    Ok(long && short.is_some_and(|it| it.as_str() == "x"))
+    match table.value::<String>(alloc, "beta", &mut walk)? {
+        Some(text) => Ok(text.as_str() == "x"),
+        None => Ok(false),
+    }
 }
 
 /// Whether the entries are found by halving, and none of another name.
@@ -114,7 +125,8 @@ fn is_read(alloc: Global, pool: &[u8], file: &[u8]) -> Result<bool, BinaryDeseri
     let bundle = PoolBundle::read(pool)?;
     Ok(
         are_heads(pool, file)?
-            && are_strings(alloc, file, bundle)?
+            && is_long(alloc, file, bundle)?
+            && is_short(alloc, file, bundle)?
             && are_found(file, bundle)?
             && are_led(file, bundle)?
             && is_measured(alloc, file, bundle)?

@@ -1,7 +1,6 @@
 //! Rows as lines of text, and the lines that they are compared with.
 //! A row ends with a `;` and a line feed, and its answer stands behind ` =>`.
-use std::alloc::Global;
-use std::process::Abort;
+use std::alloc::{AllocError, Global};
 use std::test::Fail;
 
 /// The 32 bytes that each file begins with.
@@ -15,17 +14,9 @@ pub(crate) fn parts(row: &str) -> Result<(&str, &str), Fail> {
     Ok(row.split_once(" =>").ok_or("a row without an answer")?)
 }
 
-/// The line is the one that is wanted, whose own lines begin with blanks.
-pub(crate) fn assert_said(
-    rt: &impl Abort,
-    alloc: Global,
-    input: &str,
-    found: String,
-    wanted: &str,
-) -> Result<(), Fail> {
-    let wanted = joined(alloc, wanted)?;
-    assert_eq!(rt; found.as_str(), wanted.as_str(), "for {input}");
-    Ok(())
+/// Whether the line is the one that is wanted, whose own lines begin with blanks.
+pub(crate) fn is_said(alloc: Global, found: &str, wanted: &str) -> Result<bool, AllocError> {
+    Ok(joined(alloc, wanted)?.as_str() == found)
 }
 
 /// The line that two calls give.
@@ -46,7 +37,7 @@ pub(crate) fn digits(alloc: Global, file: &[u8]) -> Result<String, Fail> {
 }
 
 /// The lines without the blanks that begin them.
-fn joined(alloc: Global, lines: &str) -> Result<String, Fail> {
+fn joined(alloc: Global, lines: &str) -> Result<String, AllocError> {
     let mut all = String::new(alloc);
     for line in lines.split('\n') {
         all.push_str(line.trim_start())?;

@@ -137,29 +137,13 @@ pub(crate) fn line_of_pool(alloc: Global, input: &str) -> Result<String, Fail> {
     line_over(alloc, &PoolBundle::read(&file)?, text, list)
 }
 
-/// The line of the file that a text has over a pool.
-fn line_compiled(alloc: Global, pool: &PoolBundle<'_>, text: &str) -> Result<String, Fail> {
-    match compile_with_pool(alloc, text, pool) {
-        Ok(written) => words_of(alloc, &written),
-        Err(error) => Ok(format!(in alloc; "refused: {error}")?),
-    }
-}
-
-/// The line of the file that a text of ICU's form has over a pool.
-fn line_compiled_icu(alloc: Global, pool: &PoolBundle<'_>, text: &str) -> Result<String, Fail> {
-    match compile_icu_with_pool(alloc, text, pool) {
-        Ok(written) => words_of(alloc, &written),
-        Err(error) => Ok(format!(in alloc; "refused: {error}")?),
-    }
-}
-
-/// The line of the file of rules and a text of ICU's form, over a pool but for version 0.
-fn line_filtered(
+/// The file of rules and a text of ICU's form, over a pool but for version 0.
+fn filtered(
     alloc: Global,
     pool: &PoolBundle<'_>,
     version: &str,
     input: &str,
-) -> Result<String, Fail> {
+) -> Result<Vec<u8>, Fail> {
     let (rules, text) = input.split_once(' ').ok_or("a row without rules")?;
     let lines = rules.replace(alloc, "|", "\n")?;
     let rules = Rules::read(alloc, lines.as_str())?;
@@ -167,9 +151,21 @@ fn line_filtered(
         "0" => compile_icu_filtered(alloc, text, &rules),
         _ => compile_icu_filtered_with_pool(alloc, text, &rules, pool),
     };
-    match written {
-        Ok(file) => words_of(alloc, &file),
-        Err(error) => Ok(format!(in alloc; "refused: {error}")?),
+    Ok(written?)
+}
+
+/// The file of a form, the version of a pool and a text.
+fn compiled(
+    alloc: Global,
+    pool: &PoolBundle<'_>,
+    form: &str,
+    version: &str,
+    text: &str,
+) -> Result<Vec<u8>, Fail> {
+    match form {
+        "icu" => Ok(compile_icu_with_pool(alloc, text, pool)?),
+        "filtered" => filtered(alloc, pool, version, text),
+        _ => Ok(compile_with_pool(alloc, text, pool)?),
     }
 }
 
@@ -177,11 +173,7 @@ fn line_filtered(
 pub(crate) fn line_of_compiled(alloc: Global, input: &str) -> Result<String, Fail> {
     let (form, input) = input.split_once(' ').ok_or("a row without a form")?;
     let (version, text) = input.split_once(' ').ok_or("a row without a pool")?;
-    let file = pool_named(alloc, version)?;
-    let pool = PoolBundle::read(&file)?;
-    match form {
-        "icu" => line_compiled_icu(alloc, &pool, text),
-        "filtered" => line_filtered(alloc, &pool, version, text),
-        _ => line_compiled(alloc, &pool, text),
-    }
+    let pool = pool_named(alloc, version)?;
+    let file = compiled(alloc, &PoolBundle::read(&pool)?, form, version, text)?;
+    words_of(alloc, &file)
 }

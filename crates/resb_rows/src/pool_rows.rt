@@ -3,17 +3,8 @@
 use crate::write_rows::text_of;
 use resb_pool::{Plan, PlanError, pool};
 use resb_write::BinarySerializerError;
-use std::alloc::Global;
+use std::alloc::{AllocError, Global};
 use std::test::Fail;
-
-/// A text of so many letters a.
-fn letters(alloc: Global, count: usize) -> Result<String, Fail> {
-    let mut text = String::new(alloc);
-    for _ in 0..count {
-        text.push('a')?;
-    }
-    Ok(text)
-}
 
 /// Strings, the units that are planned for them, and where each string stands: with no suffix to
 /// share; with one; a copy more saves more, so its record comes first; a text lies in the greatest
@@ -29,45 +20,62 @@ a~b ~b b => 0 dc02 0 62 0 dc03 61 0 62 0 | 5 1 3
 \u{e000}a \u{10000}a a => 0 e000 61 0 d800 dc00 61 0 | 1 4 6
 ";
 
-/// The units of a plan, and where each of its strings stands.
-fn described(alloc: Global, plan: &Plan<'_>, strings: &[&str]) -> Result<String, Fail> {
-    let mut line = String::new(alloc);
-    for unit in plan.units() {
-        line.push_str(format!(in alloc; "{unit:x} ")?.as_str())?;
-    }
-    line.push_str("|")?;
-    for text in strings {
-        push_offset(alloc, &mut line, plan, text)?;
-    }
-    Ok(line)
-}
-
-/// The same of the parts of a plan.
-fn described_parts(alloc: Global, units: &[u16], offsets: &[u32]) -> Result<String, Fail> {
+/// Units and offsets as the rows write them.
+fn described(alloc: Global, units: &[u16], offsets: &[u32]) -> Result<String, AllocError> {
     let mut line = String::new(alloc);
     for unit in units {
         line.push_str(format!(in alloc; "{unit:x} ")?.as_str())?;
     }
-    line.push_str("|")?;
+    line.push('|')?;
     for offset in offsets {
         line.push_str(format!(in alloc; " {offset}")?.as_str())?;
     }
     Ok(line)
 }
 
-/// The line of the plan of these strings, which is also that of the plan that takes their list.
-fn line_of_texts(alloc: Global, texts: &[String]) -> Result<String, Fail> {
+/// Whether texts stand at these offsets in a plan.
+fn are_at(plan: &Plan<'_>, texts: &[&str], offsets: &[u32]) -> bool {
+    for (number, text) in texts.iter().enumerate() {
+        if plan.offset(text) != offsets.get(number).copied() {
+            return false;
+        }
+    }
+    texts.len() == offsets.len()
+}
+
+/// Whether the plan of these strings has these units and offsets.
+fn is_plan(
+    alloc: Global,
+    strings: &[&str],
+    units: &[u16],
+    offsets: &[u32],
+) -> Result<bool, PlanError> {
+    let plan = pool::plan(alloc, strings)?;
+    Ok(plan.units() == units && are_at(&plan, strings, offsets))
+}
+
+/// The line of the plan of these strings, by both calls.
+fn line_of_strings(alloc: Global, strings: &[&str]) -> Result<String, Fail> {
+    let (units, offsets) = pool::plan_in_turn(alloc, strings.to_vec(alloc)?)?;
+    if !is_plan(alloc, strings, &units, &offsets)? {
+        return Err("two plans")?;
+    }
+    Ok(described(alloc, &units, &offsets)?)
+}
+
+/// The texts as strings.
+fn strings_of(alloc: Global, texts: &[String]) -> Result<Vec<&str>, AllocError> {
     let mut strings = Vec::new(alloc);
     for text in texts {
         strings.push(text.as_str())?;
     }
-    let plan = pool::plan(alloc, &strings)?;
-    let line = described(alloc, &plan, &strings)?;
-    let (units, offsets) = pool::plan_in_turn(alloc, strings)?;
-    if line != described_parts(alloc, &units, &offsets)? {
-        return Err("two plans")?;
-    }
-    Ok(line)
+    Ok(strings)
+}
+
+/// The line of the plan of these texts.
+fn line_of_texts(alloc: Global, texts: &[String]) -> Result<String, Fail> {
+    let strings = strings_of(alloc, texts)?;
+    line_of_strings(alloc, &strings)
 }
 
 /// The line of the plan of the strings that these words stand for.
@@ -80,85 +88,178 @@ pub(crate) fn line_of_words(alloc: Global, words: &str) -> Result<String, Fail> 
 }
 
 /// The offset of a text in the plan of these strings.
-fn offset_in(alloc: Global, strings: &[&str], text: &str) -> Result<Option<u32>, Fail> {
+fn offset_in(alloc: Global, strings: &[&str], text: &str) -> Result<Option<u32>, PlanError> {
     Ok(pool::plan(alloc, strings)?.offset(text))
 }
 
 /// A text that was not given has no offset, also where it is the end of one that was.
 #[test]
 fn other_texts_have_no_offset(rt: HostRuntime) -> Result<(), Fail> {
-    let end = offset_in(rt.alloc(), &["xyz", "yz"], "z")?;
-    assert_eq!(rt; end, None);
-    let empty = offset_in(rt.alloc(), &[], "")?;
-    assert_eq!(rt; empty, None);
+    assert!(rt; offset_in(rt.alloc(), &["xyz", "yz"], "z")?.is_none());
+    assert!(rt; offset_in(rt.alloc(), &[], "")?.is_none());
     Ok(())
 }
 
-/// The offsets of texts of so many letters a in their plan, how many units there are, and those at
-/// the first two offsets.
-fn line_of_letters(alloc: Global, all: &str, counts: [usize; 3]) -> Result<String, Fail> {
-    let [one, other, third] = counts;
-    let (one, other) = (
-        all.get(..one).ok_or("short")?,
-        all.get(..other).ok_or("short")?,
-    );
-    let third = all.get(..third).ok_or("short")?;
-    let plan = pool::plan(alloc, &[one, other, third])?;
-    described_letters(alloc, &plan, one, other, third)
+/// How many letters some texts have, where these stand in their plan, how many units that has, and
+/// the first of those behind unit 0. Texts of 41 letters and more have markers, so that neither
+/// lies in the other; a short end lies in the shorter one.
+struct Letters {
+    counts: &'static [usize],
+    offsets: &'static [u32],
+    length: usize,
+    units: [u16; 3],
 }
 
-/// The offsets of three texts in their plan, how many units there are, and those at the first two.
-fn described_letters(
-    alloc: Global,
-    plan: &Plan<'_>,
-    one: &str,
-    other: &str,
-    third: &str,
-) -> Result<String, Fail> {
-    let first = plan.offset(one).ok_or("no offset")?;
-    let second = plan.offset(other).ok_or("no offset")?;
-    let last = plan.offset(third).ok_or("no offset")?;
-    let length = plan.units().len();
-    let unit = plan.units().get(first as usize).copied().unwrap_or(0);
-    let next = plan.units().get(second as usize).copied().unwrap_or(0);
-    Ok(format!(in alloc; "{first} {second} {last} of {length}: {unit:x} {next:x}")?)
-}
+const LETTERS: [Letters; 7] = [
+    Letters {
+        counts: &[40],
+        offsets: &[1],
+        length: 42,
+        units: [0x61, 0x61, 0x61],
+    },
+    Letters {
+        counts: &[41],
+        offsets: &[1],
+        length: 44,
+        units: [0xdc29, 0x61, 0x61],
+    },
+    Letters {
+        counts: &[41, 42, 1],
+        offsets: &[1, 44, 42],
+        length: 88,
+        units: [0xdc29, 0x61, 0x61],
+    },
+    Letters {
+        counts: &[1006],
+        offsets: &[1],
+        length: 1009,
+        units: [0xdfee, 0x61, 0x61],
+    },
+    Letters {
+        counts: &[1007],
+        offsets: &[1],
+        length: 1011,
+        units: [0xdfef, 0x3ef, 0x61],
+    },
+    Letters {
+        counts: &[1_048_575],
+        offsets: &[1],
+        length: 1_048_579,
+        units: [0xdffe, 0xffff, 0x61],
+    },
+    Letters {
+        counts: &[1_048_576],
+        offsets: &[1],
+        length: 1_048_581,
+        units: [0xdfff, 0x10, 0],
+    },
+];
 
-/// How many letters a text has, and the first three units of its plan behind unit 0, and how many
-/// units there are.
-pub(crate) const MARKERS: &str = "\
-40 => 61 61 61 of 42;
-41 => dc29 61 61 of 44;
-1006 => dfee 61 61 of 1009;
-1007 => dfef 3ef 61 of 1011;
-1048575 => dffe ffff 61 of 1048579;
-1048576 => dfff 10 0 of 1048581;
-";
-
-/// The line of the plan of a text of so many letters.
-pub(crate) fn line_of_marker(alloc: Global, count: &str) -> Result<String, Fail> {
-    let text = letters(alloc, count.parse::<usize>()?)?;
-    let plan = pool::plan(alloc, &[text.as_str()])?;
-    if plan.offset(text.as_str()) != Some(1) {
-        return Err("another offset")?;
+/// Whether a plan has so many units, and these behind unit 0.
+fn has_units(plan: &Plan<'_>, length: usize, units: &[u16]) -> bool {
+    match plan.units().split_first() {
+        Some((_, rest)) => plan.units().len() == length && rest.starts_with(units),
+        None => false,
     }
-    described_front(alloc, plan.units())
 }
 
-/// The first three units behind unit 0, and how many there are.
-fn described_front(alloc: Global, units: &[u16]) -> Result<String, Fail> {
-    let length = units.len();
-    let first = units.get(1).copied().unwrap_or(0);
-    let second = units.get(2).copied().unwrap_or(0);
-    let third = units.get(3).copied().unwrap_or(0);
-    Ok(format!(in alloc; "{first:x} {second:x} {third:x} of {length}")?)
+/// The beginnings of a text that have so many letters.
+fn fronts_of<'t>(
+    alloc: Global,
+    all: &'t str,
+    counts: &[usize],
+) -> Result<Vec<&'t str>, AllocError> {
+    let mut texts = Vec::new(alloc);
+    for count in counts {
+        texts.push(all.get(..*count).unwrap_or(""))?;
+    }
+    Ok(texts)
 }
 
-/// Decimal texts, and their offsets among those of 1 to 2000.
-const DECIMALS: &str = "1991 1995 995 95 5 1910 10 100 1000 2000";
+/// Whether the plan of some texts is the one that a row wants.
+fn are_planned(alloc: Global, row: &Letters, texts: &[&str]) -> Result<bool, PlanError> {
+    let plan = pool::plan(alloc, texts)?;
+    Ok(are_at(&plan, texts, row.offsets) && has_units(&plan, row.length, &row.units))
+}
+
+/// Whether the plan of a row's texts is the one that it wants.
+fn is_planned(alloc: Global, row: &Letters) -> Result<bool, Fail> {
+    let all = "a".repeat(alloc, 1_048_576)?;
+    let texts = fronts_of(alloc, all.as_str(), row.counts)?;
+    Ok(are_planned(alloc, row, &texts)?)
+}
+
+#[test]
+fn texts_of_letters_are_planned(rt: HostRuntime) -> Result<(), Fail> {
+    for (number, row) in LETTERS.iter().enumerate() {
+        assert!(rt; is_planned(rt.alloc(), row)?, "row {number}");
+    }
+    Ok(())
+}
+
+/// The most letters of texts of 1, 2, 3 and more, the unit at which those of up to 40 end in their
+/// plan, how many units that has, and the first behind unit 0: they lie in the longest; beside one
+/// of 41 letters, in that.
+const ENDS: [(usize, usize, usize, [u16; 3]); 2] = [
+    (40, 41, 42, [0x61, 0x61, 0x61]),
+    (41, 43, 44, [0xdc29, 0x61, 0x61]),
+];
+
+/// Whether each of the texts of up to 40 letters ends at this unit of a plan.
+fn are_ends(plan: &Plan<'_>, texts: &[&str], end: usize) -> bool {
+    for text in texts.iter().take(40) {
+        let Some(offset) = plan.offset(text) else {
+            return false;
+        };
+        if (offset as usize).saturating_add(text.len()) != end {
+            return false;
+        }
+    }
+    true
+}
+
+/// The beginnings of a text that have one letter, two, and more up to all.
+fn all_fronts_of(alloc: Global, all: &str) -> Result<Vec<&str>, AllocError> {
+    let mut texts = Vec::new(alloc);
+    for count in 1..all.len().saturating_add(1) {
+        texts.push(all.get(..count).unwrap_or(""))?;
+    }
+    Ok(texts)
+}
+
+/// Whether the plan of some texts has those of up to 40 letters at this end, and these units.
+fn are_of_ends(
+    alloc: Global,
+    texts: &[&str],
+    end: usize,
+    wanted: (usize, [u16; 3]),
+) -> Result<bool, PlanError> {
+    let plan = pool::plan(alloc, texts)?;
+    Ok(are_ends(&plan, texts, end) && has_units(&plan, wanted.0, &wanted.1))
+}
+
+/// Whether the plan of the texts of 1 to so many letters is the one that a row wants.
+fn is_of_ends(
+    alloc: Global,
+    most: usize,
+    end: usize,
+    wanted: (usize, [u16; 3]),
+) -> Result<bool, Fail> {
+    let all = "a".repeat(alloc, most)?;
+    let texts = all_fronts_of(alloc, all.as_str())?;
+    Ok(are_of_ends(alloc, &texts, end, wanted)?)
+}
+
+#[test]
+fn ends_lie_in_the_longest(rt: HostRuntime) -> Result<(), Fail> {
+    for (most, end, length, units) in ENDS {
+        assert!(rt; is_of_ends(rt.alloc(), most, end, (length, units))?);
+    }
+    Ok(())
+}
 
 /// The texts of 1 to 2000.
-fn decimals(alloc: Global) -> Result<Vec<String>, Fail> {
+fn decimals(alloc: Global) -> Result<Vec<String>, AllocError> {
     let mut texts = Vec::new(alloc);
     for number in 1..2001u32 {
         texts.push(format!(in alloc; "{number}")?)?;
@@ -166,104 +267,57 @@ fn decimals(alloc: Global) -> Result<Vec<String>, Fail> {
     Ok(texts)
 }
 
-/// How many units the plan of these texts has, and the offsets of some of them.
-fn line_of_decimals(alloc: Global, texts: &[String]) -> Result<String, Fail> {
-    let mut strings = Vec::new(alloc);
-    for text in texts {
-        strings.push(text.as_str())?;
-    }
+/// Decimal texts, and their offsets among those of 1 to 2000, whose plan has 5006 units.
+const DECIMALS: [&str; 10] = [
+    "1991", "1995", "995", "95", "5", "1910", "10", "100", "1000", "2000",
+];
+
+const DECIMAL_OFFSETS: [u32; 10] = [1, 21, 22, 23, 24, 46, 48, 452, 4501, 5001];
+
+/// Whether the plan of these texts has so many units, and those texts there.
+fn are_decimals(alloc: Global, texts: &[String]) -> Result<bool, Fail> {
+    let strings = strings_of(alloc, texts)?;
     let plan = pool::plan(alloc, &strings)?;
-    let length = plan.units().len();
-    let mut line = format!(in alloc; "{length} units:")?;
-    for text in DECIMALS.split(' ') {
-        push_offset(alloc, &mut line, &plan, text)?;
-    }
-    Ok(line)
+    Ok(plan.units().len() == 5006 && are_at(&plan, &DECIMALS, &DECIMAL_OFFSETS))
 }
 
-/// Adds the offset of a text.
-fn push_offset(alloc: Global, line: &mut String, plan: &Plan<'_>, text: &str) -> Result<(), Fail> {
-    let offset = plan.offset(text).ok_or("no offset")?;
-    line.push_str(format!(in alloc; " {offset}")?.as_str())?;
+#[test]
+fn decimals_are_planned(rt: HostRuntime) -> Result<(), Fail> {
+    let texts = decimals(rt.alloc())?;
+    assert!(rt; are_decimals(rt.alloc(), &texts)?);
     Ok(())
 }
 
 /// Errors of a plan, what each prints, and what it prints as where a file is written.
-pub(crate) const PLAN_ERRORS: &str = "\
-length => string of 5 units, more than 4294967295|
-    Cannot serialize string of length 5, maximum is 4,294,967,295 characters;
-large => strings too large|Limit exceeded: file too large;
-memory => out of memory|Out of memory: while writing;
-";
+const ERRORS: [(PlanError, &str, &str); 3] = [
+    (
+        PlanError::StringTooLong(5),
+        "string of 5 units, more than 4294967295",
+        "Cannot serialize string of length 5, maximum is 4,294,967,295 characters",
+    ),
+    (
+        PlanError::TooLarge,
+        "strings too large",
+        "Limit exceeded: file too large",
+    ),
+    (
+        PlanError::OutOfMemory,
+        "out of memory",
+        "Out of memory: while writing",
+    ),
+];
 
-/// The error of a plan that is named.
-fn error_named(name: &str) -> PlanError {
-    match name {
-        "length" => PlanError::StringTooLong(5),
-        "large" => PlanError::TooLarge,
-        _ => PlanError::OutOfMemory,
+/// Whether an error of a plan prints this, and that where a file is written.
+fn prints(alloc: Global, error: PlanError, said: &str, written: &str) -> Result<bool, AllocError> {
+    let printed = format!(in alloc; "{error}")?.as_str() == said;
+    let error = BinarySerializerError::from(error);
+    Ok(printed && format!(in alloc; "{error}")?.as_str() == written)
+}
+
+#[test]
+fn errors_of_plans_are_printed(rt: HostRuntime) -> Result<(), AllocError> {
+    for (error, said, written) in ERRORS {
+        assert!(rt; prints(rt.alloc(), error, said, written)?, "{said}");
     }
-}
-
-/// What an error of a plan prints, and what it prints as where a file is written.
-pub(crate) fn line_of_plan_error(alloc: Global, name: &str) -> Result<String, Fail> {
-    let error = error_named(name);
-    let written = BinarySerializerError::from(error);
-    Ok(format!(in alloc; "{error}|{written}")?)
-}
-
-/// The texts of 1 to so many letters, all ends of one text.
-fn ends_of(alloc: Global, all: &str, most: usize) -> Result<Vec<&str>, Fail> {
-    let mut texts = Vec::new(alloc);
-    for count in 1..most.saturating_add(1) {
-        texts.push(all.get(..count).ok_or("short")?)?;
-    }
-    Ok(texts)
-}
-
-/// Whether each of the texts of up to 40 letters ends at the same unit of their plan, and the front
-/// of its units.
-fn line_of_ends(alloc: Global, texts: &[&str], end: usize) -> Result<String, Fail> {
-    let plan = pool::plan(alloc, texts)?;
-    for text in texts {
-        let offset = plan.offset(text).ok_or("not planned")?;
-        let is_short = text.len() <= 40;
-        if is_short && (offset as usize).saturating_add(text.len()) != end {
-            return Err("another end")?;
-        }
-    }
-    described_front(alloc, plan.units())
-}
-
-/// Texts, and what is planned for them. Texts of 41 letters and more have markers, so that neither
-/// lies in the other; a short end lies in the shorter one. The texts of 1 to 40 letters a lie in
-/// the longest; beside 41 letters, in those.
-pub(crate) const PLANS: &str = "\
-41, 42 and 1 letters => 1 44 42 of 88: dc29 dc2a;
-1 to 40 letters => 61 61 61 of 42;
-1 to 41 letters => dc29 61 61 of 44;
-1 to 2000 => 5006 units: 1 21 22 23 24 46 48 452 4501 5001;
-";
-
-/// The line of texts of 1 to so many letters, those of up to 40 of which end at this unit.
-fn line_of_fronts(alloc: Global, most: usize, end: usize) -> Result<String, Fail> {
-    let all = letters(alloc, most)?;
-    let texts = ends_of(alloc, all.as_str(), most)?;
-    line_of_ends(alloc, &texts, end)
-}
-
-/// The line of the plan that is named.
-pub(crate) fn line_of_plan(alloc: Global, name: &str) -> Result<String, Fail> {
-    match name {
-        "41, 42 and 1 letters" => {
-            let all = letters(alloc, 42)?;
-            line_of_letters(alloc, all.as_str(), [41, 42, 1])
-        }
-        "1 to 40 letters" => line_of_fronts(alloc, 40, 41),
-        "1 to 41 letters" => line_of_fronts(alloc, 41, 43),
-        _ => {
-            let texts = decimals(alloc)?;
-            line_of_decimals(alloc, &texts)
-        }
-    }
+    Ok(())
 }

@@ -22,7 +22,8 @@ use Rattle.resb_grammar.specs.Machine.{named, titled, inside, typed, in_string, 
 use Rattle.resb_grammar.specs.Machine.{in_integer, filled, in_vector, finished, with_term}
 use Rattle.resb_grammar.specs.Machine.{at_root, within, next, At}
 use Rattle.resb_grammar.specs.Stuck.{expectation, NoToken, Stuck, blocked}
-use Rattle.resb_grammar.specs.Limit.{made_by}
+use Rattle.resb_grammar.specs.Limit.{made_by, tree_limit}
+use Rattle.resb_grammar.specs.declared.limit.Weights.{Weights}
 use Rattle.resb_grammar.specs.declared.expected.Expected.TheVariants as expect
 use Rattle.resb_grammar.proofs.ByteRunsLemmas.{Run-one}
 use Rattle.resb_grammar.proofs.FirstBytes.{lex_of}
@@ -407,10 +408,10 @@ comma_examples t around = (refl, refl, refl, refl)
 -- what tokens add: a root, a string of two bytes, a table with an entry and one without, a group
 -- that turns out to be a string, one with a comma, a string of a type, a number of a vector and the
 -- vector's `}`, and a type
-making_examples : (t : Title) (o : Open) (ns : List ℕ) (around : List Frame) →
-    (made_by (titled t) opening ≡ 72)
-    × (made_by (inside o) (a_text (codes "ab")) ≡ 198)
-    × (made_by (inside (record {
+making_examples : (w : Weights) (t : Title) (o : Open) (ns : List ℕ) (around : List Frame) →
+    (made_by (tree_limit 0).weights (titled t) opening ≡ 72)
+    × (made_by (tree_limit 0).weights (inside o) (a_text (codes "ab")) ≡ 198)
+    × (made_by w (inside (record {
       title = t;
       frame = record {
         body = table_body;
@@ -418,25 +419,25 @@ making_examples : (t : Title) (o : Open) (ns : List ℕ) (around : List Frame) �
             items.plain (items.group_term (string []) []) ∷ items.plain (items.string_term []) ∷ [];
       };
       around = around;
-    })) closing ≡ 1024)
-    × (made_by (inside (at_root t)) closing ≡ 0)
-    × (made_by (inside (record {
+    })) closing ≡ w.table)
+    × (made_by w (inside (at_root t)) closing ≡ 0)
+    × (made_by w (inside (record {
       title = t;
       frame = record { body = untyped_body; items = items.plain (items.string_term []) ∷ [] };
       around = around;
     })) closing ≡ 0)
-    × (made_by (inside (record {
+    × (made_by w (inside (record {
       title = t;
       frame = record
           { body = untyped_body; items = items.before_comma (items.string_term []) ∷ [] };
       around = around;
     })) closing ≡ 0)
-    × (made_by (filled (string (codes "ab")) o) closing ≡ 78)
-    × (made_by (in_vector after_comma (1 ∷ []) o) (a_number 2) ≡ 8)
-    × (made_by (in_vector after_number (1 ∷ 2 ∷ []) o) closing ≡ 104)
-    × (made_by (typed vector_kind o) opening ≡ 0)
-    × (made_by (inside o) a_comma ≡ 0)
-making_examples t o ns around = (refl, refl, refl, refl, refl, refl, refl, refl, refl, refl, refl)
+    × (made_by w (filled (string (codes "ab")) o) closing ≡ w.group + 6)
+    × (made_by w (in_vector after_comma (1 ∷ []) o) (a_number 2) ≡ 8)
+    × (made_by w (in_vector after_number (1 ∷ 2 ∷ []) o) closing ≡ w.group + 32)
+    × (made_by w (typed vector_kind o) opening ≡ 0)
+    × (made_by w (inside o) a_comma ≡ 0)
+making_examples w t o ns around = (refl, refl, refl, refl, refl, refl, refl, refl, refl, refl, refl)
 
 -- what is expected, by state and byte: `:` 58, `"` 34, `1` 49, `}` 125, `)` 41
 expected_examples : (name : List ℕ) (t : Title) (o : Open) (ns : List ℕ) (around : List Frame) →

@@ -10,6 +10,8 @@ use Rattle.resb_grammar.specs.BundleText.{BundleText, first_places}
 use Rattle.resb_grammar.specs.Machine.{Title, At, finished}
 use Rattle.resb_grammar.specs.Stuck.{Stuck}
 use Rattle.resb_grammar.specs.Limit.{Makes, MadeWithin, MakesMore}
+use Rattle.resb_grammar.specs.declared.limit.Limit.{Limit}
+use Rattle.resb_grammar.specs.declared.limit.Weights.{Weights}
 use Rattle.resb_grammar.specs.declared.expected.Expected.{Expected}
 
 -- a text has at most one name, fallback, tree and list of keys
@@ -66,22 +68,22 @@ BundleTextsHaveNoAlias =
     (text name : List ℕ) (fallback : Bool) (tree : Tree) (keys : List (List ℕ))
     → BundleText text name fallback tree keys → has_alias tree ≡ false
 
--- what the whole reading of a text makes is one number of bytes
+-- what the whole reading of a text makes is one number of bytes, whatever the weights
 abbrev pub OneMaking : Type 0
 OneMaking =
-    (text : List ℕ) (n m : ℕ) (title other : Title) (xs ys : List Item)
-    → Makes text n (length text) (finished title xs)
-    → Makes text m (length text) (finished other ys) → n ≡ m
+    (w : Weights) (text : List ℕ) (n m : ℕ) (title other : Title) (xs ys : List Item)
+    → Makes w text n (length text) (finished title xs)
+    → Makes w text m (length text) (finished other ys) → n ≡ m
 
 -- a bundle's text is read to its end, and its reading makes some number of bytes
 abbrev pub BundlesAreMade : Type 0
 BundlesAreMade =
-    (text name : List ℕ) (fallback : Bool) (tree : Tree) (keys : List (List ℕ))
+    (w : Weights) (text name : List ℕ) (fallback : Bool) (tree : Tree) (keys : List (List ℕ))
     → BundleText text name fallback tree keys
     → (items : List Item) × (n : ℕ)
-    × Makes text n (length text) (finished (record { name = name; fallback = fallback }) items)
+    × Makes w text n (length text) (finished (record { name = name; fallback = fallback }) items)
 
 -- where the whole reading of a text makes no more than a limit, no part of it makes more
 abbrev pub WithinIsNeverMore : Type 0
 WithinIsNeverMore =
-    (text : List ℕ) (limit : ℕ) → MadeWithin text limit → MakesMore text limit → ⊥
+    (text : List ℕ) (limit : Limit) → MadeWithin text limit → MakesMore text limit → ⊥

@@ -8,10 +8,12 @@ mod group_kind;
 mod hex_pairs;
 mod key_list;
 pub mod laws;
+mod limit;
 mod runs;
 
 pub use expected::Expected;
 pub use group_kind::{Kind, kind_named};
 pub use hex_pairs::bytes_of_hex;
 pub use key_list::KeyList;
+pub use limit::{Limit, Weights};
 pub use runs::{blanks_end, digits_end, is_word, negated};

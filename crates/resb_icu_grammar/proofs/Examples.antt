@@ -30,6 +30,7 @@ use Rattle.resb_icu_grammar.specs.Machine.{BeginsGroup, key_of_entry, Standing, 
 use Rattle.resb_icu_grammar.specs.Machine.{in_untyped, behind_group, Reading, Move, group_opens}
 use Rattle.resb_icu_grammar.specs.Machine.{begins_with_string, comma_behind, string_member}
 use Rattle.resb_icu_grammar.specs.Machine.{array_ends, table_ends, was_value, here, moves, leaves}
+use Rattle.resb_grammar.specs.Limit.{tree_limit}
 use Rattle.resb_icu_grammar.specs.Limit.{IcuMakes, IcuMadeWithin, IcuMakesMore, by_a_step}
 use Rattle.resb_icu_grammar.specs.Stuck.{Stuck, in_root, inside, no_group, TypeStuck, no_tree}
 use Rattle.resb_icu_grammar.specs.declared.expected.IcuExpected.{IcuExpected}
@@ -437,7 +438,7 @@ InValue s at = reading_at (in_table [] (codes "a") ∷ []) (codes "a" ∷ []) s 
 
 -- before its second string 1438 bytes are made: 72 for the root, 1024 and 195 for the key, 72 for
 -- the group, 75 for the first string
-abbrev before_y : IcuMakes (codes "b{a{x,y}}") 1438
+abbrev before_y : IcuMakes (tree_limit 0).weights (codes "b{a{x,y}}") 1438
     (InValue (among_members a_comma (string (codes "x") ∷ [])) 6)
 before_y = record {
   name = codes "b";
@@ -470,7 +471,7 @@ y_follows =
     (blanks_end 7 refl (λ h. absurd (omega arith)))
 
 -- the text is read within 1513 bytes, of which 75 are its second string's
-two_strings_within : IcuMadeWithin (codes "b{a{x,y}}") 1513
+two_strings_within : IcuMadeWithin (codes "b{a{x,y}}") (tree_limit 1513)
 two_strings_within = record {
   tree = table (map_of ((codes "a", in_array) ∷ []));
   places = codes "a" ∷ [];
@@ -500,5 +501,5 @@ two_strings_within = record {
     in_array = array (trees_of (string (codes "x") ∷ string (codes "y") ∷ []))
 
 -- and makes more than 1512
-two_strings_more : IcuMakesMore (codes "b{a{x,y}}") 1512
+two_strings_more : IcuMakesMore (codes "b{a{x,y}}") (tree_limit 1512)
 two_strings_more = by_a_step 1438 _ _ _ 6 _ before_y y_follows (lit≤ tt)

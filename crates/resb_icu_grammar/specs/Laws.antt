@@ -4,6 +4,7 @@ use Rattle.std.specs.List.{IsDistinct}
 use Rattle.std.specs.Cmp.Lexicographic.{pointwise}
 use Rattle.resb_tree.specs.Tree.{Tree}
 use Rattle.resb_tree.specs.Keys.{is_key}
+use Rattle.resb_grammar.specs.declared.limit.Limit.{Limit}
 use Rattle.resb_icu_grammar.specs.Bundle.{IcuText}
 use Rattle.resb_icu_grammar.specs.Limit.{IcuMadeWithin, IcuMakesMore}
 use Rattle.resb_icu_grammar.specs.Machine.{IsReadToTheEnd}
@@ -53,4 +54,4 @@ IcuMachineReadsTheForm =
 -- where the whole reading of a text makes no more than a limit, no part of it makes more
 abbrev pub IcuWithinIsNeverMore : Type 0
 IcuWithinIsNeverMore =
-    (text : List ℕ) (limit : ℕ) → IcuMadeWithin text limit → IcuMakesMore text limit → ⊥
+    (text : List ℕ) (limit : Limit) → IcuMadeWithin text limit → IcuMakesMore text limit → ⊥

@@ -42,8 +42,8 @@ impl Limit {
     {
         let weights = Weights {
             group: 72,
-            entry: 96,
-            table: 0,
+            entry: 112,
+            table: 64,
         };
         Limit { bytes, weights }
     }

@@ -3,7 +3,7 @@
 --     CompilesWithin form text limit old new r
 --                                         the same of a text whose reading keeps within a limit
 use Rattle.std.specs.Prelude.{◌≡◌, ℕ, List, Result, Ok, Err, IsUtf8}
-use Rattle.resb_grammar.specs.Limit.{MadeWithin, MakesMore}
+use Rattle.resb_grammar.specs.Limit.{draft_limit, MadeWithin, MakesMore}
 use Rattle.resb_icu_grammar.specs.Limit.{IcuMadeWithin, IcuMakesMore}
 use Rattle.resb_compile.specs.Compiling.{IsCompiled, IsRefused, IsWithinLimit}
 use Rattle.resb_compile.specs.CompilingIcu.{IsIcuCompiled, IsIcuRefused, IsIcuWithinLimit}
@@ -28,16 +28,19 @@ HasNoFile Plain text (fault.Icu e) = ⊥
 HasNoFile Icu text (fault.Plain e) = ⊥
 HasNoFile Icu text (fault.Icu e) = IsIcuRefused text e
 
--- the whole reading of a text of this form makes no more bytes than the limit
+-- the whole reading of a text of this form makes no more bytes than the limit, as those of a draft
+-- are counted
 abbrev pub IsReadWithin : Form → List ℕ → ℕ → Type 0
-IsReadWithin Plain text limit = MadeWithin text limit
-IsReadWithin Icu text limit = IcuMadeWithin text limit
+IsReadWithin Plain text limit = MadeWithin text (draft_limit limit)
+IsReadWithin Icu text limit = IcuMadeWithin text (draft_limit limit)
 
 -- a reading of a text of this form comes to a token by which more bytes are made than the limit,
 -- and the whole reading is not within it
 abbrev pub MakesMoreThan : Form → List ℕ → ℕ → Type 0
-MakesMoreThan Plain text limit = MakesMore text limit × (MadeWithin text limit → ⊥)
-MakesMoreThan Icu text limit = IcuMakesMore text limit × (IcuMadeWithin text limit → ⊥)
+MakesMoreThan Plain text limit =
+    MakesMore text (draft_limit limit) × (MadeWithin text (draft_limit limit) → ⊥)
+MakesMoreThan Icu text limit =
+    IcuMakesMore text (draft_limit limit) × (IcuMadeWithin text (draft_limit limit) → ⊥)
 
 -- memory was wanted to read the text, or no reading of it makes more bytes than the limit
 abbrev pub IsWithin : Form → List ℕ → ℕ → CompilingFault → Type 0

@@ -9,7 +9,7 @@ use Rattle.resb_grammar.specs.BundleText.{BundleText}
 use Rattle.resb_text.specs.Answer.{Fails, IsNoBundle, NeverMore}
 use Rattle.resb_text.specs.Refusal as refusal
 use Rattle.resb_text.specs.declared.error.TextParserError.{TextParserError}
-use Rattle.resb_grammar.specs.Limit.{MadeWithin, MakesMore}
+use Rattle.resb_grammar.specs.Limit.{draft_limit, MadeWithin, MakesMore}
 use Rattle.resb_layout.specs.Written.{Written}
 use Rattle.resb_layout.specs.TreeFaults.{RefusesWriting}
 use Rattle.resb_layout.specs.WritingFault as fault
@@ -54,17 +54,19 @@ abbrev pub message_of : CompileError → List ℕ
 message_of (Reading e) = refusal.message_of e
 message_of (Writing e) = fault.message_of (fault_of e)
 
--- memory was wanted to read the text, or no reading of it makes more bytes than the limit
+-- memory was wanted to read the text, or no reading of it makes more bytes than the limit, as those
+-- of a draft are counted
 abbrev pub IsWithinLimit : List ℕ → ℕ → CompileError → Type 0
-IsWithinLimit text limit (Reading e) = NeverMore text limit e
-IsWithinLimit text limit (Writing e) = MakesMore text limit → ⊥
+IsWithinLimit text limit (Reading e) = NeverMore text (draft_limit limit) e
+IsWithinLimit text limit (Writing e) = MakesMore text (draft_limit limit) → ⊥
 
 -- why a text isn't compiled within a limit: for what it is refused without one, and no reading
 -- makes more bytes than the limit, unless memory was wanted to read the text; or a reading comes to
 -- a token by which more are made, and the whole reading is not within the limit
 abbrev pub IsRefusedWithin : List ℕ → ℕ → CompileWithinError → Type 0
 IsRefusedWithin text limit (within.Text e) = IsRefused text e × IsWithinLimit text limit e
-IsRefusedWithin text limit within.Larger = MakesMore text limit × (MadeWithin text limit → ⊥)
+IsRefusedWithin text limit within.Larger =
+    MakesMore text (draft_limit limit) × (MadeWithin text (draft_limit limit) → ⊥)
 
 -- what that error prints
 abbrev pub within_message_of : CompileWithinError → List ℕ

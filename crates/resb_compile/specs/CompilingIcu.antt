@@ -6,6 +6,7 @@
 use Rattle.std.specs.Prelude.{◌≡◌, ◌≢◌, ◌⊎◌, ℕ, List, Bool, codes}
 use Rattle.resb_tree.specs.Tree.{Tree}
 use Rattle.resb_icu_grammar.specs.Bundle.{IcuText}
+use Rattle.resb_grammar.specs.Limit.{draft_limit}
 use Rattle.resb_icu_grammar.specs.Limit.{IcuMadeWithin, IcuMakesMore}
 use Rattle.resb_icu_text.specs.Answer.{IcuFails, IsNoIcuText, IcuNeverMore}
 use Rattle.resb_icu_text.specs.Refusal as refusal
@@ -55,10 +56,11 @@ abbrev pub message_of : IcuCompileError → List ℕ
 message_of (Reading e) = refusal.message_of e
 message_of (Writing e) = fault.message_of (fault_of e)
 
--- memory was wanted to read the text, or no reading of it makes more bytes than the limit
+-- memory was wanted to read the text, or no reading of it makes more bytes than the limit, as those
+-- of a draft are counted
 abbrev pub IsIcuWithinLimit : List ℕ → ℕ → IcuCompileError → Type 0
-IsIcuWithinLimit text limit (Reading e) = IcuNeverMore text limit e
-IsIcuWithinLimit text limit (Writing e) = IcuMakesMore text limit → ⊥
+IsIcuWithinLimit text limit (Reading e) = IcuNeverMore text (draft_limit limit) e
+IsIcuWithinLimit text limit (Writing e) = IcuMakesMore text (draft_limit limit) → ⊥
 
 -- why a text isn't compiled within a limit: for what it is refused without one, and no reading
 -- makes more bytes than the limit, unless memory was wanted to read the text; or a reading comes to
@@ -67,7 +69,7 @@ abbrev pub IsIcuRefusedWithin : List ℕ → ℕ → IcuCompileWithinError → T
 IsIcuRefusedWithin text limit (within.Text e) =
     IsIcuRefused text e × IsIcuWithinLimit text limit e
 IsIcuRefusedWithin text limit within.Larger =
-    IcuMakesMore text limit × (IcuMadeWithin text limit → ⊥)
+    IcuMakesMore text (draft_limit limit) × (IcuMadeWithin text (draft_limit limit) → ⊥)
 
 -- what that error prints
 abbrev pub within_message_of : IcuCompileWithinError → List ℕ

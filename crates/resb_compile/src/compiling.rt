@@ -2,7 +2,7 @@
 //! No tree is made in between, but a draft of one.
 //! What a text and a file are, and each half of the way, is in the crates below.
 ghost use Rattle.std.specs.Prelude.{Some, IfOk, IfErr};
-ghost use Rattle.resb_grammar.specs.Limit.{MadeWithin};
+ghost use Rattle.resb_grammar.specs.Limit.{draft_limit, MadeWithin};
 ghost use Rattle.resb_compile.specs.Compiling.{IsCompiled, IsRefused, IsRefusedWithin, message_of};
 ghost use Rattle.resb_compile.specs.Compiling.{within_message_of};
 
@@ -95,11 +95,11 @@ impl fmt::Display for CompileWithinError {
 impl Error for CompileWithinError {}
 
 /// The bytes of the `.res` file of a bundle's text, where reading the text makes no more bytes than
-/// the limit, as `Reader::read_within` counts them. The limit is for the reading: what the writer
-/// takes beside it is not within it.
+/// the limit, as `Reader::read_draft_within` counts them. The limit is for the reading: what the
+/// writer takes beside it is not within it.
 pub fn compile_within(alloc: Global, text: &str, limit: u64) -> Result<Vec<u8>, CompileWithinError>
     ensures ok { IfOk result (λ file. IsCompiled text.now file.items) }
-    ensures within { IfOk result (λ file. MadeWithin text.now limit) }
+    ensures within { IfOk result (λ file. MadeWithin text.now (draft_limit limit)) }
     ensures err { IfErr result (IsRefusedWithin text.now limit) }
 {
     let (bundle, keys) = match Reader::read_draft_within(alloc, text, limit) {

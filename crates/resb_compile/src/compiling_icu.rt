@@ -2,6 +2,7 @@
 //! the discovered keys. No tree is made in between, but a draft of one.
 //! The way from a text of the other form is in `compiling`.
 ghost use Rattle.std.specs.Prelude.{Some, IfOk, IfErr};
+ghost use Rattle.resb_grammar.specs.Limit.{draft_limit};
 ghost use Rattle.resb_icu_grammar.specs.Limit.{IcuMadeWithin};
 ghost use Rattle.resb_compile.specs.CompilingIcu.{IsIcuCompiled, IsIcuRefused, message_of};
 ghost use Rattle.resb_compile.specs.CompilingIcu.{IsIcuRefusedWithin, within_message_of};
@@ -97,7 +98,7 @@ impl fmt::Display for IcuCompileWithinError {
 impl Error for IcuCompileWithinError {}
 
 /// The bytes of the `.res` file of a bundle's text in ICU's own form, where reading the text makes
-/// no more bytes than the limit, as `IcuReader::read_within` counts them. The limit is for the
+/// no more bytes than the limit, as `IcuReader::read_draft_within` counts them. The limit is for the
 /// reading: what the writer takes beside it is not within it.
 pub fn compile_icu_within(
     alloc: Global,
@@ -105,7 +106,7 @@ pub fn compile_icu_within(
     limit: u64,
 ) -> Result<Vec<u8>, IcuCompileWithinError>
     ensures ok { IfOk result (λ file. IsIcuCompiled text.now file.items) }
-    ensures within { IfOk result (λ file. IcuMadeWithin text.now limit) }
+    ensures within { IfOk result (λ file. IcuMadeWithin text.now (draft_limit limit)) }
     ensures err { IfErr result (IsIcuRefusedWithin text.now limit) }
 {
     let (bundle, keys) = match IcuReader::read_draft_within(alloc, text, limit) {

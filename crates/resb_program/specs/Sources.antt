@@ -7,7 +7,7 @@ use Rattle.std.specs.Str.Lossy.{utf8_valid_len}
 use Rattle.resb_diagnostics.specs.Braces.{innermost_open, innermost_icu_open}
 use Rattle.resb_grammar.specs.declared.expected.Expected.{Expected}
 use Rattle.resb_grammar.specs.declared.expected.Expected.TheVariants.{Memory}
-use Rattle.resb_grammar.specs.Limit.{MadeWithin, MakesMore}
+use Rattle.resb_grammar.specs.Limit.{draft_limit, MadeWithin, MakesMore}
 use Rattle.resb_text.specs.declared.error.TextParserError.{TextParserError}
 use Rattle.resb_icu_grammar.specs.declared.expected.IcuExpected.{IcuExpected}
 use Rattle.resb_icu_grammar.specs.declared.expected.IcuExpected.TheVariants as icu_expect
@@ -42,7 +42,8 @@ IsNoSourceWithin source limit (Refused e) =
     IsNoSource source (Refused e) × IsWithinLimit source limit e
 IsNoSourceWithin source limit (IcuRefused e) = ⊥
 IsNoSourceWithin source limit (Larger n) =
-    (n ≡ limit) × IsUtf8 source × MakesMore source limit × (MadeWithin source limit → ⊥)
+    (n ≡ limit) × IsUtf8 source × MakesMore source (draft_limit limit)
+    × (MadeWithin source (draft_limit limit) → ⊥)
 
 -- memory was wanted, and nothing of the text
 abbrev pub is_memory : Expected → Bool

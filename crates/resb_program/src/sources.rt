@@ -1,7 +1,7 @@
 //! The text that bytes are, its file, and where a person is to look if there is none.
 //! What else a person is told of a text is in `resb_diagnostics`.
 ghost use Rattle.std.specs.Prelude.{◌≡◌, IsUtf8, IfOk, IfErr};
-ghost use Rattle.resb_grammar.specs.Limit.{MadeWithin};
+ghost use Rattle.resb_grammar.specs.Limit.{draft_limit, MadeWithin};
 ghost use Rattle.resb_compile.specs.Compiling.{IsCompiled};
 ghost use Rattle.resb_program.specs.Program.{IsNoInput};
 ghost use Rattle.resb_program.specs.Sources as sources;
@@ -54,7 +54,7 @@ pub fn compile_source_within(
     limit: u64,
 ) -> Result<Vec<u8>, SourceError>
     ensures ok { IfOk result (λ file. IsCompiled source.now file.items) }
-    ensures within { IfOk result (λ file. MadeWithin source.now limit) }
+    ensures within { IfOk result (λ file. MadeWithin source.now (draft_limit limit)) }
     ensures err { IfErr result (IsNoSourceWithin source.now limit) }
 {
     match compile_within(alloc, source, limit) {

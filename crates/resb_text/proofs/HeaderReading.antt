@@ -11,10 +11,11 @@ use Rattle.resb_grammar.specs.Machine.{a_text, a_root_type, State, start, named,
 use Rattle.resb_grammar.specs.Stuck.{choose, expectation, NoToken, IsEnd, HasDigits, Stuck}
 use Rattle.resb_grammar.specs.Stuck.{blocked}
 use Rattle.resb_grammar.specs.Limit.{Makes}
+use Rattle.resb_grammar.specs.declared.limit.Weights.{Weights}
 use Rattle.resb_text.specs.Refusal.{want_of_memory}
 use Rattle.resb_text.specs.Answer.{Fails, IsNoBundle}
 use Rattle.resb_grammar.proofs.GrammarLaws.{stuck_none}
-use Rattle.resb_text.specs.Inner.Failing.{StuckAfter}
+use Rattle.resb_text.specs.Inner.Failing.{StuckAfter, HeaderFails}
 use Rattle.resb_text.specs.Inner.Steps.{HasBundleName, TypingFails}
 use Rattle.resb_grammar.specs.declared.expected.Expected.{Expected}
 use Rattle.resb_grammar.specs.declared.expected.Expected.TheVariants as expect
@@ -39,9 +40,9 @@ no_mark u h = none_some u
 
 module _ (text : List ℕ) where
   -- no token stands there, and this was expected
-  pub stuck_in : {n : ℕ} (at : ℕ) (s : State) (x : Expected) → Makes text n at s
+  pub stuck_in : {w : Weights} {n : ℕ} (at : ℕ) (s : State) (x : Expected) → Makes w text n at s
       → NoToken text at s → (IsEnd text at s → ⊥) → (HasDigits text at s → ⊥)
-      → x ≡ expectation s (slice_index text at) → StuckAfter text n (error_at at x)
+      → x ≡ expectation s (slice_index text at) → StuckAfter w text n (error_at at x)
   stuck_in {n} at s x made none no_end no_digits is = record {
     state = s;
     made = made;
@@ -57,24 +58,24 @@ module _ (text : List ℕ) where
 
   -- the text begins with no name
   pub no_name : (at : ℕ) → Skip text 0 at → ((to : ℕ) (s : List ℕ) → Text text at to s → ⊥)
-      → StuckAfter text 0 (error_at at expect.Text)
-  no_name at skip never =
-      stuck_in at start expect.Text (makes_none text at skip)
+      → HeaderFails text (error_at at expect.Text)
+  no_name at skip never w =
+      stuck_in at start expect.Text (makes_none w text at skip)
       (no_token text at start (λ to w u is e. never to w is) (nowhere _) no_mark no_mark no_mark
       (nowhere _) (nowhere _)) (λ h. h) (λ h. h) refl
 
   -- nothing is made up to what follows the name
-  pub name_made : (name : List ℕ) (to : ℕ) → HasBundleName text name to
-      → Makes text 0 to (named name)
-  name_made name to h =
+  pub name_made : (w : Weights) (name : List ℕ) (to : ℕ) → HasBundleName text name to
+      → Makes w text 0 to (named name)
+  name_made w name to h =
       makes_on text 0 0 h.start h.ends to start (named name) (a_text name)
-      (makes_none text h.start h.before) refl h.named refl h.after
+      (makes_none w text h.start h.before) refl h.named refl h.after
 
   -- no type of a root after a `:`
   pub no_root_type : (at : ℕ) → slice_index text at ≡ ascii.colon
       → ((to : ℕ) (fallback : Bool) → RootType text at to fallback → ⊥)
       → TypingFails text at (error_at at expect.TypeName)
-  no_root_type at colon never name n made =
+  no_root_type at colon never w name n made =
       stuck_in at (named name) expect.TypeName made
       (no_token text at (named name) (nowhere _) (nowhere _)
       (λ u is e. absurd (omega (arith, is, colon))) no_mark no_mark (nowhere _)
@@ -87,14 +88,14 @@ module _ (text : List ℕ) where
       sym (ap (λ k. choose k expect.TypeName expect.LeftBrace) no)
 
   -- no `{` where one must stand
-  pub no_open : (n : ℕ) (name : List ℕ) (place brace : ℕ) (f : Bool)
-      → Makes text n place (named name) → Typing text place brace f
+  pub no_open : {w : Weights} (n : ℕ) (name : List ℕ) (place brace : ℕ) (f : Bool)
+      → Makes w text n place (named name) → Typing text place brace f
       → (brace ≡ place → slice_index text place ≢ ascii.colon)
       → slice_index text brace ≢ ascii.left_brace
-      → StuckAfter text n (error_at brace expect.LeftBrace)
-  no_open n name place brace true made (without e) plain never =
+      → StuckAfter w text n (error_at brace expect.LeftBrace)
+  no_open {w} n name place brace true made (without e) plain never =
       stuck_in brace (named name) expect.LeftBrace
-      (subst (λ k. Makes text n k (named name)) e made)
+      (subst (λ k. Makes w text n k (named name)) e made)
       (no_token text brace (named name) (nowhere _) (nowhere _) (λ u is e. never is) no_mark no_mark
       (nowhere _) (λ to f u is e. colon_free (root_colon text brace to f is)))
       (λ h. h) (λ h. h) (brace_expected (slice_index text brace) colon_free)

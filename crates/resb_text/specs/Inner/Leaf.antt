@@ -7,6 +7,7 @@ use Rattle.resb_grammar.specs.GroupTypes.{Kind}
 use Rattle.resb_grammar.specs.Group.{LeafContent, Vector}
 use Rattle.resb_grammar.specs.Machine.{Open, begun_as}
 use Rattle.resb_grammar.specs.Limit.{Makes}
+use Rattle.resb_grammar.specs.declared.limit.Weights.{Weights}
 use Rattle.resb_grammar.specs.declared.expected.Expected.TheVariants as expect
 use Rattle.resb_text.specs.Inner.Braces.{Closes}
 use Rattle.resb_text.specs.Inner.Content.{IsPaired, tree_of_content}
@@ -43,14 +44,15 @@ pub record IsReadLeaf (text : List ℕ) (at to : ℕ) (kind : Kind) (c : Content
 -- wherever a group of this type has begun there, a reading gets stuck so, and makes nothing before
 abbrev pub LeafFails : List ℕ → ℕ → Kind → TextParserError → Type 0
 LeafFails text at kind e =
-    (n : ℕ) (o : Open) → Makes text n at (begun_as kind o) → StuckAfter text n e
+    (w : Weights) (n : ℕ) (o : Open) → Makes w text n at (begun_as kind o) → StuckAfter w text n e
 
 -- memory was wanted; or wherever a group of this type has begun there, which has made what the one
 -- quota says, a reading gets stuck so, having made what the other says
 abbrev pub LeafStops : List ℕ → ℕ → Kind → Quota → Quota → TextParserError → Type 0
 LeafStops text at kind p q e =
     (e ≡ want_of_memory)
-    ⊎ ((o : Open) → Makes text p.made at (begun_as kind o) → StuckAfter text q.made e)
+    ⊎ ((o : Open) → Makes p.limit.weights text p.made at (begun_as kind o)
+    → StuckAfter p.limit.weights text q.made e)
 
 -- numbers up to their `}`, which stands there
 pub record IsVector (text : List ℕ) (at to : ℕ) (ns : List ℕ) : Type 0 where
@@ -61,5 +63,5 @@ pub record IsVector (text : List ℕ) (at to : ℕ) (ns : List ℕ) : Type 0 whe
 -- that is left keeps the limit that the one keeps
 abbrev pub LeafKeeps : List ℕ → ℕ → Kind → Quota → Quota → Type 0
 LeafKeeps text at kind p q =
-    (o : Open) → Makes text p.made at (begun_as kind o) → KeepsQuota text p.limit p
-    → KeepsQuota text p.limit q
+    (o : Open) → Makes p.limit.weights text p.made at (begun_as kind o)
+    → KeepsQuota text p.limit p → KeepsQuota text p.limit q

@@ -6,6 +6,8 @@ use Rattle.resb_tree.specs.Tree.{Tree}
 use Rattle.resb_grammar.specs.Machine as machine
 use Rattle.resb_grammar.specs.Machine.{Body, table_body, array_body, untyped_body, named, inside}
 use Rattle.resb_grammar.specs.Limit.{Makes, closing_bytes}
+use Rattle.resb_grammar.specs.declared.limit.Limit.{Limit}
+use Rattle.resb_grammar.specs.declared.limit.Weights.{Weights}
 use Rattle.resb_grammar.specs.Lexical.{Skip, Text}
 use Rattle.resb_grammar.specs.Inner.Reach.{reach}
 use Rattle.resb_text.specs.Inner.Frames.{StandsFor, owed}
@@ -39,10 +41,10 @@ pub record IsNoMark (b : ℕ) : Type 0 where
 
 -- a reading that keeps its quota stands at this place and byte, among the items of these groups
 pub record Among {B X : Type 0} (tree : B → X → Tree) (held : B → X → Bool) (text : List ℕ)
-    (limit : ℕ) (here : ℕ × ℕ) (c : Open B X) (q : Quota) : Type 0 where
+    (limit : Limit) (here : ℕ × ℕ) (c : Open B X) (q : Quota) : Type 0 where
   pub open_groups : machine.Open
   pub shows : StandsFor tree held c open_groups
-  pub made : Makes text q.made here.0 (inside open_groups)
+  pub made : Makes limit.weights text q.made here.0 (inside open_groups)
   pub within : here.0 ≤ length text
   pub byte : here.1 ≡ slice_index text here.0
   pub keeps : KeepsQuota text limit q
@@ -60,8 +62,8 @@ GoesOn tree held text here c next d =
     (q : Quota) → Among tree held text q.limit here c q → Among tree held text q.limit next d q
 
 -- the reading fails so, having made what the quota says, and has kept its quota
-pub record Stops (text : List ℕ) (limit : ℕ) (q : Quota) (e : TextParserError) : Type 0 where
-  pub fails : FailsAfter text q.made e
+pub record Stops (text : List ℕ) (limit : Limit) (q : Quota) (e : TextParserError) : Type 0 where
+  pub fails : FailsAfter limit.weights text q.made e
   pub keeps : KeepsQuota text limit q
 
 -- each reading that stands at this place among these groups fails so, and makes nothing
@@ -81,14 +83,14 @@ StepsOn text at t c next u d =
 -- a reading that keeps its quota stands here, in the root without items of such a title
 pub record InRoot (text : List ℕ) (at : ℕ) (title : machine.Title) (q : Quota) : Type 0 where
   pub within : at ≤ length text
-  pub made : Makes text q.made at (inside (machine.at_root title))
+  pub made : Makes q.limit.weights text q.made at (inside (machine.at_root title))
   pub keeps : KeepsQuota text q.limit q
 
 -- wherever a typed group may stand there, a reading gets stuck so, and makes nothing before
 abbrev pub TypedOpeningFails : List ℕ → ℕ → TextParserError → Type 0
 TypedOpeningFails text at e =
     (o : machine.Open) → takes_group o.frame.body (machine.is_key_place o.frame.items) ≡ true
-    → (n : ℕ) → Makes text n at (inside o) → StuckAfter text n e
+    → (w : Weights) (n : ℕ) → Makes w text n at (inside o) → StuckAfter w text n e
 
 -- a bundle's text up to what follows its name
 pub record HasBundleName (text name : List ℕ) (to : ℕ) : Type 0 where
@@ -101,16 +103,17 @@ pub record HasBundleName (text name : List ℕ) (to : ℕ) : Type 0 where
 -- wherever the root's type may stand there, a reading gets stuck so, and makes nothing before
 abbrev pub TypingFails : List ℕ → ℕ → TextParserError → Type 0
 TypingFails text at e =
-    (name : List ℕ) (n : ℕ) → Makes text n at (named name) → StuckAfter text n e
+    (w : Weights) (name : List ℕ) (n : ℕ) → Makes w text n at (named name)
+    → StuckAfter w text n e
 
 -- the root may be closed here, by which as much is made as the quota says
 pub record ClosesRoot {B X : Type 0} (tree : B → X → Tree) (held : B → X → Bool) (text : List ℕ)
-    (limit at : ℕ) (c : Open B X) (q : Quota) : Type 0 where
+    (limit : Limit) (at : ℕ) (c : Open B X) (q : Quota) : Type 0 where
   pub open_groups : machine.Open
   pub shows : StandsFor tree held c open_groups
   pub before : ℕ
-  pub made : Makes text before at (inside open_groups)
-  pub sum : q.made ≡ before + closing_bytes open_groups.frame
+  pub made : Makes limit.weights text before at (inside open_groups)
+  pub sum : q.made ≡ before + closing_bytes limit.weights open_groups.frame
   pub keeps : KeepsQuota text limit q
   pub root : open_groups.around ≡ []
   pub key_place : machine.is_key_place open_groups.frame.items ≡ true

@@ -23,21 +23,22 @@ returns-in_err-take-clause-reads g c =
     let may = told c.requires.among takes_group c.takes_group.ensures c.if-not-takes_group.false in
     match_err _ _ _ c.from_residual-in_err-take.ensures.1 (λ e same.
     opened_over c.requires.among _ may c.in_ok-first.ensures.reads c.in-Some.ensures
-    c.in_err-take.ensures same)
+    c.group_bytes.ensures c.in_err-take.ensures same)
 
 pub returns-in-Some-clause-reads : goal.returns-in-Some-clause-reads
 returns-in-Some-clause-reads g c =
     let may = told c.requires.among takes_group c.takes_group.ensures c.if-not-takes_group.false in
     typed_group_opened c.requires.among _ may c.in_ok-first.ensures.reads
     c.in_ok-first.ensures.cost.1 c.byte.ensures.byte c.in-Some.ensures
-    c.in_ok-open.ensures.shows c.in_ok-take.ensures
+    c.in_ok-open.ensures.shows c.group_bytes.ensures c.in_ok-take.ensures
 
 pub returns-in_err-next-clause-reads : goal.returns-in_err-next-clause-reads
 returns-in_err-next-clause-reads g c =
     let may = told c.requires.among takes_group c.takes_group.ensures c.if-not-takes_group.false in
     match_same _ _ _ _ c.from_residual-in_err-next.ensures.1
     (leaf_refused c.requires.among may c.in_ok-first.ensures.reads
-    (no_items_begun _ c.in_default.ensures) c.in_err-next.ensures.reads c.in_err-next.ensures.quota)
+    (no_items_begun _ _ c.in_default.ensures) c.in_err-next.ensures.reads
+    c.in_err-next.ensures.quota)
 
 pub returns-in_err-take-2-clause-reads : goal.returns-in_err-take-2-clause-reads
 returns-in_err-take-2-clause-reads g c =

@@ -11,13 +11,14 @@ returns-in-Table g c = λ tree held n f x.
     let ok = items.ok.0 in
     let some = eqb-false _ _ (sym c.is_empty.ensures ∙ c.if-is_empty.false) in
     let same = shown_some tree held items.items f.items (ap (λ (l : FrameView). l.items) x) in
-    table_bytes f.items (λ none. some (omega (arith, ok, same, none)))
-    ∙ ap (λ sh. shape_bytes sh f.items) (c.in-Table.ensures tree held n f x)
+    c.from.ensures
+    ∙ table_bytes c.args.weights f.items (λ none. some (omega (arith, ok, same, none)))
+    ∙ ap (λ sh. shape_bytes c.args.weights sh f.items) (c.in-Table.ensures tree held n f x)
 
 pub returns-in-Array : goal.returns-in-Array
-returns-in-Array g c = λ tree held n f x. ap (λ sh. shape_bytes sh f.items)
+returns-in-Array g c = λ tree held n f x. ap (λ sh. shape_bytes c.args.weights sh f.items)
     (c.in-Array.ensures tree held n f x)
 
 pub returns-in-String : goal.returns-in-String
-returns-in-String g c = λ tree held n f x. ap (λ sh. shape_bytes sh f.items)
+returns-in-String g c = λ tree held n f x. ap (λ sh. shape_bytes c.args.weights sh f.items)
     (c.in-String.ensures tree held n f x)

@@ -1,6 +1,6 @@
 use Rattle.std.proofs.Common.{arith}
 use Rattle.resb_text.proofs.ContentLemmas.{pairs_counted}
-use Rattle.resb_text.proofs.quota.leaf_bytes.Goals as goal
+use Rattle.resb_text.proofs.quota.Quota.leaf_bytes.Goals as goal
 
 pub returns-in-Binary : goal.returns-in-Binary
 returns-in-Binary c =

@@ -112,7 +112,7 @@ module _ {X : Type 0} (reads : Place → X → ℕ → Type 0) (counts : Place �
       → old.failed ≡ None → Front reads all old.rest values before left
       → StepsReading reads counts refuses old left new left' (Err d)
       → (left' ≤ before) × LacksOrMemory (CountsEach counts all) before d
-      × RefusesOne counts refuses all before left' d
+      × RefusesOne (CountsEach counts) (RefusesThere counts refuses) all before left' d
   front_refused all old values before left new left' d none f h =
       let (p, ps, first, r) = steps_err reads counts refuses old left new left' d none h in
       let s : left' ≤ left = r.0 in

@@ -6,7 +6,7 @@ use Rattle.std.specs.declared.cmp.Ordering.{Ordering}
 use Rattle.resb_read.specs.Places.{Place}
 use Rattle.resb_read.specs.Sequences.{ReadsEntries, CountsEntries, put_each}
 use Rattle.resb_read.specs.Reading.{LacksOrMemory}
-use Rattle.resb_read.specs.RefusedReadings.{RefusesKeyOrValue, RefusesOneEntry}
+use Rattle.resb_read.specs.RefusedReadings.{RefusesKeyOrValue, RefusesOne}
 use Rattle.resb_read.specs.Access.{EntryAccess, Enters, ReadsEntry, CountsEntry}
 use Rattle.resb_read.proofs.Each.{steps_some, steps_err}
 use Rattle.resb_read.specs.Inner.Front.{FrontEntries}
@@ -92,7 +92,7 @@ module _ {K X : Type 0} (rk : Place → K → ℕ → Type 0) (ck : Place → �
         (one_v : (p : Place) (m n : ℕ) → cv p m → cv p n → m ≡ n) (d : ReadingError)
         → Enters rk ck fk rv cv fv old left new left' (Err d)
         → (left' ≤ before) × LacksOrMemory (CountsEntries ck cv all) before d
-        × RefusesOneEntry ck fk cv fv all before left' d
+        × RefusesOne (CountsEntries ck cv) (RefusesKeyOrValue ck fk cv fv) all before left' d
     front_fails hk hv one_k one_v d h =
         let (p, ps, first, r) = steps_err (ReadsEntry rk rv) (CountsEntry ck cv)
         (RefusesKeyOrValue ck fk cv fv) old left new left' d ok h in

@@ -12,8 +12,8 @@ use Rattle.resb_read.specs.Places.{Place}
 use Rattle.resb_read.specs.Reading.{Lacks, CountsThere}
 use Rattle.resb_read.specs.Reading.{any}
 use Rattle.resb_read.specs.Leaves.{CountsBytes, bytes_from}
-use Rattle.resb_read.specs.PlaceRefusals.{bytes_refusal}
-use Rattle.resb_read.specs.PlaceRefusals.{are_paid, view_refusal}
+use Rattle.resb_read.specs.PlaceRefusals.{bytes_refusal_from}
+use Rattle.resb_read.specs.PlaceRefusals.{are_paid, view_refusal_from}
 use Rattle.std.proofs.lemmas.List.{length-map}
 use Rattle.resb_read.proofs.PlainLists.{same_bytes}
 
@@ -29,14 +29,16 @@ unpaid (Some (x, n)) left wrong other lacks = either (nat_le n left) refl
 
 -- where no bytes are read, it is said why
 pub no_bytes_says : (p : Place) (left : ℕ) (e : ReadingError) → Lacks (CountsBytes p) left
-    → Says (bytes_refusal p left) e → Says (view_refusal p left) e
+    → Says (bytes_refusal_from p.parts p.at left) e
+    → Says (view_refusal_from p.parts p.at left) e
 no_bytes_says p left e lacks says =
-    says ∙ sym (unpaid (bytes_from p.parts p.at) left _ (bytes_refusal p left) lacks)
+    let other = bytes_refusal_from p.parts p.at left in
+    says ∙ sym (unpaid (bytes_from p.parts p.at) left _ other lacks)
 
 -- bytes that can be paid for, but are no whole items
 pub no_items : (p : Place) (left left1 : ℕ) (b : List ℕ) (n : ℕ) (e : ReadingError)
     → bytes_from p.parts p.at ≡ Some (b, n) → left1 + n ≡ left → IsWrongLength e
-    → Says (view_refusal p left) e
+    → Says (view_refusal_from p.parts p.at left) e
 no_items p left left1 b n e there paid wrong =
     let k = wrong.kind_is in
     let m = wrong.message_is in

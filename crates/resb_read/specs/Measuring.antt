@@ -1,10 +1,10 @@
 -- What the tree at a file's root has and adds up to, before it is made, and a tree within a limit
--- of bytes: once for whatever a file's bytes come to, and for files that are read alone.
---     HoldsPieces w xs, FileHolds bytes xs    the pieces of the tree
+-- of bytes: once for whatever a file's bytes come to.
+--     HoldsPieces w xs        the pieces of the tree
 --     IsMeasured m xs         how many resources these pieces are, and what they add up to
---     AnswersMeasureOf, AnswersMeasure    what measuring the tree answers
+--     AnswersMeasureOf w r    what measuring the tree answers
 --     FitsWithin limit xs     neither the tree nor the keys of its entries take more bytes
---     TreeWithinOf, TreeWithin    what reading it within a limit answers
+--     TreeWithinOf w limit r  what reading it within a limit answers
 --     OneWeight, TreesWeighNoMore     that a file's tree has one weight, and is no heavier
 use Rattle.std.specs.Prelude.{◌≡◌, ◌<◌, ◌≤◌, ◌⊎◌, ℕ, List, Result, Ok, Err, codes, sum_by}
 use Rattle.resb_tree.specs.Tree.{Tree, tree_count}
@@ -71,23 +71,11 @@ TreeWithinOf w limit (Err e) =
     ⊎ ((IsLarger e × TakesMoreOf tree_bytes w limit)
     ⊎ (HasLargerKeys e × TakesMoreOf key_bytes w limit))
 
--- the pieces of a file's tree, in the order of the file
-abbrev pub FileHolds : List ℕ → List Piece → Type 0
-FileHolds bytes xs = HoldsPieces (alone bytes) xs
-
--- a file's tree within the budget, and what its pieces add up to; or the refusal of counting
-abbrev pub AnswersMeasure : List ℕ → Result Measured ReadingError → Type 0
-AnswersMeasure bytes r = AnswersMeasureOf (alone bytes) r
-
--- the file's tree, where neither it nor the keys of its entries take more bytes than the limit; or
--- its refusal, or that of a tree that takes more, or of keys that do
-abbrev pub TreeWithin : List ℕ → ℕ → Result Resource ReadingError → Type 0
-TreeWithin bytes limit r = TreeWithinOf (alone bytes) limit r
-
 -- a file's tree has one list of pieces, and so one of each sum
 abbrev pub OneWeight : Type 0
 OneWeight =
-    (bytes : List ℕ) (xs ys : List Piece) → FileHolds bytes xs → FileHolds bytes ys → xs ≡ ys
+    (bytes : List ℕ) (xs ys : List Piece) → HoldsPieces (alone bytes) xs
+    → HoldsPieces (alone bytes) ys → xs ≡ ys
 
 -- The pieces of a file's tree are as many resources as are counted. By any weights of pieces they
 -- weigh no less than those of the tree, and the same where the tree has as many resources as are
@@ -95,6 +83,6 @@ OneWeight =
 abbrev pub TreesWeighNoMore : Type 0
 TreesWeighNoMore =
     (weight : Piece → ℕ) (bytes : List ℕ) (t : Tree) (n : ℕ) (xs : List Piece)
-    → Denotes bytes t n → FileHolds bytes xs
+    → Denotes bytes t n → HoldsPieces (alone bytes) xs
     → (count_of xs ≡ n) × (sum_by weight (pieces t) ≤ sum_by weight xs)
     × (tree_count t ≡ n → sum_by weight (pieces t) ≡ sum_by weight xs)

@@ -1,10 +1,11 @@
 -- Why readings of what has no parts are refused: a kind and a message.
---     number_refusal p left, bool_refusal p left, bits_refusal p left
---                             what is answered where no number, bool or Int is read
---     text_refusal p left, key_refusal p left, bytes_refusal p left, view_refusal p left
+--     number_refusal_from p s left, bool_refusal_from, bits_refusal_from
+--                             what is answered where no number, bool or Int is read at a spot of
+--                             these parts, with so much left
+--     text_refusal_from, key_refusal_from, bytes_refusal_from, view_refusal_from
 --                             the same for a text, where memory isn't what is wanted, for a key,
 --                             for bytes and for a view of them
---     members_refusal p left, entries_refusal p left
+--     members_refusal_from, entries_refusal_from
 --                             the same for the members of a sequence, and the entries of a map
 use Rattle.std.specs.Prelude.{◌==◌, ◌&&◌, ◌||◌, nat_le, ℕ, List, Bool, false, Option, Some, None}
 use Rattle.std.specs.Prelude.{codes, if◌then◌else◌}
@@ -55,10 +56,6 @@ number_refusal_from p (spot.Unit u) left = paid left elsewhere
 number_refusal_from p (spot.Word w) left = out_of_range
 number_refusal_from p (spot.Key k) left = elsewhere
 
--- why no number is read at a place with so much left
-abbrev pub number_refusal : Place → ℕ → Refusal
-number_refusal p left = number_refusal_from p.parts p.at left
-
 -- why no bool is read at a spot with so much left
 abbrev pub bool_refusal_from : Parts → Spot → ℕ → Refusal
 bool_refusal_from p (spot.Descriptor w) left =
@@ -67,10 +64,6 @@ bool_refusal_from p (spot.Descriptor w) left =
 bool_refusal_from p (spot.Unit u) left = paid left elsewhere
 bool_refusal_from p s left = elsewhere
 
--- why no bool is read at a place with so much left
-abbrev pub bool_refusal : Place → ℕ → Refusal
-bool_refusal p left = bool_refusal_from p.parts p.at left
-
 -- why nothing is read where no value of a type can stand: at a resource of another type, at a
 -- word, or at a key
 abbrev pub no_value_from : Parts → Spot → ℕ → Refusal
@@ -78,20 +71,12 @@ no_value_from p (spot.Descriptor w) left = paid left (type_refusal p (type_in w)
 no_value_from p (spot.Unit u) left = paid left elsewhere
 no_value_from p s left = elsewhere
 
--- the same of a place
-abbrev pub no_value : Place → ℕ → Refusal
-no_value p left = no_value_from p.parts p.at left
-
 -- why no 28 bits are read at a spot with so much left; each Int has them
 abbrev pub bits_refusal_from : Parts → Spot → ℕ → Refusal
 bits_refusal_from p (spot.Descriptor w) left =
     paid left (type_refusal p (type_in w) (mismatch (codes "expected integer resource")))
 bits_refusal_from p (spot.Unit u) left = paid left elsewhere
 bits_refusal_from p s left = elsewhere
-
--- why no 28 bits are read at a place with so much left
-abbrev pub bits_refusal : Place → ℕ → Refusal
-bits_refusal p left = bits_refusal_from p.parts p.at left
 
 -- why no string stands at an index
 abbrev pub string_message_in : Parts → ℕ → List ℕ
@@ -101,10 +86,6 @@ string_message_in p i = string_message (text_place p i).0 (text_place p i).1
 abbrev pub key_refusal_from : Parts → Spot → ℕ → Refusal
 key_refusal_from p (spot.Key k) left = key_refusal_in p k
 key_refusal_from p s left = no_value_from p s left
-
--- why no key is read at a place with so much left
-abbrev pub key_refusal : Place → ℕ → Refusal
-key_refusal p left = key_refusal_from p.parts p.at left
 
 -- why no text stands at a descriptor: no string, or one that is no text; or another type
 abbrev pub word_text_refusal : Parts → ℕ → Refusal
@@ -119,10 +100,6 @@ text_refusal_from p (spot.Descriptor w) left = paid left (word_text_refusal p w)
 text_refusal_from p (spot.Unit u) left = paid left (text_refusal_in p (index_in p u))
 text_refusal_from p (spot.Word w) left = elsewhere
 text_refusal_from p (spot.Key k) left = key_refusal_in p k
-
--- why no text is read at a place with so much left
-abbrev pub text_refusal : Place → ℕ → Refusal
-text_refusal p left = text_refusal_from p.parts p.at left
 
 -- why no bytes stand at a descriptor: the string's own fault, a count or what is counted outside
 -- the body, or another type
@@ -140,20 +117,16 @@ bytes_refusal_from p (spot.Unit u) left = paid left (invalid (string_message_in 
 bytes_refusal_from p (spot.Word w) left = elsewhere
 bytes_refusal_from p (spot.Key k) left = key_refusal_in p k
 
--- why no bytes are read at a place with so much left
-abbrev pub bytes_refusal : Place → ℕ → Refusal
-bytes_refusal p left = bytes_refusal_from p.parts p.at left
-
 -- bytes stand there, and what is left pays for them
 abbrev pub are_paid : Option (List ℕ × ℕ) → ℕ → Bool
 are_paid (Some r) left = nat_le r.1 left
 are_paid None left = false
 
 -- why no view is read: there are no bytes, or they are no whole items
-abbrev pub view_refusal : Place → ℕ → Refusal
-view_refusal p left =
-    if are_paid (bytes_from p.parts p.at) left then (Unknown, codes "Wrong length")
-    else bytes_refusal p left
+abbrev pub view_refusal_from : Parts → Spot → ℕ → Refusal
+view_refusal_from p s left =
+    if are_paid (bytes_from p s) left then (Unknown, codes "Wrong length")
+    else bytes_refusal_from p s left
 
 -- why no members stand at a descriptor: a count or the fields behind it outside their block, or
 -- another type

@@ -4,8 +4,10 @@
 --     RefusesTree p left left' e
 --                             for a tree: by the first fault, or the spent budget, or memory
 --     RefusesSeq, RefusesMap  for lists and maps, from what their parts' types say
-use Rattle.std.specs.Prelude.{◌≡◌, ◌≤◌, ◌+◌, ◌-◌, ◌⊎◌, ℕ, List, ◌∷◌, ◌++◌, Some, None}
+use Rattle.std.specs.Prelude.{◌≡◌, ◌≤◌, ◌+◌, ◌-◌, ◌⊎◌, ℕ, List, ◌∷◌, ◌++◌, Option, Some}
+use Rattle.std.specs.Prelude.{None}
 use Rattle.resb_format.specs.Error.{IsWantOfMemory, Refusal}
+use Rattle.resb_format.specs.Parts.{Parts}
 use Rattle.resb_format.specs.declared.error.ReadingError.{ReadingError}
 use Rattle.resb_walk.specs.BlockRefusals.{Says}
 use Rattle.resb_walk.specs.Meets.{Blames}
@@ -13,9 +15,10 @@ use Rattle.resb_walk.specs.Refusals.{Refuses, TakesOne}
 use Rattle.resb_read.specs.Places.{Place}
 use Rattle.resb_read.specs.Reading.{LacksOrMemory}
 use Rattle.resb_read.specs.Spots.{cost_at}
-use Rattle.resb_read.specs.PlaceRefusals.{number_refusal, bool_refusal, bits_refusal, text_refusal}
-use Rattle.resb_read.specs.PlaceRefusals.{key_refusal, bytes_refusal, view_refusal, members_refusal}
-use Rattle.resb_read.specs.PlaceRefusals.{entries_refusal}
+use Rattle.resb_read.specs.PlaceRefusals.{number_refusal_from, bool_refusal_from}
+use Rattle.resb_read.specs.PlaceRefusals.{bits_refusal_from, text_refusal_from, key_refusal_from}
+use Rattle.resb_read.specs.PlaceRefusals.{bytes_refusal_from, view_refusal_from}
+use Rattle.resb_read.specs.PlaceRefusals.{members_refusal_from, entries_refusal_from}
 use Rattle.resb_read.specs.Resources.{DenPlace, ReachesPlace, MeetsPlace}
 use Rattle.resb_read.specs.Sequences.{members_at, entries_at, CountsEach, CountsEntries}
 use Rattle.resb_read.specs.declared.cursor.Spot.{Spot}
@@ -27,37 +30,37 @@ Takes s left left' = left' ≡ left - cost_at s
 
 -- a refusal has this kind and message, and takes one resource at a descriptor or a unit, if one was
 -- left
-abbrev pub RefusesAs : (Place → ℕ → Refusal) → Place → ℕ → ℕ → ReadingError → Type 0
-RefusesAs refusal p left left' e = Says (refusal p left) e × Takes p.at left left'
+abbrev pub RefusesAs : (Parts → Spot → ℕ → Refusal) → Place → ℕ → ℕ → ReadingError → Type 0
+RefusesAs refusal p left left' e = Says (refusal p.parts p.at left) e × Takes p.at left left'
 
 -- a number is refused: none stands there, or one that does not fit
 abbrev pub RefusesNumber : Place → ℕ → ℕ → ReadingError → Type 0
-RefusesNumber = RefusesAs number_refusal
+RefusesNumber = RefusesAs number_refusal_from
 
 -- a bool is refused: no Int that is 0 or 1 stands there
 abbrev pub RefusesBool : Place → ℕ → ℕ → ReadingError → Type 0
-RefusesBool = RefusesAs bool_refusal
+RefusesBool = RefusesAs bool_refusal_from
 
 -- 28 bits are refused: no Int stands there
 abbrev pub RefusesBits : Place → ℕ → ℕ → ReadingError → Type 0
-RefusesBits = RefusesAs bits_refusal
+RefusesBits = RefusesAs bits_refusal_from
 
 -- a key is refused: none can be read there
 abbrev pub RefusesKey : Place → ℕ → ℕ → ReadingError → Type 0
-RefusesKey = RefusesAs key_refusal
+RefusesKey = RefusesAs key_refusal_from
 
 -- bytes are refused: none can be read there
 abbrev pub RefusesBytes : Place → ℕ → ℕ → ReadingError → Type 0
-RefusesBytes = RefusesAs bytes_refusal
+RefusesBytes = RefusesAs bytes_refusal_from
 
 -- a view is refused: no bytes stand there, or no whole items
 abbrev pub RefusesView : Place → ℕ → ℕ → ReadingError → Type 0
-RefusesView = RefusesAs view_refusal
+RefusesView = RefusesAs view_refusal_from
 
 -- a text is refused: none can be read there, or memory for it is wanted
 abbrev pub RefusesText : Place → ℕ → ℕ → ReadingError → Type 0
 RefusesText p left left' e =
-    (IsWantOfMemory e ⊎ Says (text_refusal p left) e) × Takes p.at left left'
+    (IsWantOfMemory e ⊎ Says (text_refusal_from p.parts p.at left) e) × Takes p.at left left'
 
 -- memory aside, a refusal for another reason than the spent budget has taken at least one at a
 -- descriptor or a unit
@@ -75,11 +78,11 @@ RefusesTree p left left' e =
 
 -- members are refused: none can be read there
 abbrev pub RefusesMembers : Place → ℕ → ℕ → ReadingError → Type 0
-RefusesMembers = RefusesAs members_refusal
+RefusesMembers = RefusesAs members_refusal_from
 
 -- entries are refused: none can be read there
 abbrev pub RefusesEntries : Place → ℕ → ℕ → ReadingError → Type 0
-RefusesEntries = RefusesAs entries_refusal
+RefusesEntries = RefusesAs entries_refusal_from
 
 -- what is refused at a place, or at the places of an entry, where the counts are known
 abbrev pub RefusesThere : {P : Type 0} → (P → ℕ → Type 0) → (P → ℕ → ℕ → ReadingError → Type 0) → P
@@ -87,37 +90,48 @@ abbrev pub RefusesThere : {P : Type 0} → (P → ℕ → Type 0) → (P → ℕ
 RefusesThere counts refuses p left left' e =
     (left' ≤ left) × LacksOrMemory (counts p) left e × refuses p left left' e
 
-module _ (counts : Place → ℕ → Type 0) (refuses : Place → ℕ → ℕ → ReadingError → Type 0) where
-  -- a place is refused with what those before it leave
-  pub record RefusesOne (places : List Place) (left left' : ℕ) (e : ReadingError) : Type 0 where
-    pub done : List Place
-    pub at : Place
-    pub after : List Place
+-- what is refused of places, or of the places of entries, one after another: `takes` are the counts
+-- of those before it, and `refuses` is why
+module _ {P : Type 0} (takes : List P → ℕ → Type 0)
+    (refuses : P → ℕ → ℕ → ReadingError → Type 0) where
+  -- one of them is refused with what those before it leave
+  pub record RefusesOne (places : List P) (left left' : ℕ) (e : ReadingError) : Type 0 where
+    pub done : List P
+    pub at : P
+    pub after : List P
     pub spent : ℕ
     pub here : ℕ
     pub are : places ≡ done ++ at ∷ after
-    pub counted : CountsEach counts done spent
+    pub counted : takes done spent
     pub paid : here + spent ≡ left
-    pub refused : RefusesThere counts refuses at here left' e
+    pub refused : refuses at here left' e
 
-  -- of the places one is refused, or memory for the values is wanted
-  abbrev pub RefusesEach : List Place → ℕ → ℕ → ReadingError → Type 0
+  -- one of them is refused, or memory for the values is wanted
+  abbrev pub RefusesEach : List P → ℕ → ℕ → ReadingError → Type 0
   RefusesEach places left left' e = IsWantOfMemory e ⊎ RefusesOne places left left' e
 
-  -- there are members, one is paid for the sequence, and one of them is refused
-  pub record RefusesInSeq (p : Place) (left left' : ℕ) (e : ReadingError) : Type 0 where
-    pub places : List Place
+  -- some stand there, one is paid for the whole, and one of them is refused
+  pub record RefusesInside (there : Option (List P)) (left left' : ℕ) (e : ReadingError)
+      : Type 0 where
+    pub places : List P
     pub inside : ℕ
-    pub are : members_at p ≡ Some places
+    pub are : there ≡ Some places
     pub paid : inside + 1 ≡ left
     pub refused : RefusesEach places inside left' e
 
-  -- no members, or the budget is spent; or one of them is refused with what those before it leave;
-  -- or memory for the list is wanted
-  abbrev pub RefusesSeq : Place → ℕ → ℕ → ReadingError → Type 0
-  RefusesSeq p left left' e =
-      ((members_at p ≡ None ⊎ left ≡ 0)
-      × RefusesMembers p left left' e) ⊎ RefusesInSeq p left left' e
+  -- none stand there, or the budget is spent, and the whole is refused; or one of them is refused
+  -- with what those before it leave; or memory for the values is wanted
+  abbrev pub RefusesAll : Option (List P) → (ℕ → ℕ → ReadingError → Type 0) → ℕ → ℕ
+      → ReadingError → Type 0
+  RefusesAll there whole left left' e =
+      ((there ≡ None ⊎ left ≡ 0) × whole left left' e) ⊎ RefusesInside there left left' e
+
+-- a list is refused: there are no members, or one of them is refused
+abbrev pub RefusesSeq : (Place → ℕ → Type 0) → (Place → ℕ → ℕ → ReadingError → Type 0) → Place → ℕ
+    → ℕ → ReadingError → Type 0
+RefusesSeq counts refuses p left left' e =
+    RefusesAll (CountsEach counts) (RefusesThere counts refuses) (members_at p) (RefusesMembers p)
+    left left' e
 
 module _ (ck : Place → ℕ → Type 0) (fk : Place → ℕ → ℕ → ReadingError → Type 0)
     (cv : Place → ℕ → Type 0) (fv : Place → ℕ → ℕ → ReadingError → Type 0) where
@@ -134,34 +148,8 @@ module _ (ck : Place → ℕ → Type 0) (fk : Place → ℕ → ℕ → Reading
   RefusesKeyOrValue p left left' e =
       RefusesThere ck fk p.0 left left' e ⊎ RefusesValue p left left' e
 
-  -- an entry is refused with what those before it leave
-  pub record RefusesOneEntry (places : List (Place × Place)) (left left' : ℕ) (e : ReadingError)
-      : Type 0 where
-    pub done : List (Place × Place)
-    pub at : Place × Place
-    pub after : List (Place × Place)
-    pub spent : ℕ
-    pub here : ℕ
-    pub are : places ≡ done ++ at ∷ after
-    pub counted : CountsEntries ck cv done spent
-    pub paid : here + spent ≡ left
-    pub refused : RefusesKeyOrValue at here left' e
-
-  -- of the entries one is refused, or memory for the map is wanted
-  abbrev pub RefusesEachEntry : List (Place × Place) → ℕ → ℕ → ReadingError → Type 0
-  RefusesEachEntry places left left' e = IsWantOfMemory e ⊎ RefusesOneEntry places left left' e
-
-  -- there are entries, one is paid for the table, and one of them is refused
-  pub record RefusesInMap (p : Place) (left left' : ℕ) (e : ReadingError) : Type 0 where
-    pub places : List (Place × Place)
-    pub inside : ℕ
-    pub are : entries_at p ≡ Some places
-    pub paid : inside + 1 ≡ left
-    pub refused : RefusesEachEntry places inside left' e
-
-  -- no entries, or the budget is spent; or one of them is refused with what those before it leave;
-  -- or memory for the map is wanted
+  -- a map is refused: there are no entries, or one of them is refused
   abbrev pub RefusesMap : Place → ℕ → ℕ → ReadingError → Type 0
   RefusesMap p left left' e =
-      ((entries_at p ≡ None ⊎ left ≡ 0)
-      × RefusesEntries p left left' e) ⊎ RefusesInMap p left left' e
+      RefusesAll (CountsEntries ck cv) RefusesKeyOrValue (entries_at p) (RefusesEntries p) left
+      left' e

@@ -5,7 +5,7 @@
 --     AnswersTreeOf, AnswersCountOf   what reading and counting its tree answer
 -- The same of files that are read alone:
 --     alone bytes             what the bytes come to
---     root_place, HoldsAtRoot, RefusesRoot, RefusesFile, AnswersTree, AnswersCount
+--     HoldsAtRoot, RefusesRoot, RefusesFile, AnswersTree, AnswersCount
 use Rattle.std.specs.Prelude.{◌≡◌, ◌≤◌, ◌⊎◌, ℕ, List, Option, Some, None, Result, Ok, Err}
 use Rattle.std.specs.Prelude.{MatchResult}
 use Rattle.resb_tree.specs.Tree.{Tree}
@@ -87,10 +87,6 @@ alone bytes = record {
   is_file = IsBundleFile bytes;
   denotes = Denotes bytes;
 }
-
--- the place of a file's root
-abbrev pub root_place : List ℕ → Place
-root_place bytes = place_of_root (alone bytes)
 
 -- the file is a bundle, and this holds of the place of its root
 abbrev pub HoldsAtRoot : (Place → Type 0) → List ℕ → Type 0

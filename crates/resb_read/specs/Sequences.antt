@@ -89,23 +89,22 @@ abbrev pub CountsEach : (Place → ℕ → Type 0) → List Place → ℕ → Ty
 CountsEach counts [] n = n ≡ 0
 CountsEach counts (p ∷ ps) n = (a : ℕ) × (b : ℕ) × counts p a × CountsEach counts ps b × (n ≡ a + b)
 
--- a sequence, each of whose members is read by its own relation, to xs; the count is one more than
--- theirs
-pub record ReadsSeq {X : Type 0} (reads : Place → X → ℕ → Type 0) (p : Place) (xs : List X)
-    (n : ℕ) : Type 0 where
-  pub places : List Place
+-- what holds other places stands there, and n is one more than what they take
+pub record Collects {P : Type 0} (there : Option (List P)) (takes : List P → ℕ → Type 0) (n : ℕ)
+    : Type 0 where
+  pub places : List P
   pub total : ℕ
-  pub are : members_at p ≡ Some places
-  pub each : ReadsEach reads places xs total
+  pub are : there ≡ Some places
+  pub each : takes places total
   pub count : n ≡ 1 + total
 
--- a sequence stands there, each member has a count, and the sum with one more is n
-pub record CountsSeq (counts : Place → ℕ → Type 0) (p : Place) (n : ℕ) : Type 0 where
-  pub places : List Place
-  pub total : ℕ
-  pub are : members_at p ≡ Some places
-  pub each : CountsEach counts places total
-  pub count : n ≡ 1 + total
+-- a sequence stands there, whose members are read to xs; it counts as one besides them
+abbrev pub ReadsSeq : {X : Type 0} → (Place → X → ℕ → Type 0) → Place → List X → ℕ → Type 0
+ReadsSeq reads p xs n = Collects (members_at p) (λ places total. ReadsEach reads places xs total) n
+
+-- a sequence stands there, each of whose members has a count; it counts as one besides them
+abbrev pub CountsSeq : (Place → ℕ → Type 0) → Place → ℕ → Type 0
+CountsSeq counts p n = Collects (members_at p) (CountsEach counts) n
 
 -- each entry's key and value are read, and n is the sum of the counts
 abbrev pub ReadsEntries : {K X : Type 0} → (Place → K → ℕ → Type 0) → (Place → X → ℕ → Type 0)
@@ -131,29 +130,18 @@ abbrev pub put_each : {K X : Type 0} → (K → K → Ordering) → List (K × X
 put_each cmp m [] = m
 put_each cmp m (e ∷ es) = put_each cmp (insert_entry cmp m e.0 e.1) es
 
--- a table stands there, each of its entries is read, and the map has them put in one after
--- another; the table itself counts as one
-pub record ReadsMap {K X : Type 0} (cmp : K → K → Ordering) (key : Place → K → ℕ → Type 0)
-    (value : Place → X → ℕ → Type 0) (p : Place) (m : List (K × X)) (n : ℕ) : Type 0 where
-  pub places : List (Place × Place)
-  pub read : List (K × X)
-  pub total : ℕ
-  pub are : entries_at p ≡ Some places
-  pub each : ReadsEntries key value places read total
-  pub map : m ≡ put_each cmp [] read
-  pub count : n ≡ 1 + total
-
--- a table stands there whose entries take n, the table itself counted as one
-pub record CountsMap (key : Place → ℕ → Type 0) (value : Place → ℕ → Type 0) (p : Place)
-    (n : ℕ) : Type 0 where
-  pub places : List (Place × Place)
-  pub total : ℕ
-  pub are : entries_at p ≡ Some places
-  pub each : CountsEntries key value places total
-  pub count : n ≡ 1 + total
-
--- the entries that stand after all were put in
+-- each entry is read, and the map has them put in one after another
 abbrev pub ReadsAll : {K X : Type 0} → (K → K → Ordering) → (Place → K → ℕ → Type 0)
     → (Place → X → ℕ → Type 0) → List (Place × Place) → List (K × X) → ℕ → Type 0
 ReadsAll {K} {X} cmp key value places m n =
     (es : List (K × X)) × ReadsEntries key value places es n × (m ≡ put_each cmp [] es)
+
+-- a table stands there, whose entries are read to a map; it counts as one besides them
+abbrev pub ReadsMap : {K X : Type 0} → (K → K → Ordering) → (Place → K → ℕ → Type 0)
+    → (Place → X → ℕ → Type 0) → Place → List (K × X) → ℕ → Type 0
+ReadsMap cmp key value p m n =
+    Collects (entries_at p) (λ places total. ReadsAll cmp key value places m total) n
+
+-- a table stands there, each of whose entries has a count; it counts as one besides them
+abbrev pub CountsMap : (Place → ℕ → Type 0) → (Place → ℕ → Type 0) → Place → ℕ → Type 0
+CountsMap key value p n = Collects (entries_at p) (CountsEntries key value) n

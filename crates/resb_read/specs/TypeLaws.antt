@@ -152,7 +152,7 @@ module _ {K X : Type 0} (rk : Place → K → ℕ → Type 0) (rv : Place → X 
         places = h.places;
         total = h.total;
         are = h.are;
-        each = entries_counted h.places h.read h.total h.each;
+        each = entries_counted h.places h.each.0 h.total h.each.1;
         count = h.count;
       }
 

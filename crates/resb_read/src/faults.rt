@@ -8,7 +8,6 @@ ghost use Rattle.resb_walk.specs.BlockRefusals.{Says};
 ghost use Rattle.resb_walk.specs.Refusals.{IsFault};
 ghost use Rattle.resb_read.specs.Leaves.{type_in, value_in};
 ghost use Rattle.resb_read.specs.PlaceRefusals as refused;
-ghost use Rattle.resb_read.specs.Places.{place_of};
 ghost use Rattle.resb_read.specs.RefusedReadings.{Takes};
 
 use crate::cursor::{Cursor, Spot};
@@ -35,7 +34,8 @@ pub(crate) fn elsewhere() -> BinaryDeserializerError
 /// the budget before they are looked at, and a descriptor's type has to be one that is read at all.
 pub(crate) fn refused_here(place: Cursor<'_>, walk: &mut Walk) -> BinaryDeserializerError
     ensures falls { walk.new ≤ walk.old }
-    ensures says { Says (refused.no_value (place_of place.entry) walk.old) result }
+    ensures says { Says (refused.no_value_from (parts_in place.entry.file) place.entry.at walk.old)
+        result }
     ensures takes { Takes place.entry.at walk.old walk.new }
 {
     match place.at {

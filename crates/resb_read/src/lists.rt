@@ -3,7 +3,7 @@
 ghost use Rattle.std.specs.Prelude.{◌≡◌, ◌≤◌, ◌+◌, ℕ, None, IfOk, IfErr, IsSomeAnd};
 ghost use Rattle.resb_read.specs.Reading.{LacksOrMemory};
 ghost use Rattle.resb_read.specs.Sequences.{ReadsEach, CountsEach, ReadsSeq, CountsSeq};
-ghost use Rattle.resb_read.specs.RefusedReadings.{RefusesEach, RefusesSeq};
+ghost use Rattle.resb_read.specs.RefusedReadings.{RefusesThere, RefusesEach, RefusesSeq};
 ghost use Rattle.resb_read.specs.TypeLaws.{option_counted, seq_counted, seq_one};
 
 use crate::cursor::Cursor;
@@ -45,7 +45,8 @@ fn read_members<'de, 'm, T: Deserialize<'de>>(
     ensures refused { IfErr result (λ e. (walk.new ≤ walk.old)
         × LacksOrMemory (CountsEach T.counts seq.entry.rest) walk.old e) }
     ensures says { IfErr result
-        (RefusesEach T.counts T.refuses seq.entry.rest walk.old walk.new) }
+        (RefusesEach (CountsEach T.counts) (RefusesThere T.counts T.refuses) seq.entry.rest walk.old
+        walk.new) }
 {
     let mut values = Vec::new(alloc);
     'members: while let Some(value) = seq.next_element::<T>(alloc, walk)? {

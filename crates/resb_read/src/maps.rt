@@ -3,7 +3,7 @@
 ghost use Rattle.std.specs.Prelude.{◌≡◌, ◌≤◌, ◌+◌, ℕ, None, IfOk, IfErr};
 ghost use Rattle.resb_read.specs.Reading.{LacksOrMemory};
 ghost use Rattle.resb_read.specs.Sequences.{ReadsAll, CountsEntries, ReadsMap, CountsMap};
-ghost use Rattle.resb_read.specs.RefusedReadings.{RefusesEachEntry, RefusesMap};
+ghost use Rattle.resb_read.specs.RefusedReadings.{RefusesEach, RefusesKeyOrValue, RefusesMap};
 ghost use Rattle.resb_read.specs.TypeLaws.{map_counted, map_one};
 
 use crate::cursor::Cursor;
@@ -26,8 +26,9 @@ fn read_entries<'de, 'm, K: Deserialize<'de> + Ord, T: Deserialize<'de>>(
         × (walk.new + n ≡ walk.old)) }
     ensures refused { IfErr result (λ e. (walk.new ≤ walk.old)
         × LacksOrMemory (CountsEntries K.counts T.counts access.entry.rest) walk.old e) }
-    ensures says { IfErr result (RefusesEachEntry K.counts K.refuses T.counts T.refuses
-        access.entry.rest walk.old walk.new) }
+    ensures says { IfErr result (RefusesEach (CountsEntries K.counts T.counts)
+        (RefusesKeyOrValue K.counts K.refuses T.counts T.refuses) access.entry.rest walk.old
+        walk.new) }
 {
     let mut map = BTreeMap::new(alloc);
     'entries: while let Some((key, value)) = access.next_entry::<K, T>(alloc, walk)? {

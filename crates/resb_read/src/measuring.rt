@@ -5,7 +5,8 @@ ghost use Rattle.resb_walk.specs.Pieces.{Piece};
 ghost use Rattle.resb_walk.specs.Sums.{AddsUp, count_of, fitting};
 ghost use Rattle.resb_walk.specs.TreeBytes.{tree_bytes};
 ghost use Rattle.resb_read.specs.Inner.AtRoot.{IsRoot, MeasureHere, TreeWithinHere};
-ghost use Rattle.resb_read.specs.Measuring.{IsMeasured, AnswersMeasure, TreeWithin};
+ghost use Rattle.resb_read.specs.Measuring.{IsMeasured, AnswersMeasureOf, TreeWithinOf};
+ghost use Rattle.resb_read.specs.Roots.{alone};
 ghost use Rattle.resb_read.specs.Measuring.{IsLarger, HasLargerKeys, key_bytes};
 ghost use Rattle.resb_read.specs.Places.{place_of};
 ghost use Rattle.resb_read.specs.Resources.{HoldsPlace};
@@ -110,7 +111,7 @@ impl<'de> Cursor<'de> {
 /// `count_resources` is. No key and no string, but short ones, is looked at again and again as a
 /// whole.
 pub fn measure(alloc: Global, bytes: &[u8]) -> Result<Measured, BinaryDeserializerError>
-    ensures { AnswersMeasure bytes.now result }
+    ensures { AnswersMeasureOf (alone bytes.now) result }
 {
     let (root, walk) = Cursor::root(bytes)?;
     measure_root(alloc, root, walk)
@@ -124,7 +125,7 @@ pub fn tree_from_bytes_within(
     bytes: &[u8],
     limit: u64,
 ) -> Result<Resource<'_>, BinaryDeserializerError>
-    ensures { TreeWithin bytes.now limit result }
+    ensures { TreeWithinOf (alone bytes.now) limit result }
 {
     let (root, walk) = Cursor::root(bytes)?;
     read_root_within(alloc, root, walk, limit)

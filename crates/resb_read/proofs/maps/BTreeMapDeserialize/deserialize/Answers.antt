@@ -10,11 +10,9 @@ returns-clause-read g c =
       1 + n,
       record {
         places = c.in_ok-access.access.rest;
-        read = all.0;
         total = n;
         are = c.in_ok-access.ensures.read.0;
-        each = all.1;
-        map = all.2;
+        each = all;
         count = refl;
       },
       omega (arith, paid, first),

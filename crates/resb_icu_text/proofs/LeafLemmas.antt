@@ -158,18 +158,18 @@ module _ {text : List ℕ} {p q : Quota} where
 
   -- what it makes is larger than what is left
   pub leaf_over : {k : ℕ} (from : ℕ) (kind : Kind) (to : ℕ) (u : Tree) (e : IcuTextError)
-      → Leaf text from kind to u → RunsOver p q k → k ≡ leaf_bytes u
+      → Leaf text from kind to u → RunsOver p q k → k ≡ leaf_bytes p.weights u
       → e ≡ want_of_memory → LeafStops text from kind p q e
   leaf_over from kind to u e l o sum h ws ks =
       over_stops ws ks _ from _ e (leaf_follows kind from to u l.content l.closes) sum o h
 
   -- what is read and taken of it
   pub leaf_read : {k : ℕ} (from : ℕ) (kind : Kind) (to : ℕ) (r : Resource) (u : Tree)
-      → u ≡ tree_of r → Leaf text from kind to u → TakesBytes p q k → k ≡ leaf_bytes u
+      → u ≡ tree_of r → Leaf text from kind to u → TakesBytes p q k → k ≡ leaf_bytes p.weights u
       → KeepsSlices text r → from ≤ to → to < length text → IsReadLeaf text from kind p q (to, r)
   leaf_read from kind to r u e l t sum keeps order fits = record {
     leaf = subst (λ v. Leaf text from kind to v) e l;
-    takes = subst (λ v. TakesBytes p q (leaf_bytes v)) e (as_many t sum);
+    takes = subst (λ v. TakesBytes p q (leaf_bytes p.weights v)) e (as_many t sum);
     slices = keeps;
     order = order;
     fits = fits;

@@ -3,6 +3,7 @@ use Rattle.std.proofs.Common.{◌≡◌, ◌∙◌, ℕ, ◌+◌, true, List, in
 use Rattle.std.proofs.lemmas.Bool.{false≢true}
 use Rattle.std.specs.Prelude.{Result, Ok, Err, MatchResult}
 use Rattle.std.specs.Result.{IsErrAnd}
+use Rattle.resb_grammar.specs.declared.limit.Limit.{Limit}
 use Rattle.resb_icu_grammar.specs.Limit.{made_by, by_a_step}
 use Rattle.resb_icu_grammar.specs.Machine.{Waiting, Standing, behind_group, Reading, reading_at}
 use Rattle.resb_icu_grammar.specs.Machine.{Move, StepOut}
@@ -29,13 +30,17 @@ match_by P G Q H (Err e) f g h = g e h
 
 -- nothing is taken of a quota
 pub none_taken : (q : Quota) → TakesBytes q q 0
-none_taken q = record { left = omega arith; over = refl }
+none_taken q = record { left = omega arith; weights = refl; over = refl }
 
 -- two takings are one
 pub both_taken : {p q r : Quota} {n m k : ℕ} → TakesBytes p q n → TakesBytes q r m → k ≡ n + m
     → TakesBytes p r k
 both_taken s t e =
-    record { left = omega (arith, s.left, t.left, e); over = t.over ∙ s.over }
+    record {
+      left = omega (arith, s.left, t.left, e);
+      weights = t.weights ∙ s.weights;
+      over = t.over ∙ s.over;
+    }
 
 -- what is taken first counts, where more was asked for
 pub taken_over : {p q r : Quota} {n m k : ℕ} → TakesBytes p q n → RunsOver q r m → k ≡ n + m
@@ -49,26 +54,28 @@ as_many {p} {q} t e = subst (λ k. TakesBytes p q k) e t
 module _ {text : List ℕ} {p q : Quota} where
   -- a step inside a group, and what it makes
   pub by_move : {n : ℕ} (ws : List Waiting) (ks : List (List ℕ)) (s : Standing) (at : ℕ)
-      (r : Reading) → (m : Move text ws ks s at r) → n ≡ made_by m → TakesBytes p q n
+      (r : Reading) → (m : Move text ws ks s at r) → n ≡ made_by p.weights m → TakesBytes p q n
       → GoesOn text p q (reading_at ws ks s at) r
-  by_move ws ks s at r m e t limit a = record {
-    bytes = a.bytes + made_by m;
+  by_move {n} ws ks s at r m e t limit a = record {
+    bytes = a.bytes + made_by limit.weights m;
     made = makes_on text a.bytes ws ks s at r a.made m;
-    sum = omega (arith, a.sum, t.left, e);
+    sum = omega (arith, a.sum, t.left, subst (λ w. n ≡ made_by w m) a.weights e);
+    weights = t.weights ∙ a.weights;
     over = t.over ∙ a.over;
   }
 
   -- a step by which more than the quota has would be made
   pub over_stops : {n : ℕ} (ws : List Waiting) (ks : List (List ℕ)) (s : Standing) (at : ℕ)
-      (r : Reading) (e : IcuTextError) → (m : Move text ws ks s at r) → n ≡ made_by m
+      (r : Reading) (e : IcuTextError) → (m : Move text ws ks s at r) → n ≡ made_by p.weights m
       → RunsOver p q n → e ≡ want_of_memory → StopsAt text p q (reading_at ws ks s at) e
-  over_stops ws ks s at r e m h o memory limit a = record {
+  over_stops {n} ws ks s at r e m h o memory limit a = record {
     fails = inl memory;
-    over = λ _. by_a_step a.bytes ws ks s at r a.made m (omega (arith, a.sum, o.more, h));
+    over = λ _. by_a_step a.bytes ws ks s at r a.made m
+        (omega (arith, a.sum, o.more, subst (λ w. n ≡ made_by w m) a.weights h));
   }
 
-  not_over : {A : Type 0} {n limit : ℕ} {r : Reading} → TakesBytes p q n → IsAt text limit p r
-      → q.is_over ≡ true → A
+  not_over : {A : Type 0} {n : ℕ} {limit : Limit} {r : Reading} → TakesBytes p q n
+      → IsAt text limit p r → q.is_over ≡ true → A
   not_over t a o = absurd (false≢true (sym (t.over ∙ a.over) ∙ o))
 
   -- memory is wanted, once what was asked for is taken
@@ -100,5 +107,6 @@ by_step_out text q ws ks t at r m limit a = record {
   bytes = a.bytes;
   made = makes_out text a.bytes ws ks t at r a.made m;
   sum = a.sum;
+  weights = a.weights;
   over = a.over;
 }

@@ -46,7 +46,7 @@ use Rattle.resb_icu_text.specs.Inner.Reading.{around, NameFails, TypingThere, no
 use Rattle.resb_icu_text.specs.Inner.Reading.{OpeningFails, no_type, no_brace, HeaderFails}
 use Rattle.resb_icu_text.specs.Inner.Reading.{RootThere}
 use Rattle.resb_icu_text.specs.Inner.Quota.{TakesBytes, RunsOver, IsAt, GoesOn, IsStuck, Stops}
-use Rattle.resb_icu_text.specs.Inner.Quota.{StopsAt}
+use Rattle.resb_icu_text.specs.Inner.Quota.{StopsAt, limit_of}
 use Rattle.resb_icu_text.specs.declared.quota.Quota.{Quota}
 use Rattle.resb_icu_text.proofs.QuotaLemmas.{none_taken, memory_stops, stuck_stops}
 use Rattle.std.proofs.lemmas.Bool.{false≢true, and_from, and_parts}
@@ -54,7 +54,7 @@ use Rattle.resb_tree.specs.Borrowing.{all_true}
 use Rattle.resb_icu_text.specs.Inner.Kept.{Test, Passing, IsKept, groups_pass, open_passes}
 use Rattle.resb_icu_text.specs.declared.open.OpenGroups.{OpenGroups}
 use Rattle.resb_icu_text.specs.declared.steps.Read.{Read}
-use Rattle.resb_tree.specs.Weights.{resource_weight}
+use Rattle.resb_grammar.specs.declared.limit.Limit.{Limit}
 use Rattle.resb_icu_text.specs.declared.steps.Step.{Step}
 use Rattle.resb_icu_text.specs.declared.steps.Step.TheVariants as step
 
@@ -280,7 +280,7 @@ text_ends text first p q at end t ks c k w v limit a =
     }
 
 -- a refusal of the header is one of the text
-pub header_refused : (text : List ℕ) (limit : ℕ) (q : Quota) (e : IcuTextError)
+pub header_refused : (text : List ℕ) (limit : Limit) (q : Quota) (e : IcuTextError)
     → q.is_over ≡ false → HeaderFails text e → Stops text limit q e
 header_refused text limit q e h s = record {
   fails = inr (record {
@@ -292,8 +292,8 @@ header_refused text limit q e h s = record {
 
 -- a limit that is less than the root makes
 pub root_over : (text name : List ℕ) (f : Bool) (first : ℕ) (p q : Quota) (e : IcuTextError)
-    → Header text name f first → RunsOver p q resource_weight → e ≡ want_of_memory
-    → Stops text p.left q e
+    → Header text name f first → RunsOver p q p.weights.group → e ≡ want_of_memory
+    → Stops text (limit_of p) q e
 root_over text name f first p q e h o memory = record {
   fails = inl memory;
   over = λ _. by_the_root name f first h o.more;
@@ -301,22 +301,23 @@ root_over text name f first p q e h o memory = record {
 
 -- the root has begun
 pub root_begun : (text name : List ℕ) (f : Bool) (first : ℕ) (p q : Quota)
-    → Header text name f first → TakesBytes p q resource_weight → p.is_over ≡ false
-    → IsAt text p.left q (at_root first)
+    → Header text name f first → TakesBytes p q p.weights.group → p.is_over ≡ false
+    → IsAt text (limit_of p) q (at_root first)
 root_begun text name f first p q h t o = record {
-  bytes = resource_weight;
-  made = root_makes text name f first h;
+  bytes = p.weights.group;
+  made = root_makes p.weights text name f first h;
   sum = omega (arith, t.left);
+  weights = t.weights;
   over = t.over ∙ o;
 }
 
 -- want of memory behind the root
-pub memory_last : (text : List ℕ) (limit : ℕ) (q : Quota) (e : IcuTextError) (r : Reading)
+pub memory_last : (text : List ℕ) (limit : Limit) (q : Quota) (e : IcuTextError) (r : Reading)
     → e ≡ want_of_memory → IsAt text limit q r → Stops text limit q e
 memory_last text limit q e r h a = memory_stops r e (none_taken q) h limit a
 
 -- the whole text is within the limit
-pub made_within : (text : List ℕ) (limit : ℕ) (q : Quota) (tree : Tree) (places : List (List ℕ))
+pub made_within : (text : List ℕ) (limit : Limit) (q : Quota) (tree : Tree) (places : List (List ℕ))
     → IsWhole text limit q tree places → IcuMadeWithin text limit
 made_within text limit q tree places w = record {
   tree = tree;
@@ -329,50 +330,50 @@ made_within text limit q tree places w = record {
 }
 
 -- and it is a bundle
-pub whole_root : (text name : List ℕ) (f : Bool) (first limit : ℕ) (q : Quota) (tree : Tree)
-    (places : List (List ℕ)) → Header text name f first → IsWhole text limit q tree places
+pub whole_root : (text name : List ℕ) (f : Bool) (first : ℕ) (limit : Limit) (q : Quota)
+    (tree : Tree) (places : List (List ℕ)) → Header text name f first → IsWhole text limit q tree places
     → IcuText text name f tree (first_places places)
 whole_root text name f first limit q tree places h w =
     whole_text text w.stands.bytes places tree w.end name f first h w.stands.made w.after
 
 -- what a stop says of the text
-pub stop_fails : (text : List ℕ) (limit : ℕ) (q : Quota) (e : IcuTextError)
+pub stop_fails : (text : List ℕ) (limit : Limit) (q : Quota) (e : IcuTextError)
     → Stops text limit q e → IcuFails text e
 stop_fails text limit q e s = ⊎_elim (λ (m : e ≡ want_of_memory). inl m)
     (λ (n : IsStuck text limit e). inr n.stuck) s.fails
 
 -- a text that is refused is no bundle
-pub stop_is_no_text : (text : List ℕ) (limit : ℕ) (q : Quota) (e : IcuTextError)
+pub stop_is_no_text : (text : List ℕ) (limit : Limit) (q : Quota) (e : IcuTextError)
     → Stops text limit q e → (e ≡ want_of_memory) ⊎ IsNoIcuText text
 stop_is_no_text text limit q e s = ⊎_elim (λ (m : e ≡ want_of_memory). inl m)
     (λ (n : IsStuck text limit e).
     inr (stuck_is_no_text text e.position e.expected n.stuck)) s.fails
 
 -- and none of its readings makes more before
-pub stop_never_more : (text : List ℕ) (limit : ℕ) (q : Quota) (e : IcuTextError)
+pub stop_never_more : (text : List ℕ) (limit : Limit) (q : Quota) (e : IcuTextError)
     → Stops text limit q e → IcuNeverMore text limit e
 stop_never_more text limit q e s = ⊎_elim (λ (m : e ≡ want_of_memory). inl m)
     (λ (n : IsStuck text limit e). inr n.first) s.fails
 
 -- what an answer says that is a stop
-pub answer_fails : {T : Type 0} (text : List ℕ) (limit : ℕ) (q : Quota) (P : T → Type 0)
+pub answer_fails : {T : Type 0} (text : List ℕ) (limit : Limit) (q : Quota) (P : T → Type 0)
     (r : Result T IcuTextError) → MatchResult r P (Stops text limit q) → IfErr r (IcuFails text)
 answer_fails text limit q P (Ok x) h = tt
 answer_fails text limit q P (Err e) h = stop_fails text limit q e h
 
-pub answer_no_text : {T : Type 0} (text : List ℕ) (limit : ℕ) (q : Quota) (P : T → Type 0)
+pub answer_no_text : {T : Type 0} (text : List ℕ) (limit : Limit) (q : Quota) (P : T → Type 0)
     (r : Result T IcuTextError) → MatchResult r P (Stops text limit q)
     → IfErr r (λ e. (e ≡ want_of_memory) ⊎ IsNoIcuText text)
 answer_no_text text limit q P (Ok x) h = tt
 answer_no_text text limit q P (Err e) h = stop_is_no_text text limit q e h
 
 -- where more was asked for than this limit, a reading makes more
-pub larger_makes : (text : List ℕ) (limit n : ℕ) (q : Quota) (e : IcuTextError) → limit ≡ n
+pub larger_makes : (text : List ℕ) (limit n : Limit) (q : Quota) (e : IcuTextError) → limit ≡ n
     → Stops text limit q e → q.is_over ≡ true → IcuMakesMore text n
 larger_makes text limit n q e same s o = subst (λ l. IcuMakesMore text l) same (s.over o)
 
 -- and the text's own refusal is within it
-pub text_within : (text : List ℕ) (limit n : ℕ) (q : Quota) (e : IcuTextError) → limit ≡ n
+pub text_within : (text : List ℕ) (limit n : Limit) (q : Quota) (e : IcuTextError) → limit ≡ n
     → Stops text limit q e → IcuFails text e × IcuNeverMore text n e
 text_within text limit n q e same s = (
   stop_fails text limit q e s,

@@ -12,12 +12,13 @@ use Rattle.resb_icu_grammar.specs.Kinds.{Kind, array_kind, table_kind}
 use Rattle.resb_tree.specs.Borrowing as borrowing
 use Rattle.resb_tree.specs.Tree.{Tree, string, array, trees_of}
 use Rattle.resb_tree.specs.View.{tree_of}
-use Rattle.resb_tree.specs.Weights.{resource_weight, table_weight, entry_weight, text_byte_weight}
+use Rattle.resb_tree.specs.Weights.{text_byte_weight}
+use Rattle.resb_grammar.specs.declared.limit.Weights.{Weights}
 use Rattle.resb_tree.specs.declared.resource.Resource.{Resource, String}
 use Rattle.resb_tree.proofs.ViewLemmas.{tree_of_string}
 use Rattle.resb_draft.specs.Drafts.{is_leaf}
 use Rattle.resb_icu_grammar.specs.Blanks.{Skip}
-use Rattle.resb_icu_grammar.specs.Limit.{next_key_bytes, opening_bytes, joining_bytes}
+use Rattle.resb_icu_grammar.specs.Limit.{key_bytes, next_key_bytes, opening_bytes, joining_bytes}
 use Rattle.resb_icu_grammar.specs.Words.{Text, KeyText, GroupType}
 use Rattle.resb_icu_grammar.specs.Groups.{nothing, a_string, a_group, is_member, ends_in_string}
 use Rattle.resb_icu_grammar.specs.Groups.{TypedOpening, LeafContent, string_content, alias_content}
@@ -226,7 +227,7 @@ module _ {X : Type 0} {text : List ℕ} {p q : Quota} where
   -- a string that is a member
   pub member_string : {k : ℕ} (v : Vec X Global) (l : Last) (at : ℕ) (f : Found) (x : CowStr Global)
       → TakesBytes p q k → ((s : List ℕ) → Text text at f.end s
-      → k ≡ resource_weight + (text_byte_weight * length s + joining_bytes text at f.end s))
+      → k ≡ p.weights.group + (text_byte_weight * length s + joining_bytes text at f.end s))
       → ends_in_string (last_of l) ≡ false → IsText text at f x
       → StepsTo text (members_place v.items l at) p q (read.Member v (String x) f.next)
   member_string v l at f x t sum e h = record {
@@ -273,7 +274,7 @@ module _ {X : Type 0} {text : List ℕ} {p q : Quota} where
   -- a key begins an entry
   pub entry_key : {b : ℕ} (v : Vec (Bor (List ℕ) × X) Global) (k : Bor (List ℕ)) (at j : ℕ)
       → TakesBytes p q b
-      → ((tree : X → Tree) → b ≡ next_key_bytes (pairs_by tree v.items) k.now)
+      → ((tree : X → Tree) → b ≡ next_key_bytes p.weights (pairs_by tree v.items) k.now)
       → KeyAhead text at j k.now
       → StepsTo text (entries_place v.items at) p q
       (read.Step (step.Group (waiting.Table v k) j))
@@ -392,7 +393,7 @@ module _ {X : Type 0} {text : List ℕ} {p q : Quota} where
   -- a string and a comma in a group without a type
   pub untyped_comma : {k : ℕ} (v : Vec X Global) (at : ℕ) (f : Found) (x : CowStr Global)
       → TakesBytes p q k → ((s : List ℕ) → Text text at f.end s
-      → k ≡ resource_weight + (text_byte_weight * length s + joining_bytes text at f.end s))
+      → k ≡ p.weights.group + (text_byte_weight * length s + joining_bytes text at f.end s))
       → slice_index text f.next ≡ ascii.comma → IsText text at f x → v.items ≡ []
       → StepsTo text (untyped_place X at) p q (read.Member v (String x) f.next)
   untyped_comma v at f x t sum c h e = record {
@@ -414,7 +415,7 @@ module _ {X : Type 0} {text : List ℕ} {p q : Quota} where
   -- a key and a group in a group without a type
   pub untyped_key : {b : ℕ} (v : Vec (Bor (List ℕ) × X) Global) (k : Bor (List ℕ)) (at j : ℕ)
       → TakesBytes p q b
-      → b ≡ table_weight + (entry_weight + text_byte_weight * length k.now)
+      → b ≡ p.weights.table + (p.weights.entry + text_byte_weight * length k.now)
       → KeyAhead text at j k.now
       → (slice_index text j ≡ ascii.left_brace) ⊎ (slice_index text j ≡ ascii.colon)
       → v.items ≡ []
@@ -457,7 +458,7 @@ module _ {X : Type 0} {text : List ℕ} {p o q : Quota} where
 
   -- a `{` begins a group without a type
   pub as_untyped : (at i : ℕ) (r : Read X) → slice_index text at ≡ ascii.left_brace
-      → Skip text (at + 1) i → at + 1 ≤ i → TakesBytes p o resource_weight
+      → Skip text (at + 1) i → at + 1 ≤ i → TakesBytes p o p.weights.group
       → StepsTo text (untyped_place X i) o q r → StepsTo text (group_place X at) p q r
   as_untyped at i r e k order t s =
       steps_by (group_place X at) (untyped_place X i) r
@@ -465,14 +466,14 @@ module _ {X : Type 0} {text : List ℕ} {p o q : Quota} where
       (λ pass test. refl) (omega (arith, order))
 
   pub untyped_fails : (at i : ℕ) (e : IcuTextError) → slice_index text at ≡ ascii.left_brace
-      → Skip text (at + 1) i → TakesBytes p o resource_weight
+      → Skip text (at + 1) i → TakesBytes p o p.weights.group
       → StepFails text (untyped_place X i) o q e → StepFails text (group_place X at) p q e
   untyped_fails at i e b k t s tree ws ks limit a =
       s tree ws ks limit (by_move ws ks _ at _ (move.group_opens at i b k) refl t limit a)
 
   -- a type and a `{` begin a group of that type
   pub as_typed : {b : ℕ} (at i : ℕ) (kind : Kind) (r : Read X) → TypedOpening text at kind i
-      → at + 1 ≤ i → TakesBytes p o b → b ≡ opening_bytes kind
+      → at + 1 ≤ i → TakesBytes p o b → b ≡ opening_bytes p.weights kind
       → StepsTo text (typed_place X kind i) o q r → StepsTo text (group_place X at) p q r
   as_typed at i kind r g order t sum s =
       steps_by (group_place X at) (typed_place X kind i) r
@@ -480,7 +481,7 @@ module _ {X : Type 0} {text : List ℕ} {p o q : Quota} where
       (λ pass test. refl) (omega (arith, order))
 
   pub typed_fails : {b : ℕ} (at i : ℕ) (kind : Kind) (e : IcuTextError)
-      → TypedOpening text at kind i → TakesBytes p o b → b ≡ opening_bytes kind
+      → TypedOpening text at kind i → TakesBytes p o b → b ≡ opening_bytes p.weights kind
       → StepFails text (typed_place X kind i) o q e → StepFails text (group_place X at) p q e
   typed_fails at i kind e g t sum s tree ws ks limit a =
       s tree ws ks limit (by_move ws ks _ at _ (move.type_opens at i kind g) sum t limit a)
@@ -533,19 +534,18 @@ behind_value text old v key x at next k order fits e = record {
 }
 
 -- the first key of a table makes the table as well
-pub first_key_bytes : {X : Type 0} (tree : X → Tree) (es : List (Bor (List ℕ) × X)) (k : List ℕ)
-    (n : ℕ) → (length es == 0) ≡ true
-    → n ≡ table_weight + (entry_weight + text_byte_weight * length k)
-    → n ≡ next_key_bytes (pairs_by tree es) k
-first_key_bytes tree [] k n e h = h
-first_key_bytes tree (x ∷ es) k n e h = absurd (grind (arith, nat_tests, e))
+pub first_key_bytes : {X : Type 0} (w : Weights) (tree : X → Tree)
+    (es : List (Bor (List ℕ) × X)) (k : List ℕ) (n : ℕ) → (length es == 0) ≡ true
+    → n ≡ w.table + key_bytes w k → n ≡ next_key_bytes w (pairs_by tree es) k
+first_key_bytes w tree [] k n e h = h
+first_key_bytes w tree (x ∷ es) k n e h = absurd (grind (arith, nat_tests, e))
 
 -- another key doesn't
-pub later_key_bytes : {X : Type 0} (tree : X → Tree) (es : List (Bor (List ℕ) × X)) (k : List ℕ)
-    (n : ℕ) → (length es == 0) ≡ false
-    → n ≡ entry_weight + text_byte_weight * length k → n ≡ next_key_bytes (pairs_by tree es) k
-later_key_bytes tree [] k n e h = absurd (grind (arith, nat_tests, e))
-later_key_bytes tree (x ∷ es) k n e h = h
+pub later_key_bytes : {X : Type 0} (w : Weights) (tree : X → Tree)
+    (es : List (Bor (List ℕ) × X)) (k : List ℕ) (n : ℕ) → (length es == 0) ≡ false
+    → n ≡ key_bytes w k → n ≡ next_key_bytes w (pairs_by tree es) k
+later_key_bytes w tree [] k n e h = absurd (grind (arith, nat_tests, e))
+later_key_bytes w tree (x ∷ es) k n e h = h
 
 -- what a key makes
 pub ruleset keys_make = (first_key_bytes, later_key_bytes)

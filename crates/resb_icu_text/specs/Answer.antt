@@ -1,6 +1,7 @@
 -- What a refusal says of a text.
 use Rattle.std.specs.Prelude.{◌≡◌, ◌⊎◌, ℕ, Bool, List}
 use Rattle.resb_tree.specs.Tree.{Tree}
+use Rattle.resb_grammar.specs.declared.limit.Limit.{Limit}
 use Rattle.resb_icu_grammar.specs.Bundle.{IcuText}
 use Rattle.resb_icu_grammar.specs.Stuck.{Stuck}
 use Rattle.resb_icu_grammar.specs.Limit.{IcuMadeWithin, IcuMakesMore}
@@ -20,17 +21,17 @@ IsNoIcuText text =
     → IcuText text name fallback tree keys → ⊥
 
 -- memory was wanted, or no reading of the text makes more than the limit
-abbrev pub IcuNeverMore : List ℕ → ℕ → IcuTextError → Type 0
+abbrev pub IcuNeverMore : List ℕ → Limit → IcuTextError → Type 0
 IcuNeverMore text limit e = (e ≡ want_of_memory) ⊎ (IcuMakesMore text limit → ⊥)
 
 -- the text's own refusal, and no reading makes more than the limit, unless memory was wanted; or a
 -- reading comes to a token by which more than the limit is made
-abbrev pub IcuFailsWithin : List ℕ → ℕ → IcuLimitError → Type 0
+abbrev pub IcuFailsWithin : List ℕ → Limit → IcuLimitError → Type 0
 IcuFailsWithin text limit (limited.Text e) = IcuFails text e × IcuNeverMore text limit e
 IcuFailsWithin text limit limited.Larger = IcuMakesMore text limit
 
 -- memory was wanted, or the text is no bundle in ICU's form, or its whole reading doesn't stay
 -- within the limit
-abbrev pub IsNoIcuTextWithin : List ℕ → ℕ → IcuLimitError → Type 0
+abbrev pub IsNoIcuTextWithin : List ℕ → Limit → IcuLimitError → Type 0
 IsNoIcuTextWithin text limit (limited.Text e) = (e ≡ want_of_memory) ⊎ IsNoIcuText text
 IsNoIcuTextWithin text limit limited.Larger = IcuMadeWithin text limit → ⊥

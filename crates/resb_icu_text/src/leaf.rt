@@ -15,14 +15,14 @@ ghost use Rattle.resb_grammar.specs.Inner.Reach.{reach};
 use crate::blanks::{byte, skip};
 use crate::digits::hex_length;
 use crate::error::IcuTextError;
-use crate::quota::{BINARY_BYTE, BLOCK, Meter, NUMBER, asked_bytes};
+use crate::quota::{BINARY_BYTE, Meter, NUMBER, REQUEST, asked_bytes};
 use crate::rows::row_bytes;
 use crate::strings::{Found, Stands, found_or};
 use crate::turns::IcuTurns;
 use crate::words::number;
 use resb_grammar::bytes_of_hex;
 use resb_icu_grammar::{IcuExpected, IcuKind};
-use resb_tree::{Int28, NoMemory, Resource, weights};
+use resb_tree::{Int28, NoMemory, Resource};
 use std::alloc::Global;
 use std::borrow::CowSlice;
 
@@ -56,7 +56,8 @@ fn string_leaf<'a>(
 {
     let found = found_or(text, at, IcuExpected::String, &mut meter.turns)?;
     let to = closing(text, found.next)?;
-    meter.quota.take(asked_bytes(found.length()))?;
+    let weights = meter.quota.weights;
+    meter.quota.take(asked_bytes(weights, found.length()))?;
     let said = found.text(alloc, text, at, &mut meter.turns)?;
     Ok((to, Resource::String(said)))
 }
@@ -78,7 +79,8 @@ fn alias_leaf<'a>(
 {
     let found = found_or(text, at, IcuExpected::String, &mut meter.turns)?;
     let to = closing(text, found.next)?;
-    meter.quota.take(asked_bytes(found.length()))?;
+    let weights = meter.quota.weights;
+    meter.quota.take(asked_bytes(weights, found.length()))?;
     let path = found.text(alloc, text, at, &mut meter.turns)?;
     Ok((to, Resource::Alias(path)))
 }
@@ -104,7 +106,8 @@ fn binary_leaf<'a>(
         return Err(IcuTextError::new(at, IcuExpected::HexPairs));
     };
     let to = closing(text, found.next)?;
-    meter.quota.take(BLOCK + BINARY_BYTE * count as u128)?;
+    let block = meter.quota.weights.group as u128 + REQUEST;
+    meter.quota.take(block + BINARY_BYTE * count as u128)?;
     let bytes = decoded(alloc, found, text, at, &mut meter.turns)?;
     Ok((to, Resource::Binary(CowSlice::Owned(bytes))))
 }
@@ -156,7 +159,8 @@ fn integer_leaf<'a>(
     };
     let next = skip(text, end, &mut meter.turns);
     let to = closing(text, next)?;
-    meter.quota.take(weights::RESOURCE)?;
+    let group = meter.quota.weights.group;
+    meter.quota.take(group as u128)?;
     Ok((to, Resource::Integer(Int28::from(value))))
 }
 
@@ -228,12 +232,13 @@ fn vector_leaf<'a>(
         (λ r. meter.new.turns.count + 8 * reach text.now at ≤ meter.old.turns.count + 8 * r.0)
         (λ e. Halts text.now 4 at meter.old.turns meter.new.turns) }
 {
+    let block = meter.quota.weights.group as u128 + REQUEST;
     if byte(text, at) == b'}' {
-        meter.quota.take(BLOCK)?;
+        meter.quota.take(block)?;
         return Ok((at, Resource::IntVector(Vec::new(alloc))));
     }
     let (to, numbers) = numbers(alloc, text, at, meter)?;
-    meter.quota.take(BLOCK)?;
+    meter.quota.take(block)?;
     Ok((to, Resource::IntVector(numbers)))
 }
 

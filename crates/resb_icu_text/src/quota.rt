@@ -2,26 +2,35 @@
 //! What each step adds is said in the grammar; `steps` and `leaf` ask for it before it is made.
 ghost use Rattle.std.specs.Prelude.{◌≡◌, ◌+◌, ◌*◌, false, length, MatchResult};
 ghost use Rattle.resb_grammar.specs.Limit.{request_bytes};
-ghost use Rattle.resb_tree.specs.Weights.{resource_weight, entry_weight, text_byte_weight};
+ghost use Rattle.resb_tree.specs.Weights.{text_byte_weight};
+ghost use Rattle.resb_icu_grammar.specs.Limit.{key_bytes};
 ghost use Rattle.resb_icu_text.specs.Inner.Quota.{TakesBytes, RunsOver};
 
 use crate::turns::IcuTurns;
+use resb_grammar::{Limit, Weights};
 use resb_tree::{NoMemory, weights};
 
-/// How many bytes may still be made, and whether more were asked for.
+/// How many bytes may still be made, what is counted for each thing, and whether more were asked
+/// for.
 #[derive(Drop)]
 pub(crate) struct Quota {
     left: u64,
+    pub(crate) weights: Weights,
     pub(crate) is_over: bool,
 }
 
 impl Quota {
     /// Nothing is made yet.
-    pub(crate) fn new(limit: u64) -> Quota
-        ensures { result ≡ record { left = limit; is_over = false } }
+    pub(crate) fn new(limit: Limit) -> Quota
+        ensures { result ≡ record {
+          left = limit.bytes;
+          weights = limit.weights;
+          is_over = false;
+        } }
     {
         Quota {
-            left: limit,
+            left: limit.bytes,
+            weights: limit.weights,
             is_over: false,
         }
     }
@@ -50,10 +59,10 @@ pub(crate) struct Meter {
 
 impl Meter {
     /// Nothing is counted yet, and so many bytes may be made.
-    pub(crate) fn new(limit: u64) -> Meter
+    pub(crate) fn new(limit: Limit) -> Meter
         ensures { result ≡ record {
           turns = record { count = 0 };
-          quota = record { left = limit; is_over = false };
+          quota = record { left = limit.bytes; weights = limit.weights; is_over = false };
         } }
     {
         Meter {
@@ -69,10 +78,6 @@ pub(crate) const NUMBER: u128 = 2 * weights::NUMBER;
 /// The memory that is asked for one thing alone, beside what it holds.
 pub(crate) const REQUEST: u128 = 32;
 
-/// A group that holds a string, a path, bytes or numbers, beside these: a resource, and the memory
-/// that is asked for it.
-pub(crate) const BLOCK: u128 = weights::RESOURCE + REQUEST;
-
 /// A byte of a binary: itself and its two digits, whether these are put together or not.
 pub(crate) const BINARY_BYTE: u128 = 3;
 
@@ -83,16 +88,16 @@ pub(crate) fn text_bytes(length: usize) -> u128
     weights::TEXT_BYTE * length as u128
 }
 
-/// A group that holds a string or a path of so many bytes.
-pub(crate) fn asked_bytes(length: usize) -> u128
-    ensures { result ≡ resource_weight + text_byte_weight * length + request_bytes + length }
+/// A group that holds a string or a path of so many bytes, and the memory that is asked for it.
+pub(crate) fn asked_bytes(weights: Weights, length: usize) -> u128
+    ensures { result ≡ weights.group + text_byte_weight * length + request_bytes + length }
 {
-    BLOCK + text_bytes(length) + length as u128
+    weights.group as u128 + REQUEST + text_bytes(length) + length as u128
 }
 
 /// The key of an entry.
-pub(crate) fn key_bytes(key: &str) -> u128
-    ensures { result ≡ entry_weight + text_byte_weight * length key.now }
+pub(crate) fn key_bytes(weights: Weights, key: &str) -> u128
+    ensures { result ≡ key_bytes weights key.now }
 {
-    weights::ENTRY + text_bytes(key.len())
+    weights.entry as u128 + text_bytes(key.len())
 }

@@ -5,6 +5,7 @@ ghost use Rattle.std.specs.Prelude.{◌≡◌, ◌⊎◌, ◌+◌, ◌*◌, ◌<
 ghost use Rattle.std.specs.Prelude.{IfOk, IfErr, MatchResult};
 ghost use Rattle.resb_draft.specs.Drafts.{draft_tree, is_ready};
 ghost use Rattle.resb_grammar.specs.BundleText.{first_places};
+ghost use Rattle.resb_grammar.specs.Limit.{tree_limit, draft_limit};
 ghost use Rattle.resb_grammar.specs.Inner.Reach.{reach};
 ghost use Rattle.resb_tree.specs.Bundle.{name_of, root_of};
 ghost use Rattle.resb_icu_grammar.specs.Blanks.{Begins};
@@ -20,7 +21,7 @@ ghost use Rattle.resb_icu_text.specs.Inner.Reading.{NameAhead, NameFails, Typing
 ghost use Rattle.resb_icu_text.specs.Inner.Reading.{Opening, OpeningFails, HeaderFails};
 ghost use Rattle.resb_icu_text.specs.Inner.Reading.{RootThere};
 ghost use Rattle.resb_icu_text.specs.Inner.Kept.{IsKept};
-ghost use Rattle.resb_icu_text.specs.Inner.Quota.{Stops, StopsAt};
+ghost use Rattle.resb_icu_text.specs.Inner.Quota.{Stops, StopsAt, limit_of};
 ghost use Rattle.resb_icu_text.specs.Inner.Turns.{Halts};
 
 use crate::blanks::{byte, skip};
@@ -34,9 +35,9 @@ use crate::turns::IcuTurns;
 use crate::types::root_type;
 use crate::words::word_end;
 use resb_draft::{Draft, DraftBundle};
-use resb_grammar::KeyList;
+use resb_grammar::{KeyList, Limit};
 use resb_icu_grammar::IcuExpected;
-use resb_tree::{Key, NoMemory, ResourceBundle, weights};
+use resb_tree::{Key, NoMemory, ResourceBundle};
 use std::alloc::Global;
 use std::borrow::CowStr;
 
@@ -57,7 +58,7 @@ impl IcuReader {
         ensures err { IfErr result (IcuFails input.now) }
         ensures no_text { IfErr result (λ e. (e ≡ want_of_memory) ⊎ IsNoIcuText input.now) }
     {
-        read_limited(alloc, input, &mut Meter::new(u64::MAX))
+        read_limited(alloc, input, &mut Meter::new(Limit::of_trees(u64::MAX)))
     }
 
     /// The bundle and the keys as `read` gives them, where reading makes no more bytes than the
@@ -76,12 +77,12 @@ impl IcuReader {
     ) -> Result<(ResourceBundle<'a>, Vec<Key<'a>>), IcuLimitError>
         ensures ok { IfOk result (λ r. IcuText input.now
             (name_of r.0) r.0.is_locale_fallback_enabled (root_of r.0) r.1.items) }
-        ensures within { IfOk result (λ r. IcuMadeWithin input.now limit) }
+        ensures within { IfOk result (λ r. IcuMadeWithin input.now (tree_limit limit)) }
         ensures borrowed { IfOk result (λ r. IsBorrowedFrom input.now r.0) }
-        ensures err { IfErr result (IcuFailsWithin input.now limit) }
-        ensures none { IfErr result (IsNoIcuTextWithin input.now limit) }
+        ensures err { IfErr result (IcuFailsWithin input.now (tree_limit limit)) }
+        ensures none { IfErr result (IsNoIcuTextWithin input.now (tree_limit limit)) }
     {
-        let mut meter = Meter::new(limit);
+        let mut meter = Meter::new(Limit::of_trees(limit));
         match read_limited(alloc, input, &mut meter) {
             Ok(read) => Ok(read),
             Err(_) if meter.quota.is_over => Err(IcuLimitError::Larger),
@@ -104,7 +105,7 @@ impl IcuReader {
         ensures grows { turns.old.count ≤ turns.new.count }
         ensures cost { turns.new.count ≤ turns.old.count + 8 * length input.now + 24 }
     {
-        let mut meter = Meter::new(u64::MAX);
+        let mut meter = Meter::new(Limit::of_trees(u64::MAX));
         let read = read_limited(alloc, input, &mut meter);
         turns.add_counted(meter.turns);
         read
@@ -122,11 +123,11 @@ impl IcuReader {
         ensures err { IfErr result (IcuFails input.now) }
         ensures no_text { IfErr result (λ e. (e ≡ want_of_memory) ⊎ IsNoIcuText input.now) }
     {
-        draft_limited(alloc, input, &mut Meter::new(u64::MAX))
+        draft_limited(alloc, input, &mut Meter::new(Limit::of_drafts(u64::MAX)))
     }
 
-    /// The bundle as `read_draft` gives it, where reading makes no more bytes than the limit, which
-    /// are counted as in `read_within`.
+    /// The bundle as `read_draft` gives it, where reading makes no more bytes than the limit: as in
+    /// `read_within`, but that 96 are counted for a key and none for a table.
     pub fn read_draft_within<'a>(
         alloc: Global,
         input: &'a str,
@@ -134,12 +135,12 @@ impl IcuReader {
     ) -> Result<(DraftBundle<'a>, Vec<Key<'a>>), IcuLimitError>
         ensures ok { IfOk result (λ r. IcuText input.now r.0.name.now
             r.0.is_locale_fallback_enabled (draft_tree r.0.root) r.1.items) }
-        ensures within { IfOk result (λ r. IcuMadeWithin input.now limit) }
+        ensures within { IfOk result (λ r. IcuMadeWithin input.now (draft_limit limit)) }
         ensures ready { IfOk result (λ r. is_ready r.0.root ≡ true) }
-        ensures err { IfErr result (IcuFailsWithin input.now limit) }
-        ensures none { IfErr result (IsNoIcuTextWithin input.now limit) }
+        ensures err { IfErr result (IcuFailsWithin input.now (draft_limit limit)) }
+        ensures none { IfErr result (IsNoIcuTextWithin input.now (draft_limit limit)) }
     {
-        let mut meter = Meter::new(limit);
+        let mut meter = Meter::new(Limit::of_drafts(limit));
         match draft_limited(alloc, input, &mut meter) {
             Ok(read) => Ok(read),
             Err(_) if meter.quota.is_over => Err(IcuLimitError::Larger),
@@ -155,7 +156,7 @@ fn read_limited<'a>(
     meter: &mut Meter,
 ) -> Result<(ResourceBundle<'a>, Vec<Key<'a>>), IcuTextError>
     requires unused { meter.old.quota.is_over ≡ false }
-    ensures reads { let limit = meter.old.quota.left in MatchResult result
+    ensures reads { let limit = limit_of meter.old.quota in MatchResult result
         (λ r. IcuText input.now
         (name_of r.0) r.0.is_locale_fallback_enabled (root_of r.0) r.1.items
         × IsBorrowedFrom input.now r.0 × IcuMadeWithin input.now limit)
@@ -177,7 +178,7 @@ fn draft_limited<'a>(
     meter: &mut Meter,
 ) -> Result<(DraftBundle<'a>, Vec<Key<'a>>), IcuTextError>
     requires unused { meter.old.quota.is_over ≡ false }
-    ensures reads { let limit = meter.old.quota.left in MatchResult result
+    ensures reads { let limit = limit_of meter.old.quota in MatchResult result
         (λ r. IcuText input.now r.0.name.now
         r.0.is_locale_fallback_enabled (draft_tree r.0.root) r.1.items
         × (is_ready r.0.root ≡ true) × IcuMadeWithin input.now limit)
@@ -212,7 +213,7 @@ fn read_into<'a, B: Build<'a>>(
     build: B,
 ) -> Result<(Header<'a>, Root<B, B::Made>, Vec<Key<'a>>), IcuTextError>
     requires unused { meter.old.quota.is_over ≡ false }
-    ensures reads { let limit = meter.old.quota.left in MatchResult result
+    ensures reads { let limit = limit_of meter.old.quota in MatchResult result
         (λ r. IcuText input.now r.0.name.now r.0.fallback
         (B.tree r.1.build r.1.made) r.2.items
         × IsKept input.now (B.held r.1.build r.1.made) × IcuMadeWithin input.now limit)
@@ -220,7 +221,8 @@ fn read_into<'a, B: Build<'a>>(
     ensures cost { meter.new.turns.count ≤ meter.old.turns.count + 8 * length input.now + 24 }
 {
     let header = read_header(input, &mut meter.turns)?;
-    meter.quota.take(weights::RESOURCE)?;
+    let group = meter.quota.weights.group;
+    meter.quota.take(group as u128)?;
     let (root, keys) = read_root(alloc, input, header.first, meter, build)?;
     let keys = each_once(alloc, &keys, &mut meter.turns)?;
     Ok((header, root, keys))

@@ -26,8 +26,9 @@ use crate::quota::{Meter, key_bytes};
 use crate::strings::found_or;
 use crate::turns::IcuTurns;
 use crate::types::group_type;
+use resb_grammar::Weights;
 use resb_icu_grammar::{IcuExpected, IcuKind};
-use resb_tree::{NoMemory, Resource, weights};
+use resb_tree::{NoMemory, Resource};
 use std::alloc::Global;
 
 /// What stands last among the members of an array so far.
@@ -198,9 +199,10 @@ fn string_member<'a, X: Drop>(
     if last.is_string() {
         return Err(IcuTextError::new(at, IcuExpected::Comma));
     }
+    let group = meter.quota.weights.group;
     meter
         .quota
-        .take(weights::RESOURCE + found.bytes_made(text, at))?;
+        .take(group as u128 + found.bytes_made(text, at))?;
     let said = found.text(alloc, text, at, &mut meter.turns)?;
     Ok(Read::Member(members, Resource::String(said), found.next))
 }
@@ -230,14 +232,14 @@ pub(crate) fn key_at<'a>(
 
 /// What the key of an entry makes behind these entries: where there are none, the table as well.
 #[tactic(auto, using(crate::proofs::StepsLemmas::keys_make))]
-fn next_key_bytes<'a, X: Drop>(entries: &[Entry<'a, X>], key: &str) -> u128
+fn next_key_bytes<'a, X: Drop>(weights: Weights, entries: &[Entry<'a, X>], key: &str) -> u128
     ensures { (tree : X → Tree)
-        → result ≡ next_key_bytes (pairs_by tree entries.now) key.now }
+        → result ≡ next_key_bytes weights (pairs_by tree entries.now) key.now }
 {
     if entries.is_empty() {
-        weights::TABLE + key_bytes(key)
+        weights.table as u128 + key_bytes(weights, key)
     } else {
-        key_bytes(key)
+        key_bytes(weights, key)
     }
 }
 
@@ -262,7 +264,8 @@ pub(crate) fn entry<'a, X: Drop>(
         return Ok(Read::Table(entries, at, at + 1));
     }
     let (next, key) = key_at(text, at, IcuExpected::Entry, &mut meter.turns)?;
-    meter.quota.take(next_key_bytes(&entries, key))?;
+    let bytes = next_key_bytes(meter.quota.weights, &entries, key);
+    meter.quota.take(bytes)?;
     let waiting = Waiting::Table(entries, key);
     Ok(Read::Step(Step::Group(waiting, next)))
 }
@@ -286,7 +289,8 @@ pub(crate) fn group<'a, X: Drop>(
     let b = byte(text, at);
     if b == b'{' {
         let next = skip(text, at + 1, &mut meter.turns);
-        meter.quota.take(weights::RESOURCE)?;
+        let group = meter.quota.weights.group;
+        meter.quota.take(group as u128)?;
         return untyped(alloc, text, next, meter);
     }
     if b == b':' {
@@ -318,16 +322,17 @@ fn typed<'a, X: Drop>(
         return Err(IcuTextError::new(brace, IcuExpected::LeftBrace));
     }
     let first = skip(text, brace + 1, &mut meter.turns);
-    meter.quota.take(opening_bytes(kind))?;
+    let weights = meter.quota.weights;
+    meter.quota.take(opening_bytes(weights, kind))?;
     content(alloc, text, kind, first, meter)
 }
 
 /// What the `{` behind a type makes.
-fn opening_bytes(kind: IcuKind) -> u128
-    ensures { result ≡ opening_bytes (kind_of kind) }
+fn opening_bytes(weights: Weights, kind: IcuKind) -> u128
+    ensures { result ≡ opening_bytes weights (kind_of kind) }
 {
     match kind {
-        IcuKind::Array | IcuKind::Table => weights::RESOURCE,
+        IcuKind::Array | IcuKind::Table => weights.group as u128,
         _ => 0,
     }
 }
@@ -412,9 +417,10 @@ fn untyped_string<'a, X: Drop>(
         return Ok(Read::Leaf(Resource::String(said), next + 1));
     }
     if b == b',' {
+        let group = meter.quota.weights.group;
         meter
             .quota
-            .take(weights::RESOURCE + found.bytes_made(text, at))?;
+            .take(group as u128 + found.bytes_made(text, at))?;
         let said = found.text(alloc, text, at, &mut meter.turns)?;
         return Ok(Read::Member(Vec::new(alloc), Resource::String(said), next));
     }
@@ -424,7 +430,10 @@ fn untyped_string<'a, X: Drop>(
     let Some(key) = found.key(&mut meter.turns) else {
         return Err(IcuTextError::new(at, IcuExpected::Key));
     };
-    meter.quota.take(weights::TABLE + key_bytes(key))?;
+    let weights = meter.quota.weights;
+    meter
+        .quota
+        .take(weights.table as u128 + key_bytes(weights, key))?;
     Ok(Read::Step(Step::Group(Waiting::Table(Vec::new(alloc), key), next)))
 }
 

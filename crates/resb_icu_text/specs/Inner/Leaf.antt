@@ -57,7 +57,7 @@ pub data IsBehindNumber (text : List ℕ) (at to : ℕ) : Type 0 where
 pub record IsReadLeaf (text : List ℕ) (from : ℕ) (kind : Kind) (p q : Quota) (r : ℕ × Resource)
     : Type 0 where
   pub leaf : Leaf text from kind r.0 (tree_of r.1)
-  pub takes : TakesBytes p q (leaf_bytes (tree_of r.1))
+  pub takes : TakesBytes p q (leaf_bytes p.weights (tree_of r.1))
   pub slices : KeepsSlices text r.1
   pub order : from ≤ r.0
   pub fits : r.0 < length text

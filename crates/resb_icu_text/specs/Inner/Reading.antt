@@ -3,6 +3,7 @@ use Rattle.std.specs.Prelude.{◌≡◌, ◌≢◌, ◌≤◌, ◌<◌, ◌+◌,
 use Rattle.std.specs.Prelude.{length, slice_index, ◌&&◌}
 use Rattle.std.specs.Prelude.{map}
 use Rattle.resb_grammar.specs.Ascii as ascii
+use Rattle.resb_grammar.specs.declared.limit.Limit.{Limit}
 use Rattle.resb_tree.specs.Tree.{Tree}
 use Rattle.resb_icu_grammar.specs.Blanks.{Skip}
 use Rattle.resb_icu_grammar.specs.Machine.{Reading, reading_at, at_root, behind_group}
@@ -146,8 +147,8 @@ HeaderFails text e = HeaderStuck text e.position e.expected
 
 -- a reading that keeps to a limit stands behind the root, which is this tree and has these keys in
 -- order of place, and nothing but blanks follow
-pub record IsWhole (text : List ℕ) (limit : ℕ) (q : Quota) (tree : Tree) (places : List (List ℕ))
-    : Type 0 where
+pub record IsWhole (text : List ℕ) (limit : Limit) (q : Quota) (tree : Tree)
+    (places : List (List ℕ)) : Type 0 where
   pub end : ℕ
   pub stands : IsAt text limit q (reading_at [] places (behind_group tree) end)
   pub after : Skip text end (length text)
@@ -155,4 +156,4 @@ pub record IsWhole (text : List ℕ) (limit : ℕ) (q : Quota) (tree : Tree) (pl
 -- whatever the limit, a reading that stands at the root's first entry is whole then
 abbrev pub RootThere : List ℕ → ℕ → Quota → Quota → Tree → List (List ℕ) → Type 0
 RootThere text first p q tree places =
-    (limit : ℕ) → IsAt text limit p (at_root first) → IsWhole text limit q tree places
+    (limit : Limit) → IsAt text limit p (at_root first) → IsWhole text limit q tree places

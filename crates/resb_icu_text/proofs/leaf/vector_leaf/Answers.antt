@@ -12,14 +12,14 @@ returns-in_err-take-clause-reads c =
     match_fails _ _ _ c.from_residual.ensures.1
     (leaf_over c.args.at vector_kind c.args.at (int_vector []) _
     (empty_vector _ _ (sym c.byte.ensures.byte ∙ c.if-byte-eq125.true))
-    c.in_err-take.ensures refl refl)
+    c.in_err-take.ensures (omega arith) refl)
 
 pub returns-then-byte-eq125-clause-reads : goal.returns-then-byte-eq125-clause-reads
 returns-then-byte-eq125-clause-reads c =
     leaf_read c.args.at vector_kind c.args.at _ (int_vector [])
     (sym (tree_of_vector _ ∙ ap int_vector c.new.ensures.items))
     (empty_vector _ _ (sym c.byte.ensures.byte ∙ c.if-byte-eq125.true))
-    c.in_ok-take.ensures refl (numbers_kept _ _) (omega arith)
+    c.in_ok-take.ensures (omega arith) (numbers_kept _ _) (omega arith)
     (c.byte.ensures.inside (omega (arith, c.if-byte-eq125.true)))
 
 pub returns-in_err-to-clause-reads : goal.returns-in_err-to-clause-reads

@@ -25,9 +25,9 @@ returns-in_err-take-clause-reads g c =
     match_fails _ _ _ c.from_residual-in_err-take.ensures.1
     (λ tree ws ks. let key = c.in_ok-next.ensures.reads in over_stops _ _ _ _ _ _
     (key_of_entry (pairs_by tree c.args.entries.items) _ _ _ _ key.stands key.after)
-    ((rw c.deref.ensures.value at c.next_key_bytes.ensures) tree) c.in_err-take.ensures refl)
+    ((rw c.deref.ensures.value at c.next_key_bytes-bytes.ensures) tree) c.in_err-take.ensures refl)
 
 pub returns-clause-reads : goal.returns-clause-reads
 returns-clause-reads g c =
     entry_key c.args.entries c.in_ok-next.key c.args.at c.in_ok-next.next c.in_ok-take.ensures
-    (rw c.deref.ensures.value at c.next_key_bytes.ensures) c.in_ok-next.ensures.reads
+    (rw c.deref.ensures.value at c.next_key_bytes-bytes.ensures) c.in_ok-next.ensures.reads

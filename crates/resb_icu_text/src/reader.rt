@@ -127,7 +127,7 @@ impl IcuReader {
     }
 
     /// The bundle as `read_draft` gives it, where reading makes no more bytes than the limit: as in
-    /// `read_within`, but that 96 are counted for a key and none for a table.
+    /// `read_within`, but that 112 are counted for a key and 64 for a table.
     pub fn read_draft_within<'a>(
         alloc: Global,
         input: &'a str,

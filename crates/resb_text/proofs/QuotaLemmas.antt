@@ -88,6 +88,12 @@ fails_first {text} {limit} {n} {e} h within =
     (λ (s : StuckAfter limit.weights text n e). inr (blocked_never_more text limit n e.position
     s.state s.made s.none within)) h
 
+-- and before more than the same limit
+pub fails_first_same : {text : List ℕ} {limit other : Limit} {n : ℕ} {e : TextParserError}
+    → other ≡ limit → FailsAfter other.weights text n e → n ≤ other.bytes → NeverMore text limit e
+fails_first_same {text} {e = e} same h within =
+    subst (λ (l : Limit). NeverMore text l e) same (fails_first h within)
+
 -- want of memory, once what was asked for is counted
 pub memory_stops : {text : List ℕ} {limit : Limit} {n : ℕ} {p q : Quota} {T : Type 0}
     (P : T → Type 0) (r : Result T TextParserError) → IsErrAnd r (λ e. e ≡ want_of_memory)

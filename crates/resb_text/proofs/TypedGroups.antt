@@ -72,12 +72,12 @@ begins w integer_kind body opens o = let e = opens o in cc
 begins w vector_kind body opens o = let e = opens o in cc
 
 -- a type that holds no items begins none
-leaf_kind : {w : Weights} {text : List ℕ} {from to : ℕ} {kind : Kind} {t : Tree}
+leaf_kind : (w : Weights) {text : List ℕ} {from to : ℕ} {kind : Kind} {t : Tree}
     → LeafContent text from to kind t → begun_bytes w kind ≡ 0
-leaf_kind (string_content i s w skip) = refl
-leaf_kind (binary_content i s bytes w e skip) = refl
-leaf_kind (integer_content i v w skip) = refl
-leaf_kind (vector_content ns v) = refl
+leaf_kind w (string_content i s t skip) = refl
+leaf_kind w (binary_content i s bytes t e skip) = refl
+leaf_kind w (integer_content i v t skip) = refl
+leaf_kind w (vector_content ns v) = refl
 
 -- nor does one that is neither an array nor a table
 pub no_items_begun : (w : Weights) (kind : CodeKind) → (kind ≢ kinds.Array) × (kind ≢ kinds.Table)
@@ -242,7 +242,7 @@ module _ {B X : Type 0} {tree : B → X → Tree} {held : B → X → Bool} {tex
       → BeforeBrace limit.weights text q.made leaf.ends t x.open_groups
   before_brace {first} {next} {kind} {t} may begin leaf =
       content_made text q.made first leaf.ends kind t x.open_groups leaf.content
-      (leaf_begun may begin (leaf_kind leaf.content))
+      (leaf_begun may begin (leaf_kind limit.weights leaf.content))
 
   -- its `}` makes as much by the weights of a quota that was taken from
   leaf_same : {m : Quota} {n : ℕ} (t : Tree) → TakesBytes q m n

@@ -50,7 +50,7 @@ impl Quota {
         Ok(())
     }
 
-    /// What a group makes that holds items.
+    /// What the `{` of a group that holds items makes.
     pub(crate) fn group_bytes(&self) -> u128
         ensures { result ≡ self.now.limit.weights.group }
     {

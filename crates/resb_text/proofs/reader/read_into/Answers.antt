@@ -1,14 +1,17 @@
-use Rattle.std.proofs.Common.{◌≡◌, refl, subst, arith, inr}
-use Rattle.resb_grammar.specs.declared.limit.Limit.{Limit}
-use Rattle.resb_text.specs.Answer.{NeverMore}
+use Rattle.std.proofs.Common.{◌≡◌, refl, arith, inr}
 use Rattle.resb_grammar.proofs.Making.{root_opened, root_over}
 use Rattle.resb_text.proofs.QuotaLemmas.{unused_kept, quota_kept, quota_over, own_limit_kept}
-use Rattle.resb_text.proofs.QuotaLemmas.{fails_first}
-use Rattle.resb_text.proofs.Outcomes.{if_err_same}
+use Rattle.resb_text.proofs.QuotaLemmas.{fails_first, fails_first_same}
+use Rattle.resb_text.proofs.Outcomes.{if_err_same, match_same}
 use Rattle.resb_text.proofs.reader.read_into.Goals as goal
 
 pub returns-in_err-head-clause-quota : goal.returns-in_err-head-clause-quota
 returns-in_err-head-clause-quota g c = unused_kept c.requires
+
+pub returns-in_err-head-clause-reads : goal.returns-in_err-head-clause-reads
+returns-in_err-head-clause-reads g c =
+    let failed = c.in_err-head.ensures.reads c.args.quota.now.limit.weights in
+    match_same _ _ _ _ c.from_residual.ensures.1 (inr failed.stuck)
 
 pub returns-in_err-head-clause-first : goal.returns-in_err-head-clause-first
 returns-in_err-head-clause-first g c =
@@ -18,9 +21,8 @@ returns-in_err-head-clause-first g c =
 pub returns-in_err-root-clause-first : goal.returns-in_err-root-clause-first
 returns-in_err-root-clause-first g c =
     if_err_same _ _ _ c.from_residual-in_err-root.ensures.1
-    (subst
-    (λ (l : Limit). NeverMore c.args.text.now l _) c.in_ok-take.ensures.same
-    (fails_first c.in_err-root.ensures.reads c.in_err-root.ensures.quota.within))
+    (fails_first_same
+    c.in_ok-take.ensures.same c.in_err-root.ensures.reads c.in_err-root.ensures.quota.within)
 
 pub returns-in_err-take-clause-quota : goal.returns-in_err-take-clause-quota
 returns-in_err-take-clause-quota g c =

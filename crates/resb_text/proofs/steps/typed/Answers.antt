@@ -37,8 +37,8 @@ returns-in_err-next-clause-reads g c =
     let may = told c.requires.among takes_group c.takes_group.ensures c.if-not-takes_group.false in
     match_same _ _ _ _ c.from_residual-in_err-next.ensures.1
     (leaf_refused c.requires.among may c.in_ok-first.ensures.reads
-    (no_items_begun _ _ c.in_default.ensures) c.in_err-next.ensures.reads
-    c.in_err-next.ensures.quota)
+    (no_items_begun c.args.quota.now.limit.weights _ c.in_default.ensures)
+    c.in_err-next.ensures.reads c.in_err-next.ensures.quota)
 
 pub returns-in_err-take-2-clause-reads : goal.returns-in_err-take-2-clause-reads
 returns-in_err-take-2-clause-reads g c =

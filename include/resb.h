@@ -99,8 +99,8 @@ uint32_t resb_compile(const uint8_t *text, size_t text_length, uint8_t *out, siz
                       size_t *length, resb_error *error);
 
 /* Compiles a stranger's text: as resb_compile does, but a text is refused by RESB_OVER_LIMIT whose
- * reading would take more bytes of memory than the limit. Counted are 72 for each group, 192 for
- * each string among items, keys too, 1024 for each table that has entries, 3 for each byte of a
+ * reading would take more bytes of memory than the limit. Counted are 72 for each group, 112 for
+ * each string among items, keys too, 64 for each table that has entries, 3 for each byte of a
  * string, 1 for each byte of a binary, 8 for each number of a vector, and 32 for each binary and
  * vector. The reading stops before the token by which there would be more. What the file takes
  * beside that is not within the limit. */

@@ -8,7 +8,6 @@ use Rattle.resb_tree.specs.Tree.{map_of}
 use Rattle.resb_tree.proofs.AtOnce.{inserted}
 use Rattle.resb_draft.specs.Drafts.{tree_at, is_whole, Keeps, IsMade, texts, EndsInEntries}
 use Rattle.resb_draft.specs.declared.draft.Draft.{Draft}
-use Rattle.resb_draft.specs.declared.draft.Piece.TheVariants as piece
 use Rattle.resb_icu_text.specs.Inner.Build.{Grows, PutsBehind, pairs_by}
 use Rattle.resb_icu_text.specs.Inner.Kept.{Test}
 use Rattle.resb_icu_text.proofs.DistinctLemmas.{keyed, keys_count}

@@ -23,7 +23,6 @@ use Rattle.resb_icu_grammar.specs.Machine.{at_root, Waiting, Reading, reading_at
 use Rattle.resb_icu_grammar.specs.Machine.{before_group}
 use Rattle.resb_icu_grammar.specs.Limit.{IcuMadeWithin, IcuMakesMore, by_the_root}
 use Rattle.resb_icu_grammar.proofs.Blocked.{root_makes, header_never_more, whole_text}
-use Rattle.resb_icu_grammar.specs.Machine as move
 use Rattle.resb_icu_grammar.specs.Stuck.{HeaderStuck, ReadStuck, in_header, no_root_type}
 use Rattle.resb_icu_grammar.specs.Stuck.{no_root_brace, no_typed_brace, behind, more_text}
 use Rattle.resb_icu_grammar.specs.Faults.{Told}
@@ -331,8 +330,8 @@ made_within text limit q tree places w = record {
 
 -- and it is a bundle
 pub whole_root : (text name : List ℕ) (f : Bool) (first : ℕ) (limit : Limit) (q : Quota)
-    (tree : Tree) (places : List (List ℕ)) → Header text name f first → IsWhole text limit q tree places
-    → IcuText text name f tree (first_places places)
+    (tree : Tree) (places : List (List ℕ)) → Header text name f first
+    → IsWhole text limit q tree places → IcuText text name f tree (first_places places)
 whole_root text name f first limit q tree places h w =
     whole_text text w.stands.bytes places tree w.end name f first h w.stands.made w.after
 

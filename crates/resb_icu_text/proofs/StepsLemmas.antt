@@ -1,38 +1,37 @@
 -- How each step of a reading goes on, and where a reading stops.
 use Rattle.std.proofs.Common.{◌≡◌, ◌≢◌, ℕ, ◌+◌, ◌*◌, ◌<◌, ◌≤◌, true, false, List, [], ◌∷◌, ◌++◌}
-use Rattle.std.proofs.Common.{Vec, length, arith, Bor, Global, ◌⊎◌, refl, sym, ◌∙◌, ap, subst}
+use Rattle.std.proofs.Common.{Vec, length, arith, Bor, Global, refl, sym, ◌∙◌, ap, subst}
 use Rattle.std.proofs.lemmas.Bool.{false≢true, and_from}
 use Rattle.std.proofs.lemmas.List.{map-append}
 use Rattle.std.specs.Cow.{cow_str_bytes}
-use Rattle.std.specs.Prelude.{slice_index, map, ◌==◌}
+use Rattle.std.specs.Prelude.{slice_index, map, ◌==◌, Result, Ok, Err, MatchResult}
 use Rattle.std.proofs.lemmas.Bool.Decides.{nat_tests}
 use Rattle.std.specs.declared.borrow.CowStr.{CowStr}
 use Rattle.resb_grammar.specs.Ascii as ascii
-use Rattle.resb_icu_grammar.specs.Kinds.{Kind, array_kind, table_kind}
+use Rattle.resb_icu_grammar.specs.Kinds.{Kind}
 use Rattle.resb_tree.specs.Borrowing as borrowing
-use Rattle.resb_tree.specs.Tree.{Tree, string, array, trees_of}
+use Rattle.resb_tree.specs.Tree.{Tree, string}
 use Rattle.resb_tree.specs.View.{tree_of}
 use Rattle.resb_tree.specs.Weights.{text_byte_weight}
 use Rattle.resb_grammar.specs.declared.limit.Weights.{Weights}
-use Rattle.resb_tree.specs.declared.resource.Resource.{Resource, String}
+use Rattle.resb_tree.specs.declared.resource.Resource.{String}
 use Rattle.resb_tree.proofs.ViewLemmas.{tree_of_string}
 use Rattle.resb_draft.specs.Drafts.{is_leaf}
 use Rattle.resb_icu_grammar.specs.Blanks.{Skip}
-use Rattle.resb_icu_grammar.specs.Limit.{key_bytes, next_key_bytes, opening_bytes, joining_bytes}
+use Rattle.resb_icu_grammar.specs.Limit.{key_bytes, next_key_bytes, joining_bytes}
 use Rattle.resb_icu_grammar.specs.Words.{Text, KeyText, GroupType}
-use Rattle.resb_icu_grammar.specs.Groups.{nothing, a_string, a_group, is_member, ends_in_string}
+use Rattle.resb_icu_grammar.specs.Groups.{a_string, a_group, ends_in_string}
 use Rattle.resb_icu_grammar.specs.Groups.{TypedOpening, LeafContent, string_content, alias_content}
 use Rattle.resb_icu_grammar.specs.Groups.{binary_content, integer_content, no_numbers, numbers}
-use Rattle.resb_icu_grammar.specs.Machine.{Waiting, Standing, reading_at, BeginsGroup}
+use Rattle.resb_icu_grammar.specs.Machine.{Waiting, Standing, reading_at}
 use Rattle.resb_icu_grammar.specs.Machine.{among_members, among_entries}
-use Rattle.resb_icu_grammar.specs.Machine.{behind_group, in_untyped, in_typed, before_group}
+use Rattle.resb_icu_grammar.specs.Machine.{behind_group, in_untyped, before_group}
 use Rattle.resb_icu_grammar.specs.Machine as move
-use Rattle.resb_icu_grammar.specs.Stuck.{StepStuck, inside, NoStringAt, member_behind}
+use Rattle.resb_icu_grammar.specs.Stuck.{StepStuck, inside}
 use Rattle.resb_icu_grammar.specs.Stuck.{TypeStuck}
 use Rattle.resb_icu_grammar.specs.Faults.{Told}
 use Rattle.resb_icu_grammar.specs.Stuck as stuck
 use Rattle.resb_icu_grammar.specs.declared.expected.IcuExpected.{IcuExpected}
-use Rattle.resb_icu_grammar.specs.declared.expected.IcuExpected.TheVariants as expect
 use Rattle.resb_icu_grammar.proofs.Blocked.{is_vector}
 use Rattle.resb_icu_grammar.proofs.Faults.{string_told}
 use Rattle.resb_icu_grammar.proofs.Lexical.{String-one, key_string}
@@ -49,13 +48,13 @@ use Rattle.resb_icu_text.specs.declared.steps.Read.{Read}
 use Rattle.resb_icu_text.specs.declared.steps.Read.TheVariants as read
 use Rattle.resb_icu_text.specs.Inner.Ahead.{StringFails, KeyFails}
 use Rattle.resb_icu_text.specs.Inner.Found.{IsFound, Shows, fits_key, is_whole}
-use Rattle.resb_icu_text.specs.Inner.Leaf.{IsReadLeaf}
 use Rattle.resb_icu_text.specs.Inner.Build.{pairs_by}
-use Rattle.resb_icu_text.specs.Inner.Kept.{members_pass, entries_pass}
+use Rattle.resb_icu_text.specs.Inner.Kept.{members_pass, read_passes, Keeps}
 use Rattle.resb_icu_text.specs.Inner.Quota.{TakesBytes, GoesOn, StopsAt}
-use Rattle.resb_icu_text.specs.Inner.Steps.{last_of, read_now, Place, StepsTo, StepFails}
-use Rattle.resb_icu_text.specs.Inner.Steps.{members_place, entries_place, group_place}
-use Rattle.resb_icu_text.specs.Inner.Steps.{untyped_place, typed_place, KeyAhead, Resumes}
+use Rattle.resb_icu_text.specs.Inner.Steps.{last_of, read_now, Place, StepsTo, StepFails, has_leaf}
+use Rattle.resb_icu_text.specs.Inner.Steps.{Ends, Goes}
+use Rattle.resb_icu_text.specs.Inner.Steps.{members_place, group_place}
+use Rattle.resb_icu_text.specs.Inner.Steps.{untyped_place, KeyAhead, Resumes}
 use Rattle.resb_icu_text.proofs.KeptLemmas.{said_kept, members_with, entries_with}
 use Rattle.resb_icu_text.proofs.QuotaLemmas.{by_move, by_step_out, memory_stops, stuck_stops}
 
@@ -122,7 +121,7 @@ pairs_with tree v old k x e =
     ap (pairs_by tree) e ∙ map-append (λ p. (p.0.now, tree p.1)) old ((k, x) ∷ [])
 
 -- the content of a group without items has nothing inside
-content_leaf : (text : List ℕ) (from to : ℕ) (kind : Kind) (t : Tree)
+pub content_leaf : (text : List ℕ) (from to : ℕ) (kind : Kind) (t : Tree)
     → LeafContent text from to kind t → is_leaf t ≡ true
 content_leaf text from to _ _ (string_content i s p k) = refl
 content_leaf text from to _ _ (alias_content i s p k) = refl
@@ -183,110 +182,6 @@ module _ {X : Type 0} {text : List ℕ} {p q : Quota} where
       → e ≡ want_of_memory → StepFails text place p q e
   lacks place e t h tree ws ks = memory_stops (place.there tree ws ks) e t h
 
-  -- a `}` ends an array
-  pub members_end : (v : Vec X Global) (l : Last) (at : ℕ) → TakesBytes p q 0
-      → at < length text → Closes text at
-      → StepsTo text (members_place v.items l at) p q (read.Array v (at + 1))
-  members_end v l at t low c = record {
-    leaf = refl;
-    ends = tt;
-    comes = λ tree ws ks. by_move ws ks _ at _
-        (move.array_ends (last_of l) (map tree v.items) at c) refl t;
-    keeps = λ pass test p h. h;
-    goes = (omega (arith, low), omega arith);
-  }
-
-  -- a brace or a colon begins a member
-  pub member_group : (v : Vec X Global) (l : Last) (at : ℕ) → TakesBytes p q 0
-      → at ≤ length text
-      → (slice_index text at ≡ ascii.left_brace) ⊎ (slice_index text at ≡ ascii.colon)
-      → StepsTo text (members_place v.items l at) p q (read.Step (step.Group (waiting.Array v) at))
-  member_group v l at t low f = record {
-    leaf = refl;
-    ends = tt;
-    comes = λ tree ws ks. by_move ws ks _ at _
-        (move.group_member (last_of l) (map tree v.items) at f) refl t;
-    keeps = λ pass test p h. h;
-    goes = (low, omega arith);
-  }
-
-  -- a comma behind a member
-  pub member_comma : (v : Vec X Global) (l : Last) (at j : ℕ) → TakesBytes p q 0
-      → is_member (last_of l) ≡ true → slice_index text at ≡ ascii.comma → Skip text (at + 1) j
-      → at + 1 ≤ j → j ≤ length text
-      → StepsTo text (members_place v.items l at) p q (read.Step (step.Members v last.Comma j))
-  member_comma v l at j t e f k order low = record {
-    leaf = refl;
-    ends = tt;
-    comes = λ tree ws ks. by_move ws ks _ at _
-        (move.comma_behind (last_of l) (map tree v.items) at j e f k) refl t;
-    keeps = λ pass test p h. h;
-    goes = (low, omega (arith, order));
-  }
-
-  -- a string that is a member
-  pub member_string : {k : ℕ} (v : Vec X Global) (l : Last) (at : ℕ) (f : Found) (x : CowStr Global)
-      → TakesBytes p q k → ((s : List ℕ) → Text text at f.end s
-      → k ≡ p.weights.group + (text_byte_weight * length s + joining_bytes text at f.end s))
-      → ends_in_string (last_of l) ≡ false → IsText text at f x
-      → StepsTo text (members_place v.items l at) p q (read.Member v (String x) f.next)
-  member_string v l at f x t sum e h = record {
-    leaf = string_leaf x;
-    ends = tt;
-    comes = λ tree ws ks. subst (λ (t : Tree). GoesOn text p q
-        ((members_place v.items l at).there tree ws ks)
-        (reading_at ws ks (among_members a_string (map tree v.items ++ t ∷ [])) f.next))
-        (tree_made h)
-        (by_move ws ks _ at _
-        (move.string_member (last_of l) (map tree v.items) at f.end f.next h.found.said e
-        h.found.string h.found.blanks) (omega (arith, sum h.found.said h.found.string)) t);
-    keeps = λ pass test p k. and_from _ _ k
-        (said_kept text at f x h.found h.bytes h.slice test p);
-    goes = (h.found.fits, omega (arith, h.found.after, h.found.order));
-  }
-
-  -- nothing that may stand among members
-  pub no_member : (es : List X) (l : Last) (at : ℕ) (x : IcuExpected) (e : IcuTextError)
-      → TakesBytes p q 0
-      → x ≡ member_behind (last_of l) → slice_index text at ≢ ascii.right_brace
-      → slice_index text at ≢ ascii.comma → (BeginsGroup text at → ⊥) → StringFails text at x e
-      → StepFails text (members_place es l at) p q e
-  no_member es l at x e t h a b f =
-      told_at (λ tree. among_members (last_of l) (map tree es)) at x e (NoStringAt text at) t
-      (λ tree. refl)
-      (λ tree g u. stuck.no_member (last_of l) (map tree es) at e.position e.expected a b
-      f g (subst (λ y. Told text at y e.position e.expected) h u))
-
-  -- a `}` ends a table, if each key stands once in it
-  pub entries_end : (v : Vec (Bor (List ℕ) × X) Global) (at : ℕ) → p ≡ q
-      → at < length text → Closes text at
-      → StepsTo text (entries_place v.items at) p q (read.Table v at (at + 1))
-  entries_end v at same low c = record {
-    leaf = refl;
-    ends = (c, refl);
-    comes = λ tree ws ks. subst (λ q. GoesOn text p q
-        ((entries_place v.items at).there tree ws ks)
-        (read_now tree ws ks (read.Table v at (at + 1)))) same (λ limit a. a);
-    keeps = λ pass test p h. h;
-    goes = (omega (arith, low), omega arith);
-  }
-
-  -- a key begins an entry
-  pub entry_key : {b : ℕ} (v : Vec (Bor (List ℕ) × X) Global) (k : Bor (List ℕ)) (at j : ℕ)
-      → TakesBytes p q b
-      → ((tree : X → Tree) → b ≡ next_key_bytes p.weights (pairs_by tree v.items) k.now)
-      → KeyAhead text at j k.now
-      → StepsTo text (entries_place v.items at) p q
-      (read.Step (step.Group (waiting.Table v k) j))
-  entry_key v k at j t sum s = record {
-    leaf = refl;
-    ends = tt;
-    comes = λ tree ws ks. by_move ws ks _ at _
-        (move.key_of_entry (pairs_by tree v.items) at s.to j k.now s.stands s.after) (sum tree) t;
-    keeps = λ pass test p h. h;
-    goes = (s.fits, omega (arith, s.order));
-  }
-
   -- a `:` without a type
   pub no_type : (at : ℕ) (e : IcuTextError) → TakesBytes p q 0
       → (e.position ≡ at) × TypeStuck text at e.expected
@@ -296,80 +191,31 @@ module _ {X : Type 0} {text : List ℕ} {p q : Quota} where
       (ap (λ k. record { position = k; expected = e.expected }) s.0) (λ tree. refl)
       (λ tree. stuck.no_type at e.expected c s.1)
 
-  -- in an array members follow
-  pub array_content : (v : Vec X Global) (at : ℕ) → TakesBytes p q 0
-      → at ≤ length text → v.items ≡ []
-      → StepsTo text (typed_place X array_kind at) p q (read.Step (step.Members v last.Nothing at))
-  array_content v at t low e = record {
-    leaf = refl;
-    ends = tt;
-    comes = λ tree ws ks. subst (λ ts. GoesOn text p q
-        (reading_at ws ks (in_typed array_kind) at)
-        (reading_at ws ks (among_members nothing ts) at)) (sym (ap (λ l. map tree l) e))
-        (by_move ws ks _ at _ (move.members_follow at) refl t);
-    keeps = λ pass test p h. ap (λ l. members_pass l pass test) e;
-    goes = (low, omega arith);
-  }
+  -- a reading steps to where it has read this
+  pub step_to : {place : Place X} {r : Read X} → has_leaf r ≡ true → Ends text r
+      → ((tree : X → Tree) (ws : List Waiting) (ks : List (List ℕ))
+      → GoesOn text p q (place.there tree ws ks) (read_now tree ws ks r))
+      → Keeps text place.passes (read_passes r) → Goes text place.progress r
+      → StepsTo text place p q r
+  step_to l e c k g = record { leaf = l; ends = e; comes = c; keeps = k; goes = g }
 
-  -- in a table entries follow
-  pub table_content : (v : Vec (Bor (List ℕ) × X) Global) (at : ℕ) → TakesBytes p q 0
-      → at ≤ length text → v.items ≡ []
-      → StepsTo text (typed_place X table_kind at) p q (read.Step (step.Entries v at))
-  table_content v at t low e = record {
-    leaf = refl;
-    ends = tt;
-    comes = λ tree ws ks. subst (λ es. GoesOn text p q
-        (reading_at ws ks (in_typed table_kind) at)
-        (reading_at ws ks (among_entries es) at)) (sym (ap (pairs_by tree) e))
-        (by_move ws ks _ at _ (move.entries_follow at) refl t);
-    keeps = λ pass test p h. ap (λ l. entries_pass l pass test) e;
-    goes = (low, omega arith);
-  }
-
-  -- in another group its content
-  pub leaf_content : (kind : Kind) (at : ℕ) (r : ℕ × Resource) → IsReadLeaf text at kind p q r
-      → StepsTo text (typed_place X kind at) p q (read.Leaf r.1 (r.0 + 1))
-  leaf_content kind at r l = record {
-    leaf = content_leaf text at r.0 kind (tree_of r.1) l.leaf.content;
-    ends = tt;
-    comes = λ tree ws ks. by_move ws ks _ at _
-        (move.leaf_follows kind at r.0 (tree_of r.1) l.leaf.content l.leaf.closes) refl l.takes;
-    keeps = λ pass test p h. l.slices test p;
-    goes = (omega (arith, l.fits), omega (arith, l.order));
-  }
-
-  -- nothing in a group without a type
-  pub untyped_empty : (v : Vec X Global) (at : ℕ) → TakesBytes p q 0
-      → at < length text → Closes text at → v.items ≡ []
-      → StepsTo text (untyped_place X at) p q (read.Array v (at + 1))
-  untyped_empty v at t low c e = record {
-    leaf = refl;
-    ends = tt;
-    comes = λ tree ws ks. subst (λ ts. GoesOn text p q
-        (reading_at ws ks in_untyped at)
-        (reading_at ws ks (behind_group (array (trees_of ts))) (at + 1)))
-        (sym (ap (λ l. map tree l) e))
-        (by_move ws ks _ at _ (move.untyped_nothing at c) refl t);
-    keeps = λ pass test p h. ap (λ l. members_pass l pass test) e;
-    goes = (omega (arith, low), omega arith);
-  }
-
-  -- a group first in a group without a type
-  pub untyped_group : (v : Vec X Global) (at : ℕ) → TakesBytes p q 0
-      → at ≤ length text
-      → (slice_index text at ≡ ascii.left_brace) ⊎ (slice_index text at ≡ ascii.colon)
-      → v.items ≡ []
-      → StepsTo text (untyped_place X at) p q (read.Step (step.Members v last.Nothing at))
-  untyped_group v at t low f e = record {
-    leaf = refl;
-    ends = tt;
-    comes = λ tree ws ks. subst (λ ts. GoesOn text p q
-        (reading_at ws ks in_untyped at)
-        (reading_at ws ks (among_members nothing ts) at)) (sym (ap (λ l. map tree l) e))
-        (by_move ws ks _ at _ (move.begins_with_group at f) refl t);
-    keeps = λ pass test p h. ap (λ l. members_pass l pass test) e;
-    goes = (low, omega arith);
-  }
+  -- a string that is a member
+  pub member_string : {k : ℕ} (v : Vec X Global) (l : Last) (at : ℕ) (f : Found) (x : CowStr Global)
+      → TakesBytes p q k → ((s : List ℕ) → Text text at f.end s
+      → k ≡ p.weights.group + (text_byte_weight * length s + joining_bytes text at f.end s))
+      → ends_in_string (last_of l) ≡ false → IsText text at f x
+      → StepsTo text (members_place v.items l at) p q (read.Member v (String x) f.next)
+  member_string v l at f x t sum e h =
+      step_to (string_leaf x) tt (λ tree ws ks. subst (λ (t : Tree). GoesOn text p q
+      ((members_place v.items l at).there tree ws ks)
+      (reading_at ws ks (among_members a_string (map tree v.items ++ t ∷ [])) f.next))
+      (tree_made h)
+      (by_move ws ks _ at _
+      (move.string_member (last_of l) (map tree v.items) at f.end f.next h.found.said e
+      h.found.string h.found.blanks) (omega (arith, sum h.found.said h.found.string)) t))
+      (λ pass test p k. and_from _ _ k
+      (said_kept text at f x h.found h.bytes h.slice test p))
+      (h.found.fits, omega (arith, h.found.after, h.found.order))
 
   -- one string in a group without a type
   pub untyped_one : {k : ℕ} (at : ℕ) (f : Found) (x : CowStr Global)
@@ -377,18 +223,15 @@ module _ {X : Type 0} {text : List ℕ} {p q : Quota} where
       → k ≡ text_byte_weight * length s + joining_bytes text at f.end s)
       → f.next < length text → Closes text f.next → IsText text at f x
       → StepsTo text (untyped_place X at) p q (read.Leaf (String x) (f.next + 1))
-  untyped_one at f x t sum low c h = record {
-    leaf = string_leaf x;
-    ends = tt;
-    comes = λ tree ws ks. subst (λ (t : Tree). GoesOn text p q
-        (reading_at ws ks in_untyped at)
-        (reading_at ws ks (behind_group t) (f.next + 1))) (tree_made h)
-        (by_move ws ks _ at _
-        (move.untyped_string at f.end f.next h.found.said h.found.string h.found.blanks c)
-        (omega (arith, sum h.found.said h.found.string)) t);
-    keeps = λ pass test p k. said_kept text at f x h.found h.bytes h.slice test p;
-    goes = (omega (arith, low), omega (arith, h.found.after, h.found.order));
-  }
+  untyped_one at f x t sum low c h =
+      step_to (string_leaf x) tt (λ tree ws ks. subst (λ (t : Tree). GoesOn text p q
+      (reading_at ws ks in_untyped at)
+      (reading_at ws ks (behind_group t) (f.next + 1))) (tree_made h)
+      (by_move ws ks _ at _
+      (move.untyped_string at f.end f.next h.found.said h.found.string h.found.blanks c)
+      (omega (arith, sum h.found.said h.found.string)) t))
+      (λ pass test p k. said_kept text at f x h.found h.bytes h.slice test p)
+      (omega (arith, low), omega (arith, h.found.after, h.found.order))
 
   -- a string and a comma in a group without a type
   pub untyped_comma : {k : ℕ} (v : Vec X Global) (at : ℕ) (f : Found) (x : CowStr Global)
@@ -396,95 +239,33 @@ module _ {X : Type 0} {text : List ℕ} {p q : Quota} where
       → k ≡ p.weights.group + (text_byte_weight * length s + joining_bytes text at f.end s))
       → slice_index text f.next ≡ ascii.comma → IsText text at f x → v.items ≡ []
       → StepsTo text (untyped_place X at) p q (read.Member v (String x) f.next)
-  untyped_comma v at f x t sum c h e = record {
-    leaf = string_leaf x;
-    ends = tt;
-    comes = λ tree ws ks. subst (λ ts. GoesOn text p q
-        (reading_at ws ks in_untyped at)
-        (reading_at ws ks (among_members a_string ts) f.next))
-        (sym (ap (λ l. map tree l ++ tree_of (String x) ∷ []) e
-        ∙ ap (λ t. t ∷ []) (sym (tree_made h))))
-        (by_move ws ks _ at _
-        (move.begins_with_string at f.end f.next h.found.said h.found.string h.found.blanks c)
-        (omega (arith, sum h.found.said h.found.string)) t);
-    keeps = λ pass test p k. and_from _ _ (ap (λ l. members_pass l pass test) e)
-        (said_kept text at f x h.found h.bytes h.slice test p);
-    goes = (h.found.fits, omega (arith, h.found.after, h.found.order));
-  }
+  untyped_comma v at f x t sum c h e =
+      step_to (string_leaf x) tt (λ tree ws ks. subst (λ ts. GoesOn text p q
+      (reading_at ws ks in_untyped at)
+      (reading_at ws ks (among_members a_string ts) f.next))
+      (sym (ap (λ l. map tree l ++ tree_of (String x) ∷ []) e
+      ∙ ap (λ t. t ∷ []) (sym (tree_made h))))
+      (by_move ws ks _ at _
+      (move.begins_with_string at f.end f.next h.found.said h.found.string h.found.blanks c)
+      (omega (arith, sum h.found.said h.found.string)) t))
+      (λ pass test p k. and_from _ _ (ap (λ l. members_pass l pass test) e)
+      (said_kept text at f x h.found h.bytes h.slice test p))
+      (h.found.fits, omega (arith, h.found.after, h.found.order))
 
-  -- a key and a group in a group without a type
-  pub untyped_key : {b : ℕ} (v : Vec (Bor (List ℕ) × X) Global) (k : Bor (List ℕ)) (at j : ℕ)
-      → TakesBytes p q b
-      → b ≡ p.weights.table + (p.weights.entry + text_byte_weight * length k.now)
-      → KeyAhead text at j k.now
-      → (slice_index text j ≡ ascii.left_brace) ⊎ (slice_index text j ≡ ascii.colon)
-      → v.items ≡ []
-      → StepsTo text (untyped_place X at) p q (read.Step (step.Group (waiting.Table v k) j))
-  untyped_key v k at j t sum s f e = record {
-    leaf = refl;
-    ends = tt;
-    comes = λ tree ws ks. subst (λ es. GoesOn text p q
-        (reading_at ws ks in_untyped at)
-        (reading_at (move.in_table es k.now ∷ ws) (ks ++ k.now ∷ []) before_group j))
-        (sym (ap (pairs_by tree) e))
-        (by_move ws ks _ at _ (move.begins_with_key at s.to j k.now s.stands s.after f) sum t);
-    keeps = λ pass test p h. ap (λ l. entries_pass l pass test) e;
-    goes = (s.fits, omega (arith, s.order));
-  }
-
-  -- nothing that may stand in a group without a type
-  pub no_untyped : (at : ℕ) (e : IcuTextError) → TakesBytes p q 0
-      → slice_index text at ≢ ascii.right_brace → (BeginsGroup text at → ⊥)
-      → StringFails text at expect.Member e → StepFails text (untyped_place X at) p q e
-  no_untyped at e t a b =
-      told_at (λ tree. in_untyped) at expect.Member e (NoStringAt text at) t (λ tree. refl)
-      (λ tree. stuck.no_content at e.position e.expected a b)
-
-module _ {X : Type 0} {text : List ℕ} {p o q : Quota} where
-  -- a step from where a reading comes to
-  steps_by : (a b : Place X) (r : Read X)
+module _ {X : Type 0} {text : List ℕ} {p o : Quota} where
+  -- what is answered inside a group is answered before it, from where a step leads there
+  pub entered : (q : Quota) (a b : Place X) (r : Result (Read X) IcuTextError)
       → ((tree : X → Tree) (ws : List Waiting) (ks : List (List ℕ))
       → GoesOn text p o (a.there tree ws ks) (b.there tree ws ks))
-      → StepsTo text b o q r
-      → ((pass : _) (test : _) → b.passes pass test ≡ true)
-      → a.progress ≤ b.progress → StepsTo text a p q r
-  steps_by a b r f s keeps less = record {
-    leaf = s.leaf;
-    ends = s.ends;
-    comes = λ tree ws ks limit at. s.comes tree ws ks limit (f tree ws ks limit at);
-    keeps = λ pass test p h. s.keeps pass test p (keeps pass test);
-    goes = (s.goes.0, omega (arith, s.goes.1, less));
-  }
-
-  -- a `{` begins a group without a type
-  pub as_untyped : (at i : ℕ) (r : Read X) → slice_index text at ≡ ascii.left_brace
-      → Skip text (at + 1) i → at + 1 ≤ i → TakesBytes p o p.weights.group
-      → StepsTo text (untyped_place X i) o q r → StepsTo text (group_place X at) p q r
-  as_untyped at i r e k order t s =
-      steps_by (group_place X at) (untyped_place X i) r
-      (λ tree ws ks. by_move ws ks _ at _ (move.group_opens at i e k) refl t) s
-      (λ pass test. refl) (omega (arith, order))
-
-  pub untyped_fails : (at i : ℕ) (e : IcuTextError) → slice_index text at ≡ ascii.left_brace
-      → Skip text (at + 1) i → TakesBytes p o p.weights.group
-      → StepFails text (untyped_place X i) o q e → StepFails text (group_place X at) p q e
-  untyped_fails at i e b k t s tree ws ks limit a =
-      s tree ws ks limit (by_move ws ks _ at _ (move.group_opens at i b k) refl t limit a)
-
-  -- a type and a `{` begin a group of that type
-  pub as_typed : {b : ℕ} (at i : ℕ) (kind : Kind) (r : Read X) → TypedOpening text at kind i
-      → at + 1 ≤ i → TakesBytes p o b → b ≡ opening_bytes p.weights kind
-      → StepsTo text (typed_place X kind i) o q r → StepsTo text (group_place X at) p q r
-  as_typed at i kind r g order t sum s =
-      steps_by (group_place X at) (typed_place X kind i) r
-      (λ tree ws ks. by_move ws ks _ at _ (move.type_opens at i kind g) sum t) s
-      (λ pass test. refl) (omega (arith, order))
-
-  pub typed_fails : {b : ℕ} (at i : ℕ) (kind : Kind) (e : IcuTextError)
-      → TypedOpening text at kind i → TakesBytes p o b → b ≡ opening_bytes p.weights kind
-      → StepFails text (typed_place X kind i) o q e → StepFails text (group_place X at) p q e
-  typed_fails at i kind e g t sum s tree ws ks limit a =
-      s tree ws ks limit (by_move ws ks _ at _ (move.type_opens at i kind g) sum t limit a)
+      → ((pass : _) (test : _) → b.passes pass test ≡ true) → a.progress ≤ b.progress
+      → MatchResult r (StepsTo text b o q) (StepFails text b o q)
+      → MatchResult r (StepsTo text a p q) (StepFails text a p q)
+  entered q a b (Ok r) f keeps less s =
+      step_to s.leaf s.ends (λ tree ws ks limit at. s.comes tree ws ks limit
+      (f tree ws ks limit at)) (λ pass test p h. s.keeps pass test p (keeps pass test))
+      (s.goes.0, omega (arith, s.goes.1, less))
+  entered q a b (Err e) f keeps less s =
+      λ tree ws ks limit at. s tree ws ks limit (f tree ws ks limit at)
 
 -- a type and its `{`
 pub opening_there : (text : List ℕ) (at end brace i : ℕ) (kind : Kind) → GroupType text at end kind

@@ -9,7 +9,6 @@ use Rattle.std.specs.Str.{IsUtf8, IsCharBoundary}
 use Rattle.resb_grammar.specs.Ascii as ascii
 use Rattle.resb_grammar.specs.ByteRuns.{Run}
 use Rattle.resb_grammar.specs.Lexical as plain
-use Rattle.resb_grammar.specs.Lexical.{digits_value}
 use Rattle.resb_grammar.proofs.Lists.{nonzero_inside}
 use Rattle.resb_grammar.proofs.ByteRunsLemmas.{Run-one}
 use Rattle.resb_icu_grammar.specs.Bytes.{is_word}

@@ -1,16 +1,17 @@
-use Rattle.std.proofs.Common.{sym, ◌∙◌, refl, map}
-use Rattle.resb_icu_text.proofs.QuotaLemmas.{none_taken}
-use Rattle.resb_icu_text.proofs.StepsLemmas.{member_comma, fails_at}
-use Rattle.resb_icu_grammar.specs.Machine.{among_members}
+use Rattle.std.proofs.Common.{arith, sym, ◌∙◌, refl, map}
+use Rattle.resb_icu_text.proofs.QuotaLemmas.{none_taken, by_move}
+use Rattle.resb_icu_text.proofs.StepsLemmas.{step_to, fails_at}
+use Rattle.resb_icu_grammar.specs.Machine.{among_members, comma_behind}
 use Rattle.resb_icu_grammar.specs.Stuck.{lone_comma}
 use Rattle.resb_icu_text.specs.Inner.Steps.{last_of}
 use Rattle.resb_icu_text.proofs.steps.comma.Goals as goal
 
 pub returns-then-is_member-clause-reads : goal.returns-then-is_member-clause-reads
 returns-then-is_member-clause-reads g c =
-    member_comma c.args.members c.args.last c.args.at c.skip-next.result (none_taken _)
-    (sym c.is_member.ensures ∙ c.if-is_member.true) c.requires.comma c.skip-next.ensures.skip
-    c.skip-next.ensures.order c.skip-next.ensures.fits
+    step_to refl tt (λ tree ws ks. by_move _ _ _ _ _
+    (comma_behind _ _ _ _ (sym c.is_member.ensures ∙ c.if-is_member.true) c.requires.comma
+    c.skip-next.ensures.skip) refl (none_taken _))
+    (λ pass test p h. h) (c.skip-next.ensures.fits, omega (arith, c.skip-next.ensures.order))
 
 pub returns-else-is_member-clause-reads : goal.returns-else-is_member-clause-reads
 returns-else-is_member-clause-reads g c =

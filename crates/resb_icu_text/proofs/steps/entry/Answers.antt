@@ -1,6 +1,6 @@
 use Rattle.std.proofs.Common.{arith, refl, sym, ◌∙◌}
-use Rattle.resb_icu_text.proofs.QuotaLemmas.{none_taken, match_fails, over_stops}
-use Rattle.resb_icu_text.proofs.StepsLemmas.{entries_end, entry_key, told_at}
+use Rattle.resb_icu_text.proofs.QuotaLemmas.{none_taken, by_move, match_fails, over_stops}
+use Rattle.resb_icu_text.proofs.StepsLemmas.{step_to, told_at}
 use Rattle.resb_icu_grammar.specs.Machine.{key_of_entry, among_entries}
 use Rattle.resb_icu_grammar.specs.Stuck.{no_entry}
 use Rattle.resb_icu_text.specs.Inner.Build.{pairs_by}
@@ -8,9 +8,9 @@ use Rattle.resb_icu_text.proofs.steps.entry.Goals as goal
 
 pub returns-then-byte-eq125-clause-reads : goal.returns-then-byte-eq125-clause-reads
 returns-then-byte-eq125-clause-reads g c =
-    entries_end c.args.entries c.args.at refl
-    (c.byte.ensures.inside (omega (arith, c.if-byte-eq125.true)))
-    (sym c.byte.ensures.byte ∙ c.if-byte-eq125.true)
+    let low = c.byte.ensures.inside (omega (arith, c.if-byte-eq125.true)) in
+    step_to refl (sym c.byte.ensures.byte ∙ c.if-byte-eq125.true, refl)
+    (λ tree ws ks limit a. a) (λ pass test p h. h) (omega (arith, low), omega arith)
 
 pub returns-in_err-next-clause-reads : goal.returns-in_err-next-clause-reads
 returns-in_err-next-clause-reads g c =
@@ -29,5 +29,8 @@ returns-in_err-take-clause-reads g c =
 
 pub returns-clause-reads : goal.returns-clause-reads
 returns-clause-reads g c =
-    entry_key c.args.entries c.in_ok-next.key c.args.at c.in_ok-next.next c.in_ok-take.ensures
-    (rw c.deref.ensures.value at c.next_key_bytes-bytes.ensures) c.in_ok-next.ensures.reads
+    let key = c.in_ok-next.ensures.reads in
+    step_to refl tt (λ tree ws ks. by_move _ _ _ _ _
+    (key_of_entry (pairs_by tree c.args.entries.items) _ _ _ _ key.stands key.after)
+    ((rw c.deref.ensures.value at c.next_key_bytes-bytes.ensures) tree) c.in_ok-take.ensures)
+    (λ pass test p h. h) (key.fits, omega (arith, key.order))

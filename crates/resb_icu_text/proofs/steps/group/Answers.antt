@@ -1,8 +1,9 @@
-use Rattle.std.proofs.Common.{refl, sym, ◌∙◌, ⊎_elim}
-use Rattle.resb_icu_text.proofs.QuotaLemmas.{none_taken, match_by, match_fails, over_stops}
+use Rattle.std.proofs.Common.{arith, refl, sym, ◌∙◌, ⊎_elim}
+use Rattle.resb_icu_text.proofs.QuotaLemmas.{none_taken, by_move, match_fails, over_stops}
 use Rattle.resb_icu_grammar.specs.Machine.{group_opens, before_group}
 use Rattle.resb_icu_grammar.specs.Stuck.{no_group}
-use Rattle.resb_icu_text.proofs.StepsLemmas.{as_untyped, untyped_fails, fails_at}
+use Rattle.resb_icu_text.proofs.StepsLemmas.{entered, fails_at}
+use Rattle.resb_icu_text.specs.Inner.Steps.{group_place, untyped_place}
 use Rattle.resb_icu_text.proofs.steps.group.Goals as goal
 
 pub returns-in_err-take-clause-reads : goal.returns-in_err-take-clause-reads
@@ -13,12 +14,10 @@ returns-in_err-take-clause-reads g c =
 
 pub returns-then-b-eq123-clause-reads : goal.returns-then-b-eq123-clause-reads
 returns-then-b-eq123-clause-reads g c =
-    let next = c.skip-next.result in
-    match_by _ _ _ _ _
-    (λ r. as_untyped c.args.at next r (sym c.byte-b.ensures.byte ∙ c.if-b-eq123.true)
-    c.skip-next.ensures.skip c.skip-next.ensures.order c.in_ok-take.ensures)
-    (λ e. untyped_fails c.args.at next e (sym c.byte-b.ensures.byte ∙ c.if-b-eq123.true)
-    c.skip-next.ensures.skip c.in_ok-take.ensures) c.untyped.ensures.reads
+    entered _ (group_place _ c.args.at) (untyped_place _ c.skip-next.result) c.untyped.result
+    (λ tree ws ks. by_move _ _ _ _ _ (group_opens _ _ (sym c.byte-b.ensures.byte
+    ∙ c.if-b-eq123.true) c.skip-next.ensures.skip) refl c.in_ok-take.ensures)
+    (λ pass test. refl) (omega (arith, c.skip-next.ensures.order)) c.untyped.ensures.reads
 
 pub returns-clause-reads : goal.returns-clause-reads
 returns-clause-reads g c =

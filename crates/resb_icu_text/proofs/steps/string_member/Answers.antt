@@ -1,18 +1,19 @@
 use Rattle.std.proofs.Common.{arith, refl, sym, ◌∙◌, map}
 use Rattle.resb_icu_text.specs.Inner.Steps.{members_place, last_of}
 use Rattle.resb_icu_text.proofs.QuotaLemmas.{none_taken, match_fails, over_stops}
-use Rattle.resb_icu_text.proofs.StepsLemmas.{member_string, fails_at, no_member, lacks, text_made}
+use Rattle.resb_icu_text.proofs.StepsLemmas.{member_string, fails_at, told_at, lacks, text_made}
 use Rattle.resb_icu_grammar.specs.Machine.{among_members}
 use Rattle.resb_icu_grammar.specs.Machine as move
-use Rattle.resb_icu_grammar.specs.Stuck.{two_strings}
+use Rattle.resb_icu_grammar.specs.Stuck.{two_strings, no_member}
 use Rattle.resb_icu_text.proofs.steps.string_member.Goals as goal
 
 pub returns-in_err-found-clause-reads : goal.returns-in_err-found-clause-reads
 returns-in_err-found-clause-reads g c =
     match_fails _ _ _ c.from_residual.ensures.1
-    (no_member c.args.members.items c.args.last c.args.at _ _ (none_taken _)
-    c.member_behind.ensures c.requires.no_brace c.requires.no_comma c.requires.no_group
-    c.in_err-found.ensures.reads)
+    (told_at (λ tree. among_members (last_of c.args.last) (map tree c.args.members.items))
+    c.args.at _ _ _ (none_taken _) (λ tree. refl)
+    (λ tree g u. no_member _ _ _ _ _ c.requires.no_brace c.requires.no_comma
+    c.requires.no_group g (rw c.member_behind.ensures at u)) c.in_err-found.ensures.reads)
 
 pub returns-then-is_string-clause-reads : goal.returns-then-is_string-clause-reads
 returns-then-is_string-clause-reads g c =

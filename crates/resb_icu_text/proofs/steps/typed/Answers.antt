@@ -1,9 +1,10 @@
 use Rattle.std.proofs.Common.{◌+◌, ◌≤◌, arith, refl, sym, ◌∙◌}
 use Rattle.resb_icu_grammar.specs.Kinds.{kind_of}
-use Rattle.resb_icu_text.proofs.QuotaLemmas.{none_taken, match_by, match_fails, over_stops}
+use Rattle.resb_icu_text.proofs.QuotaLemmas.{none_taken, by_move, match_fails, over_stops}
 use Rattle.resb_icu_grammar.specs.Machine.{type_opens, before_group}
 use Rattle.resb_icu_grammar.specs.Stuck.{no_brace}
-use Rattle.resb_icu_text.proofs.StepsLemmas.{as_typed, typed_fails, no_type, fails_at}
+use Rattle.resb_icu_text.proofs.StepsLemmas.{entered, no_type, fails_at}
+use Rattle.resb_icu_text.specs.Inner.Steps.{group_place, typed_place}
 use Rattle.resb_icu_text.proofs.StepsLemmas.{opening_there}
 use Rattle.resb_icu_text.proofs.steps.typed.Goals as goal
 
@@ -33,10 +34,8 @@ returns-clause-reads g c =
     c.skip-brace.ensures.skip (sym c.byte.ensures.byte ∙ c.if-byte-ne123.false)
     c.skip-first.ensures.skip in
     let first = c.skip-first.result in
-    let kind = kind_of c.in_ok-end.kind in
     let order : c.args.at + 1 ≤ first = omega (arith, c.in_ok-end.ensures.within) in
-    match_by _ _ _ _ _
-    (λ r. as_typed c.args.at first kind r opens order c.in_ok-take.ensures
-    c.opening_bytes.ensures)
-    (λ e. typed_fails c.args.at first kind e opens c.in_ok-take.ensures c.opening_bytes.ensures)
+    entered _ (group_place _ c.args.at) (typed_place _ (kind_of c.in_ok-end.kind) first)
+    c.content.result (λ tree ws ks. by_move _ _ _ _ _ (type_opens _ _ _ opens)
+    c.opening_bytes.ensures c.in_ok-take.ensures) (λ pass test. refl) (omega (arith, order))
     c.content.ensures.reads

@@ -1,7 +1,8 @@
-use Rattle.std.proofs.Common.{arith, refl, sym, ◌∙◌}
+use Rattle.std.proofs.Common.{ap, arith, refl, sym, ◌∙◌}
+use Rattle.resb_icu_text.specs.Inner.Kept.{entries_pass}
 use Rattle.resb_icu_text.specs.Inner.Steps.{untyped_place}
-use Rattle.resb_icu_text.proofs.QuotaLemmas.{none_taken, match_fails, over_stops}
-use Rattle.resb_icu_text.proofs.StepsLemmas.{untyped_one, untyped_comma, untyped_key, no_untyped}
+use Rattle.resb_icu_text.proofs.QuotaLemmas.{none_taken, by_move, match_fails, over_stops}
+use Rattle.resb_icu_text.proofs.StepsLemmas.{untyped_one, untyped_comma, step_to, told_at}
 use Rattle.resb_icu_text.proofs.StepsLemmas.{no_key, lacks, text_made, key_ahead, is_a_key}
 use Rattle.resb_icu_text.proofs.StepsLemmas.{fails_at}
 use Rattle.resb_icu_grammar.specs.Machine.{in_untyped, begins_with_string, begins_with_key}
@@ -13,8 +14,9 @@ use Rattle.resb_icu_text.proofs.steps.untyped_string.Goals as goal
 pub returns-in_err-found-clause-reads : goal.returns-in_err-found-clause-reads
 returns-in_err-found-clause-reads g c =
     match_fails _ _ _ c.from_residual.ensures.1
-    (no_untyped c.args.at _ (none_taken _) c.requires.no_brace
-    c.requires.no_group c.in_err-found.ensures.reads)
+    (told_at (λ tree. in_untyped) c.args.at _ _ _ (none_taken _) (λ tree. refl)
+    (λ tree. stuck.no_content _ _ _ c.requires.no_brace c.requires.no_group)
+    c.in_err-found.ensures.reads)
 
 pub returns-in_err-take-clause-reads : goal.returns-in_err-take-clause-reads
 returns-in_err-take-clause-reads g c =
@@ -90,7 +92,10 @@ returns-in_err-take-3-clause-reads g c =
 pub returns-clause-reads : goal.returns-clause-reads
 returns-clause-reads g c =
     let found = c.in_ok-found.ensures.reads in
-    untyped_key c.new-2.result c.in-Some.key c.args.at c.in_ok-found.found.next
-    c.in_ok-take-3.ensures (omega (arith, c.key_bytes.ensures))
-    (key_ahead _ _ c.in_ok-found.found c.in-Some.key found c.in-Some.ensures.key)
-    (c.begins_group.ensures.yes c.if-not-begins_group.false) c.new-2.ensures.items
+    let key = key_ahead _ _ c.in_ok-found.found c.in-Some.key found c.in-Some.ensures.key in
+    step_to refl tt (λ tree ws ks. rw c.new-2.ensures.items (by_move _ _ _ _ _
+    (begins_with_key _ _ _ _ key.stands key.after
+    (c.begins_group.ensures.yes c.if-not-begins_group.false))
+    (omega (arith, c.key_bytes.ensures)) c.in_ok-take-3.ensures))
+    (λ pass test p h. ap (λ l. entries_pass l pass test) c.new-2.ensures.items)
+    (key.fits, omega (arith, key.order))

@@ -165,6 +165,7 @@ impl<'a> Found<'a> {
     }
 
     /// The text that it says, where it was found at a place of a text. Counts as many turns.
+    #[inline(always)]
     pub(crate) fn text(
         self,
         alloc: Global,
@@ -248,6 +249,7 @@ pub fn string<'a>(
 /// place: the fault of a quoted string, or else that this was expected. The turns that it takes to
 /// make it are left over.
 #[tactic(auto, using(crate::proofs::ReachLemmas::reached))]
+#[inline(always)]
 pub(crate) fn found_or<'a>(
     text: &'a str,
     from: usize,

@@ -20,6 +20,7 @@ impl<'a> Build<'a> for Draft<'a> {
 
     ghost held = { λ d n t. is_whole d n };
 
+    #[inline(always)]
     fn leaf(&mut self, resource: Resource<'a>) -> Result<u32, NoMemory> {
         if let Resource::String(CowStr::Borrowed(text)) = &resource {
             return self.push_string(*text);

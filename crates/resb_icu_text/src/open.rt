@@ -80,6 +80,7 @@ impl<'a, X: Drop, B: Build<'a, Made = X>> OpenGroups<'a, B, X> {
 
     /// What one step reads.
     #[tactic(auto, using(crate::proofs::ReachLemmas::reached_by_steps))]
+    #[inline(always)]
     fn read(
         &mut self,
         alloc: Global,
@@ -122,6 +123,7 @@ impl<'a, X: Drop, B: Build<'a, Made = X>> OpenGroups<'a, B, X> {
     }
 
     /// One step further.
+    #[inline(always)]
     pub(crate) fn advance(
         &mut self,
         alloc: Global,
@@ -150,6 +152,7 @@ impl<'a, X: Drop, B: Build<'a, Made = X>> OpenGroups<'a, B, X> {
 }
 
 /// Makes what was read, or refuses a table in which a key stands twice.
+#[inline(always)]
 fn make<'a, B: Build<'a>>(
     build: &mut B,
     alloc: Global,

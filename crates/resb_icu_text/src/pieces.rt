@@ -41,6 +41,7 @@ pub(crate) struct Piece {
 
 /// Where the piece ends whose first quote stands right before this place; or its fault. Counts a
 /// turn for each byte up to the closing quote, and one for that.
+#[inline(always)]
 pub(crate) fn piece_end(
     text: &str,
     from: usize,

@@ -209,6 +209,7 @@ fn string_member<'a, X: Drop>(
 
 /// The key that stands here and the place behind the blanks that follow it; or, where none does,
 /// what is told in its place: the fault of a quoted string, or else that this was expected.
+#[inline(always)]
 pub(crate) fn key_at<'a>(
     text: &'a str,
     at: usize,

@@ -137,6 +137,7 @@ impl<'a> Found<'a> {
 
     /// What it says, where it was found at a place of a text. Counts two turns for each byte of
     /// pieces or strings that have to be put together, and takes memory for just what they say.
+    #[inline(always)]
     fn said(
         self,
         alloc: Global,
@@ -165,6 +166,7 @@ impl<'a> Found<'a> {
     }
 
     /// The text that it says, where it was found at a place of a text. Counts as many turns.
+    #[inline(always)]
     pub(crate) fn text(
         self,
         alloc: Global,
@@ -248,6 +250,7 @@ pub fn string<'a>(
 /// place: the fault of a quoted string, or else that this was expected. The turns that it takes to
 /// make it are left over.
 #[tactic(auto, using(crate::proofs::ReachLemmas::reached))]
+#[inline(always)]
 pub(crate) fn found_or<'a>(
     text: &'a str,
     from: usize,
@@ -309,6 +312,7 @@ fn row<'a>(text: &'a str, from: usize, turns: &mut IcuTurns) -> Option<Found<'a>
 
 /// The quoted pieces that begin here, or the fault of one.
 #[tactic(auto, using(crate::proofs::ReachLemmas::reached))]
+#[inline(always)]
 fn quoted<'a>(text: &'a str, from: usize, turns: &mut IcuTurns) -> Result<Found<'a>, IcuTextError>
     requires within { from < length text.now }
     requires opens { slice_index text.now from ≡ ascii.quote }

@@ -84,10 +84,10 @@ WeighsNoMore w =
     → (count_of xs ≡ n) × (sum_by weight (pieces t) ≤ sum_by weight xs)
     × (tree_count t ≡ n → sum_by weight (pieces t) ≡ sum_by weight xs)
 
--- so it is of each file that is read alone
+-- the tree of a file that is read alone has one list of pieces, and so one of each sum
 abbrev pub OneWeight : Type 0
 OneWeight = (bytes : List ℕ) → HasOneWeight (alone bytes)
 
--- and this, too
+-- the tree of a file that is read alone weighs no more than what is read of it, by any weights
 abbrev pub TreesWeighNoMore : Type 0
 TreesWeighNoMore = (bytes : List ℕ) → WeighsNoMore (alone bytes)

@@ -4,9 +4,7 @@ use Rattle.std.proofs.Common.{Option, Some, None, Ok, Err, append_assoc, length}
 use Rattle.std.proofs.lemmas.List.{append-nil}
 use Rattle.resb_format.specs.declared.error.ReadingError.{ReadingError}
 use Rattle.resb_read.specs.Access.{AccessOver, StepsOver, StepsAfter, StepsBy, RefusesNone}
-use Rattle.resb_read.specs.Access.{CountsEntry}
-use Rattle.resb_read.specs.Places.{Place}
-use Rattle.resb_read.specs.Sequences.{CountsEach, CountsEntries}
+use Rattle.resb_read.specs.Sequences.{CountsEach}
 
 -- what was gone through is the front, has its count, and was paid
 pub record Gone {P : Type 0} (counts : List P → ℕ → Type 0) (all rest : List P) (before left : ℕ)
@@ -58,20 +56,11 @@ module _ {P X : Type 0} (takes : P → X → ℕ → ℕ → Type 0) where
       (subst (λ f. StepsAfter takes RefusesNone f old 0 new 0 (Err e)) none h)
 
 -- one more place, at the end
-pub counts_each_more : (counts : Place → ℕ → Type 0) (ps : List Place) (k : ℕ) (p : Place) (n : ℕ)
+pub counts_each_more : {P : Type 0} (counts : P → ℕ → Type 0) (ps : List P) (k : ℕ) (p : P) (n : ℕ)
     → CountsEach counts ps k → counts p n → CountsEach counts (ps ++ p ∷ []) (k + n)
 counts_each_more counts [] k p n h r = (n, 0, r, refl, omega arith)
 counts_each_more counts (q ∷ ps) k p n (a, b, first, rest, e) r =
     (a, b + n, first, counts_each_more counts ps b p n rest r, omega arith)
-
--- one more entry, at the end
-pub counts_entries_more : (ck cv : Place → ℕ → Type 0) (ps : List (Place × Place)) (k : ℕ)
-    (p : Place × Place) (n : ℕ)
-    → CountsEntries ck cv ps k → CountsEntry ck cv p n
-    → CountsEntries ck cv (ps ++ p ∷ []) (k + n)
-counts_entries_more ck cv [] k p n h (a, b, r, s, t) = (a, b, 0, r, s, refl, omega arith)
-counts_entries_more ck cv (q ∷ ps) k p n (a, b, j, r, s, rest, t) h =
-    (a, b, j + n, r, s, counts_entries_more ck cv ps j p n rest h, omega arith)
 
 module _ {P : Type 0} (counts : List P → ℕ → Type 0) (one : P → ℕ → Type 0)
     (more : (ps : List P) (k : ℕ) (p : P) (n : ℕ) → counts ps k → one p n

@@ -2,7 +2,7 @@
 --     BlamesWhole             the place itself
 --     BlamesSeq, BlamesMap    no list or table, or what is to blame at the first part that is
 --                             refused, under its number or its key
--- Each gives the budget's rest before and after, as `refuses` does.
+-- Each gives the budget's rest before and after, as `refuses` does, and is built of the same words.
 use Rattle.std.specs.Prelude.{◌≡◌, ◌+◌, ◌⊎◌, ℕ, List, ◌∷◌, ◌++◌, Some, None, length}
 use Rattle.resb_diff.specs.Differences.{by_key, by_number}
 use Rattle.resb_format.specs.declared.error.ReadingError.{ReadingError}
@@ -11,7 +11,8 @@ use Rattle.resb_read.specs.Places.{Place}
 use Rattle.resb_read.specs.Leaves.{CountsKey}
 use Rattle.resb_read.specs.Reading.{Lacks}
 use Rattle.resb_read.specs.RefusedReadings.{RefusesThere, RefusesMembers, RefusesEntries}
-use Rattle.resb_read.specs.Sequences.{members_at, entries_at, CountsEach, CountsEntries}
+use Rattle.resb_read.specs.RefusedReadings.{RefusesOne, RefusesInside}
+use Rattle.resb_read.specs.Sequences.{members_at, entries_at, CountsEach, CountsEntry}
 use Rattle.resb_read.specs.Tables.{IsNamed}
 use Rattle.resb_blame.specs.Blamed.{Blamed, IsHere, IsUnder}
 
@@ -40,20 +41,12 @@ module _ (counts : Place → ℕ → Type 0) (blames : Blaming) where
     pub blamed : blames at here left' inner
     pub under : IsUnder (by_number (length done)) inner b
 
-  -- there are members, one is paid for the list, and one of them is to blame
-  pub record BlamesMember (p : Place) (left left' : ℕ) (b : Blamed) : Type 0 where
-    pub places : List Place
-    pub inside : ℕ
-    pub are : members_at p ≡ Some places
-    pub paid : inside + 1 ≡ left
-    pub blamed : BlamesOne places inside left' b
-
   -- the place itself, where no list is read; or what is to blame at the first member that is
   -- refused
   abbrev pub BlamesSeq : Blaming
   BlamesSeq p left left' b =
       (IsHere b × (members_at p ≡ None ⊎ left ≡ 0) × RefusesMembers p left left' b.error)
-      ⊎ BlamesMember p left left' b
+      ⊎ RefusesInside (members_at p) BlamesOne left left' b
 
 -- what is to blame at an entry's value, under the entry's key; or the table itself, for the same
 -- error, where no text is read of the key
@@ -79,29 +72,9 @@ module _ (ck : Place → ℕ → Type 0) (fk : Place → ℕ → ℕ → Reading
   BlamesEntry e left left' b =
       (IsHere b × RefusesThere ck fk e.0 left left' b.error) ⊎ BlamesValue e left left' b
 
-  -- the entries before one have their counts, and this one is to blame with what they leave
-  pub record BlamesOneEntry (entries : List Entry) (left left' : ℕ) (b : Blamed) : Type 0 where
-    pub done : List Entry
-    pub at : Entry
-    pub after : List Entry
-    pub spent : ℕ
-    pub here : ℕ
-    pub are : entries ≡ done ++ at ∷ after
-    pub counted : CountsEntries ck cv done spent
-    pub paid : here + spent ≡ left
-    pub blamed : BlamesEntry at here left' b
-
-  -- there are entries, one is paid for the table, and one of them is to blame
-  pub record BlamesInMap (p : Place) (left left' : ℕ) (b : Blamed) : Type 0 where
-    pub entries : List Entry
-    pub inside : ℕ
-    pub are : entries_at p ≡ Some entries
-    pub paid : inside + 1 ≡ left
-    pub blamed : BlamesOneEntry entries inside left' b
-
   -- the place itself, where no table is read; or what is to blame at the first entry that is
   -- refused
   abbrev pub BlamesMap : Blaming
   BlamesMap p left left' b =
       (IsHere b × (entries_at p ≡ None ⊎ left ≡ 0) × RefusesEntries p left left' b.error)
-      ⊎ BlamesInMap p left left' b
+      ⊎ RefusesInside (entries_at p) (RefusesOne (CountsEntry ck cv) BlamesEntry) left left' b

@@ -56,7 +56,7 @@ pub seq_points : (counts : Place → ℕ → Type 0) (blames : Blaming) → Poin
     → Pointed (BlamesSeq counts blames)
 seq_points counts blames points p left left' b (inl h) = here_points p b h.0
 seq_points counts blames points p left left' b (inr h) =
-    let one = h.blamed in
+    let one = h.refused in
     let has = ap (λ ps. slice_get ps (length one.done)) one.are
     ∙ number_of_next one.done one.at one.after in
     let into : StepsToMember p (length one.done) one.at =
@@ -68,28 +68,28 @@ seq_points counts blames points p left left' b (inr h) =
 pub map_points : (ck : Place → ℕ → Type 0) (fk : Place → ℕ → ℕ → ReadingError → Type 0)
     (cv : Place → ℕ → Type 0) (bv : Blaming) → Pointed bv → Pointed (BlamesMap ck fk cv bv)
 map_points ck fk cv bv points p left left' b (inl h) = here_points p b h.0
-map_points ck fk cv bv points p left left' b (inr h) = entry h.blamed.blamed
+map_points ck fk cv bv points p left left' b (inr h) = entry h.refused.refused
   where
-    key : (inner : Blamed) → Points h.blamed.at.1 inner → IsUnderKey h.blamed.at inner b
+    key : (inner : Blamed) → Points h.refused.at.1 inner → IsUnderKey h.refused.at inner b
         → Points p b
     key inner there (inl (name, named, under)) =
-        let into : StepsToKey p name h.blamed.at.1 = record {
-          entries = h.entries;
+        let into : StepsToKey p name h.refused.at.1 = record {
+          entries = h.places;
           are = h.are;
           has = record {
-            before = h.blamed.done;
-            key = h.blamed.at.0;
-            after = h.blamed.after;
-            are = h.blamed.are;
+            before = h.refused.done;
+            key = h.refused.at.0;
+            after = h.refused.after;
+            are = h.refused.are;
             named = named;
           };
         } in
-        under_points p h.blamed.at.1 (by_key name) inner b into there under
+        under_points p h.refused.at.1 (by_key name) inner b into there under
     key inner there (inr (none, here, same)) = here_points p b here
 
-    entry : BlamesEntry ck fk cv bv h.blamed.at h.blamed.here left' b → Points p b
+    entry : BlamesEntry ck fk cv bv h.refused.at h.refused.here left' b → Points p b
     entry (inl e) = here_points p b e.0
-    entry (inr v) = key v.inner (points h.blamed.at.1 v.here left' v.inner v.blamed) v.under
+    entry (inr v) = key v.inner (points h.refused.at.1 v.here left' v.inner v.blamed) v.under
 
 -- an entry's key that is tested to be a name is read as it
 named_so : (name : List ℕ) (e : Entry) (o : Option (List ℕ × ℕ)) → key_of e ≡ o

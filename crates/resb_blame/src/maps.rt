@@ -2,10 +2,10 @@
 //! How these are read is said in `resb_read::maps`.
 ghost use Rattle.std.specs.Prelude.{◌≡◌, ◌+◌, ◌⊎◌, ℕ, None, IfOk, IfErr};
 ghost use Rattle.resb_format.specs.Error.{IsWantOfMemory};
-ghost use Rattle.resb_read.specs.Access.{CountsEntry};
 ghost use Rattle.resb_read.specs.Places.{place_of};
-ghost use Rattle.resb_read.specs.Sequences.{CountsEntries};
-ghost use Rattle.resb_blame.specs.Blames.{BlamesEntry, BlamesMap, BlamesOneEntry, IsUnderKey};
+ghost use Rattle.resb_read.specs.RefusedReadings.{RefusesOne};
+ghost use Rattle.resb_read.specs.Sequences.{CountsEach, CountsEntry};
+ghost use Rattle.resb_blame.specs.Blames.{BlamesEntry, BlamesMap, IsUnderKey};
 ghost use Rattle.resb_blame.specs.Pointing.{map_points};
 
 use crate::blame::Blame;
@@ -63,10 +63,11 @@ fn blame_entries<'de, 'm, K: Deserialize<'de>, T: Blames<'de>>(
 ) -> Result<(), Blame<'de, 'm>>
     requires { access.failed ≡ None }
     ensures counted { IfOk result (λ _. (n : ℕ)
-        × CountsEntries K.counts T.counts access.entry.rest n × (walk.new + n ≡ walk.old)) }
+        × CountsEach (CountsEntry K.counts T.counts) access.entry.rest n
+        × (walk.new + n ≡ walk.old)) }
     ensures blamed { IfErr result (λ b. IsWantOfMemory b.error
-        ⊎ BlamesOneEntry K.counts K.refuses T.counts T.blames access.entry.rest walk.old walk.new
-        b) }
+        ⊎ RefusesOne (CountsEntry K.counts T.counts)
+        (BlamesEntry K.counts K.refuses T.counts T.blames) access.entry.rest walk.old walk.new b) }
 {
     'entries: while let Ok(Some((key_at, value_at))) = access.next_entry_cursor() {
         if let Err(blame) = blame_entry::<K, T>(alloc, key_at, value_at, walk) {

@@ -11,9 +11,9 @@ use Rattle.resb_read.specs.TypeLaws.{each_counted}
 use Rattle.resb_read.specs.Access.{AccessOver, Access, StepsOver, StepsAfter, StepsReading}
 use Rattle.resb_read.specs.Access.{TakesRead}
 
-module _ {X : Type 0} (reads : Place → X → ℕ → Type 0) where
+module _ {P X : Type 0} (reads : P → X → ℕ → Type 0) where
   -- one more place and its value, at the end
-  pub reads_each_more : (ps : List Place) (xs : List X) (k : ℕ) (p : Place) (x : X) (n : ℕ)
+  pub reads_each_more : (ps : List P) (xs : List X) (k : ℕ) (p : P) (x : X) (n : ℕ)
       → ReadsEach reads ps xs k → reads p x n
       → ReadsEach reads (ps ++ p ∷ []) (xs ++ x ∷ []) (k + n)
   reads_each_more [] [] k p x n h r = (n, 0, r, refl, omega arith)
@@ -22,10 +22,10 @@ module _ {X : Type 0} (reads : Place → X → ℕ → Type 0) where
   reads_each_more (q ∷ ps) (y ∷ xs) k p x n (a, b, first, rest, e) r =
       (a, b + n, first, reads_each_more ps xs b p x n rest r, omega arith)
 
-module _ (counts : Place → ℕ → Type 0)
-    (one : (p : Place) (m n : ℕ) → counts p m → counts p n → m ≡ n) where
+module _ {P : Type 0} (counts : P → ℕ → Type 0)
+    (one : (p : P) (m n : ℕ) → counts p m → counts p n → m ≡ n) where
   -- the counts of a list whose front is known
-  pub each_split : (ps : List Place) (p : Place) (rest : List Place) (k n : ℕ)
+  pub each_split : (ps : List P) (p : P) (rest : List P) (k n : ℕ)
       → CountsEach counts ps k → CountsEach counts (ps ++ p ∷ rest) n
       → (a : ℕ) × counts p a × (k + a ≤ n)
   each_split [] p rest k n h (a, b, c, _, e) = (a, c, omega arith)
@@ -36,7 +36,7 @@ module _ (counts : Place → ℕ → Type 0)
       (later.0, later.1, omega arith)
 
   -- what is refused at one member is refused of all
-  pub each_refused : (ps : List Place) (p : Place) (rest : List Place) (k left now : ℕ)
+  pub each_refused : (ps : List P) (p : P) (rest : List P) (k left now : ℕ)
       (e : ReadingError)
       → now + k ≡ left → CountsEach counts ps k → LacksOrMemory (counts p) now e
       → LacksOrMemory (CountsEach counts (ps ++ p ∷ rest)) left e
@@ -112,7 +112,7 @@ module _ {X : Type 0} (reads : Place → X → ℕ → Type 0) (counts : Place �
       → old.failed ≡ None → Front reads all old.rest values before left
       → StepsReading reads counts refuses old left new left' (Err d)
       → (left' ≤ before) × LacksOrMemory (CountsEach counts all) before d
-      × RefusesOne (CountsEach counts) (RefusesThere counts refuses) all before left' d
+      × RefusesOne counts (RefusesThere counts refuses) all before left' d
   front_refused all old values before left new left' d none f h =
       let (p, ps, first, r) = steps_err reads counts refuses old left new left' d none h in
       let s : left' ≤ left = r.0 in

@@ -132,4 +132,4 @@ no_more_of f w t n xs d h =
     equal same (inr l) = absurd (omega (arith, same, l))
 
 pub trees_weigh_no_more : TreesWeighNoMore
-trees_weigh_no_more f bytes t n xs d h = no_more_of f (alone bytes) t n xs d.root h
+trees_weigh_no_more bytes f t n xs d h = no_more_of f (alone bytes) t n xs d.root h

@@ -29,4 +29,4 @@ pub one_weight_with_pool : OneWeightWithPool
 one_weight_with_pool pool bytes = one_weight_of (over pool bytes)
 
 pub no_more_with_pool : TreesWeighNoMoreWithPool
-no_more_with_pool f pool bytes t n xs d h = no_more_of f (over pool bytes) t n xs d.root h
+no_more_with_pool pool bytes f t n xs d h = no_more_of f (over pool bytes) t n xs d.root h

@@ -1,10 +1,10 @@
 -- An access to the members of a sequence, or to the entries of a map.
---     StepsReading, Enters    one step, which reads and pays the next member, or the next entry
+--     StepsReading            one step, which reads and pays the next member, or the next entry
 --     StepsTo, EntersTo       one step, which hands on where that stands
 use Rattle.std.specs.Prelude.{ℕ, List, [], ◌∷◌, Option, Some, None, Result, Ok, Err, ◌≡◌, ◌+◌}
 use Rattle.resb_read.specs.Places.{Place, place_of}
 use Rattle.resb_read.specs.declared.cursor.Cursor.{Cursor}
-use Rattle.resb_read.specs.RefusedReadings.{RefusesThere, RefusesKeyOrValue}
+use Rattle.resb_read.specs.RefusedReadings.{RefusesThere}
 use Rattle.resb_format.specs.declared.error.ReadingError.{ReadingError}
 
 -- what is still to come, and the error that it stopped at
@@ -57,23 +57,6 @@ abbrev pub StepsReading : {P X : Type 0} → (P → X → ℕ → Type 0) → (P
     → (P → ℕ → ℕ → ReadingError → Type 0) → AccessOver P → ℕ → AccessOver P → ℕ
     → Result (Option X) ReadingError → Type 0
 StepsReading reads counts refuses = StepsBy (TakesRead reads) (RefusesThere counts refuses)
-
--- the sum of the counts of a key and its value
-abbrev pub CountsEntry : (Place → ℕ → Type 0) → (Place → ℕ → Type 0) → Place × Place → ℕ → Type 0
-CountsEntry key value p n = (a : ℕ) × (b : ℕ) × key p.0 a × value p.1 b × (n ≡ a + b)
-
--- a key and a value are read at the places of an entry, and n is the sum of their counts
-abbrev pub ReadsEntry : {K X : Type 0} → (Place → K → ℕ → Type 0) → (Place → X → ℕ → Type 0)
-    → Place × Place → K × X → ℕ → Type 0
-ReadsEntry key value p e n = (a : ℕ) × (b : ℕ) × key p.0 e.0 a × value p.1 e.1 b × (n ≡ a + b)
-
--- one step that reads an entry: the key and then the value are read and paid, or one is refused
-abbrev pub Enters : {K X : Type 0} → (Place → K → ℕ → Type 0) → (Place → ℕ → Type 0)
-    → (Place → ℕ → ℕ → ReadingError → Type 0) → (Place → X → ℕ → Type 0) → (Place → ℕ → Type 0)
-    → (Place → ℕ → ℕ → ReadingError → Type 0) → EntryAccess → ℕ → EntryAccess → ℕ
-    → Result (Option (K × X)) ReadingError → Type 0
-Enters rk ck fk rv cv fv =
-    StepsReading (ReadsEntry rk rv) (CountsEntry ck cv) (RefusesKeyOrValue ck fk cv fv)
 
 -- nothing is refused
 abbrev pub RefusesNone : {P : Type 0} → P → ℕ → ℕ → ReadingError → Type 0

@@ -5,11 +5,11 @@
 --     AnswersMeasureOf w r    what measuring the tree answers
 --     FitsWithin limit xs     neither the tree nor the keys of its entries take more bytes
 --     TreeWithinOf w limit r  what reading it within a limit answers
---     OneWeight, TreesWeighNoMore     that a file's tree has one weight, and is no heavier
+--     HasOneWeight w, WeighsNoMore w  the tree has one weight, and is no heavier
+--     OneWeight, TreesWeighNoMore     so it is of each file that is read alone
 use Rattle.std.specs.Prelude.{◌≡◌, ◌<◌, ◌≤◌, ◌⊎◌, ℕ, List, Result, Ok, Err, codes, sum_by}
 use Rattle.resb_tree.specs.Tree.{Tree, tree_count}
 use Rattle.resb_tree.specs.declared.resource.Resource.{Resource}
-use Rattle.resb_head.specs.File.{Denotes}
 use Rattle.resb_format.specs.Error.{IsInvalid}
 use Rattle.resb_format.specs.declared.error.ReadingError.{ReadingError}
 use Rattle.resb_walk.specs.Pieces.{Piece, Holds, pieces}
@@ -71,18 +71,23 @@ TreeWithinOf w limit (Err e) =
     ⊎ ((IsLarger e × TakesMoreOf tree_bytes w limit)
     ⊎ (HasLargerKeys e × TakesMoreOf key_bytes w limit))
 
--- a file's tree has one list of pieces, and so one of each sum
-abbrev pub OneWeight : Type 0
-OneWeight =
-    (bytes : List ℕ) (xs ys : List Piece) → HoldsPieces (alone bytes) xs
-    → HoldsPieces (alone bytes) ys → xs ≡ ys
+-- the tree has one list of pieces, and so one of each sum
+abbrev pub HasOneWeight : Whole → Type 0
+HasOneWeight w = (xs ys : List Piece) → HoldsPieces w xs → HoldsPieces w ys → xs ≡ ys
 
--- The pieces of a file's tree are as many resources as are counted. By any weights of pieces they
--- weigh no less than those of the tree, and the same where the tree has as many resources as are
--- counted, so that no entry is replaced.
-abbrev pub TreesWeighNoMore : Type 0
-TreesWeighNoMore =
-    (weight : Piece → ℕ) (bytes : List ℕ) (t : Tree) (n : ℕ) (xs : List Piece)
-    → Denotes bytes t n → HoldsPieces (alone bytes) xs
+-- The pieces of the tree are as many resources as are counted. By any weights of pieces they weigh
+-- no less than those of the tree, and the same where the tree has as many resources as are counted,
+-- so that no entry is replaced.
+abbrev pub WeighsNoMore : Whole → Type 0
+WeighsNoMore w =
+    (weight : Piece → ℕ) (t : Tree) (n : ℕ) (xs : List Piece) → w.denotes t n → HoldsPieces w xs
     → (count_of xs ≡ n) × (sum_by weight (pieces t) ≤ sum_by weight xs)
     × (tree_count t ≡ n → sum_by weight (pieces t) ≡ sum_by weight xs)
+
+-- the tree of a file that is read alone has one list of pieces, and so one of each sum
+abbrev pub OneWeight : Type 0
+OneWeight = (bytes : List ℕ) → HasOneWeight (alone bytes)
+
+-- the tree of a file that is read alone weighs no more than what is read of it, by any weights
+abbrev pub TreesWeighNoMore : Type 0
+TreesWeighNoMore = (bytes : List ℕ) → WeighsNoMore (alone bytes)

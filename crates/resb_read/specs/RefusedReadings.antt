@@ -20,7 +20,7 @@ use Rattle.resb_read.specs.PlaceRefusals.{bits_refusal_from, text_refusal_from, 
 use Rattle.resb_read.specs.PlaceRefusals.{bytes_refusal_from, view_refusal_from}
 use Rattle.resb_read.specs.PlaceRefusals.{members_refusal_from, entries_refusal_from}
 use Rattle.resb_read.specs.Resources.{DenPlace, ReachesPlace, MeetsPlace}
-use Rattle.resb_read.specs.Sequences.{members_at, entries_at, CountsEach, CountsEntries}
+use Rattle.resb_read.specs.Sequences.{members_at, entries_at, CountsEach, CountsEntry}
 use Rattle.resb_read.specs.declared.cursor.Spot.{Spot}
 use Rattle.resb_read.specs.declared.cursor.Spot.TheVariants as spot
 
@@ -90,48 +90,47 @@ abbrev pub RefusesThere : {P : Type 0} → (P → ℕ → Type 0) → (P → ℕ
 RefusesThere counts refuses p left left' e =
     (left' ≤ left) × LacksOrMemory (counts p) left e × refuses p left left' e
 
--- what is refused of places, or of the places of entries, one after another: `takes` are the counts
--- of those before it, and `refuses` is why
-module _ {P : Type 0} (takes : List P → ℕ → Type 0)
-    (refuses : P → ℕ → ℕ → ReadingError → Type 0) where
-  -- one of them is refused with what those before it leave
-  pub record RefusesOne (places : List P) (left left' : ℕ) (e : ReadingError) : Type 0 where
-    pub done : List P
-    pub at : P
-    pub after : List P
-    pub spent : ℕ
-    pub here : ℕ
-    pub are : places ≡ done ++ at ∷ after
-    pub counted : takes done spent
-    pub paid : here + spent ≡ left
-    pub refused : refuses at here left' e
+-- of places, or of the places of entries, one is refused with what those before it leave
+pub record RefusesOne {P E : Type 0} (counts : P → ℕ → Type 0) (refuses : P → ℕ → ℕ → E → Type 0)
+    (places : List P) (left left' : ℕ) (e : E) : Type 0 where
+  pub done : List P
+  pub at : P
+  pub after : List P
+  pub spent : ℕ
+  pub here : ℕ
+  pub are : places ≡ done ++ at ∷ after
+  pub counted : CountsEach counts done spent
+  pub paid : here + spent ≡ left
+  pub refused : refuses at here left' e
 
+-- places stand there, one is paid for the whole, and they are refused with what is left
+pub record RefusesInside {P E : Type 0} (there : Option (List P))
+    (refuses : List P → ℕ → ℕ → E → Type 0) (left left' : ℕ) (e : E) : Type 0 where
+  pub places : List P
+  pub inside : ℕ
+  pub are : there ≡ Some places
+  pub paid : inside + 1 ≡ left
+  pub refused : refuses places inside left' e
+
+module _ {P : Type 0} (counts : P → ℕ → Type 0)
+    (refuses : P → ℕ → ℕ → ReadingError → Type 0) where
   -- one of them is refused, or memory for the values is wanted
   abbrev pub RefusesEach : List P → ℕ → ℕ → ReadingError → Type 0
-  RefusesEach places left left' e = IsWantOfMemory e ⊎ RefusesOne places left left' e
-
-  -- some stand there, one is paid for the whole, and one of them is refused
-  pub record RefusesInside (there : Option (List P)) (left left' : ℕ) (e : ReadingError)
-      : Type 0 where
-    pub places : List P
-    pub inside : ℕ
-    pub are : there ≡ Some places
-    pub paid : inside + 1 ≡ left
-    pub refused : RefusesEach places inside left' e
+  RefusesEach places left left' e = IsWantOfMemory e ⊎ RefusesOne counts refuses places left left' e
 
   -- none stand there, or the budget is spent, and the whole is refused; or one of them is refused
   -- with what those before it leave; or memory for the values is wanted
   abbrev pub RefusesAll : Option (List P) → (ℕ → ℕ → ReadingError → Type 0) → ℕ → ℕ
       → ReadingError → Type 0
   RefusesAll there whole left left' e =
-      ((there ≡ None ⊎ left ≡ 0) × whole left left' e) ⊎ RefusesInside there left left' e
+      ((there ≡ None ⊎ left ≡ 0) × whole left left' e)
+      ⊎ RefusesInside there RefusesEach left left' e
 
 -- a list is refused: there are no members, or one of them is refused
 abbrev pub RefusesSeq : (Place → ℕ → Type 0) → (Place → ℕ → ℕ → ReadingError → Type 0) → Place → ℕ
     → ℕ → ReadingError → Type 0
 RefusesSeq counts refuses p left left' e =
-    RefusesAll (CountsEach counts) (RefusesThere counts refuses) (members_at p) (RefusesMembers p)
-    left left' e
+    RefusesAll counts (RefusesThere counts refuses) (members_at p) (RefusesMembers p) left left' e
 
 module _ (ck : Place → ℕ → Type 0) (fk : Place → ℕ → ℕ → ReadingError → Type 0)
     (cv : Place → ℕ → Type 0) (fv : Place → ℕ → ℕ → ReadingError → Type 0) where
@@ -151,5 +150,5 @@ module _ (ck : Place → ℕ → Type 0) (fk : Place → ℕ → ℕ → Reading
   -- a map is refused: there are no entries, or one of them is refused
   abbrev pub RefusesMap : Place → ℕ → ℕ → ReadingError → Type 0
   RefusesMap p left left' e =
-      RefusesAll (CountsEntries ck cv) RefusesKeyOrValue (entries_at p) (RefusesEntries p) left
+      RefusesAll (CountsEntry ck cv) RefusesKeyOrValue (entries_at p) (RefusesEntries p) left
       left' e

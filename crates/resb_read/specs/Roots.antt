@@ -2,6 +2,7 @@
 --     Whole                   what a file comes to
 --     HoldsAt P w             it is a file, and P holds of the place of its root
 --     RefusesAt refuses w e   what a type that refuses so answers of it
+--     IsRefusedOnce w         memory aside, it is refused in one way
 --     AnswersTreeOf, AnswersCountOf   what reading and counting its tree answer
 -- The same of files that are read alone:
 --     alone bytes             what the bytes come to
@@ -13,7 +14,7 @@ use Rattle.resb_tree.specs.View.{tree_of}
 use Rattle.resb_tree.specs.declared.resource.Resource.{Resource}
 use Rattle.resb_format.specs.Content.{word}
 use Rattle.resb_format.specs.Denotes.{Den, Reaches}
-use Rattle.resb_format.specs.Error.{Refusal, refusal_of}
+use Rattle.resb_format.specs.Error.{Refusal, IsWantOfMemory, refusal_of}
 use Rattle.resb_format.specs.Parts.{Parts}
 use Rattle.resb_format.specs.declared.error.ReadingError.{ReadingError}
 use Rattle.resb_head.specs.File.{IsBundleFile, parts_of, root_word, Denotes, budget}
@@ -65,6 +66,12 @@ RefusesWhole w e =
     ⊎ (w.is_file
     × Refuses (Den w.parts w.root) (Reaches w.parts w.root) w.budget e
     × Blames (Meets w.parts (word w.root)) e)
+
+-- two such refusals are equal, by kind and message, if neither is want of memory
+abbrev pub IsRefusedOnce : Whole → Type 0
+IsRefusedOnce w =
+    (d e : ReadingError) → RefusesWhole w d → RefusesWhole w e
+    → (IsWantOfMemory d ⊎ IsWantOfMemory e) ⊎ (refusal_of d ≡ refusal_of e)
 
 -- what reading the tree answers: a tree that is denoted within the budget and borrows, or its
 -- refusal

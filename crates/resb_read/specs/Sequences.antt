@@ -77,7 +77,7 @@ abbrev pub entries_at : Place → Option (List (Place × Place))
 entries_at p = entries_from p.parts p.at
 
 -- each place is read to the value beside it, and n is the sum of the counts
-abbrev pub ReadsEach : {X : Type 0} → (Place → X → ℕ → Type 0) → List Place → List X → ℕ → Type 0
+abbrev pub ReadsEach : {P X : Type 0} → (P → X → ℕ → Type 0) → List P → List X → ℕ → Type 0
 ReadsEach reads [] [] n = n ≡ 0
 ReadsEach reads [] (x ∷ xs) n = ⊥
 ReadsEach reads (p ∷ ps) [] n = ⊥
@@ -85,7 +85,7 @@ ReadsEach reads (p ∷ ps) (x ∷ xs) n =
     (a : ℕ) × (b : ℕ) × reads p x a × ReadsEach reads ps xs b × (n ≡ a + b)
 
 -- n is the sum of a count at each place
-abbrev pub CountsEach : (Place → ℕ → Type 0) → List Place → ℕ → Type 0
+abbrev pub CountsEach : {P : Type 0} → (P → ℕ → Type 0) → List P → ℕ → Type 0
 CountsEach counts [] n = n ≡ 0
 CountsEach counts (p ∷ ps) n = (a : ℕ) × (b : ℕ) × counts p a × CountsEach counts ps b × (n ≡ a + b)
 
@@ -106,23 +106,14 @@ ReadsSeq reads p xs n = Collects (members_at p) (λ places total. ReadsEach read
 abbrev pub CountsSeq : (Place → ℕ → Type 0) → Place → ℕ → Type 0
 CountsSeq counts p n = Collects (members_at p) (CountsEach counts) n
 
--- each entry's key and value are read, and n is the sum of the counts
-abbrev pub ReadsEntries : {K X : Type 0} → (Place → K → ℕ → Type 0) → (Place → X → ℕ → Type 0)
-    → List (Place × Place) → List (K × X) → ℕ → Type 0
-ReadsEntries key value [] [] n = n ≡ 0
-ReadsEntries key value [] (e ∷ es) n = ⊥
-ReadsEntries key value (p ∷ ps) [] n = ⊥
-ReadsEntries key value (p ∷ ps) (e ∷ es) n =
-    (a : ℕ) × (b : ℕ) × (c : ℕ) × key p.0 e.0 a × value p.1 e.1 b × ReadsEntries key value ps es c
-    × (n ≡ a + b + c)
+-- a key and a value are read at the places of an entry, and n is the sum of their counts
+abbrev pub ReadsEntry : {K X : Type 0} → (Place → K → ℕ → Type 0) → (Place → X → ℕ → Type 0)
+    → Place × Place → K × X → ℕ → Type 0
+ReadsEntry key value p e n = (a : ℕ) × (b : ℕ) × key p.0 e.0 a × value p.1 e.1 b × (n ≡ a + b)
 
--- some key and some value are read at the places of each entry, and n is the sum of the counts
-abbrev pub CountsEntries : (Place → ℕ → Type 0) → (Place → ℕ → Type 0) → List (Place × Place) → ℕ
-    → Type 0
-CountsEntries key value [] n = n ≡ 0
-CountsEntries key value (p ∷ ps) n =
-    (a : ℕ) × (b : ℕ) × (c : ℕ) × key p.0 a × value p.1 b × CountsEntries key value ps c
-    × (n ≡ a + b + c)
+-- the sum of the counts of a key and its value
+abbrev pub CountsEntry : (Place → ℕ → Type 0) → (Place → ℕ → Type 0) → Place × Place → ℕ → Type 0
+CountsEntry key value p n = (a : ℕ) × (b : ℕ) × key p.0 a × value p.1 b × (n ≡ a + b)
 
 -- the entries put in one after another: the last value of an equal key stands
 abbrev pub put_each : {K X : Type 0} → (K → K → Ordering) → List (K × X) → List (K × X)
@@ -134,7 +125,7 @@ put_each cmp m (e ∷ es) = put_each cmp (insert_entry cmp m e.0 e.1) es
 abbrev pub ReadsAll : {K X : Type 0} → (K → K → Ordering) → (Place → K → ℕ → Type 0)
     → (Place → X → ℕ → Type 0) → List (Place × Place) → List (K × X) → ℕ → Type 0
 ReadsAll {K} {X} cmp key value places m n =
-    (es : List (K × X)) × ReadsEntries key value places es n × (m ≡ put_each cmp [] es)
+    (es : List (K × X)) × ReadsEach (ReadsEntry key value) places es n × (m ≡ put_each cmp [] es)
 
 -- a table stands there, whose entries are read to a map; it counts as one besides them
 abbrev pub ReadsMap : {K X : Type 0} → (K → K → Ordering) → (Place → K → ℕ → Type 0)
@@ -144,4 +135,4 @@ ReadsMap cmp key value p m n =
 
 -- a table stands there, each of whose entries has a count; it counts as one besides them
 abbrev pub CountsMap : (Place → ℕ → Type 0) → (Place → ℕ → Type 0) → Place → ℕ → Type 0
-CountsMap key value p n = Collects (entries_at p) (CountsEntries key value) n
+CountsMap key value p n = Collects (entries_at p) (CountsEach (CountsEntry key value)) n

@@ -13,8 +13,9 @@ use Rattle.resb_read.specs.Leaves.{ReadsText, CountsText, ReadsKey, CountsKey, R
 use Rattle.resb_read.specs.Leaves.{CountsBytes}
 use Rattle.resb_read.specs.Leaves.{ReadsView, CountsView}
 use Rattle.std.specs.declared.cmp.Ordering.{Ordering}
-use Rattle.resb_read.specs.Sequences.{ReadsEach, CountsEach, ReadsSeq, CountsSeq, ReadsEntries}
-use Rattle.resb_read.specs.Sequences.{CountsEntries, ReadsMap, CountsMap}
+use Rattle.resb_read.specs.Sequences.{members_at, entries_at, Collects, ReadsEach, CountsEach}
+use Rattle.resb_read.specs.Sequences.{ReadsSeq, CountsSeq, ReadsEntry, CountsEntry, ReadsMap}
+use Rattle.resb_read.specs.Sequences.{CountsMap}
 use Rattle.resb_tree.specs.Tree.{Tree}
 use Rattle.resb_format.specs.Parts.{Parts}
 use Rattle.resb_format.proofs.Denoting.{unique, unique_member}
@@ -92,14 +93,9 @@ view_counted each p = there_counted (λ b. length b % each ≡ 0) (bytes_from p.
 pub view_one : (each : ℕ) (p : Place) (m n : ℕ) → CountsView each p m → CountsView each p n → m ≡ n
 view_one each p = there_one (λ b. length b % each ≡ 0) (bytes_from p.parts p.at)
 
-module _ {X : Type 0} (reads : Place → X → ℕ → Type 0) (counts : Place → ℕ → Type 0)
-    (counted : (p : Place) (v : X) (n : ℕ) → reads p v n → counts p n) where
-  pub option_counted : (p : Place) (o : Option X) (n : ℕ) → IsSomeAnd o (λ x. reads p x n)
-      → counts p n
-  option_counted p (Some x) n h = counted p x n h
-  option_counted p None n h = absurd h
-
-  pub each_counted : (ps : List Place) (xs : List X) (n : ℕ) → ReadsEach reads ps xs n
+module _ {P X : Type 0} (reads : P → X → ℕ → Type 0) (counts : P → ℕ → Type 0)
+    (counted : (p : P) (v : X) (n : ℕ) → reads p v n → counts p n) where
+  pub each_counted : (ps : List P) (xs : List X) (n : ℕ) → ReadsEach reads ps xs n
       → CountsEach counts ps n
   each_counted [] [] n h = h
   each_counted [] (x ∷ xs) n h = absurd h
@@ -107,43 +103,51 @@ module _ {X : Type 0} (reads : Place → X → ℕ → Type 0) (counts : Place �
   each_counted (p ∷ ps) (x ∷ xs) n (a, b, r, rest, e) =
       (a, b, counted p x a r, each_counted ps xs b rest, e)
 
+module _ {X : Type 0} (reads : Place → X → ℕ → Type 0) (counts : Place → ℕ → Type 0)
+    (counted : (p : Place) (v : X) (n : ℕ) → reads p v n → counts p n) where
+  pub option_counted : (p : Place) (o : Option X) (n : ℕ) → IsSomeAnd o (λ x. reads p x n)
+      → counts p n
+  option_counted p (Some x) n h = counted p x n h
+  option_counted p None n h = absurd h
+
   pub seq_counted : (p : Place) (xs : List X) (n : ℕ) → ReadsSeq reads p xs n → CountsSeq counts p n
   seq_counted p xs n h =
       record {
         places = h.places;
         total = h.total;
         are = h.are;
-        each = each_counted h.places xs h.total h.each;
+        each = each_counted reads counts counted h.places xs h.total h.each;
         count = h.count;
       }
 
-module _ (counts : Place → ℕ → Type 0)
-    (one : (p : Place) (m n : ℕ) → counts p m → counts p n → m ≡ n) where
-  pub each_one : (ps : List Place) (m n : ℕ) → CountsEach counts ps m → CountsEach counts ps n
-      → m ≡ n
+module _ {P : Type 0} (counts : P → ℕ → Type 0)
+    (one : (p : P) (m n : ℕ) → counts p m → counts p n → m ≡ n) where
+  pub each_one : (ps : List P) (m n : ℕ) → CountsEach counts ps m → CountsEach counts ps n → m ≡ n
   each_one [] m n h k = h ∙ sym k
   each_one (p ∷ ps) m n (a, b, c, rest, e) (a', b', c', rest', e') =
       let h : a ≡ a' = one p a a' c c' in
       let k : b ≡ b' = each_one ps b b' rest rest' in omega arith
 
-  pub seq_one : (p : Place) (m n : ℕ) → CountsSeq counts p m → CountsSeq counts p n → m ≡ n
-  seq_one p m n h k =
+  held_one : (there : Option (List P)) (m n : ℕ) → Collects there (CountsEach counts) m
+      → Collects there (CountsEach counts) n → m ≡ n
+  held_one there m n h k =
       let same : h.places ≡ k.places = same_Some _ _ (sym h.are ∙ k.are) in
       let moved = subst (λ ps. CountsEach counts ps h.total) same h.each in
       let e : h.total ≡ k.total = each_one k.places h.total k.total moved k.each in
       let f : m ≡ 1 + h.total = h.count in
       let g : n ≡ 1 + k.total = k.count in omega arith
 
+module _ (counts : Place → ℕ → Type 0)
+    (one : (p : Place) (m n : ℕ) → counts p m → counts p n → m ≡ n) where
+  pub seq_one : (p : Place) (m n : ℕ) → CountsSeq counts p m → CountsSeq counts p n → m ≡ n
+  seq_one p = held_one counts one (members_at p)
+
 module _ {K X : Type 0} (rk : Place → K → ℕ → Type 0) (rv : Place → X → ℕ → Type 0)
     (ck cv : Place → ℕ → Type 0) (hk : (p : Place) (v : K) (n : ℕ) → rk p v n → ck p n)
     (hv : (p : Place) (v : X) (n : ℕ) → rv p v n → cv p n) where
-  pub entries_counted : (ps : List (Place × Place)) (es : List (K × X)) (n : ℕ)
-      → ReadsEntries rk rv ps es n → CountsEntries ck cv ps n
-  entries_counted [] [] n h = h
-  entries_counted [] (e ∷ es) n h = absurd h
-  entries_counted (p ∷ ps) [] n h = absurd h
-  entries_counted (p ∷ ps) (e ∷ es) n (a, b, c, x, y, rest, s) =
-      (a, b, c, hk p.0 e.0 a x, hv p.1 e.1 b y, entries_counted ps es c rest, s)
+  pub entry_counted : (p : Place × Place) (e : K × X) (n : ℕ) → ReadsEntry rk rv p e n
+      → CountsEntry ck cv p n
+  entry_counted p e n (a, b, x, y, s) = (a, b, hk p.0 e.0 a x, hv p.1 e.1 b y, s)
 
   pub map_counted : (cmp : K → K → Ordering) (p : Place) (m : List (K × X)) (n : ℕ)
       → ReadsMap cmp rk rv p m n → CountsMap ck cv p n
@@ -152,27 +156,21 @@ module _ {K X : Type 0} (rk : Place → K → ℕ → Type 0) (rv : Place → X 
         places = h.places;
         total = h.total;
         are = h.are;
-        each = entries_counted h.places h.each.0 h.total h.each.1;
+        each = each_counted (ReadsEntry rk rv) (CountsEntry ck cv) entry_counted h.places h.each.0
+            h.total h.each.1;
         count = h.count;
       }
 
 module _ (ck cv : Place → ℕ → Type 0) (ok : (p : Place) (m n : ℕ) → ck p m → ck p n → m ≡ n)
     (ov : (p : Place) (m n : ℕ) → cv p m → cv p n → m ≡ n) where
-  entries_one : (ps : List (Place × Place)) (m n : ℕ) → CountsEntries ck cv ps m
-      → CountsEntries ck cv ps n → m ≡ n
-  entries_one [] m n h k = h ∙ sym k
-  entries_one (p ∷ ps) m n (a, b, c, x, y, rest, s) (a', b', c', x', y', rest', s') =
+  pub entry_one : (p : Place × Place) (m n : ℕ) → CountsEntry ck cv p m → CountsEntry ck cv p n
+      → m ≡ n
+  entry_one p m n (a, b, x, y, s) (a', b', x', y', s') =
       let h : a ≡ a' = ok p.0 a a' x x' in
-      let i : b ≡ b' = ov p.1 b b' y y' in
-      let j : c ≡ c' = entries_one ps c c' rest rest' in omega arith
+      let i : b ≡ b' = ov p.1 b b' y y' in omega arith
 
   pub map_one : (p : Place) (m n : ℕ) → CountsMap ck cv p m → CountsMap ck cv p n → m ≡ n
-  map_one p m n h k =
-      let same : h.places ≡ k.places = same_Some _ _ (sym h.are ∙ k.are) in
-      let e : h.total ≡ k.total = entries_one k.places h.total k.total
-      (subst (λ ps. CountsEntries ck cv ps h.total) same h.each) k.each in
-      let f : m ≡ 1 + h.total = h.count in
-      let g : n ≡ 1 + k.total = k.count in omega arith
+  map_one p = held_one (CountsEntry ck cv) entry_one (entries_at p)
 
 -- at a spot stands one tree, of one count
 pub one_tree_at : (p : Parts) (s : Spot) (t u : Tree) (m n : ℕ) → DenSpot p s t m → DenSpot p s u n

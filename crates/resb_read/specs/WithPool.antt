@@ -2,18 +2,14 @@
 --     over pool bytes         what the bytes come to beside the pool that is given, if one is
 --     OneTreeWithPool, OneRefusalWithPool     such a file has one tree, and one refusal
 --     OneWeightWithPool, TreesWeighNoMoreWithPool     its tree has one weight, and is no heavier
-use Rattle.std.specs.Prelude.{◌≡◌, ◌≤◌, ◌⊎◌, ℕ, List, Option, sum_by}
-use Rattle.resb_tree.specs.Tree.{Tree, tree_count}
-use Rattle.resb_format.specs.Error.{IsWantOfMemory, refusal_of}
-use Rattle.resb_format.specs.declared.error.ReadingError.{ReadingError}
+use Rattle.std.specs.Prelude.{◌≡◌, ℕ, List, Option}
+use Rattle.resb_tree.specs.Tree.{Tree}
 use Rattle.resb_head.specs.File.{root_word, budget}
 use Rattle.resb_pool_bundle.specs.Checks.{refusal_with}
 use Rattle.resb_pool_bundle.specs.FileWith.{IsFileWith, DenotesWith}
 use Rattle.resb_pool_bundle.specs.Pool.{Pool, parts_with}
-use Rattle.resb_walk.specs.Pieces.{Piece, pieces}
-use Rattle.resb_walk.specs.Sums.{count_of}
-use Rattle.resb_read.specs.Measuring.{HoldsPieces}
-use Rattle.resb_read.specs.Roots.{Whole, RefusesWhole}
+use Rattle.resb_read.specs.Measuring.{HasOneWeight, WeighsNoMore}
+use Rattle.resb_read.specs.Roots.{Whole, IsRefusedOnce}
 
 -- what the bytes of a file come to beside the pool bundle that is given, if one is
 abbrev pub over : Option Pool → List ℕ → Whole
@@ -34,23 +30,12 @@ OneTreeWithPool =
 
 -- two refusals of a file beside a pool are equal, by kind and message, if neither is want of memory
 abbrev pub OneRefusalWithPool : Type 0
-OneRefusalWithPool =
-    (pool : Option Pool) (bytes : List ℕ) (d e : ReadingError)
-    → RefusesWhole (over pool bytes) d → RefusesWhole (over pool bytes) e
-    → (IsWantOfMemory d ⊎ IsWantOfMemory e) ⊎ (refusal_of d ≡ refusal_of e)
+OneRefusalWithPool = (pool : Option Pool) (bytes : List ℕ) → IsRefusedOnce (over pool bytes)
 
 -- the tree of a file beside a pool has one list of pieces, and so one of each sum
 abbrev pub OneWeightWithPool : Type 0
-OneWeightWithPool =
-    (pool : Option Pool) (bytes : List ℕ) (xs ys : List Piece)
-    → HoldsPieces (over pool bytes) xs → HoldsPieces (over pool bytes) ys → xs ≡ ys
+OneWeightWithPool = (pool : Option Pool) (bytes : List ℕ) → HasOneWeight (over pool bytes)
 
--- The pieces of the tree of a file beside a pool are as many resources as are counted. By any
--- weights of pieces they weigh no less than those of the tree, and the same where the tree has as
--- many resources as are counted.
+-- the tree of a file beside a pool weighs no more than what is read of it, by any weights
 abbrev pub TreesWeighNoMoreWithPool : Type 0
-TreesWeighNoMoreWithPool =
-    (weight : Piece → ℕ) (pool : Option Pool) (bytes : List ℕ) (t : Tree) (n : ℕ) (xs : List Piece)
-    → DenotesWith pool bytes t n → HoldsPieces (over pool bytes) xs
-    → (count_of xs ≡ n) × (sum_by weight (pieces t) ≤ sum_by weight xs)
-    × (tree_count t ≡ n → sum_by weight (pieces t) ≡ sum_by weight xs)
+TreesWeighNoMoreWithPool = (pool : Option Pool) (bytes : List ℕ) → WeighsNoMore (over pool bytes)

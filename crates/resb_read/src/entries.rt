@@ -4,7 +4,8 @@ ghost use Rattle.std.specs.Prelude.{◌≡◌, ◌≤◌, ◌<◌, ◌+◌, ◌�
 ghost use Rattle.std.specs.Prelude.{MatchOption, MatchResult, IfOk, IfErr};
 ghost use Rattle.resb_read.specs.Places.{place_of};
 ghost use Rattle.resb_read.specs.Sequences as sequences;
-ghost use Rattle.resb_read.specs.Access.{EntersTo, Enters, ReadsEntry, CountsEntry};
+ghost use Rattle.resb_read.specs.Access.{EntersTo, StepsReading};
+ghost use Rattle.resb_read.specs.Sequences.{ReadsEntry, CountsEntry};
 ghost use Rattle.resb_read.specs.Reading.{LacksOrMemory};
 ghost use Rattle.resb_walk.specs.BlockRefusals.{Says};
 ghost use Rattle.resb_format.specs.Parts.{parts_in};
@@ -117,8 +118,9 @@ impl<'de, 'm> MapAccess<'de, 'm> {
         alloc: Global,
         walk: &mut Walk,
     ) -> Result<Option<(K, T)>, ReadingError<'m>>
-        ensures { Enters K.reads K.counts K.refuses T.reads T.counts T.refuses self.old walk.old
-            self.new walk.new result }
+        ensures { StepsReading (ReadsEntry K.reads T.reads) (CountsEntry K.counts T.counts)
+            (RefusesKeyOrValue K.counts K.refuses T.counts T.refuses) self.old walk.old self.new
+            walk.new result }
     {
         if let Some(error) = self.failed {
             return Err(error);

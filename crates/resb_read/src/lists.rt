@@ -45,8 +45,7 @@ fn read_members<'de, 'm, T: Deserialize<'de>>(
     ensures refused { IfErr result (λ e. (walk.new ≤ walk.old)
         × LacksOrMemory (CountsEach T.counts seq.entry.rest) walk.old e) }
     ensures says { IfErr result
-        (RefusesEach (CountsEach T.counts) (RefusesThere T.counts T.refuses) seq.entry.rest walk.old
-        walk.new) }
+        (RefusesEach T.counts (RefusesThere T.counts T.refuses) seq.entry.rest walk.old walk.new) }
 {
     let mut values = Vec::new(alloc);
     'members: while let Some(value) = seq.next_element::<T>(alloc, walk)? {

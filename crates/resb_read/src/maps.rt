@@ -2,7 +2,7 @@
 //! Their laws follow from those of their keys and values alone.
 ghost use Rattle.std.specs.Prelude.{◌≡◌, ◌≤◌, ◌+◌, ℕ, None, IfOk, IfErr};
 ghost use Rattle.resb_read.specs.Reading.{LacksOrMemory};
-ghost use Rattle.resb_read.specs.Sequences.{ReadsAll, CountsEntries, ReadsMap, CountsMap};
+ghost use Rattle.resb_read.specs.Sequences.{ReadsAll, CountsEach, CountsEntry, ReadsMap, CountsMap};
 ghost use Rattle.resb_read.specs.RefusedReadings.{RefusesEach, RefusesKeyOrValue, RefusesMap};
 ghost use Rattle.resb_read.specs.TypeLaws.{map_counted, map_one};
 
@@ -25,8 +25,9 @@ fn read_entries<'de, 'm, K: Deserialize<'de> + Ord, T: Deserialize<'de>>(
         × ReadsAll K.cmp K.reads T.reads access.entry.rest m.entries n
         × (walk.new + n ≡ walk.old)) }
     ensures refused { IfErr result (λ e. (walk.new ≤ walk.old)
-        × LacksOrMemory (CountsEntries K.counts T.counts access.entry.rest) walk.old e) }
-    ensures says { IfErr result (RefusesEach (CountsEntries K.counts T.counts)
+        × LacksOrMemory (CountsEach (CountsEntry K.counts T.counts) access.entry.rest) walk.old
+        e) }
+    ensures says { IfErr result (RefusesEach (CountsEntry K.counts T.counts)
         (RefusesKeyOrValue K.counts K.refuses T.counts T.refuses) access.entry.rest walk.old
         walk.new) }
 {

@@ -2,7 +2,7 @@
 use Rattle.std.specs.Prelude.{ℕ, List, [], ◌++◌, ◌≡◌, ◌+◌}
 use Rattle.std.specs.declared.cmp.Ordering.{Ordering}
 use Rattle.resb_read.specs.Places.{Place}
-use Rattle.resb_read.specs.Sequences.{ReadsEach, ReadsEntries, put_each}
+use Rattle.resb_read.specs.Sequences.{ReadsEach, ReadsEntry, put_each}
 
 pub record Front {X : Type 0} (reads : Place → X → ℕ → Type 0) (all rest : List Place)
     (values : List X) (before left : ℕ) : Type 0 where
@@ -19,6 +19,6 @@ pub record FrontEntries {K X : Type 0} (cmp : K → K → Ordering) (key : Place
   pub read : List (K × X)
   pub spent : ℕ
   pub are : all ≡ done ++ rest
-  pub each : ReadsEntries key value done read spent
+  pub each : ReadsEach (ReadsEntry key value) done read spent
   pub map : m ≡ put_each cmp [] read
   pub paid : left + spent ≡ before

@@ -1,7 +1,7 @@
 use Rattle.std.proofs.Common.{subst}
-use Rattle.resb_read.specs.Access.{HandsOnBoth, CountsEntry}
-use Rattle.resb_read.specs.Sequences.{CountsEntries}
-use Rattle.resb_blame.proofs.Gone.{steps_some, gone_more, counts_entries_more}
+use Rattle.resb_read.specs.Access.{HandsOnBoth}
+use Rattle.resb_read.specs.Sequences.{CountsEach, CountsEntry}
+use Rattle.resb_blame.proofs.Gone.{steps_some, gone_more, counts_each_more}
 use Rattle.resb_blame.proofs.maps.blame_entries.Goals as goal
 
 pub entries-preserved : goal.entries-preserved
@@ -21,7 +21,8 @@ entries-preserved g c =
       sum,
     ) in (
       whole,
-      gone_more (CountsEntries ck cv) (CountsEntry ck cv) (counts_entries_more ck cv)
+      gone_more (CountsEach (CountsEntry ck cv)) (CountsEntry ck cv)
+          (counts_each_more (CountsEntry ck cv))
           c.args.access.rest c.entries.access.rest c.next_entry_cursor.new.self.rest p
           c.args.walk.now c.entries.walk c.blame_entry.new.walk n i.1 first count paid,
     )

@@ -1,5 +1,6 @@
 use Rattle.std.proofs.Common.{◌≡◌, None, drop, ap, sym, ◌∙◌}
-use Rattle.resb_read.specs.Access.{EntryAccess, ReadsEntry, CountsEntry}
+use Rattle.resb_read.specs.Access.{EntryAccess}
+use Rattle.resb_read.specs.Sequences.{ReadsEntry, CountsEntry}
 use Rattle.resb_read.specs.Places.{place_of}
 use Rattle.resb_read.specs.RefusedReadings.{RefusesKeyOrValue}
 use Rattle.resb_read.proofs.Failing.{stopped_at, first_fails}

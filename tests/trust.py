@@ -8,6 +8,7 @@ cite, and those that these cite, in lines of definitions alone (no comments, imp
   trust.py --of NAME  the definitions below one claim, each with its file and its lines
 """
 import argparse
+import functools
 import pathlib
 import re
 import sys
@@ -203,11 +204,16 @@ CLAUSE = re.compile(r"^\s*(?:pub )?(ensures|requires|ghost)\b\s*([a-z_]*)")
 def clauses_of(lines):
     """The clauses of a file of code: the function and the impl that each stands in, whether these
     are public, its label and its text."""
-    function, around, public, depth, clause = "", "", False, 0, None
+    function, around, public, depth, clause, in_head = "", "", False, 0, None, False
     for line in lines:
         if re.match(r"^(pub )?(impl|trait|struct|enum)\b", line):
-            function, around, public = "", line, True
+            function, around, public, in_head = "", line, True, True
+        elif in_head:
+            around += " " + line.strip()
         elif line.startswith("}"):
+            around = ""
+        in_head = in_head and "{" not in line
+        if around.endswith("{}"):
             around = ""
         found = re.match(r"^\s*(pub )?(?:pub\([a-z]+\) )?(?:const )?fn ([a-z_0-9]+)", line)
         if found:
@@ -226,16 +232,46 @@ def clauses_of(lines):
                 clause = None
 
 
+@functools.lru_cache
+def declared():
+    """The names of the types and traits of all crates, public or not."""
+    names = set()
+    for path in CRATES.glob("*/src/**/*.rt"):
+        text = path.read_text(encoding="utf8")
+        names |= set(re.findall(r"^\s*(?:pub(?:\([a-z]+\))? )?(?:struct|enum|trait|type) (\w+)", text,
+                                re.M))
+    return names
+
+
+def bare(head):
+    """The head of an item without what stands in angle brackets."""
+    before = None
+    while before != head:
+        before, head = head, re.sub(r"<[^<>]*>", "", head)
+    return head.replace("->", "").partition("{")[0].partition(" where")[0]
+
+
+def is_met(name, around, types, own):
+    """Whether who has these names alone can call a function of this name in this item. Outside an
+    item it has to be one of them; in an impl the type and the trait, where they are ours, and in a
+    trait or a type that itself."""
+    if not around:
+        return name in types
+    kind, _, rest = re.sub(r"^pub ", "", bare(around)).partition(" ")
+    words = set(re.findall(r"\w+", rest if kind.startswith("impl") else rest.partition(":")[0]))
+    return not (words & own) - types
+
+
 def roots_of(specs, path, wanted, labels, types=None):
     """The definitions that the clauses of a file's functions cite."""
-    lines = path.read_text(encoding="utf8").split("\n")
+    lines, own = path.read_text(encoding="utf8").split("\n"), declared() if types else set()
     imports = imports_of(line for line in lines if "ghost use" in line or line.startswith(" ")
                          or line.startswith("pub use") or line.startswith("use"))
     roots = []
     for name, around, is_public, label, text in clauses_of(lines):
         if wanted and name != wanted or not is_public or labels and label not in labels:
             continue
-        if types is not None and not (name in types or set(re.findall(r"\w+", around)) & types):
+        if types is not None and not is_met(name, around, types, own):
             continue
         for word in words_of(text.replace("::", ".")):
             roots += specs.resolve("", imports, word)
@@ -251,7 +287,16 @@ def exported():
             names |= set(re.findall(r"\w+", found.group(0)))
             names |= passed_on(found.group(0))
         names |= set(re.findall(r"^pub (?:fn|enum|struct) (\w+)", text, re.M))
-    return names - {"pub", "use"}
+    return (names | told_by()) - {"pub", "use"}
+
+
+def told_by():
+    """The traits by whose relations those of another are told."""
+    names = set()
+    for path in CRATES.glob("*/src/**/*.rt"):
+        text = path.read_text(encoding="utf8")
+        names |= set(re.findall(r"⟦<[^⟧]* as (\w+)<[^⟧]*>⟧", text))
+    return names
 
 
 def passed_on(use):

@@ -1,5 +1,6 @@
 use Rattle.std.proofs.Common.{subst}
 use Rattle.resb_draft.specs.Drafts.{draft_tree}
+use Rattle.resb_grammar.specs.Limit.{draft_limit}
 use Rattle.resb_layout.specs.Written.{Written}
 use Rattle.resb_layout.specs.TreeFaults.{RefusesWriting}
 use Rattle.resb_write.specs.FaultOf.{fault_of}
@@ -32,7 +33,7 @@ returns-clause-err c =
           c.in-Ok.read.1.items e c.in-Ok.ensures.ok
           (subst (λ ks. RefusesWriting t ks (fault_of e)) c.as_slice.ensures.value
           c.in-Err.ensures.err),
-      icu_never_more c.args.text.now c.args.limit c.in-Ok.ensures.within,
+      icu_never_more c.args.text.now (draft_limit c.args.limit) c.in-Ok.ensures.within,
     )
 
 pub returns-in-Err-Text-clause-err : goal.returns-in-Err-Text-clause-err

@@ -1,7 +1,7 @@
 #!/usr/bin/env python3
 """Times text to file on ICU's own locale data: `resb_tool compile IN OUT` beside `genrb -q`.
 
-    real_texts.py [NAME ..]               all four texts or these: locales, unit, zone, lang
+    real_texts.py [NAME ..]               all texts or these: locales, unit, zone, lang, curr
     real_texts.py --make FOLDER           writes the texts there, and times nothing
     real_texts.py --prints FOLDER         writes what derb prints of each file, for icu_texts.py
     real_texts.py --turns N ..            the least of N runs, in place of five
@@ -32,7 +32,7 @@ TOP = pathlib.Path(__file__).resolve().parent.parent
 PROGRAM = str(TOP / 'crates/resb_tool/out/resb_tool')
 
 # each text, and the folder of the library's files that it is made of
-TEXTS = {'locales': '', 'unit': 'unit', 'zone': 'zone', 'lang': 'lang'}
+TEXTS = {'locales': '', 'unit': 'unit', 'zone': 'zone', 'lang': 'lang', 'curr': 'curr'}
 
 ENTRY = re.compile(
     r'^(\s*)([^\s"{},:][^"{},]*?)'
@@ -100,7 +100,7 @@ def plain(line):
 
 
 def make(folder):
-    """Writes the four texts below a folder, and gives their paths by their names."""
+    """Writes the texts below a folder, and gives their paths by their names."""
     files, made = folder / 'files', {}
     cut(files)
     for name, below in TEXTS.items():

@@ -1,16 +1,17 @@
 #!/usr/bin/env python3
-"""Text to file in one run, row by row: `resb_tool compile IN OUT` beside ICU's `genrb -q`.
+"""Text to file in one run, row by row: `resb_tool compile IN OUT` beside ICU's `genrb -q`, and
+with --resb PROGRAM `resb compile` and `resb compile --icu`, warnings included.
 
 The first table has ICU's own locale data, as `real_texts.py` merges it, and the kinds of
 `write_kinds.py` but unsorted keys, on which `genrb` takes half a minute. All programs run in turn.
 A cell has the least milliseconds of processor of so many rounds (--turns; for made texts a quarter
 of them and three at least, for the smallest three times as many), and the most memory in 10^6
-bytes. `time` and `memory` are the program's parts of `genrb`'s. Memory stands as `-` where it is no
-more than this script's own, since a process counts that of the one that started it.
+bytes. `time` and `memory` are each program's parts of `genrb`'s. Memory stands as `-` where it is
+no more than this script's own, since a process counts that of the one that started it.
 
-`files` says whether the program and `genrb` write the same bytes, or files that ICU's `derb` prints
-as one tree, since `genrb` lets keys share ends. (`derb` prints an empty array as an empty table,
-and both forms of the empty string alike.) Other files end the run.
+`files` says whether the programs and `genrb` write the same bytes, or files that ICU's `derb`
+prints as one tree, since `genrb` lets keys share ends. (`derb` prints an empty array as an empty
+table, and both forms of the empty string alike.) Other files end the run.
 
 The second table has the growth per tenfold from 1 to 100 MB. A slow second of the machine meets a
 long run, and not the least of many short ones. So each run on the greater text stands in a window
@@ -34,7 +35,7 @@ from timing import least, make
 
 BENCH = pathlib.Path(__file__).resolve().parent
 PROGRAM = BENCH.parent / 'crates/resb_tool/out/resb_tool'
-REAL = ['locales', 'unit', 'zone', 'lang']
+REAL = ['locales', 'unit', 'zone', 'lang', 'curr']
 GROWING = ['tables nested three levels', 'short strings, half ends of others',
            'one letter, all lengths', 'short vectors']
 MADE = {
@@ -91,7 +92,8 @@ def beside_genrb(programs, name, text, turns, folder):
     """A row: the least time and the most memory of each program and of `genrb`."""
     theirs = pathlib.Path(tempfile.mkdtemp(dir=folder))
     files = [folder / f'{number}.res' for number in range(len(programs))]
-    commands = [[program, 'compile', text, file] for program, file in zip(programs, files)]
+    commands = [[*words, text, *behind, file]
+                for (_, words, behind), file in zip(programs, files)]
     commands.append(['genrb', '-q', '-d', theirs, text])
     times, most = [[] for _ in commands], [0 for _ in commands]
     for _ in range(turns):
@@ -104,7 +106,8 @@ def beside_genrb(programs, name, text, turns, folder):
     cells = [f'{name}, {os.path.getsize(text) / 1e6:.2f} MB']
     cells += [f'{min(took):.1f} ms, {megabytes(memory)}' for took, memory in zip(times, most)]
     told = all(megabytes(memory) != '-' for memory in most)
-    cells += [f'{min(times[0]) / min(times[-1]):.3f}', f'{most[0] / most[-1]:.2f}' if told else '-']
+    cells += [', '.join(f'{min(took) / min(times[-1]):.3f}' for took in times[:-1])]
+    cells += [', '.join(f'{memory / most[-1]:.2f}' for memory in most[:-1]) if told else '-']
     cells += [likenesses(files, *theirs.glob('*.res'))]
     print('| ' + ' | '.join(cells) + ' |', flush=True)
 
@@ -138,8 +141,7 @@ def beside(programs, turns, folder):
     """The first table."""
     subprocess.run([sys.executable, BENCH / 'real_texts.py', '--make', folder],
                    stdout=subprocess.DEVNULL, check=True)
-    columns = ['Text', 'here', *['older'] * (len(programs) - 1), '`genrb`',
-               'time', 'memory', 'files']
+    columns = ['Text', *[name for name, _, _ in programs], '`genrb`', 'time', 'memory', 'files']
     print('| ' + ' | '.join(columns) + ' |\n' + '|---' * len(columns) + '|', flush=True)
     for real in REAL:
         beside_genrb(programs, real, str(folder / f'{real}.txt'), turns, folder)
@@ -160,6 +162,7 @@ def options():
         description=__doc__, formatter_class=argparse.RawDescriptionHelpFormatter)
     parser.add_argument('--program', default=PROGRAM, help='the program (./prove builds it)')
     parser.add_argument('--older', help='an older program, timed in the same rounds')
+    parser.add_argument('--resb', help='the program resb, timed in the same rounds in both forms')
     parser.add_argument('--turns', type=count, default=12,
                         help="rounds for ICU's texts (default 12)")
     parser.add_argument('--windows', type=count, default=5,
@@ -173,8 +176,12 @@ def main():
     given = options()
     if given.likeness:
         return print(likeness(*given.likeness))
-    programs = [os.path.abspath(one) for one in (given.program, given.older) if one]
-    for needed in (*programs, 'genrb', 'derb'):
+    programs = [(name, [os.path.abspath(one), 'compile', *words], behind)
+                for name, one, words, behind in (
+                    ('`resb_tool`', given.program, [], []), ('older', given.older, [], []),
+                    ('`resb compile`', given.resb, [], ['-o']),
+                    ('with `--icu`', given.resb, ['--icu'], ['-o'])) if one]
+    for needed in (*[words[0] for _, words, _ in programs], 'genrb', 'derb'):
         if not shutil.which(needed):
             sys.exit(f'{needed} is no program')
     with tempfile.TemporaryDirectory() as name:
@@ -182,7 +189,7 @@ def main():
         beside(programs, given.turns, folder)
         print('\n| Text | 1 to 10 MB | 10 to 100 MB |\n|---|---|---|', flush=True)
         for kind in GROWING:
-            grows(programs[0], kind, given.windows, folder)
+            grows(programs[0][1][0], kind, given.windows, folder)
 
 
 main()

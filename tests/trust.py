@@ -238,8 +238,8 @@ def declared():
     names = set()
     for path in CRATES.glob("*/src/**/*.rt"):
         text = path.read_text(encoding="utf8")
-        names |= set(re.findall(r"^\s*(?:pub(?:\([a-z]+\))? )?(?:struct|enum|trait|type) (\w+)", text,
-                                re.M))
+        kinds = r"^\s*(?:pub(?:\([a-z]+\))? )?(?:struct|enum|trait|type) (\w+)"
+        names |= set(re.findall(kinds, text, re.M))
     return names
 
 

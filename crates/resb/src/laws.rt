@@ -158,18 +158,15 @@ pub use resb_layout::laws::laid_is_paid;
 pub use resb_write::laws::one_block;
 // So they stand in each written file.
 pub use resb_write::laws::written_in_order;
-// A written file denotes its tree: without aliases alone too.
+// A written file denotes its tree: without aliases alone too, and without an empty string where it
+// is compact.
 pub use resb_write::laws::written_is_denoted;
-// A bundle and a list of keys leave one file.
+// A bundle and a list of keys leave one file of each packing.
 pub use resb_write::laws::one_file;
-// The same of compact files, one file and their bodies in order.
-pub use resb_write::laws::{compact_in_order, one_compact_file};
-// A bundle, a list of keys and a pool bundle leave one file.
+// A bundle, a list of keys and a pool bundle leave one file of each packing.
 pub use resb_write::laws::one_file_with_pool;
 // A file that is written over a pool bundle denotes its tree beside it.
 pub use resb_write::laws::written_with_pool_is_read;
-// The same of compact files over a pool bundle.
-pub use resb_write::laws::{compact_with_pool_is_read, one_compact_file_with_pool};
 // A pool bundle that was made is read, and lends just the keys and strings that it is made of.
 pub use resb_pool_maker::laws::made_pool_is_read;
 // Without rules nothing is left out of a tree.
@@ -211,20 +208,20 @@ pub fn icu_text_is_read()
     ensures { IcuTextIsRead }
 {}
 
-/// What was written of a tree without aliases is read back by `from_bytes::<Resource>` as that
-/// tree, memory aside.
+/// What was written of a tree without aliases, and without an empty string where the file is
+/// compact, is read back by `from_bytes::<Resource>` as that tree, memory aside.
 pub fn written_is_read()
     ensures { WrittenIsRead }
 {}
 
-/// What was written of any tree is read back by `from_bytes_with_pool::<Resource>` as that tree,
-/// memory aside.
+/// What was written of any tree, compact or not, is read back by
+/// `from_bytes_with_pool::<Resource>` as that tree, memory aside.
 pub fn written_is_read_with_pool()
     ensures { WrittenIsReadWithPool }
 {}
 
-/// A compiled text of ICU's form is read back by `from_bytes_with_pool::<Resource>` as the text's
-/// tree, memory aside.
+/// A compiled text of ICU's form, compact or not, is read back by
+/// `from_bytes_with_pool::<Resource>` as the text's tree, memory aside.
 pub fn icu_compiled_is_read()
     ensures { IcuCompiledIsRead }
 {}
@@ -234,8 +231,8 @@ pub fn compiled_is_read()
     ensures { CompiledIsRead }
 {}
 
-/// What was written over a pool bundle is read back by `from_bytes_with_pool::<Resource>` beside
-/// that pool bundle as its tree, memory aside.
+/// What was written over a pool bundle, compact or not, is read back by
+/// `from_bytes_with_pool::<Resource>` beside that pool bundle as its tree, memory aside.
 pub fn written_over_pool_is_read()
     ensures { WrittenOverPoolIsRead }
 {}
@@ -246,7 +243,7 @@ pub fn compiled_with_pool_is_read()
     ensures { CompiledWithPoolIsRead }
 {}
 
-/// So is a text of ICU's form.
+/// So is a text of ICU's form, compact or not.
 pub fn icu_compiled_with_pool_is_read()
     ensures { IcuCompiledWithPoolIsRead }
 {}

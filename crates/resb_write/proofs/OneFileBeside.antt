@@ -140,9 +140,5 @@ module _ (q : Packing) (pool : Pool) (t : Tree) (ks : List (List ℕ))
       ++ (units_as_bytes (even (same.0 i).units) ++ (same.0 i).tail))
 
 pub one_file_with_pool : OneFileWithPool
-one_file_with_pool pool a b t fallback ks x y =
-    x.file ∙ file_same Plain pool t ks x.blocks y.blocks fallback ∙ sym y.file
-
-pub one_compact_file_with_pool : OneCompactFileWithPool
-one_compact_file_with_pool pool a b t fallback ks x y =
-    x.file ∙ file_same Compact pool t ks x.blocks y.blocks fallback ∙ sym y.file
+one_file_with_pool q pool a b t fallback ks x y =
+    x.file ∙ file_same q pool t ks x.blocks y.blocks fallback ∙ sym y.file

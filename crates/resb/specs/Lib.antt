@@ -50,6 +50,7 @@ pub use Rattle.resb_text.specs.Answer
 pub use Rattle.resb_text.specs.Borrowed
 pub use Rattle.resb_text.specs.Refusal
 pub use Rattle.resb_text.specs.Turns
+pub use Rattle.resb_print.specs.Spelling
 pub use Rattle.resb_print.specs.Printed
 pub use Rattle.resb_print.specs.Sizes
 pub use Rattle.resb_print.specs.Held

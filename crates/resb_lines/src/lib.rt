@@ -7,7 +7,6 @@ mod causes;
 mod form;
 mod icu_print;
 mod inside;
-pub mod laws;
 mod print;
 mod room;
 mod task;

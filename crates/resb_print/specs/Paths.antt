@@ -96,5 +96,9 @@ first_found c name _ = Some ([], c.of_root)
 
 -- the path to the first cause of a bundle of this name and root, if it has one: no step where the
 -- root or the name is the cause
-abbrev pub cause_path : List ℕ → Tree → Option (List Step)
-cause_path name t = option_map (λ found. found.0) (first_found plain_tests name t)
+abbrev pub cause_path : {C : Type 0} → Tests C → List ℕ → Tree → Option (List Step)
+cause_path c name t = option_map (λ found. found.0) (first_found c name t)
+
+-- the first cause itself, if the bundle has one: why it has no text of the form
+abbrev pub first_cause : {C : Type 0} → Tests C → List ℕ → Tree → Option C
+first_cause c name t = option_map (λ found. found.1) (first_found c name t)

@@ -1,13 +1,9 @@
-use Rattle.std.proofs.Common.{◌∙◌}
 use Rattle.resb_print.proofs.Leading.{first_by_path, none_without_cause}
-use Rattle.resb_icu_print.specs.CausePaths.{icu_tests}
-use Rattle.resb_icu_print.proofs.CausePaths.{first_is_found}
+use Rattle.resb_icu_print.specs.Causes.{icu_tests}
 use Rattle.resb_icu_print.proofs.laws.icu_causes_stand_where_paths_lead.Goals as goal
 
 pub returns : goal.returns
 returns c = record {
-  first = λ name t path x maps e k.
-      first_by_path icu_tests name t path x maps e (first_is_found name t ∙ k);
-  none = λ name t path x maps e.
-      none_without_cause icu_tests name t path x maps (first_is_found name t ∙ e);
+  first = λ name t path x maps e k. first_by_path icu_tests name t path x maps e k;
+  none = λ name t path x maps e. none_without_cause icu_tests name t path x maps e;
 }

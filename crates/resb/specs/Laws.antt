@@ -31,9 +31,10 @@ use Rattle.resb_format.specs.Error.{IsWantOfMemory}
 use Rattle.resb_head.specs.File.{budget}
 use Rattle.resb_format.specs.declared.error.ReadingError.{ReadingError}
 use Rattle.resb_read.specs.Reading.{LacksOrMemory}
-use Rattle.resb_read.specs.Resources.{ReadsTree, CountsTree}
+use Rattle.resb_read.specs.Leaves.{CountsOf}
+use Rattle.resb_read.specs.Resources.{DenPlace, ReadsTree}
 use Rattle.resb_pool_bundle.specs.Pool.{Pool}
-use Rattle.resb_read.specs.Roots.{HoldsAt, HoldsAtRoot}
+use Rattle.resb_read.specs.Roots.{HoldsAt, alone}
 use Rattle.resb_read.specs.WithPool.{over}
 use Rattle.resb_layout.specs.Written.{Written}
 use Rattle.resb_write.specs.WrittenWith.{WrittenWith}
@@ -43,9 +44,10 @@ use Rattle.resb_compile.specs.CompilingWithPool.{IsCompiledWithPool, IsIcuCompil
 
 -- what reading a file as a tree promises: a tree at the root, paid for, or memory, or no such tree
 abbrev pub ReadsRoot : List ℕ → Result Resource ReadingError → Type 0
-ReadsRoot bytes (Ok r) = (n : ℕ) × HoldsAtRoot (λ p. ReadsTree p r n) bytes × (n ≤ budget bytes)
+ReadsRoot bytes (Ok r) =
+    (n : ℕ) × HoldsAt (λ p. ReadsTree p r n) (alone bytes) × (n ≤ budget bytes)
 ReadsRoot bytes (Err e) =
-    LacksOrMemory (λ n. HoldsAtRoot (λ p. CountsTree p n) bytes) (budget bytes) e
+    LacksOrMemory (λ n. HoldsAt (λ p. CountsOf DenPlace p n) (alone bytes)) (budget bytes) e
 
 -- the answer is this tree, or memory was wanted
 abbrev pub IsTree : Tree → Result Resource ReadingError → Type 0
@@ -57,7 +59,7 @@ abbrev pub ReadsRootWithPool : Option Pool → List ℕ → Result Resource Read
 ReadsRootWithPool pool bytes (Ok r) =
     (n : ℕ) × HoldsAt (λ p. ReadsTree p r n) (over pool bytes) × (n ≤ budget bytes)
 ReadsRootWithPool pool bytes (Err e) =
-    LacksOrMemory (λ n. HoldsAt (λ p. CountsTree p n) (over pool bytes)) (budget bytes) e
+    LacksOrMemory (λ n. HoldsAt (λ p. CountsOf DenPlace p n) (over pool bytes)) (budget bytes) e
 
 -- what was written of a tree without aliases is read back as that tree, whoever wrote the file and
 -- in whatever order its keys were listed

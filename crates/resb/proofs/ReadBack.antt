@@ -10,7 +10,8 @@ use Rattle.resb_head.specs.File.{parts_of}
 use Rattle.resb_format.specs.Denotes.{Den}
 use Rattle.resb_format.specs.declared.error.ReadingError.{ReadingError}
 use Rattle.resb_read.specs.Reading.{LacksOrMemory}
-use Rattle.resb_read.specs.Resources.{CountsTree}
+use Rattle.resb_read.specs.Leaves.{CountsOf}
+use Rattle.resb_read.specs.Resources.{DenPlace}
 use Rattle.resb_read.specs.Roots.{Whole, HoldsAt}
 use Rattle.resb_tree.specs.Tree.{Tree, tree_count}
 use Rattle.resb_format.proofs.Denoting.{unique}
@@ -108,7 +109,7 @@ icu_compiled_with_pool_is_read q pool text bytes c r h =
 pub tree_or_none : (w : Whole)
     → ((t : Tree) (n : ℕ) → w.denotes t n → w.is_file × Den w.parts w.root t n)
     → (r : Result Resource ReadingError)
-    → IfErr r (LacksOrMemory (λ n. HoldsAt (λ p. CountsTree p n) w) w.budget)
+    → IfErr r (LacksOrMemory (λ n. HoldsAt (λ p. CountsOf DenPlace p n) w) w.budget)
     → IfErr r (λ e. IsWantOfMemory e
     ⊎ ((t : Tree) → ((n : ℕ) × w.denotes t n × (n ≤ w.budget)) → ⊥))
 tree_or_none w stands (Ok r) h = tt

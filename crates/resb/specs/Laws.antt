@@ -30,7 +30,8 @@ use Rattle.resb_icu_text.specs.declared.error.IcuTextError.{IcuTextError}
 use Rattle.resb_format.specs.Error.{IsWantOfMemory}
 use Rattle.resb_format.specs.declared.error.ReadingError.{ReadingError}
 use Rattle.resb_read.specs.Reading.{LacksOrMemory}
-use Rattle.resb_read.specs.Resources.{ReadsTree, CountsTree}
+use Rattle.resb_read.specs.Leaves.{CountsOf}
+use Rattle.resb_read.specs.Resources.{DenPlace, ReadsTree}
 use Rattle.resb_pool_bundle.specs.Pool.{Pool}
 use Rattle.resb_read.specs.Roots.{HoldsAt, Whole, alone}
 use Rattle.resb_read.specs.WithPool.{over}
@@ -43,7 +44,8 @@ use Rattle.resb_compile.specs.Compiling.{IsCompiled}
 -- what reading a file as a tree promises: a tree at the root, paid for, or memory, or no such tree
 abbrev pub ReadsAsTree : Whole → Result Resource ReadingError → Type 0
 ReadsAsTree w (Ok r) = (n : ℕ) × HoldsAt (λ p. ReadsTree p r n) w × (n ≤ w.budget)
-ReadsAsTree w (Err e) = LacksOrMemory (λ n. HoldsAt (λ p. CountsTree p n) w) w.budget e
+ReadsAsTree w (Err e) =
+    LacksOrMemory (λ n. HoldsAt (λ p. CountsOf DenPlace p n) w) w.budget e
 
 -- the answer is this tree, or memory was wanted
 abbrev pub IsTree : Tree → Result Resource ReadingError → Type 0

@@ -52,29 +52,32 @@ abbrev pub IsTree : Tree → Result Resource ReadingError → Type 0
 IsTree t (Ok r) = tree_of r ≡ t
 IsTree t (Err e) = IsWantOfMemory e
 
--- what was written of a tree without aliases is read back as that tree, whoever wrote the file and
--- in whatever order its keys were listed
+-- what was written of a tree without aliases, and without an empty string where the file is
+-- compact, is read back as that tree, whoever wrote the file and in whatever order its keys were
+-- listed
 abbrev pub WrittenIsRead : Type 0
 WrittenIsRead =
-    (bytes : List ℕ) (t : Tree) (fallback : Bool) (ks : List (List ℕ))
+    (q : Packing) (bytes : List ℕ) (t : Tree) (fallback : Bool) (ks : List (List ℕ))
     (r : Result Resource ReadingError)
-    → has_alias t ≡ false → Written bytes t fallback ks → ReadsAsTree (alone bytes) r → IsTree t r
+    → has_alias t ≡ false → LacksEmpty q t → WrittenBy q bytes t fallback ks
+    → ReadsAsTree (alone bytes) r → IsTree t r
 
--- what was written of any tree is read back as that tree by the calls that take a pool bundle,
--- whether one is given or not
+-- what was written of any tree, compact or not, is read back as that tree by the calls that take a
+-- pool bundle, whether one is given or not
 abbrev pub WrittenIsReadWithPool : Type 0
 WrittenIsReadWithPool =
-    (pool : Option Pool) (bytes : List ℕ) (t : Tree) (fallback : Bool) (ks : List (List ℕ))
-    (r : Result Resource ReadingError)
-    → Written bytes t fallback ks → ReadsAsTree (over pool bytes) r → IsTree t r
+    (q : Packing) (pool : Option Pool) (bytes : List ℕ) (t : Tree) (fallback : Bool)
+    (ks : List (List ℕ)) (r : Result Resource ReadingError)
+    → WrittenBy q bytes t fallback ks → ReadsAsTree (over pool bytes) r → IsTree t r
 
--- what was written of any tree over a pool bundle is read back as that tree by the calls that are
--- given this pool bundle
+-- what was written of any tree over a pool bundle, compact or not, is read back as that tree by the
+-- calls that are given this pool bundle
 abbrev pub WrittenOverPoolIsRead : Type 0
 WrittenOverPoolIsRead =
-    (pool : Pool) (bytes : List ℕ) (t : Tree) (fallback : Bool) (ks : List (List ℕ))
+    (q : Packing) (pool : Pool) (bytes : List ℕ) (t : Tree) (fallback : Bool) (ks : List (List ℕ))
     (r : Result Resource ReadingError)
-    → WrittenWith pool bytes t fallback ks → ReadsAsTree (over (Some pool) bytes) r → IsTree t r
+    → WrittenWithBy q pool bytes t fallback ks → ReadsAsTree (over (Some pool) bytes) r
+    → IsTree t r
 
 -- whatever reads a compiled file as a tree answers the text's tree, memory aside
 abbrev pub CompiledIsRead : Type 0
@@ -83,11 +86,12 @@ CompiledIsRead =
     → ReadsAsTree (alone bytes) r → IsTree c.bundle.tree r
 
 -- whatever reads a compiled text of ICU's form as a tree, by the calls that take a pool bundle,
--- answers the text's tree, memory aside
+-- answers the text's tree, memory aside, whether the file is compact or not
 abbrev pub IcuCompiledIsRead : Type 0
 IcuCompiledIsRead =
-    (pool : Option Pool) (text bytes : List ℕ) (c : IsIcuCompiled text bytes)
-    (r : Result Resource ReadingError) → ReadsAsTree (over pool bytes) r → IsTree c.bundle.tree r
+    (q : Packing) (pool : Option Pool) (text bytes : List ℕ)
+    (c : Compiled (IcuText text) (WrittenBy q bytes)) (r : Result Resource ReadingError)
+    → ReadsAsTree (over pool bytes) r → IsTree c.bundle.tree r
 
 -- whatever reads a text that was compiled over a pool bundle as a tree, by the calls that are given
 -- this pool bundle, answers the text's tree, memory aside

@@ -122,7 +122,8 @@ icu_writing_refused_with pool text name fallback t ks e b h (Err made) is =
 -- what the reader refuses is refused over each pool
 pub icu_reading_refused_with : {X : Type 0} (pool : Pool) (text : List ℕ) (e : IcuTextError)
     → IsIcuUnreadable text e → (r : Result X IcuCompileError)
-    → IsErrAnd r (λ made. made ≡ icu.Reading e) → IfErr r (IsIcuRefusedBy (RefusesWritingWith pool) text)
+    → IsErrAnd r (λ made. made ≡ icu.Reading e)
+    → IfErr r (IsIcuRefusedBy (RefusesWritingWith pool) text)
 icu_reading_refused_with pool text e h (Ok x) is = tt
 icu_reading_refused_with pool text e h (Err made) is =
     subst (IsIcuRefusedBy (RefusesWritingWith pool) text) (sym is) h

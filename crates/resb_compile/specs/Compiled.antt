@@ -1,5 +1,5 @@
--- What is compiled, and what isn't for the writer's reasons, whatever form the text has and whatever
--- kind of file is written.
+-- What is compiled, and what isn't for the writer's reasons, whatever form the text has and
+-- whatever kind of file is written.
 --     Bundle is                  a bundle that a text is, by what it is for a text to be one
 --     Compiled is file           such a bundle, of which the file is one
 --     Unwritable is refuses e    such a bundle, which the writer refuses for the error's reason

@@ -3,8 +3,8 @@
 --     Bundle                  a bundle that a pool is made of
 --     pool_keys_by q bs       the keys that the pool of the bundles bs has, packed like this
 --     GiveRecords bs S        S are the records that the bundles bs give
---     IsPoolOfBy q bytes bs   the bytes are the pool bundle of the bundles bs, packed like this: the
---                             compact one is what ICU's `genrb` makes of them
+--     IsPoolOfBy q bytes bs   the bytes are the pool bundle of the bundles bs, packed like this;
+--                             the compact one is what ICU's `genrb` makes of them
 use Rattle.std.specs.Prelude.{◌≡◌, ℕ, ◌<◌, ◌≤◌, ◌^◌, List, [], ◌∷◌, ◌++◌, length, slice_index}
 use Rattle.std.specs.Prelude.{if◌then◌else◌, false}
 use Rattle.std.specs.List.{flat_map, fold, list_any}

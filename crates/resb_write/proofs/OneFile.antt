@@ -139,7 +139,8 @@ module _ (q : Packing) (a b : List ℕ) (t : Tree) (fallback : Bool) (ks : List 
       omega (arith, x.block_end, y.block_end, start_same q t ks x.blocks y.blocks)
   word_same (suc (suc (suc (suc (suc (suc (suc (suc i)))))))) h = absurd (omega (arith, h))
 
-  fits_body : (c : List ℕ) → EachFits 8 c → (w : WrittenBy q c t fallback ks) → EachFits 8 (body_of c)
+  fits_body : (c : List ℕ) → EachFits 8 c → (w : WrittenBy q c t fallback ks)
+      → EachFits 8 (body_of c)
   fits_body c f w = subst (EachFits 8) (sym (body_is q c t fallback ks w)) (fits_drop 8 c 32 f)
 
   head_of : (c : List ℕ) → EachFits 8 c → (w : WrittenBy q c t fallback ks)

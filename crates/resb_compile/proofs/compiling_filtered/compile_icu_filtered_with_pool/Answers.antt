@@ -44,7 +44,8 @@ returns-in_err-file-clause-err c =
     let h = subst (λ ks. RefusesWritingWith pool (filtered rules r.bundle.tree) ks (fault_of e))
     r.keys of_tree in
     let made = c.from_residual-in_err-file in
-    carried (IsIcuRefusedBy (λ t. RefusesWritingWith pool (filtered rules t)) c.args.text.now) (Writing e)
+    carried (IsIcuRefusedBy (λ t. RefusesWritingWith pool (filtered rules t)) c.args.text.now)
+    (Writing e)
     (filtered_unwritable_with rules pool c.args.text.now e r.bundle h)
     made.result made.ensures.1
 

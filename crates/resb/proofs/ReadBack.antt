@@ -22,10 +22,16 @@ use Rattle.resb_pool_bundle.specs.Fields.{index_length, major, minor}
 use Rattle.resb_pool_bundle.specs.Laws.{IsOwnFile}
 use Rattle.resb_pool_bundle.specs.Pool.{parts_with}
 use Rattle.resb_pool_bundle.proofs.OwnFiles.{own_files_denote_the_same}
+use Rattle.resb_grammar.specs.BundleText.{BundleText}
+use Rattle.resb_icu_grammar.specs.Bundle.{IcuText}
+use Rattle.resb_text.specs.Answer.{IsNoBundle}
+use Rattle.resb_text.specs.Refusal.{want_of_memory}
+use Rattle.resb_icu_text.specs.Answer.{IsNoIcuText}
+use Rattle.resb_icu_text.specs.Refusal as icu
 use Rattle.resb_grammar.proofs.GrammarLaws.{one_bundle}
 use Rattle.resb_grammar.proofs.NoAlias.{bundle_none}
 use Rattle.resb_icu_grammar.proofs.Groups.{one_icu_text}
-use Rattle.resb.specs.Laws.{WrittenIsRead, CompiledIsRead, BundleTextIsRead, IcuTextIsRead}
+use Rattle.resb.specs.Laws.{WrittenIsRead, CompiledIsRead, TextIsRead}
 use Rattle.resb.specs.Laws.{WrittenIsReadWithPool, IcuCompiledIsRead}
 use Rattle.resb.specs.Laws.{WrittenOverPoolIsRead, CompiledWithPoolIsRead}
 use Rattle.resb.specs.Laws.{IcuCompiledWithPoolIsRead}
@@ -119,14 +125,14 @@ tree_or_none w stands (Err e) (inr lacks) =
     let s = stands t d.0 d.1 in
     lacks d.0 (record { head = s.0; root = (t, s.1) }) d.2)
 
-pub bundle_text_is_read : BundleTextIsRead
+pub bundle_text_is_read : TextIsRead BundleText IsNoBundle want_of_memory
 bundle_text_is_read text name f t ks b (Ok r) h =
     let e = one_bundle text _ _ _ _ _ _ _ _ h b in
     (e.0, e.1, e.2)
 bundle_text_is_read text name f t ks b (Err e) (inl m) = m
 bundle_text_is_read text name f t ks b (Err e) (inr none) = absurd (none name f t ks b)
 
-pub icu_text_is_read : IcuTextIsRead
+pub icu_text_is_read : TextIsRead IcuText IsNoIcuText icu.want_of_memory
 icu_text_is_read text name f t ks b (Ok r) h =
     let e = one_icu_text text _ _ _ _ _ _ _ _ h b in
     (e.0, e.1, e.2)

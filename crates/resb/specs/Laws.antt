@@ -7,8 +7,8 @@
 --     CompiledIsRead          a compiled text is read back as its tree, memory aside
 --     IcuCompiledIsRead       so is a compiled text of ICU's form
 --     CompiledWithPoolIsRead, IcuCompiledWithPoolIsRead   and a text that is compiled over a pool
---     BundleTextIsRead        a text of a bundle is read back as that bundle, memory aside
---     IcuTextIsRead           so is a text of ICU's form
+--     TextIsRead IsText IsNone e      a text of a form's bundle is read back as that bundle, unless
+--                             memory is wanted, which the error e says
 use Rattle.std.specs.Prelude.{◌≡◌, ◌≤◌, ◌⊎◌, ℕ, Bool, false, List, Option, Some, Result, Ok, Err}
 use Rattle.std.specs.declared.vec.Vec.{Vec}
 use Rattle.std.specs.declared.alloc.Global.{Global}
@@ -20,13 +20,8 @@ use Rattle.resb_tree.specs.declared.bundle.ResourceBundle.{ResourceBundle}
 use Rattle.resb_tree.specs.declared.key.Key.{Key}
 use Rattle.resb_tree.specs.declared.resource.Resource.{Resource}
 use Rattle.resb_grammar.specs.BundleText.{BundleText}
-use Rattle.resb_text.specs.Answer.{IsNoBundle}
-use Rattle.resb_text.specs.Refusal.{want_of_memory}
-use Rattle.resb_text.specs.declared.error.TextParserError.{TextParserError}
+use Rattle.resb_grammar.specs.Laws.{Texts}
 use Rattle.resb_icu_grammar.specs.Bundle.{IcuText}
-use Rattle.resb_icu_text.specs.Answer.{IsNoIcuText}
-use Rattle.resb_icu_text.specs.Refusal as icu
-use Rattle.resb_icu_text.specs.declared.error.IcuTextError.{IcuTextError}
 use Rattle.resb_format.specs.Error.{IsWantOfMemory}
 use Rattle.resb_format.specs.declared.error.ReadingError.{ReadingError}
 use Rattle.resb_read.specs.Reading.{LacksOrMemory}
@@ -109,11 +104,11 @@ IcuCompiledWithPoolIsRead =
     → ReadsAsTree (over (Some pool) bytes) r → IsTree c.bundle.tree r
 
 -- what reading a text promises: the bundle that it is, or want of memory, or that it is none
-abbrev pub ReadsAsBundle : {E : Type 0} → (List ℕ → Bool → Tree → List (List ℕ) → Type 0) → E
-    → Type 0 → Result (ResourceBundle × Vec Key Global) E → Type 0
-ReadsAsBundle is_one memory none (Ok r) =
-    is_one (name_of r.0) r.0.is_locale_fallback_enabled (root_of r.0) r.1.items
-ReadsAsBundle is_one memory none (Err e) = (e ≡ memory) ⊎ none
+abbrev pub ReadsAsBundle : {E : Type 0} → Texts → (List ℕ → Type 0) → E → List ℕ
+    → Result (ResourceBundle × Vec Key Global) E → Type 0
+ReadsAsBundle IsText IsNone memory text (Ok r) =
+    IsText text (name_of r.0) r.0.is_locale_fallback_enabled (root_of r.0) r.1.items
+ReadsAsBundle IsText IsNone memory text (Err e) = (e ≡ memory) ⊎ IsNone text
 
 -- the answer is a bundle of this name, flag and tree, or memory was wanted
 abbrev pub IsBundleOf : {E : Type 0} → List ℕ → Bool → Tree → E
@@ -122,20 +117,10 @@ IsBundleOf name fallback t memory (Ok r) =
     (name_of r.0 ≡ name) × (r.0.is_locale_fallback_enabled ≡ fallback) × (root_of r.0 ≡ t)
 IsBundleOf name fallback t memory (Err e) = e ≡ memory
 
--- whatever reads a text of a bundle answers that bundle, memory aside
-abbrev pub BundleTextIsRead : Type 0
-BundleTextIsRead =
+-- whatever reads a text of a form's bundle answers that bundle, memory aside
+abbrev pub TextIsRead : {E : Type 0} → Texts → (List ℕ → Type 0) → E → Type 0
+TextIsRead {E} IsText IsNone memory =
     (text name : List ℕ) (fallback : Bool) (t : Tree) (keys : List (List ℕ))
-    → BundleText text name fallback t keys
-    → (r : Result (ResourceBundle × Vec Key Global) TextParserError)
-    → ReadsAsBundle (BundleText text) want_of_memory (IsNoBundle text) r
-    → IsBundleOf name fallback t want_of_memory r
-
--- whatever reads a text of ICU's form answers the bundle that it is, memory aside
-abbrev pub IcuTextIsRead : Type 0
-IcuTextIsRead =
-    (text name : List ℕ) (fallback : Bool) (t : Tree) (keys : List (List ℕ))
-    → IcuText text name fallback t keys
-    → (r : Result (ResourceBundle × Vec Key Global) IcuTextError)
-    → ReadsAsBundle (IcuText text) icu.want_of_memory (IsNoIcuText text) r
-    → IsBundleOf name fallback t icu.want_of_memory r
+    → IsText text name fallback t keys
+    → (r : Result (ResourceBundle × Vec Key Global) E) → ReadsAsBundle IsText IsNone memory text r
+    → IsBundleOf name fallback t memory r

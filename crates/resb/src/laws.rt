@@ -1,7 +1,13 @@
 //! The page of theorems: each law of the crates below, as a call that does nothing and whose
 //! contract is the law. What a single call promises stands with that call, and the few laws that
 //! the headline needs stand beside its calls, in `headline`.
-ghost use Rattle.resb.specs.Laws.{BundleTextIsRead, IcuTextIsRead, CompiledIsRead, WrittenIsRead};
+ghost use Rattle.resb_grammar.specs.BundleText.{BundleText};
+ghost use Rattle.resb_icu_grammar.specs.Bundle.{IcuText};
+ghost use Rattle.resb_text.specs.Answer.{IsNoBundle};
+ghost use Rattle.resb_text.specs.Refusal.{want_of_memory};
+ghost use Rattle.resb_icu_text.specs.Answer.{IsNoIcuText};
+ghost use Rattle.resb_icu_text.specs.Refusal.{want_of_memory as icu_want_of_memory};
+ghost use Rattle.resb.specs.Laws.{TextIsRead, CompiledIsRead, WrittenIsRead};
 ghost use Rattle.resb.specs.Laws.{WrittenIsReadWithPool, IcuCompiledIsRead};
 ghost use Rattle.resb.specs.Laws.{WrittenOverPoolIsRead, CompiledWithPoolIsRead};
 ghost use Rattle.resb.specs.Laws.{IcuCompiledWithPoolIsRead};
@@ -199,13 +205,13 @@ pub use resb_head::laws::index_survives;
 
 /// A text of a bundle, as one that `print_text` gives, is read back as that bundle, memory aside.
 pub fn bundle_text_is_read()
-    ensures { BundleTextIsRead }
+    ensures { TextIsRead BundleText IsNoBundle want_of_memory }
 {}
 
 /// A text of a bundle in ICU's form, as one that `print_icu_text` gives, is read back as that
 /// bundle, memory aside.
 pub fn icu_text_is_read()
-    ensures { IcuTextIsRead }
+    ensures { TextIsRead IcuText IsNoIcuText icu_want_of_memory }
 {}
 
 /// What was written of a tree without aliases, and without an empty string where the file is

@@ -27,7 +27,8 @@ pub fn find_in<'de>(
     path: &[&str],
 ) -> Result<Option<Cursor<'de>>, BinaryDeserializerError>
     ensures leads { LeadsOn (place_of root.entry) (map (λ name. name.now) path.now) result }
-    ensures tree { AnswersPath (DenPlace (place_of root.entry)) (map (λ name. name.now) path.now) result }
+    ensures tree { AnswersPath (DenPlace (place_of root.entry))
+        (map (λ name. name.now) path.now) result }
 {
     let mut found = root;
     for name in path {

@@ -1,6 +1,6 @@
-//! Where a run of word characters ends among bytes; where one of blanks or of digits does, and where
-//! a byte stands that is near, is found in `resb_grammar`. What is counted for a run is in `scan`,
-//! what stands behind it in `tokens`.
+//! Where a run of word characters ends among bytes. Where one of blanks or of digits does, and
+//! where a byte stands that is near, is found in `resb_grammar`; what is counted for a run is in
+//! `scan`, what stands behind it in `tokens`.
 ghost use Rattle.std.specs.Prelude.{◌≤◌, length};
 ghost use Rattle.resb_grammar.specs.ByteRuns as spec;
 ghost use Rattle.resb_grammar.specs.ByteRuns.{Run};

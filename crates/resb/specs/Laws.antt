@@ -96,7 +96,8 @@ CompiledWithPoolIsRead =
     (r : Result Resource ReadingError) → ReadsAsTree (over (Some pool) bytes) r
     → IsTree c.bundle.tree r
 
--- so does it of a text of ICU's form, whether the file is compact or not
+-- whatever reads a text of ICU's form that was compiled over a pool bundle, compact or not, as a
+-- tree, by the calls that are given this pool bundle, answers the text's tree, memory aside
 abbrev pub IcuCompiledWithPoolIsRead : Type 0
 IcuCompiledWithPoolIsRead =
     (q : Packing) (pool : Pool) (text bytes : List ℕ)

@@ -66,8 +66,6 @@ pub use resb_icu_grammar::laws::icu_machine_reads_the_form;
 pub use resb_icu_print::laws::printed_icu_is_a_bundle;
 // Nothing stands in the way of the tree of such a text.
 pub use resb_icu_print::laws::an_icu_text_gives_no_cause;
-// A bundle has a path to what keeps it from having one exactly where something does.
-pub use resb_icu_print::laws::icu_causes_have_paths;
 // Where tables are maps, what keeps it from having one first stands where that path leads, and
 // nothing does before it.
 pub use resb_icu_print::laws::icu_causes_stand_where_paths_lead;
@@ -78,8 +76,6 @@ pub use resb_icu_print::laws::printed_icu_is_linear;
 pub use resb_print::laws::printed_is_a_bundle;
 // Nothing stands in the way of a bundle text's tree.
 pub use resb_print::laws::a_bundle_gives_no_cause;
-// A bundle has a path to its first cause exactly where it has a cause.
-pub use resb_print::laws::causes_have_paths;
 // Where tables are maps, the first cause stands where that path leads, and no cause stands before
 // it; without a first cause none stands anywhere.
 pub use resb_print::laws::causes_stand_where_paths_lead;
@@ -162,7 +158,7 @@ pub use resb_layout::laws::laid_is_denoted;
 pub use resb_layout::laws::laid_is_paid;
 // The units of a tree don't depend on where the tail begins.
 pub use resb_write::laws::one_block;
-// So they stand in each written file.
+// In each file without a pool bundle the bodies stand in laying order, without a gap.
 pub use resb_write::laws::written_in_order;
 // A written file denotes its tree: without aliases alone too, and without an empty string where it
 // is compact.
@@ -249,7 +245,8 @@ pub fn compiled_with_pool_is_read()
     ensures { CompiledWithPoolIsRead }
 {}
 
-/// So is a text of ICU's form, compact or not.
+/// A text of ICU's form that was compiled over a pool bundle, compact or not, is read back beside
+/// it as the text's tree, memory aside.
 pub fn icu_compiled_with_pool_is_read()
     ensures { IcuCompiledWithPoolIsRead }
 {}

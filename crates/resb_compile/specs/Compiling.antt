@@ -15,7 +15,7 @@ use Rattle.resb_layout.specs.Written.{Written}
 use Rattle.resb_layout.specs.TreeFaults.{RefusesWriting}
 use Rattle.resb_layout.specs.WritingFault as fault
 use Rattle.resb_write.specs.FaultOf.{fault_of}
-use Rattle.resb_compile.specs.Compiled.{Bundle, Compiled, Unwritable}
+use Rattle.resb_compile.specs.Compiled.{TextBundle, Compiled, Unwritable}
 use Rattle.resb_compile.specs.declared.compiling.CompileError.{CompileError}
 use Rattle.resb_compile.specs.declared.compiling.CompileError.TheVariants.{Reading, Writing}
 use Rattle.resb_compile.specs.declared.compiling.CompileWithinError.{CompileWithinError}
@@ -23,7 +23,7 @@ use Rattle.resb_compile.specs.declared.compiling.CompileWithinError.TheVariants 
 
 -- the bundle that a text is
 abbrev pub IsBundle : List ℕ → Type 0
-IsBundle text = Bundle (BundleText text)
+IsBundle text = TextBundle (BundleText text)
 
 -- the text is a bundle, and the bytes are a written file of its tree, flag and keys
 abbrev pub IsCompiled : List ℕ → List ℕ → Type 0
@@ -34,13 +34,13 @@ pub record IsUnreadable (text : List ℕ) (e : TextParserError) : Type 0 where
   pub fails : Fails text e
   pub no_bundle : (e ≡ refusal.want_of_memory) ⊎ IsNoBundle text
 
--- why a text isn't compiled: the reader refuses it, or the writer refuses its tree as is said
+-- why a text isn't compiled: the reader refuses it, or the writer refuses its tree in this way
 abbrev pub IsRefusedBy : (Tree → List (List ℕ) → fault.WritingFault → Type 0) → List ℕ
     → CompileError → Type 0
 IsRefusedBy refuses text (Reading e) = IsUnreadable text e
 IsRefusedBy refuses text (Writing e) = Unwritable (BundleText text) refuses e
 
--- so it is where the file uses no pool bundle
+-- why a text isn't compiled to a file that uses no pool bundle
 abbrev pub IsRefused : List ℕ → CompileError → Type 0
 IsRefused = IsRefusedBy RefusesWriting
 

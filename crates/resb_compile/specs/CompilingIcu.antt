@@ -16,7 +16,7 @@ use Rattle.resb_layout.specs.Written.{Written}
 use Rattle.resb_layout.specs.TreeFaults.{RefusesWriting}
 use Rattle.resb_layout.specs.WritingFault as fault
 use Rattle.resb_write.specs.FaultOf.{fault_of}
-use Rattle.resb_compile.specs.Compiled.{Bundle, Compiled, Unwritable}
+use Rattle.resb_compile.specs.Compiled.{TextBundle, Compiled, Unwritable}
 use Rattle.resb_compile.specs.declared.compiling_icu.IcuCompileError.{IcuCompileError}
 use Rattle.resb_compile.specs.declared.compiling_icu.IcuCompileError.TheVariants.{Reading, Writing}
 use Rattle.resb_compile.specs.declared.compiling_icu.IcuCompileWithinError.{IcuCompileWithinError}
@@ -24,7 +24,7 @@ use Rattle.resb_compile.specs.declared.compiling_icu.IcuCompileWithinError.TheVa
 
 -- the bundle that a text of ICU's form is
 abbrev pub IsIcuBundle : List ℕ → Type 0
-IsIcuBundle text = Bundle (IcuText text)
+IsIcuBundle text = TextBundle (IcuText text)
 
 -- the text is a bundle, and the bytes are a written file of its tree, flag and keys
 abbrev pub IsIcuCompiled : List ℕ → List ℕ → Type 0
@@ -36,13 +36,13 @@ pub record IsIcuUnreadable (text : List ℕ) (e : IcuTextError) : Type 0 where
   pub fails : IcuFails text e
   pub no_bundle : (e ≡ refusal.want_of_memory) ⊎ IsNoIcuText text
 
--- why a text isn't compiled: the reader refuses it, or the writer refuses its tree as is said
+-- why a text isn't compiled: the reader refuses it, or the writer refuses its tree in this way
 abbrev pub IsIcuRefusedBy : (Tree → List (List ℕ) → fault.WritingFault → Type 0) → List ℕ
     → IcuCompileError → Type 0
 IsIcuRefusedBy refuses text (Reading e) = IsIcuUnreadable text e
 IsIcuRefusedBy refuses text (Writing e) = Unwritable (IcuText text) refuses e
 
--- so it is where the file uses no pool bundle, and nothing of the tree is left out
+-- why a text isn't compiled whole to a file that uses no pool bundle
 abbrev pub IsIcuRefused : List ℕ → IcuCompileError → Type 0
 IsIcuRefused = IsIcuRefusedBy RefusesWriting
 

@@ -40,7 +40,8 @@ abbrev mutual
   TakenIn no_entries = Unit {0}
   TakenIn (entry k t es) = (is_icu_key k ≡ true) × IsTaken t × TakenIn es
 
--- a name that is no word, or a key that may not be one; no string and no alias
+-- what keeps a bundle from having a text of ICU's form: a root that is no table, a name that is no
+-- word, or a key that may not be one; no string does, and no alias
 abbrev pub icu_tests : Tests IcuCause
 icu_tests = record {
   of_root = cause.RootIsNoTable;

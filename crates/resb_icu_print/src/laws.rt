@@ -2,8 +2,7 @@
 //! Their statements stand in `specs/Laws` of `resb_print`.
 ghost use Rattle.resb_icu_grammar.specs.Bundle.{IcuText};
 ghost use Rattle.resb_print.specs.Laws.{PrintedIsABundle, ABundleGivesNoCause};
-ghost use Rattle.resb_print.specs.Laws.{CausesHavePaths, PrintedIsLinear, CausesStandFirst};
-ghost use Rattle.resb_print.specs.Laws.{NoCauseStands};
+ghost use Rattle.resb_print.specs.Laws.{PrintedIsLinear, CausesStandFirst, NoCauseStands};
 ghost use Rattle.resb_icu_print.specs.Causes.{icu_tests};
 ghost use Rattle.resb_icu_print.specs.Printed.{icu_spelling};
 
@@ -22,12 +21,6 @@ pub fn an_icu_text_gives_no_cause()
 /// for each number of a vector.
 pub fn printed_icu_is_linear()
     ensures { PrintedIsLinear icu_spelling 6 }
-{}
-
-/// A bundle has a path to what keeps it from having a text of ICU's form exactly where something
-/// does.
-pub fn icu_causes_have_paths()
-    ensures { CausesHavePaths icu_tests }
 {}
 
 /// The first cause of a bundle stands where the path to it leads, and none stands before it; a

@@ -1,20 +1,15 @@
 -- The lines of a bundle in a form, as `resb_print` says them.
 --     lines_of f name fallback t      the text of a bundle; none where its root is no table
 --     IsTextWithin limit text found   the text is found where it has no more bytes than the limit
-use Rattle.std.specs.Prelude.{◌≡◌, ◌<◌, ◌≤◌, ℕ, List, [], ◌∷◌, ◌++◌, Bool, codes, length}
+use Rattle.std.specs.Prelude.{◌≡◌, ◌<◌, ◌≤◌, ℕ, List, [], Bool, length}
 use Rattle.std.specs.Prelude.{Option, MatchOption}
 use Rattle.std.specs.String.{string_bytes}
 use Rattle.std.specs.declared.alloc.Global.{Global}
 use Rattle.std.specs.declared.string.String.{String}
 use Rattle.resb_tree.specs.Tree.{Tree, string, alias, array, table, binary, integer, int_vector}
-use Rattle.resb_grammar.specs.Ascii as ascii
 use Rattle.resb_print.specs.Spelling.{Spelling}
 use Rattle.resb_print.specs.Printed.{end_on, close_on, printed_bundle}
 use Rattle.resb_print.specs.declared.place.Place.{Place}
-
--- an alias, its path as a string is written
-abbrev pub alias_on : Spelling → Place → List ℕ → List ℕ → List ℕ
-alias_on f p s rest = codes ":alias{" ++ f.piece_on s (ascii.right_brace ∷ end_on p rest)
 
 -- the end of a collection, on a line of its own, and what follows a resource at its place
 abbrev pub end_line_on : ℕ → Place → List ℕ → List ℕ

@@ -7,7 +7,7 @@ ghost use Rattle.hex.specs.Hex.{encode_lower};
 ghost use Rattle.resb_print.specs.Inner.Appends.{Appends};
 ghost use Rattle.resb_shown.specs.Shown.{numbers_in, text_in};
 ghost use Rattle.resb_tree.specs.Tree.{array, table};
-ghost use Rattle.resb_print.specs.Printed.{printed_bundle, string_on};
+ghost use Rattle.resb_print.specs.Printed.{alias_on, printed_bundle, string_on};
 ghost use Rattle.resb_lines.specs.Lines as lines;
 ghost use Rattle.resb_lines.specs.Lines.{IsTextWithin};
 ghost use Rattle.resb_lines.specs.Inner.Jobs.{jobs_in, job_of, all_on, turns_of, DoesJob};
@@ -141,7 +141,7 @@ impl<'s, F: Form, S: Shown<'s>> LinesText<'s, F, S, S::Members, S::Entries> {
     /// Writes an alias, its path as a string is written.
     fn push_alias(&mut self, shown: S, place: Place) -> Result<(), AllocError>
         ensures written { OnOk result (Appends self.old.line self.new.line
-            (lines.alias_on F.spelling place (text_in (S.tree shown)))) }
+            (alias_on F.spelling place (text_in (S.tree shown)))) }
         ensures kept { self.new.pending ≡ self.old.pending }
     {
         self.line.push_str(":alias{")?;

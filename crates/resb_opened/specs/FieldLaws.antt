@@ -22,6 +22,7 @@ use Rattle.resb_opened.specs.Ahead.{MembersStand, EntriesStand}
 use Rattle.resb_opened.specs.Standing.{Denoted, Stands, StandsAt, RootStands}
 use mathlib.Core.HLevel.{hedberg, Σ_prop_path}
 
+-- two trees are equal or they are not, as the test of it says
 same_or_not : (s t : Tree) (b : Bool) → tree_eq s t ≡ b → Dec (s ≡ t)
 same_or_not s t true e = yes ((tree_eq_decides s t).0 e)
 same_or_not s t false e = no (λ h. true≢false (sym ((tree_eq_decides s t).1 h) ∙ e))
@@ -36,15 +37,15 @@ one_denoted p m s t d e =
     ∥∥₁_elim d (Tree-set s t)
     (λ x. ∥∥₁_elim e (Tree-set s t) (λ y. (unique_member p x.1 y.1).0))
 
--- and so one stands there
+-- at a member one tree stands
 pub Stands-prop : (p : Parts) (m : Member) → IsProp (Stands p m)
 Stands-prop p m x y = Σ_prop_path (λ t. ∥∥₁_prop) (one_denoted p m x.0 y.0 x.1 y.1)
 
--- the tree is the only one
+-- at a member of a file, as the code holds both, one tree stands
 pub StandsAt-prop : (f : FileBlocks) (m : walk.Member) → IsProp (StandsAt f m)
 StandsAt-prop f m = Stands-prop (parts_in f) (member_of m)
 
--- the tree is the only one
+-- at the root of a file one tree stands
 pub RootStands-prop : (f : FileBlocks) (w : ℕ) → IsProp (RootStands f w)
 RootStands-prop f w = Stands-prop (parts_in f) (word w)
 
@@ -52,16 +53,18 @@ RootStands-prop f w = Stands-prop (parts_in f) (word w)
 pub trees-set : IsSet (List Tree)
 trees-set = hlevel (Tree-set, props)
 
--- and so are two lists of keys and trees
+-- two lists of keys and trees are equal in one way
 pub pairs-set : IsSet (List (List ℕ × Tree))
 pairs-set = hlevel (Tree-set, props)
 
+-- members that are denoted with counts have one list of trees
 one_each : {p : Parts} {ms : List Member} {m n : ℕ} {ts us : List Tree} → DenEach p ms ts m
     → DenEach p ms us n → ts ≡ us
 one_each each_none each_none = refl
 one_each {p = p'} (each_more d ds) (each_more e es) =
     let h = (unique_member p' d e).0 in let k = one_each ds es in λ i. h i ∷ k i
 
+-- entries that are denoted with counts have one list of keys and trees
 one_entries : {p : Parts} {es : List (ℕ × Member)} {m n : ℕ} {ts us : List (List ℕ × Tree)}
     → DenEntries p es ts m → DenEntries p es us n → ts ≡ us
 one_entries entries_none entries_none = refl
@@ -83,18 +86,18 @@ pub same_pairs : (p : Parts) (es : List (ℕ × Member)) (ts us : List (List ℕ
 same_pairs p es ts us d e =
     ∥∥₁_elim d (pairs-set _ _) (λ x. ∥∥₁_elim e (pairs-set _ _) (λ y. one_entries x.1 y.1))
 
--- so the trees are the only ones
+-- at members one list of trees stands
 pub EachStands-prop : (p : Parts) (ms : List Member) → IsProp (EachStands p ms)
 EachStands-prop p ms x y = Σ_prop_path (λ ts. ∥∥₁_prop) (same_trees p ms x.0 y.0 x.1 y.1)
 
--- so the keys and trees are the only ones
+-- at entries one list of keys and trees stands
 pub PairsStand-prop : (p : Parts) (es : List (ℕ × Member)) → IsProp (PairsStand p es)
 PairsStand-prop p es x y = Σ_prop_path (λ ts. ∥∥₁_prop) (same_pairs p es x.0 y.0 x.1 y.1)
 
--- the trees are the only ones
+-- at the members of a file, as the code holds both, one list of trees stands
 pub members-prop : (f : FileBlocks) (ms : Members) → IsProp (MembersStand f ms)
 members-prop f ms = EachStands-prop (parts_in f) (members_of ms)
 
--- the keys and trees are the only ones
+-- at the entries of a file, as the code holds both, one list of keys and trees stands
 pub entries-prop : (f : FileBlocks) (es : TableParts) → IsProp (EntriesStand f es)
 entries-prop f es = PairsStand-prop (parts_in f) (keyed_members es)

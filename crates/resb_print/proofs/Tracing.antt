@@ -1,25 +1,14 @@
 -- What is found first, by its path and by its cause, in whichever form.
 use Rattle.std.proofs.Common.{◌≡◌, ℕ, List, refl, sym, Option, Some, None}
-use Rattle.std.specs.Prelude.{is_some, option_map}
+use Rattle.std.specs.Prelude.{option_map}
 use Rattle.std.proofs.lemmas.Option.{none-some}
 use Rattle.resb_tree.specs.Tree.{Tree, string, alias, array, table, binary, integer, int_vector}
 use Rattle.resb_tree.specs.Tree.{Entries}
-use Rattle.resb_print.specs.Laws.{CausesHavePaths}
-use Rattle.resb_print.specs.Paths.{Step, Tests, first_found, first_cause}
+use Rattle.resb_print.specs.Paths.{Step, Tests, first_cause}
 
 -- the cause of what is found
 abbrev pub cause_in : {C : Type 0} → Option (List Step × C) → Option C
 cause_in found = option_map (λ f. f.1) found
-
--- a path is there exactly where a cause is
-path_with_cause : {C : Type 0} (found : Option (List Step × C))
-    → is_some (option_map (λ f. f.0) found) ≡ is_some (cause_in found)
-path_with_cause None = refl
-path_with_cause (Some f) = refl
-
--- so of what is found first
-pub path_where_cause : {C : Type 0} (c : Tests C) → CausesHavePaths c
-path_where_cause c name t = path_with_cause (first_found c name t)
 
 -- where no cause is found, nothing is
 pub nothing_found : {C : Type 0} (found : Option (List Step × C)) → cause_in found ≡ None

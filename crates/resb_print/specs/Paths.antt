@@ -43,7 +43,8 @@ pub record Tests (C : Type 0) : Type 0 where
 abbrev pub quote_cause : Cause → List ℕ → Option Cause
 quote_cause x s = if has_quote s then Some x else None
 
--- a name that holds a quote, a key that does, a string that does, and each alias
+-- what keeps a bundle from having a text of the plain form: a root that is no table, a name, a key
+-- or a string that holds a quote, and each alias
 abbrev pub plain_tests : Tests Cause
 plain_tests = record {
   of_root = cause.RootIsNoTable;

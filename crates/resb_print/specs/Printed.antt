@@ -73,6 +73,10 @@ abbrev pub string_on : Spelling → Place → List ℕ → List ℕ → List ℕ
 string_on f InTable s rest = ascii.left_brace ∷ f.piece_on s (ascii.right_brace ∷ rest)
 string_on f InArray s rest = f.piece_on s (ascii.comma ∷ rest)
 
+-- an alias, its path as a string is written: no text that is given in the plain form has one
+abbrev pub alias_on : Spelling → Place → List ℕ → List ℕ → List ℕ
+alias_on f p s rest = codes ":alias{" ++ f.piece_on s (ascii.right_brace ∷ end_on p rest)
+
 -- the end of a collection, on a line of its own
 abbrev pub close_on : ℕ → List ℕ → List ℕ
 close_on n rest = line_on n (ascii.right_brace ∷ rest)
@@ -96,8 +100,7 @@ abbrev mutual
   -- a resource at this level
   pub tree_on : Spelling → Place → ℕ → Tree → List ℕ → List ℕ
   tree_on f p n (string s) rest = string_on f p s rest
-  -- an alias, its path as a string is written: no text that is given in the plain form has one
-  tree_on f p n (alias s) rest = codes ":alias{" ++ f.piece_on s (ascii.right_brace ∷ end_on p rest)
+  tree_on f p n (alias s) rest = alias_on f p s rest
   tree_on f p n (array ts) rest =
       codes ":array{" ++ trees_on f (deeper n) ts (trees_end ts n (end_on p rest))
   tree_on f p n (table es) rest =

@@ -2,8 +2,7 @@
 //! Their statements stand in `specs/Laws`.
 ghost use Rattle.resb_grammar.specs.BundleText.{BundleText};
 ghost use Rattle.resb_print.specs.Laws.{PrintedIsABundle, ABundleGivesNoCause};
-ghost use Rattle.resb_print.specs.Laws.{CausesHavePaths, PrintedIsLinear, CausesStandFirst};
-ghost use Rattle.resb_print.specs.Laws.{NoCauseStands};
+ghost use Rattle.resb_print.specs.Laws.{PrintedIsLinear, CausesStandFirst, NoCauseStands};
 ghost use Rattle.resb_print.specs.Paths.{plain_tests};
 ghost use Rattle.resb_print.specs.Printed.{plain_spelling};
 
@@ -15,11 +14,6 @@ pub fn printed_is_a_bundle()
 /// Nothing stands in the way of the tree of a bundle text.
 pub fn a_bundle_gives_no_cause()
     ensures { ABundleGivesNoCause plain_tests BundleText }
-{}
-
-/// A bundle has a path to its first cause exactly where it has a cause.
-pub fn causes_have_paths()
-    ensures { CausesHavePaths plain_tests }
 {}
 
 /// The first cause of a bundle stands where the path to it leads, and none stands before it; a

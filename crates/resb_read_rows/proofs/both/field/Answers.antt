@@ -36,6 +36,9 @@ returns-in_err-read_str-clause-refused g c =
     c.in-Some.value c.requires h in
     let (left, lacks, says) = c.in_err-read_str.ensures in
     each_error
-    (λ e. (left, inr (no_first_field c.args.name.now g.T.Deserialize.counts (place_of c.in-Some.key)
-    (place_of c.in-Some.value) _ _ _ first lacks)))
+    (λ e. (
+      left,
+      inr (no_first_field c.args.name.now g.T.Deserialize.counts (place_of c.in-Some.key)
+          (place_of c.in-Some.value) _ _ _ first lacks),
+    ))
     c.from_residual-in_err-read_str.result

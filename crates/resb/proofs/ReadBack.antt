@@ -10,36 +10,45 @@ use Rattle.resb_head.specs.File.{parts_of}
 use Rattle.resb_format.specs.Denotes.{Den}
 use Rattle.resb_format.specs.declared.error.ReadingError.{ReadingError}
 use Rattle.resb_read.specs.Reading.{LacksOrMemory}
-use Rattle.resb_read.specs.Resources.{CountsTree}
+use Rattle.resb_read.specs.Leaves.{CountsOf}
+use Rattle.resb_read.specs.Resources.{DenPlace}
 use Rattle.resb_read.specs.Roots.{Whole, HoldsAt}
 use Rattle.resb_tree.specs.Tree.{Tree, tree_count}
 use Rattle.resb_format.proofs.Denoting.{unique}
-use Rattle.resb_layout.specs.Written.{Written}
+use Rattle.resb_pool.specs.declared.packing.Packing.{Packing}
+use Rattle.resb_pool.specs.declared.packing.Packing.TheVariants.{Plain}
+use Rattle.resb_layout.specs.Written.{WrittenBy}
 use Rattle.resb_pool_bundle.specs.Fields.{index_length, major, minor}
 use Rattle.resb_pool_bundle.specs.Laws.{IsOwnFile}
 use Rattle.resb_pool_bundle.specs.Pool.{parts_with}
 use Rattle.resb_pool_bundle.proofs.OwnFiles.{own_files_denote_the_same}
+use Rattle.resb_grammar.specs.BundleText.{BundleText}
+use Rattle.resb_icu_grammar.specs.Bundle.{IcuText}
+use Rattle.resb_text.specs.Answer.{IsNoBundle}
+use Rattle.resb_text.specs.Refusal.{want_of_memory}
+use Rattle.resb_icu_text.specs.Answer.{IsNoIcuText}
+use Rattle.resb_icu_text.specs.Refusal as icu
 use Rattle.resb_grammar.proofs.GrammarLaws.{one_bundle}
 use Rattle.resb_grammar.proofs.NoAlias.{bundle_none}
 use Rattle.resb_icu_grammar.proofs.Groups.{one_icu_text}
-use Rattle.resb.specs.Laws.{WrittenIsRead, CompiledIsRead, BundleTextIsRead, IcuTextIsRead}
+use Rattle.resb.specs.Laws.{WrittenIsRead, CompiledIsRead, TextIsRead}
 use Rattle.resb.specs.Laws.{WrittenIsReadWithPool, IcuCompiledIsRead}
 use Rattle.resb.specs.Laws.{WrittenOverPoolIsRead, CompiledWithPoolIsRead}
 use Rattle.resb.specs.Laws.{IcuCompiledWithPoolIsRead}
 
 pub written_is_read : WrittenIsRead
-written_is_read bytes t f ks (Ok r) none w h =
-    (unique (parts_of bytes) h.1.root.0 (w.alone none).root).0
-written_is_read bytes t f ks (Err e) none w (inl m) = m
-written_is_read bytes t f ks (Err e) none w (inr lacks) =
-    let d = w.alone none in
-    absurd (lacks (tree_count t) (record { head = d.head; root = (t, d.root) }) w.within_budget)
+written_is_read q bytes t f ks (Ok r) none lacks w h =
+    (unique (parts_of bytes) h.1.root.0 (w.alone none lacks).root).0
+written_is_read q bytes t f ks (Err e) none lacks w (inl m) = m
+written_is_read q bytes t f ks (Err e) none lacks w (inr no_tree) =
+    let d = w.alone none lacks in
+    absurd (no_tree (tree_count t) (record { head = d.head; root = (t, d.root) }) w.within_budget)
 
 pub compiled_is_read : CompiledIsRead
 compiled_is_read text bytes c r h =
     let b = c.bundle in
     let none = bundle_none text b.name b.fallback b.tree b.keys b.is in
-    written_is_read bytes b.tree b.fallback b.keys r none c.file h
+    written_is_read Plain bytes b.tree b.fallback b.keys r none tt c.file h
 
 -- the attributes of a written file tell no pool
 no_second_bit : (b fallback : Bool)
@@ -55,9 +64,9 @@ no_third_bit true false = refl
 no_third_bit false fallback = refl
 
 -- a written file has nothing to do with pools
-own_file : {bytes : List ℕ} {t : Tree} {fallback : Bool} {ks : List (List ℕ)}
-    → Written bytes t fallback ks → IsOwnFile bytes
-own_file {bytes} {t} {fallback} {ks} w =
+own_file : {q : Packing} {bytes : List ℕ} {t : Tree} {fallback : Bool} {ks : List (List ℕ)}
+    → WrittenBy q bytes t fallback ks → IsOwnFile bytes
+own_file {q} {bytes} {t} {fallback} {ks} w =
     let has = nat_le 6 (index_length bytes) && (nat_le 2 (major bytes) || nat_le 2 (minor bytes)) in
     let few : 7 < 2 ^ 8 = omega arith in
     record {
@@ -72,39 +81,41 @@ own_file {bytes} {t} {fallback} {ks} w =
     }
 
 pub written_is_read_with_pool : WrittenIsReadWithPool
-written_is_read_with_pool pool bytes t f ks (Ok r) w h =
+written_is_read_with_pool q pool bytes t f ks (Ok r) w h =
     let d = (own_files_denote_the_same pool bytes (own_file w) t (tree_count t)).0 w.tree in
     (unique (parts_with pool bytes) h.1.root.0 d.root).0
-written_is_read_with_pool pool bytes t f ks (Err e) w (inl m) = m
-written_is_read_with_pool pool bytes t f ks (Err e) w (inr lacks) =
+written_is_read_with_pool q pool bytes t f ks (Err e) w (inl m) = m
+written_is_read_with_pool q pool bytes t f ks (Err e) w (inr lacks) =
     let d = (own_files_denote_the_same pool bytes (own_file w) t (tree_count t)).0 w.tree in
     absurd (lacks (tree_count t) (record { head = d.head; root = (t, d.root) }) w.within_budget)
 
 pub icu_compiled_is_read : IcuCompiledIsRead
-icu_compiled_is_read pool text bytes c r h =
-    written_is_read_with_pool pool bytes c.bundle.tree c.bundle.fallback c.bundle.keys r c.file h
+icu_compiled_is_read q pool text bytes c r h =
+    written_is_read_with_pool q pool bytes c.bundle.tree c.bundle.fallback c.bundle.keys r c.file h
 
 pub written_over_pool_is_read : WrittenOverPoolIsRead
-written_over_pool_is_read pool bytes t f ks (Ok r) w h =
+written_over_pool_is_read q pool bytes t f ks (Ok r) w h =
     (unique (parts_with (Some pool) bytes) h.1.root.0 w.tree.root).0
-written_over_pool_is_read pool bytes t f ks (Err e) w (inl m) = m
-written_over_pool_is_read pool bytes t f ks (Err e) w (inr lacks) =
+written_over_pool_is_read q pool bytes t f ks (Err e) w (inl m) = m
+written_over_pool_is_read q pool bytes t f ks (Err e) w (inr lacks) =
     absurd (lacks (tree_count t) (record { head = w.tree.head; root = (t, w.tree.root) })
     w.within_budget)
 
 pub compiled_with_pool_is_read : CompiledWithPoolIsRead
 compiled_with_pool_is_read pool text bytes c r h =
-    written_over_pool_is_read pool bytes c.bundle.tree c.bundle.fallback c.bundle.keys r c.file h
+    let b = c.bundle in
+    written_over_pool_is_read Plain pool bytes b.tree b.fallback b.keys r c.file h
 
 pub icu_compiled_with_pool_is_read : IcuCompiledWithPoolIsRead
-icu_compiled_with_pool_is_read pool text bytes c r h =
-    written_over_pool_is_read pool bytes c.bundle.tree c.bundle.fallback c.bundle.keys r c.file h
+icu_compiled_with_pool_is_read q pool text bytes c r h =
+    let b = c.bundle in
+    written_over_pool_is_read q pool bytes b.tree b.fallback b.keys r c.file h
 
 -- where no tree is counted, none is denoted
 pub tree_or_none : (w : Whole)
     → ((t : Tree) (n : ℕ) → w.denotes t n → w.is_file × Den w.parts w.root t n)
     → (r : Result Resource ReadingError)
-    → IfErr r (LacksOrMemory (λ n. HoldsAt (λ p. CountsTree p n) w) w.budget)
+    → IfErr r (LacksOrMemory (λ n. HoldsAt (λ p. CountsOf DenPlace p n) w) w.budget)
     → IfErr r (λ e. IsWantOfMemory e
     ⊎ ((t : Tree) → ((n : ℕ) × w.denotes t n × (n ≤ w.budget)) → ⊥))
 tree_or_none w stands (Ok r) h = tt
@@ -114,14 +125,14 @@ tree_or_none w stands (Err e) (inr lacks) =
     let s = stands t d.0 d.1 in
     lacks d.0 (record { head = s.0; root = (t, s.1) }) d.2)
 
-pub bundle_text_is_read : BundleTextIsRead
+pub bundle_text_is_read : TextIsRead BundleText IsNoBundle want_of_memory
 bundle_text_is_read text name f t ks b (Ok r) h =
     let e = one_bundle text _ _ _ _ _ _ _ _ h b in
     (e.0, e.1, e.2)
 bundle_text_is_read text name f t ks b (Err e) (inl m) = m
 bundle_text_is_read text name f t ks b (Err e) (inr none) = absurd (none name f t ks b)
 
-pub icu_text_is_read : IcuTextIsRead
+pub icu_text_is_read : TextIsRead IcuText IsNoIcuText icu.want_of_memory
 icu_text_is_read text name f t ks b (Ok r) h =
     let e = one_icu_text text _ _ _ _ _ _ _ _ h b in
     (e.0, e.1, e.2)

@@ -1,14 +1,14 @@
 -- What the laws of the whole way say.
---     ReadsRoot bytes r       what `from_bytes::<Resource>` promises of its answer
---     ReadsRootWithPool pool bytes r      the same of `from_bytes_with_pool::<Resource>`
+--     ReadsAsTree w r         what `from_bytes::<Resource>` and `from_bytes_with_pool::<Resource>`
+--                             promise of their answers, by what the file comes to
 --     WrittenIsRead           a file of a tree is read back as that tree, memory aside
 --     WrittenIsReadWithPool   so it is by the calls that take a pool, aliases too
 --     WrittenOverPoolIsRead   a file over a pool is read back beside it, memory aside
 --     CompiledIsRead          a compiled text is read back as its tree, memory aside
 --     IcuCompiledIsRead       so is a compiled text of ICU's form
 --     CompiledWithPoolIsRead, IcuCompiledWithPoolIsRead   and a text that is compiled over a pool
---     BundleTextIsRead        a text of a bundle is read back as that bundle, memory aside
---     IcuTextIsRead           so is a text of ICU's form
+--     TextIsRead IsText IsNone e      a text of a form's bundle is read back as that bundle, unless
+--                             memory is wanted, which the error e says
 use Rattle.std.specs.Prelude.{◌≡◌, ◌≤◌, ◌⊎◌, ℕ, Bool, false, List, Option, Some, Result, Ok, Err}
 use Rattle.std.specs.declared.vec.Vec.{Vec}
 use Rattle.std.specs.declared.alloc.Global.{Global}
@@ -20,136 +20,108 @@ use Rattle.resb_tree.specs.declared.bundle.ResourceBundle.{ResourceBundle}
 use Rattle.resb_tree.specs.declared.key.Key.{Key}
 use Rattle.resb_tree.specs.declared.resource.Resource.{Resource}
 use Rattle.resb_grammar.specs.BundleText.{BundleText}
-use Rattle.resb_text.specs.Answer.{IsNoBundle}
-use Rattle.resb_text.specs.Refusal.{want_of_memory}
-use Rattle.resb_text.specs.declared.error.TextParserError.{TextParserError}
+use Rattle.resb_grammar.specs.Laws.{Texts}
 use Rattle.resb_icu_grammar.specs.Bundle.{IcuText}
-use Rattle.resb_icu_text.specs.Answer.{IsNoIcuText}
-use Rattle.resb_icu_text.specs.Refusal as icu
-use Rattle.resb_icu_text.specs.declared.error.IcuTextError.{IcuTextError}
 use Rattle.resb_format.specs.Error.{IsWantOfMemory}
-use Rattle.resb_head.specs.File.{budget}
 use Rattle.resb_format.specs.declared.error.ReadingError.{ReadingError}
 use Rattle.resb_read.specs.Reading.{LacksOrMemory}
-use Rattle.resb_read.specs.Resources.{ReadsTree, CountsTree}
+use Rattle.resb_read.specs.Leaves.{CountsOf}
+use Rattle.resb_read.specs.Resources.{DenPlace, ReadsTree}
 use Rattle.resb_pool_bundle.specs.Pool.{Pool}
-use Rattle.resb_read.specs.Roots.{HoldsAt, HoldsAtRoot}
+use Rattle.resb_read.specs.Roots.{HoldsAt, Whole, alone}
 use Rattle.resb_read.specs.WithPool.{over}
-use Rattle.resb_layout.specs.Written.{Written}
-use Rattle.resb_write.specs.WrittenWith.{WrittenWith}
+use Rattle.resb_pool.specs.declared.packing.Packing.{Packing}
+use Rattle.resb_layout.specs.Written.{WrittenBy, LacksEmpty}
+use Rattle.resb_write.specs.WrittenWith.{WrittenWith, WrittenWithBy}
+use Rattle.resb_compile.specs.Compiled.{Compiled}
 use Rattle.resb_compile.specs.Compiling.{IsCompiled}
-use Rattle.resb_compile.specs.CompilingIcu.{IsIcuCompiled}
-use Rattle.resb_compile.specs.CompilingWithPool.{IsCompiledWithPool, IsIcuCompiledWithPool}
 
 -- what reading a file as a tree promises: a tree at the root, paid for, or memory, or no such tree
-abbrev pub ReadsRoot : List ℕ → Result Resource ReadingError → Type 0
-ReadsRoot bytes (Ok r) = (n : ℕ) × HoldsAtRoot (λ p. ReadsTree p r n) bytes × (n ≤ budget bytes)
-ReadsRoot bytes (Err e) =
-    LacksOrMemory (λ n. HoldsAtRoot (λ p. CountsTree p n) bytes) (budget bytes) e
+abbrev pub ReadsAsTree : Whole → Result Resource ReadingError → Type 0
+ReadsAsTree w (Ok r) = (n : ℕ) × HoldsAt (λ p. ReadsTree p r n) w × (n ≤ w.budget)
+ReadsAsTree w (Err e) =
+    LacksOrMemory (λ n. HoldsAt (λ p. CountsOf DenPlace p n) w) w.budget e
 
 -- the answer is this tree, or memory was wanted
 abbrev pub IsTree : Tree → Result Resource ReadingError → Type 0
 IsTree t (Ok r) = tree_of r ≡ t
 IsTree t (Err e) = IsWantOfMemory e
 
--- the same of a file beside the pool bundle that is given, if one is
-abbrev pub ReadsRootWithPool : Option Pool → List ℕ → Result Resource ReadingError → Type 0
-ReadsRootWithPool pool bytes (Ok r) =
-    (n : ℕ) × HoldsAt (λ p. ReadsTree p r n) (over pool bytes) × (n ≤ budget bytes)
-ReadsRootWithPool pool bytes (Err e) =
-    LacksOrMemory (λ n. HoldsAt (λ p. CountsTree p n) (over pool bytes)) (budget bytes) e
-
--- what was written of a tree without aliases is read back as that tree, whoever wrote the file and
--- in whatever order its keys were listed
+-- what was written of a tree without aliases, and without an empty string where the file is
+-- compact, is read back as that tree, whoever wrote the file and in whatever order its keys were
+-- listed
 abbrev pub WrittenIsRead : Type 0
 WrittenIsRead =
-    (bytes : List ℕ) (t : Tree) (fallback : Bool) (ks : List (List ℕ))
+    (q : Packing) (bytes : List ℕ) (t : Tree) (fallback : Bool) (ks : List (List ℕ))
     (r : Result Resource ReadingError)
-    → has_alias t ≡ false → Written bytes t fallback ks → ReadsRoot bytes r → IsTree t r
+    → has_alias t ≡ false → LacksEmpty q t → WrittenBy q bytes t fallback ks
+    → ReadsAsTree (alone bytes) r → IsTree t r
 
--- what was written of any tree is read back as that tree by the calls that take a pool bundle,
--- whether one is given or not
+-- what was written of any tree, compact or not, is read back as that tree by the calls that take a
+-- pool bundle, whether one is given or not
 abbrev pub WrittenIsReadWithPool : Type 0
 WrittenIsReadWithPool =
-    (pool : Option Pool) (bytes : List ℕ) (t : Tree) (fallback : Bool) (ks : List (List ℕ))
-    (r : Result Resource ReadingError)
-    → Written bytes t fallback ks → ReadsRootWithPool pool bytes r → IsTree t r
+    (q : Packing) (pool : Option Pool) (bytes : List ℕ) (t : Tree) (fallback : Bool)
+    (ks : List (List ℕ)) (r : Result Resource ReadingError)
+    → WrittenBy q bytes t fallback ks → ReadsAsTree (over pool bytes) r → IsTree t r
 
--- what was written of any tree over a pool bundle is read back as that tree by the calls that are
--- given this pool bundle
+-- what was written of any tree over a pool bundle, compact or not, is read back as that tree by the
+-- calls that are given this pool bundle
 abbrev pub WrittenOverPoolIsRead : Type 0
 WrittenOverPoolIsRead =
-    (pool : Pool) (bytes : List ℕ) (t : Tree) (fallback : Bool) (ks : List (List ℕ))
+    (q : Packing) (pool : Pool) (bytes : List ℕ) (t : Tree) (fallback : Bool) (ks : List (List ℕ))
     (r : Result Resource ReadingError)
-    → WrittenWith pool bytes t fallback ks → ReadsRootWithPool (Some pool) bytes r → IsTree t r
+    → WrittenWithBy q pool bytes t fallback ks → ReadsAsTree (over (Some pool) bytes) r
+    → IsTree t r
 
 -- whatever reads a compiled file as a tree answers the text's tree, memory aside
 abbrev pub CompiledIsRead : Type 0
 CompiledIsRead =
     (text bytes : List ℕ) (c : IsCompiled text bytes) (r : Result Resource ReadingError)
-    → ReadsRoot bytes r → IsTree c.bundle.tree r
+    → ReadsAsTree (alone bytes) r → IsTree c.bundle.tree r
 
 -- whatever reads a compiled text of ICU's form as a tree, by the calls that take a pool bundle,
--- answers the text's tree, memory aside
+-- answers the text's tree, memory aside, whether the file is compact or not
 abbrev pub IcuCompiledIsRead : Type 0
 IcuCompiledIsRead =
-    (pool : Option Pool) (text bytes : List ℕ) (c : IsIcuCompiled text bytes)
-    (r : Result Resource ReadingError) → ReadsRootWithPool pool bytes r → IsTree c.bundle.tree r
+    (q : Packing) (pool : Option Pool) (text bytes : List ℕ)
+    (c : Compiled (IcuText text) (WrittenBy q bytes)) (r : Result Resource ReadingError)
+    → ReadsAsTree (over pool bytes) r → IsTree c.bundle.tree r
 
 -- whatever reads a text that was compiled over a pool bundle as a tree, by the calls that are given
 -- this pool bundle, answers the text's tree, memory aside
 abbrev pub CompiledWithPoolIsRead : Type 0
 CompiledWithPoolIsRead =
-    (pool : Pool) (text bytes : List ℕ) (c : IsCompiledWithPool pool text bytes)
-    (r : Result Resource ReadingError) → ReadsRootWithPool (Some pool) bytes r
+    (pool : Pool) (text bytes : List ℕ) (c : Compiled (BundleText text) (WrittenWith pool bytes))
+    (r : Result Resource ReadingError) → ReadsAsTree (over (Some pool) bytes) r
     → IsTree c.bundle.tree r
 
--- so does it of a text of ICU's form
+-- whatever reads a text of ICU's form that was compiled over a pool bundle, compact or not, as a
+-- tree, by the calls that are given this pool bundle, answers the text's tree, memory aside
 abbrev pub IcuCompiledWithPoolIsRead : Type 0
 IcuCompiledWithPoolIsRead =
-    (pool : Pool) (text bytes : List ℕ) (c : IsIcuCompiledWithPool pool text bytes)
-    (r : Result Resource ReadingError) → ReadsRootWithPool (Some pool) bytes r
-    → IsTree c.bundle.tree r
+    (q : Packing) (pool : Pool) (text bytes : List ℕ)
+    (c : Compiled (IcuText text) (WrittenWithBy q pool bytes)) (r : Result Resource ReadingError)
+    → ReadsAsTree (over (Some pool) bytes) r → IsTree c.bundle.tree r
 
--- what reading a text promises: a bundle that the text is, or want of memory, or it is none
-abbrev pub AnswersText : List ℕ → Result (ResourceBundle × Vec Key Global) TextParserError → Type 0
-AnswersText text (Ok r) =
-    BundleText text (name_of r.0) r.0.is_locale_fallback_enabled (root_of r.0) r.1.items
-AnswersText text (Err e) = (e ≡ want_of_memory) ⊎ IsNoBundle text
-
--- the answer is a bundle of this name, flag and tree, or memory was wanted
-abbrev pub IsBundleOf : List ℕ → Bool → Tree
-    → Result (ResourceBundle × Vec Key Global) TextParserError → Type 0
-IsBundleOf name fallback t (Ok r) =
-    (name_of r.0 ≡ name) × (r.0.is_locale_fallback_enabled ≡ fallback) × (root_of r.0 ≡ t)
-IsBundleOf name fallback t (Err e) = e ≡ want_of_memory
-
--- whatever reads a text of a bundle answers that bundle, memory aside
-abbrev pub BundleTextIsRead : Type 0
-BundleTextIsRead =
-    (text name : List ℕ) (fallback : Bool) (t : Tree) (keys : List (List ℕ))
-    → BundleText text name fallback t keys
-    → (r : Result (ResourceBundle × Vec Key Global) TextParserError) → AnswersText text r
-    → IsBundleOf name fallback t r
-
--- what reading a text of ICU's form promises: a bundle that the text is, or want of memory, or it
--- is none
-abbrev pub AnswersIcuText : List ℕ → Result (ResourceBundle × Vec Key Global) IcuTextError → Type 0
-AnswersIcuText text (Ok r) =
-    IcuText text (name_of r.0) r.0.is_locale_fallback_enabled (root_of r.0) r.1.items
-AnswersIcuText text (Err e) = (e ≡ icu.want_of_memory) ⊎ IsNoIcuText text
+-- what reading a text promises: the bundle that it is, or want of memory, or that it is none
+abbrev pub ReadsAsBundle : {E : Type 0} → Texts → (List ℕ → Type 0) → E → List ℕ
+    → Result (ResourceBundle × Vec Key Global) E → Type 0
+ReadsAsBundle IsText IsNone memory text (Ok r) =
+    IsText text (name_of r.0) r.0.is_locale_fallback_enabled (root_of r.0) r.1.items
+ReadsAsBundle IsText IsNone memory text (Err e) = (e ≡ memory) ⊎ IsNone text
 
 -- the answer is a bundle of this name, flag and tree, or memory was wanted
-abbrev pub IsIcuBundleOf : List ℕ → Bool → Tree
-    → Result (ResourceBundle × Vec Key Global) IcuTextError → Type 0
-IsIcuBundleOf name fallback t (Ok r) =
+abbrev pub IsBundleOf : {E : Type 0} → List ℕ → Bool → Tree → E
+    → Result (ResourceBundle × Vec Key Global) E → Type 0
+IsBundleOf name fallback t memory (Ok r) =
     (name_of r.0 ≡ name) × (r.0.is_locale_fallback_enabled ≡ fallback) × (root_of r.0 ≡ t)
-IsIcuBundleOf name fallback t (Err e) = e ≡ icu.want_of_memory
+IsBundleOf name fallback t memory (Err e) = e ≡ memory
 
--- whatever reads a text of ICU's form answers the bundle that it is, memory aside
-abbrev pub IcuTextIsRead : Type 0
-IcuTextIsRead =
+-- whatever reads a text of a form's bundle answers that bundle, memory aside
+abbrev pub TextIsRead : {E : Type 0} → Texts → (List ℕ → Type 0) → E → Type 0
+TextIsRead {E} IsText IsNone memory =
     (text name : List ℕ) (fallback : Bool) (t : Tree) (keys : List (List ℕ))
-    → IcuText text name fallback t keys
-    → (r : Result (ResourceBundle × Vec Key Global) IcuTextError) → AnswersIcuText text r
-    → IsIcuBundleOf name fallback t r
+    → IsText text name fallback t keys
+    → (r : Result (ResourceBundle × Vec Key Global) E) → ReadsAsBundle IsText IsNone memory text r
+    → IsBundleOf name fallback t memory r

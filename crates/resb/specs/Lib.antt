@@ -50,6 +50,7 @@ pub use Rattle.resb_text.specs.Answer
 pub use Rattle.resb_text.specs.Borrowed
 pub use Rattle.resb_text.specs.Refusal
 pub use Rattle.resb_text.specs.Turns
+pub use Rattle.resb_print.specs.Spelling
 pub use Rattle.resb_print.specs.Printed
 pub use Rattle.resb_print.specs.Sizes
 pub use Rattle.resb_print.specs.Held
@@ -137,7 +138,6 @@ pub use Rattle.resb_layout.specs.TreeFaults
 pub use Rattle.resb_layout.specs.WrittenHead
 pub use Rattle.resb_layout.specs.CompactKeys
 pub use Rattle.resb_layout.specs.Written
-pub use Rattle.resb_layout.specs.WrittenCompact
 pub use Rattle.resb_write.specs.FaultOf
 pub use Rattle.resb_write.specs.WrittenWith
 pub use Rattle.resb_write.specs.Laws as WriteLaws
@@ -148,9 +148,9 @@ pub use Rattle.resb_pool_maker.specs.PoolOf
 pub use Rattle.resb_pool_maker.specs.Holding as PoolMakers
 pub use Rattle.resb_pool_maker.specs.PoolFault
 pub use Rattle.resb_pool_maker.specs.Laws as PoolMakerLaws
+pub use Rattle.resb_compile.specs.Compiled
 pub use Rattle.resb_compile.specs.Compiling
 pub use Rattle.resb_compile.specs.CompilingIcu
-pub use Rattle.resb_compile.specs.CompilingCompact
 pub use Rattle.resb_compile.specs.CompilingFiltered
 pub mod Headline
 pub mod Laws

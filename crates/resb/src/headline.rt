@@ -26,7 +26,7 @@ use std::alloc::Global;
 pub use resb_text::laws::one_bundle_text;
 // No records that could hold a tree's strings take fewer 16-bit units than those of its file.
 pub use resb_pool::laws::records_cost_least;
-// A bundle and a list of keys leave one file.
+// A bundle and a list of keys leave one file of each packing.
 pub use resb_write::laws::one_file;
 // Beside one pool bundle a file denotes one tree, with one count of resources.
 pub use resb_read::laws::one_tree_of_a_file_with_pool;

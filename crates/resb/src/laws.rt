@@ -1,7 +1,13 @@
 //! The page of theorems: each law of the crates below, as a call that does nothing and whose
 //! contract is the law. What a single call promises stands with that call, and the few laws that
 //! the headline needs stand beside its calls, in `headline`.
-ghost use Rattle.resb.specs.Laws.{BundleTextIsRead, IcuTextIsRead, CompiledIsRead, WrittenIsRead};
+ghost use Rattle.resb_grammar.specs.BundleText.{BundleText};
+ghost use Rattle.resb_icu_grammar.specs.Bundle.{IcuText};
+ghost use Rattle.resb_text.specs.Answer.{IsNoBundle};
+ghost use Rattle.resb_text.specs.Refusal.{want_of_memory};
+ghost use Rattle.resb_icu_text.specs.Answer.{IsNoIcuText};
+ghost use Rattle.resb_icu_text.specs.Refusal.{want_of_memory as icu_want_of_memory};
+ghost use Rattle.resb.specs.Laws.{TextIsRead, CompiledIsRead, WrittenIsRead};
 ghost use Rattle.resb.specs.Laws.{WrittenIsReadWithPool, IcuCompiledIsRead};
 ghost use Rattle.resb.specs.Laws.{WrittenOverPoolIsRead, CompiledWithPoolIsRead};
 ghost use Rattle.resb.specs.Laws.{IcuCompiledWithPoolIsRead};
@@ -60,8 +66,6 @@ pub use resb_icu_grammar::laws::icu_machine_reads_the_form;
 pub use resb_icu_print::laws::printed_icu_is_a_bundle;
 // Nothing stands in the way of the tree of such a text.
 pub use resb_icu_print::laws::an_icu_text_gives_no_cause;
-// A bundle has a path to what keeps it from having one exactly where something does.
-pub use resb_icu_print::laws::icu_causes_have_paths;
 // Where tables are maps, what keeps it from having one first stands where that path leads, and
 // nothing does before it.
 pub use resb_icu_print::laws::icu_causes_stand_where_paths_lead;
@@ -72,8 +76,6 @@ pub use resb_icu_print::laws::printed_icu_is_linear;
 pub use resb_print::laws::printed_is_a_bundle;
 // Nothing stands in the way of a bundle text's tree.
 pub use resb_print::laws::a_bundle_gives_no_cause;
-// A bundle has a path to its first cause exactly where it has a cause.
-pub use resb_print::laws::causes_have_paths;
 // Where tables are maps, the first cause stands where that path leads, and no cause stands before
 // it; without a first cause none stands anywhere.
 pub use resb_print::laws::causes_stand_where_paths_lead;
@@ -156,20 +158,17 @@ pub use resb_layout::laws::laid_is_denoted;
 pub use resb_layout::laws::laid_is_paid;
 // The units of a tree don't depend on where the tail begins.
 pub use resb_write::laws::one_block;
-// So they stand in each written file.
+// In each file without a pool bundle the bodies stand in laying order, without a gap.
 pub use resb_write::laws::written_in_order;
-// A written file denotes its tree: without aliases alone too.
+// A written file denotes its tree: without aliases alone too, and without an empty string where it
+// is compact.
 pub use resb_write::laws::written_is_denoted;
-// A bundle and a list of keys leave one file.
+// A bundle and a list of keys leave one file of each packing.
 pub use resb_write::laws::one_file;
-// The same of compact files, one file and their bodies in order.
-pub use resb_write::laws::{compact_in_order, one_compact_file};
-// A bundle, a list of keys and a pool bundle leave one file.
+// A bundle, a list of keys and a pool bundle leave one file of each packing.
 pub use resb_write::laws::one_file_with_pool;
 // A file that is written over a pool bundle denotes its tree beside it.
 pub use resb_write::laws::written_with_pool_is_read;
-// The same of compact files over a pool bundle.
-pub use resb_write::laws::{compact_with_pool_is_read, one_compact_file_with_pool};
 // A pool bundle that was made is read, and lends just the keys and strings that it is made of.
 pub use resb_pool_maker::laws::made_pool_is_read;
 // Without rules nothing is left out of a tree.
@@ -202,29 +201,29 @@ pub use resb_head::laws::index_survives;
 
 /// A text of a bundle, as one that `print_text` gives, is read back as that bundle, memory aside.
 pub fn bundle_text_is_read()
-    ensures { BundleTextIsRead }
+    ensures { TextIsRead BundleText IsNoBundle want_of_memory }
 {}
 
 /// A text of a bundle in ICU's form, as one that `print_icu_text` gives, is read back as that
 /// bundle, memory aside.
 pub fn icu_text_is_read()
-    ensures { IcuTextIsRead }
+    ensures { TextIsRead IcuText IsNoIcuText icu_want_of_memory }
 {}
 
-/// What was written of a tree without aliases is read back by `from_bytes::<Resource>` as that
-/// tree, memory aside.
+/// What was written of a tree without aliases, and without an empty string where the file is
+/// compact, is read back by `from_bytes::<Resource>` as that tree, memory aside.
 pub fn written_is_read()
     ensures { WrittenIsRead }
 {}
 
-/// What was written of any tree is read back by `from_bytes_with_pool::<Resource>` as that tree,
-/// memory aside.
+/// What was written of any tree, compact or not, is read back by
+/// `from_bytes_with_pool::<Resource>` as that tree, memory aside.
 pub fn written_is_read_with_pool()
     ensures { WrittenIsReadWithPool }
 {}
 
-/// A compiled text of ICU's form is read back by `from_bytes_with_pool::<Resource>` as the text's
-/// tree, memory aside.
+/// A compiled text of ICU's form, compact or not, is read back by
+/// `from_bytes_with_pool::<Resource>` as the text's tree, memory aside.
 pub fn icu_compiled_is_read()
     ensures { IcuCompiledIsRead }
 {}
@@ -234,8 +233,8 @@ pub fn compiled_is_read()
     ensures { CompiledIsRead }
 {}
 
-/// What was written over a pool bundle is read back by `from_bytes_with_pool::<Resource>` beside
-/// that pool bundle as its tree, memory aside.
+/// What was written over a pool bundle, compact or not, is read back by
+/// `from_bytes_with_pool::<Resource>` beside that pool bundle as its tree, memory aside.
 pub fn written_over_pool_is_read()
     ensures { WrittenOverPoolIsRead }
 {}
@@ -246,7 +245,8 @@ pub fn compiled_with_pool_is_read()
     ensures { CompiledWithPoolIsRead }
 {}
 
-/// So is a text of ICU's form.
+/// A text of ICU's form that was compiled over a pool bundle, compact or not, is read back beside
+/// it as the text's tree, memory aside.
 pub fn icu_compiled_with_pool_is_read()
     ensures { IcuCompiledWithPoolIsRead }
 {}

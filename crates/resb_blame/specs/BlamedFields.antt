@@ -2,16 +2,15 @@
 --     BlamesAt                what is to blame at the value of a name, under that name
 --     BlamesRequired          the same, or the record itself, which lacks a field of this name
 --     BlamesFound             the same, where a field may be left out
---     BlamesNext              the first field that is refused, by its name
 --     BlamesRecord            the record itself, where no table is read, or its first field that is
 --                             refused
-use Rattle.std.specs.Prelude.{◌≡◌, ◌+◌, ◌⊎◌, ℕ, List, [], ◌∷◌, Option, Some, None, length}
+-- The first field of several that is to blame is told by `RefusesNext` of `resb_fields`.
+use Rattle.std.specs.Prelude.{◌≡◌, ◌⊎◌, ℕ, List, [], Option, Some, None}
 use Rattle.resb_diff.specs.Differences.{by_key}
 use Rattle.resb_walk.specs.BlockRefusals.{Says}
-use Rattle.resb_fields.specs.Fields.{Entry, missing}
+use Rattle.resb_fields.specs.Fields.{Entry, RefusesField, missing}
 use Rattle.resb_read.specs.Places.{Place}
-use Rattle.resb_read.specs.Sequences.{entries_at}
-use Rattle.resb_read.specs.Tables.{last_named, RefusesTable}
+use Rattle.resb_read.specs.Tables.{RefusesTable}
 use Rattle.resb_blame.specs.Blamed.{Blamed, IsHere, IsUnder}
 use Rattle.resb_blame.specs.Blames.{Blaming}
 
@@ -51,33 +50,8 @@ BlamesFound blames name None left left' b = ⊥
 abbrev pub BlamesNone : BlamingFields
 BlamesNone names es left left' b = ⊥
 
--- the first name's field has its count, and one of the others is to blame with what it leaves
-pub record BlamesLater (first : Option Place → ℕ → Type 0) (later : BlamingFields) (name : List ℕ)
-    (names : List (List ℕ)) (es : List Entry) (left left' : ℕ) (b : Blamed) : Type 0 where
-  pub spent : ℕ
-  pub here : ℕ
-  pub counted : first (last_named name es) spent
-  pub paid : here + spent ≡ left
-  pub blamed : later names es here left' b
-
--- the field of the first name is to blame, at the last entry of that name, or else one of the
--- others
-abbrev pub BlamesNext : (Option Place → ℕ → Type 0) → BlamingField → BlamingFields → BlamingFields
-BlamesNext counts first later [] es left left' b = ⊥
-BlamesNext counts first later (name ∷ names) es left left' b =
-    first name (last_named name es) left left' b
-    ⊎ BlamesLater counts later name names es left left' b
-
--- a table stands there and is paid for, and one of its fields is to blame with what is left
-pub record BlamesField (blames : BlamingFields) (names : List (List ℕ)) (p : Place)
-    (left left' : ℕ) (b : Blamed) : Type 0 where
-  pub entries : List Entry
-  pub inside : ℕ
-  pub are : entries_at p ≡ Some entries
-  pub paid : inside + 1 + length entries ≡ left
-  pub blamed : blames names entries inside left' b
-
--- the place itself, where no table is read; or one of the fields
+-- the place itself, where no table is read; or a table stands there and is paid for, and one of its
+-- fields is to blame with what is left
 abbrev pub BlamesRecord : BlamingFields → List (List ℕ) → Blaming
 BlamesRecord blames names p left left' b =
-    (IsHere b × RefusesTable p left left' b.error) ⊎ BlamesField blames names p left left' b
+    (IsHere b × RefusesTable p left left' b.error) ⊎ RefusesField blames names p left left' b

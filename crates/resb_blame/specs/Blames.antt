@@ -3,15 +3,15 @@
 --     BlamesSeq, BlamesMap    no list or table, or what is to blame at the first part that is
 --                             refused, under its number or its key
 -- Each gives the budget's rest before and after, as `refuses` does, and is built of the same words.
-use Rattle.std.specs.Prelude.{◌≡◌, ◌+◌, ◌⊎◌, ℕ, List, ◌∷◌, ◌++◌, Some, None, length}
+use Rattle.std.specs.Prelude.{◌≡◌, ◌+◌, ◌⊎◌, ℕ, List, ◌∷◌, ◌++◌, None, length}
 use Rattle.resb_diff.specs.Differences.{by_key, by_number}
 use Rattle.resb_format.specs.declared.error.ReadingError.{ReadingError}
 use Rattle.resb_fields.specs.Fields.{Entry}
 use Rattle.resb_read.specs.Places.{Place}
-use Rattle.resb_read.specs.Leaves.{CountsKey}
+use Rattle.resb_read.specs.Leaves.{CountsOf, ReadsKey}
+use Rattle.resb_read.specs.PlaceRefusals.{members_refusal_from, entries_refusal_from}
 use Rattle.resb_read.specs.Reading.{Lacks}
-use Rattle.resb_read.specs.RefusedReadings.{RefusesThere, RefusesMembers, RefusesEntries}
-use Rattle.resb_read.specs.RefusedReadings.{RefusesOne, RefusesInside}
+use Rattle.resb_read.specs.RefusedReadings.{RefusesAs, RefusesThere, RefusesOne, RefusesInside}
 use Rattle.resb_read.specs.Sequences.{members_at, entries_at, CountsEach, CountsEntry}
 use Rattle.resb_read.specs.Tables.{IsNamed}
 use Rattle.resb_blame.specs.Blamed.{Blamed, IsHere, IsUnder}
@@ -45,7 +45,8 @@ module _ (counts : Place → ℕ → Type 0) (blames : Blaming) where
   -- refused
   abbrev pub BlamesSeq : Blaming
   BlamesSeq p left left' b =
-      (IsHere b × (members_at p ≡ None ⊎ left ≡ 0) × RefusesMembers p left left' b.error)
+      (IsHere b × (members_at p ≡ None ⊎ left ≡ 0)
+      × RefusesAs members_refusal_from p left left' b.error)
       ⊎ RefusesInside (members_at p) BlamesOne left left' b
 
 -- what is to blame at an entry's value, under the entry's key; or the table itself, for the same
@@ -53,7 +54,7 @@ module _ (counts : Place → ℕ → Type 0) (blames : Blaming) where
 abbrev pub IsUnderKey : Entry → Blamed → Blamed → Type 0
 IsUnderKey e inner b =
     ((name : List ℕ) × IsNamed name e × IsUnder (by_key name) inner b)
-    ⊎ (Lacks (CountsKey e.0) 0 × IsHere b × (b.error ≡ inner.error))
+    ⊎ (Lacks (CountsOf ReadsKey e.0) 0 × IsHere b × (b.error ≡ inner.error))
 
 module _ (ck : Place → ℕ → Type 0) (fk : Place → ℕ → ℕ → ReadingError → Type 0)
     (cv : Place → ℕ → Type 0) (bv : Blaming) where
@@ -76,5 +77,6 @@ module _ (ck : Place → ℕ → Type 0) (fk : Place → ℕ → ℕ → Reading
   -- refused
   abbrev pub BlamesMap : Blaming
   BlamesMap p left left' b =
-      (IsHere b × (entries_at p ≡ None ⊎ left ≡ 0) × RefusesEntries p left left' b.error)
+      (IsHere b × (entries_at p ≡ None ⊎ left ≡ 0)
+      × RefusesAs entries_refusal_from p left left' b.error)
       ⊎ RefusesInside (entries_at p) (RefusesOne (CountsEntry ck cv) BlamesEntry) left left' b

@@ -9,7 +9,7 @@ use Rattle.std.proofs.lemmas.Bool.{false≢true}
 use Rattle.std.proofs.lemmas.Option.{same_Some, none-some}
 use Rattle.resb_diff.specs.Differences.{Step, by_key, by_number}
 use Rattle.resb_format.specs.declared.error.ReadingError.{ReadingError}
-use Rattle.resb_fields.specs.Fields.{Entry}
+use Rattle.resb_fields.specs.Fields.{Entry, RefusesNext}
 use Rattle.resb_read.specs.Places.{Place}
 use Rattle.resb_read.specs.Sequences.{entries_at}
 use Rattle.resb_read.specs.Tables.{is_text, has_name, key_of, last_from, last_named, IsNamed}
@@ -19,7 +19,7 @@ use Rattle.resb_blame.specs.Blamed.{Leads, Lacking, Points}
 use Rattle.resb_blame.specs.Blames.{Blaming, BlamesWhole, BlamesOne, BlamesSeq, IsUnderKey}
 use Rattle.resb_blame.specs.Blames.{BlamesEntry, BlamesMap}
 use Rattle.resb_blame.specs.BlamedFields.{BlamingField, BlamingFields, BlamesRequired, BlamesFound}
-use Rattle.resb_blame.specs.BlamedFields.{BlamesAt, BlamesMissing, BlamesNone, BlamesNext}
+use Rattle.resb_blame.specs.BlamedFields.{BlamesAt, BlamesMissing, BlamesNone}
 use Rattle.resb_blame.specs.BlamedFields.{BlamesRecord}
 
 -- the resource itself stands where no step leads
@@ -199,17 +199,17 @@ points_none p es names left left' b are h = absurd h
 
 -- a first field and the others point somewhere, where each of them does
 pub points_next : (ca : Option Place → ℕ → Type 0) {fa : BlamingField} {fb : BlamingFields}
-    → PointedField fa → PointedFields fb → PointedFields (BlamesNext ca fa fb)
+    → PointedField fa → PointedFields fb → PointedFields (RefusesNext ca fa fb)
 points_next ca {fa} {fb} first later p es [] left left' b are h = absurd h
 points_next ca {fa} {fb} first later p es (name ∷ names) left left' b are (inl h) =
     first p es name (last_named name es) left left' b are refl h
 points_next ca {fa} {fb} first later p es (name ∷ names) left left' b are (inr h) =
-    later p es names h.here left' b are h.blamed
+    later p es names h.here left' b are h.refused
 
 -- three fields and the others
 pub points_three : (ca cb cc : Option Place → ℕ → Type 0) {fa fb fc : BlamingField}
     {fd : BlamingFields} → PointedField fa → PointedField fb → PointedField fc → PointedFields fd
-    → PointedFields (BlamesNext ca fa (BlamesNext cb fb (BlamesNext cc fc fd)))
+    → PointedFields (RefusesNext ca fa (RefusesNext cb fb (RefusesNext cc fc fd)))
 points_three ca cb cc a b c later = points_next ca a (points_next cb b (points_next cc c later))
 
 -- a record points to the place itself, or where its fields do
@@ -217,4 +217,4 @@ pub record_points : (blames : BlamingFields) → PointedFields blames → (names
     → Pointed (BlamesRecord blames names)
 record_points blames points names p left left' b (inl h) = here_points p b h.0
 record_points blames points names p left left' b (inr h) =
-    points p h.entries names h.inside left' b h.are h.blamed
+    points p h.places names h.inside left' b h.are h.refused

@@ -3,13 +3,13 @@
 ghost use Rattle.std.specs.Prelude.{◌≡◌, ◌+◌, ◌⊎◌, ℕ, List, Option, Some, map, length};
 ghost use Rattle.std.specs.Prelude.{option_map, IfOk, IfErr};
 ghost use Rattle.resb_format.specs.Error.{IsWantOfMemory};
-ghost use Rattle.resb_fields.specs.Fields.{Entry};
+ghost use Rattle.resb_fields.specs.Fields.{Entry, RefusesNext};
 ghost use Rattle.resb_read.specs.Places.{Place, place_of};
 ghost use Rattle.resb_read.specs.Sequences.{entries_at};
 ghost use Rattle.resb_read.specs.Tables.{view_entries, last_named};
 ghost use Rattle.resb_blame.specs.Blamed.{Blamed, Points};
 ghost use Rattle.resb_blame.specs.BlamedFields.{BlamesAt, BlamesRequired, BlamesFound};
-ghost use Rattle.resb_blame.specs.BlamedFields.{BlamesNone, BlamesNext};
+ghost use Rattle.resb_blame.specs.BlamedFields.{BlamesNone};
 ghost use Rattle.resb_blame.specs.Pointing.{required_points, found_points};
 ghost use Rattle.resb_blame.specs.Pointing.{points_none, points_next, points_three};
 
@@ -162,7 +162,7 @@ impl<'de> BlamesChain<'de> for () {
 }
 
 impl<'de, A: BlamesField<'de>, B: BlamesChain<'de>> BlamesChain<'de> for (A, B) {
-    ghost blames = { BlamesNext A.counts A.blames B.blames };
+    ghost blames = { RefusesNext A.counts A.blames B.blames };
 
     ghost points = { points_next A.counts A.points B.points };
 

@@ -4,13 +4,14 @@ use Rattle.std.proofs.Common.{length, drop, arith, subst, ◌<◌, inl}
 use Rattle.std.specs.Prelude.{◌==◌, IsUtf8, option_map}
 use Rattle.std.specs.List.{slice_split, slice_index}
 use Rattle.std.proofs.lemmas.Bool.{false≢true, lt-ltb}
+use Rattle.resb_pool_bundle.specs.FileWith.{DenotesWith}
 use Rattle.resb_pool_bundle.specs.Pool as lent
 use Rattle.resb_format.specs.Error.{IsWantOfMemory}
 use Rattle.resb_format.specs.declared.error.ReadingError.{ReadingError}
 use Rattle.resb_read.specs.Places.{Place, place_of}
 use Rattle.resb_read.specs.WithPool.{over}
 use Rattle.resb_read.specs.declared.cursor.Cursor.{Cursor}
-use Rattle.resb_path.specs.InFiles.{LeadsOnWith, AnswersPathWith}
+use Rattle.resb_path.specs.InFiles.{LeadsOnWith, AnswersPath}
 use Rattle.resb_c.specs.AtPaths.{names_in, Leads, FailsToLead}
 use Rattle.resb_c.specs.Pools.{given, IsGiven}
 use Rattle.resb_c.specs.declared.fault.Fault.TheVariants.{Reading}
@@ -32,13 +33,13 @@ parts_are_names (b ∷ bs) rest first some is low behind =
 -- a place, or none, that is answered for the names of a path is where the path leads
 pub leads_there : (pool file path : List ℕ) (lent : Option lent.Pool) (names : List (List ℕ))
     (c : Option Cursor) → IsUtf8 path → IsGiven pool → lent ≡ given pool → names ≡ names_in path
-    → LeadsOnWith (over lent file) names (Ok c) → AnswersPathWith lent file names (Ok c)
+    → LeadsOnWith (over lent file) names (Ok c) → AnswersPath (DenotesWith lent file) names (Ok c)
     → Leads pool file path (option_map place_of c)
 leads_there pool file path lent names c text right is are leads answers =
     let there = subst (λ ns. LeadsOnWith (over (given pool) file) ns (Ok c)) are
     (subst (λ g. LeadsOnWith (over g file) names (Ok c)) is leads) in
-    let told = subst (λ ns. AnswersPathWith (given pool) file ns (Ok c)) are
-    (subst (λ g. AnswersPathWith g file names (Ok c)) is answers) in
+    let told = subst (λ ns. AnswersPath (DenotesWith (given pool) file) ns (Ok c)) are
+    (subst (λ g. AnswersPath (DenotesWith g file) names (Ok c)) is answers) in
     record {
       is_text = text;
       is_given = right;

@@ -24,7 +24,7 @@ use Rattle.resb_read.specs.Places.{Place}
 use Rattle.resb_read.specs.Roots.{place_of_root}
 use Rattle.resb_read.specs.WithPool.{over}
 use Rattle.resb_path.specs.Finding.{found_at, tree_spot}
-use Rattle.resb_path.specs.InFiles.{place_at, AreFound, LeadsOnWith, AnswersPathWith}
+use Rattle.resb_path.specs.InFiles.{place_at, AreFound, LeadsOnWith, AnswersPath}
 use Rattle.resb_program.specs.Files.{LacksPool}
 use Rattle.resb_c.specs.AtPlaces.{IsOfOther, content_from, found_kind, integer_from, kind_from}
 use Rattle.resb_c.specs.AtPlaces.{spot_refusal, HasTable, HasKey, HasBadKey}
@@ -57,7 +57,7 @@ pub record Leads (pool file path : List ℕ) (place : Option Place) : Type 0 whe
 -- a check of the file's head fails, or a place on the way; then the bytes denote no tree
 pub record FailsOnIt (pool file path : List ℕ) (e : ReadingError) : Type 0 where
   pub fails : LeadsOnWith (over (given pool) file) (names_in path) (Err e)
-  pub tree : AnswersPathWith (given pool) file (names_in path) (Err e)
+  pub tree : AnswersPath (DenotesWith (given pool) file) (names_in path) (Err e)
 
 -- the path isn't UTF-8, which is told first; the bytes are no pool bundle; the file lacks one;
 -- nothing stands at the path; or memory is wanted, or the way fails

@@ -28,8 +28,8 @@ HasNoFile Plain text (fault.Icu e) = ⊥
 HasNoFile Icu text (fault.Plain e) = ⊥
 HasNoFile Icu text (fault.Icu e) = IsIcuRefused text e
 
--- the whole reading of a text of this form makes no more bytes than the limit, as those of a draft
--- are counted
+-- the whole reading of a text of this form makes no more bytes than the limit, counted as a
+-- draft's
 abbrev pub IsReadWithin : Form → List ℕ → ℕ → Type 0
 IsReadWithin Plain text limit = MadeWithin text (draft_limit limit)
 IsReadWithin Icu text limit = IcuMadeWithin text (draft_limit limit)

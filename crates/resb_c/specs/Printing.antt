@@ -8,12 +8,12 @@ use Rattle.resb_tree.specs.Tree.{Tree}
 use Rattle.resb_grammar.specs.BundleText.{BundleText}
 use Rattle.resb_icu_grammar.specs.Bundle.{IcuText}
 use Rattle.resb_print.specs.Laws.{HasNoText}
-use Rattle.resb_print.specs.Printed.{IsBundleText, IsLongBundle}
-use Rattle.resb_print.specs.Quotes.{first_cause, SaysCause}
+use Rattle.resb_print.specs.Paths.{plain_tests, first_cause}
+use Rattle.resb_print.specs.Printed.{plain_spelling, IsBundleText, IsLongBundle}
+use Rattle.resb_print.specs.Quotes.{SaysCause}
 use Rattle.resb_print.specs.declared.error.PrintError.TheVariants.{OutOfMemory}
-use Rattle.resb_icu_print.specs.Laws.{NoTextHas}
-use Rattle.resb_icu_print.specs.Printed.{IsIcuBundleText, IsLongIcuBundle}
-use Rattle.resb_icu_print.specs.Causes as icu
+use Rattle.resb_icu_print.specs.Printed.{icu_spelling}
+use Rattle.resb_icu_print.specs.Causes.{icu_tests, SaysIcuCause}
 use Rattle.resb_icu_print.specs.declared.error.IcuPrintError.TheVariants as icu_error
 use Rattle.resb_c.specs.declared.form.Form.{Form}
 use Rattle.resb_c.specs.declared.form.Form.TheVariants.{Plain, Icu}
@@ -27,22 +27,23 @@ IsTextOf Icu text name fallback t keys = IcuText text name fallback t keys
 
 -- the text is what a bundle of this name, flag and tree is printed as in this form
 abbrev pub IsPrintOf : Form → List ℕ → List ℕ → Bool → Tree → Type 0
-IsPrintOf Plain text name fallback t = IsBundleText text name fallback t
-IsPrintOf Icu text name fallback t = IsIcuBundleText text name fallback t
+IsPrintOf Plain text name fallback t = IsBundleText plain_spelling text name fallback t
+IsPrintOf Icu text name fallback t = IsBundleText icu_spelling text name fallback t
 
 -- a bundle of this name, flag and tree is printed in this form as more bytes than this, be that a
 -- text of the bundle or not
 abbrev pub IsLongPrint : Form → ℕ → List ℕ → Bool → Tree → Type 0
-IsLongPrint Plain limit name fallback t = IsLongBundle limit name fallback t
-IsLongPrint Icu limit name fallback t = IsLongIcuBundle limit name fallback t
+IsLongPrint Plain limit name fallback t = IsLongBundle plain_spelling limit name fallback t
+IsLongPrint Icu limit name fallback t = IsLongBundle icu_spelling limit name fallback t
 
 -- memory was wanted, or no text of this form has this name, flag and tree; then the first cause of
 -- that is named
 abbrev pub IsUnprintable : Form → PrintingFault → List ℕ → Bool → Tree → Type 0
 IsUnprintable Plain (fault.Plain e) name fallback t =
-    SaysCause e (first_cause name t) × ((e ≡ OutOfMemory) ⊎ HasNoText name fallback t)
+    SaysCause e (first_cause plain_tests name t)
+    × ((e ≡ OutOfMemory) ⊎ HasNoText BundleText name fallback t)
 IsUnprintable Plain (fault.Icu e) name fallback t = ⊥
 IsUnprintable Icu (fault.Plain e) name fallback t = ⊥
 IsUnprintable Icu (fault.Icu e) name fallback t =
-    icu.SaysIcuCause e (icu.first_cause name t)
-    × ((e ≡ icu_error.OutOfMemory) ⊎ NoTextHas name fallback t)
+    SaysIcuCause e (first_cause icu_tests name t)
+    × ((e ≡ icu_error.OutOfMemory) ⊎ HasNoText IcuText name fallback t)

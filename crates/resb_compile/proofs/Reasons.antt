@@ -11,25 +11,22 @@ use Rattle.resb_write.proofs.Listed.{not_unlisted as no_fault, not_memory, not_l
 use Rattle.resb_write.specs.FaultOf.{fault_of}
 use Rattle.resb_write.specs.WrittenWith.{RefusesWritingWith, as_alone, too_far}
 use Rattle.resb_pool_bundle.specs.Pool.{Pool}
-use Rattle.resb_compile.specs.CompilingWithPool.{IsRefusedWithPool, IsIcuRefusedWithPool}
 use Rattle.resb_write.specs.declared.error.BinarySerializerError.{BinarySerializerError}
-use Rattle.resb_compile.specs.Compiling.{IsRefused, IsUnwritable}
+use Rattle.resb_compile.specs.Compiled.{Unwritable}
+use Rattle.resb_compile.specs.Compiling.{IsRefused, IsRefusedBy}
 use Rattle.resb_compile.specs.declared.compiling.CompileError.{CompileError}
 use Rattle.resb_compile.specs.declared.compiling.CompileError.TheVariants.{Writing}
 use Rattle.resb_grammar.proofs.Listed.{listed}
 use Rattle.resb_icu_grammar.specs.Bundle.{IcuText}
 use Rattle.resb_icu_grammar.proofs.Listed.{listed as icu_listed}
 use Rattle.resb_icu_text.specs.declared.error.IcuTextError.{IcuTextError}
-use Rattle.resb_compile.specs.CompilingIcu.{IsIcuRefused, IsIcuUnreadable, IsIcuUnwritable}
+use Rattle.resb_compile.specs.CompilingIcu.{IsIcuBundle, IsIcuRefused, IsIcuRefusedBy}
+use Rattle.resb_compile.specs.CompilingIcu.{IsIcuUnreadable}
 use Rattle.resb_compile.specs.declared.compiling_icu.IcuCompileError.{IcuCompileError}
 use Rattle.resb_compile.specs.declared.compiling_icu.IcuCompileError.TheVariants as icu
 use Rattle.resb_filter.specs.Filtered.{Rule, filtered}
 use Rattle.resb_filter.proofs.KeyLemmas.{filtered_key}
-use Rattle.resb_compile.specs.CompilingIcu.{IsIcuBundle}
-use Rattle.resb_compile.specs.CompilingFiltered.{IsFilteredBundle, IsUnfiltered}
-use Rattle.resb_compile.specs.CompilingFiltered.{IsFilteredRefused, IsFilteredUnwritable}
-use Rattle.resb_compile.specs.CompilingFiltered.{IsFilteredRefusedWithPool}
-use Rattle.resb_compile.specs.CompilingFiltered.{IsFilteredUnwritableWithPool}
+use Rattle.resb_compile.specs.CompilingFiltered.{IsUnfiltered}
 
 -- a tree whose keys are listed is not refused for one that isn't
 pub never_unlisted : (t : Tree) (ks : List (List ℕ))
@@ -44,7 +41,7 @@ never_unlisted t ks l f (too_large h m) e = not_large t ks l e
 pub unwritable : (text name : List ℕ) (fallback : Bool) (t : Tree) (ks : List (List ℕ))
     (e : BinarySerializerError) → BundleText text name fallback t ks
     → RefusesWriting t ks (fault_of e)
-    → IsUnwritable text e
+    → Unwritable (BundleText text) RefusesWriting e
 unwritable text name fallback t ks e b h = record {
   bundle = record { name = name; fallback = fallback; tree = t; keys = ks; is = b };
   refused = h;
@@ -63,7 +60,7 @@ writing_refused text name fallback t ks e b h (Err made) is =
 -- a bundle in ICU's form whose tree the writer refuses
 pub icu_unwritable : (text name : List ℕ) (fallback : Bool) (t : Tree) (ks : List (List ℕ))
     (e : BinarySerializerError) → IcuText text name fallback t ks → RefusesWriting t ks (fault_of e)
-    → IsIcuUnwritable text e
+    → Unwritable (IcuText text) RefusesWriting e
 icu_unwritable text name fallback t ks e b h = record {
   bundle = record { name = name; fallback = fallback; tree = t; keys = ks; is = b };
   refused = h;
@@ -100,10 +97,10 @@ pub writing_refused_with : {X : Type 0} (pool : Pool) (text name : List ℕ) (fa
     (t : Tree) (ks : List (List ℕ)) (e : BinarySerializerError)
     → BundleText text name fallback t ks → RefusesWritingWith pool t ks (fault_of e)
     → (r : Result X CompileError) → IsErrAnd r (λ made. made ≡ Writing e)
-    → IfErr r (IsRefusedWithPool pool text)
+    → IfErr r (IsRefusedBy (RefusesWritingWith pool) text)
 writing_refused_with pool text name fallback t ks e b h (Ok x) is = tt
 writing_refused_with pool text name fallback t ks e b h (Err made) is =
-    subst (IsRefusedWithPool pool text) (sym is) (record {
+    subst (IsRefusedBy (RefusesWritingWith pool) text) (sym is) (record {
       bundle = record { name = name; fallback = fallback; tree = t; keys = ks; is = b };
       refused = h;
       listed = never_unlisted_with pool t ks (listed text name fallback t ks b) (fault_of e) h;
@@ -113,10 +110,10 @@ pub icu_writing_refused_with : {X : Type 0} (pool : Pool) (text name : List ℕ)
     (t : Tree) (ks : List (List ℕ)) (e : BinarySerializerError)
     → IcuText text name fallback t ks → RefusesWritingWith pool t ks (fault_of e)
     → (r : Result X IcuCompileError) → IsErrAnd r (λ made. made ≡ icu.Writing e)
-    → IfErr r (IsIcuRefusedWithPool pool text)
+    → IfErr r (IsIcuRefusedBy (RefusesWritingWith pool) text)
 icu_writing_refused_with pool text name fallback t ks e b h (Ok x) is = tt
 icu_writing_refused_with pool text name fallback t ks e b h (Err made) is =
-    subst (IsIcuRefusedWithPool pool text) (sym is) (record {
+    subst (IsIcuRefusedBy (RefusesWritingWith pool) text) (sym is) (record {
       bundle = record { name = name; fallback = fallback; tree = t; keys = ks; is = b };
       refused = h;
       listed = never_unlisted_with pool t ks (icu_listed text name fallback t ks b) (fault_of e) h;
@@ -125,10 +122,11 @@ icu_writing_refused_with pool text name fallback t ks e b h (Err made) is =
 -- what the reader refuses is refused over each pool
 pub icu_reading_refused_with : {X : Type 0} (pool : Pool) (text : List ℕ) (e : IcuTextError)
     → IsIcuUnreadable text e → (r : Result X IcuCompileError)
-    → IsErrAnd r (λ made. made ≡ icu.Reading e) → IfErr r (IsIcuRefusedWithPool pool text)
+    → IsErrAnd r (λ made. made ≡ icu.Reading e)
+    → IfErr r (IsIcuRefusedBy (RefusesWritingWith pool) text)
 icu_reading_refused_with pool text e h (Ok x) is = tt
 icu_reading_refused_with pool text e h (Err made) is =
-    subst (IsIcuRefusedWithPool pool text) (sym is) h
+    subst (IsIcuRefusedBy (RefusesWritingWith pool) text) (sym is) h
 
 -- the keys of what rules leave of a text's tree are listed
 filtered_listed : (rules : List Rule) (text : List ℕ) (b : IsIcuBundle text)
@@ -139,7 +137,7 @@ filtered_listed rules text b k h =
 -- what the writer refuses of what rules leave is refused for its reason
 pub filtered_unwritable : (rules : List Rule) (text : List ℕ) (e : BinarySerializerError)
     (b : IsIcuBundle text) → RefusesWriting (filtered rules b.tree) b.keys (fault_of e)
-    → IsFilteredUnwritable rules text e
+    → Unwritable (IcuText text) (λ t. RefusesWriting (filtered rules t)) e
 filtered_unwritable rules text e b h = record {
   bundle = b;
   refused = h;
@@ -150,7 +148,7 @@ filtered_unwritable rules text e b h = record {
 pub filtered_unwritable_with : (rules : List Rule) (pool : Pool) (text : List ℕ)
     (e : BinarySerializerError) (b : IsIcuBundle text)
     → RefusesWritingWith pool (filtered rules b.tree) b.keys (fault_of e)
-    → IsFilteredUnwritableWithPool rules pool text e
+    → Unwritable (IcuText text) (λ t. RefusesWritingWith pool (filtered rules t)) e
 filtered_unwritable_with rules pool text e b h = record {
   bundle = b;
   refused = h;
@@ -160,14 +158,15 @@ filtered_unwritable_with rules pool text e b h = record {
 
 -- a text that isn't filtered isn't compiled for the same reason
 pub unfiltered_refused : (rules : List Rule) (text : List ℕ) (e : IcuCompileError)
-    → IsUnfiltered text e → IsFilteredRefused rules text e
+    → IsUnfiltered text e → IsIcuRefusedBy (λ t. RefusesWriting (filtered rules t)) text e
 unfiltered_refused rules text (icu.Reading e) h = h
 unfiltered_refused rules text (icu.Writing e) h =
     filtered_unwritable rules text e h.0
     (subst (λ f. RefusesWriting (filtered rules h.0.tree) h.0.keys f) (sym h.1) no_memory)
 
 pub unfiltered_refused_with : (rules : List Rule) (pool : Pool) (text : List ℕ)
-    (e : IcuCompileError) → IsUnfiltered text e → IsFilteredRefusedWithPool rules pool text e
+    (e : IcuCompileError) → IsUnfiltered text e
+    → IsIcuRefusedBy (λ t. RefusesWritingWith pool (filtered rules t)) text e
 unfiltered_refused_with rules pool text (icu.Reading e) h = h
 unfiltered_refused_with rules pool text (icu.Writing e) h =
     filtered_unwritable_with rules pool text e h.0

@@ -13,12 +13,10 @@ pub use Rattle.resb_icu_text.specs.Refusal as IcuRefusal
 pub use Rattle.resb_layout.specs.WritingFault
 pub use Rattle.resb_layout.specs.TreeFaults
 pub use Rattle.resb_layout.specs.Written
-pub use Rattle.resb_layout.specs.WrittenCompact
 pub use Rattle.resb_write.specs.FaultOf
 pub use Rattle.resb_write.specs.WrittenWith
 pub use Rattle.resb_pool_bundle.specs.Pool
+pub mod Compiled
 pub mod Compiling
 pub mod CompilingIcu
-pub mod CompilingCompact
-pub mod CompilingWithPool
 pub mod CompilingFiltered

@@ -1,11 +1,12 @@
 //! From a text of ICU's form to the bytes of its compact file.
 //! The way to a file in which each key stands by itself is in `compiling_icu`.
 ghost use Rattle.std.specs.Prelude.{IfOk, IfErr};
+ghost use Rattle.resb_icu_grammar.specs.Bundle.{IcuText};
 ghost use Rattle.resb_pool_bundle.specs.Pool.{pool_in};
-ghost use Rattle.resb_compile.specs.CompilingIcu.{IsIcuRefused};
-ghost use Rattle.resb_compile.specs.CompilingWithPool.{IsIcuRefusedWithPool};
-ghost use Rattle.resb_compile.specs.CompilingCompact.{IsIcuCompiledCompact};
-ghost use Rattle.resb_compile.specs.CompilingCompact.{IsIcuCompiledCompactWithPool};
+ghost use Rattle.resb_layout.specs.Written.{WrittenCompact};
+ghost use Rattle.resb_write.specs.WrittenWith.{WrittenCompactWith, RefusesWritingWith};
+ghost use Rattle.resb_compile.specs.Compiled.{Compiled};
+ghost use Rattle.resb_compile.specs.CompilingIcu.{IsIcuRefused, IsIcuRefusedBy};
 
 use crate::compiling_icu::IcuCompileError;
 use resb_icu_text::IcuReader;
@@ -19,7 +20,7 @@ use std::alloc::Global;
 pub fn compile_icu_compact(alloc: Global, text: &str) -> Result<Vec<u8>, IcuCompileError>
     // The text is a bundle in ICU's form, and the compact file denotes its tree where aliases are
     // read, with its flag in the index.
-    ensures ok { IfOk result (λ file. IsIcuCompiledCompact text.now file.items) }
+    ensures ok { IfOk result (λ file. Compiled (IcuText text.now) (WrittenCompact file.items)) }
     // The text is refused for what `compile_icu` refuses it for.
     ensures err { IfErr result (IsIcuRefused text.now) }
 {
@@ -38,9 +39,10 @@ pub fn compile_icu_compact_with_pool(
 ) -> Result<Vec<u8>, IcuCompileError>
     // The text is a bundle in ICU's form, and the compact file denotes its tree beside the pool.
     ensures ok { IfOk result
-        (λ file. IsIcuCompiledCompactWithPool (pool_in pool.now) text.now file.items) }
+        (λ file. Compiled (IcuText text.now) (WrittenCompactWith (pool_in pool.now) file.items)) }
     // The text is refused for what `compile_icu_with_pool` refuses it for.
-    ensures err { IfErr result (IsIcuRefusedWithPool (pool_in pool.now) text.now) }
+    ensures err { IfErr result
+        (IsIcuRefusedBy (RefusesWritingWith (pool_in pool.now)) text.now) }
 {
     let (bundle, keys) = IcuReader::read_draft(alloc, text)?;
     let fallback = bundle.is_locale_fallback_enabled;

@@ -4,12 +4,16 @@
 //! `compiling_with_pool`.
 ghost use Rattle.std.specs.Prelude.{◌≡◌, true, IfOk, IfErr};
 ghost use Rattle.resb_draft.specs.Drafts.{is_ready, draft_tree};
+ghost use Rattle.resb_filter.specs.Filtered.{filtered};
 ghost use Rattle.resb_filter.specs.View.{rules_of};
+ghost use Rattle.resb_icu_grammar.specs.Bundle.{IcuText};
+ghost use Rattle.resb_layout.specs.Written.{Written};
+ghost use Rattle.resb_layout.specs.TreeFaults.{RefusesWriting};
 ghost use Rattle.resb_pool_bundle.specs.Pool.{pool_in};
+ghost use Rattle.resb_write.specs.WrittenWith.{WrittenWith, RefusesWritingWith};
+ghost use Rattle.resb_compile.specs.Compiled.{Compiled};
 ghost use Rattle.resb_compile.specs.CompilingFiltered.{IsFilteredBundle, IsUnfiltered};
-ghost use Rattle.resb_compile.specs.CompilingFiltered.{IsIcuFiltered, IsFilteredRefused};
-ghost use Rattle.resb_compile.specs.CompilingFiltered.{IsIcuFilteredWithPool};
-ghost use Rattle.resb_compile.specs.CompilingFiltered.{IsFilteredRefusedWithPool};
+ghost use Rattle.resb_compile.specs.CompilingIcu.{IsIcuRefusedBy};
 
 use crate::compiling_icu::IcuCompileError;
 use resb_draft::DraftBundle;
@@ -57,8 +61,13 @@ pub fn compile_icu_filtered(
     text: &str,
     rules: &Rules<'_>,
 ) -> Result<Vec<u8>, IcuCompileError>
-    ensures ok { IfOk result (λ file. IsIcuFiltered (rules_of rules.now) text.now file.items) }
-    ensures err { IfErr result (IsFilteredRefused (rules_of rules.now) text.now) }
+    // The text is a bundle, and the file is written of what the rules leave of its tree, with its
+    // flag and keys.
+    ensures ok { IfOk result (λ file. Compiled (IcuText text.now)
+        (λ t. Written file.items (filtered (rules_of rules.now) t))) }
+    // The reader refuses the text, or the writer refuses what the rules leave of its tree.
+    ensures err { IfErr result
+        (IsIcuRefusedBy (λ t. RefusesWriting (filtered (rules_of rules.now) t)) text.now) }
 {
     let (bundle, keys) = read_icu_filtered(alloc, text, rules)?;
     let flag = bundle.is_locale_fallback_enabled;
@@ -73,10 +82,10 @@ pub fn compile_icu_filtered_with_pool(
     rules: &Rules<'_>,
     pool: &PoolBundle<'_>,
 ) -> Result<Vec<u8>, IcuCompileError>
-    ensures ok { IfOk result (λ file. IsIcuFilteredWithPool (rules_of rules.now)
-        (pool_in pool.now) text.now file.items) }
-    ensures err { IfErr result
-        (IsFilteredRefusedWithPool (rules_of rules.now) (pool_in pool.now) text.now) }
+    ensures ok { IfOk result (λ file. Compiled (IcuText text.now)
+        (λ t. WrittenWith (pool_in pool.now) file.items (filtered (rules_of rules.now) t))) }
+    ensures err { IfErr result (IsIcuRefusedBy
+        (λ t. RefusesWritingWith (pool_in pool.now) (filtered (rules_of rules.now) t)) text.now) }
 {
     let (bundle, keys) = read_icu_filtered(alloc, text, rules)?;
     let flag = bundle.is_locale_fallback_enabled;

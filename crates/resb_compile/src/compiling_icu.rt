@@ -98,8 +98,8 @@ impl fmt::Display for IcuCompileWithinError {
 impl Error for IcuCompileWithinError {}
 
 /// The bytes of the `.res` file of a bundle's text in ICU's own form, where reading the text makes
-/// no more bytes than the limit, as `IcuReader::read_draft_within` counts them. The limit is for the
-/// reading: what the writer takes beside it is not within it.
+/// no more bytes than the limit, as `IcuReader::read_draft_within` counts them. The limit is for
+/// the reading: what the writer takes beside it is not within it.
 pub fn compile_icu_within(
     alloc: Global,
     text: &str,

@@ -15,20 +15,35 @@ begins_line text (suc n) = slice_index text n == line_feed
 abbrev pub IsOneLine : List ℕ → ℕ → ℕ → Type 0
 IsOneLine text from to = (k : ℕ) → from ≤ k → k < to → slice_index text k ≡ line_feed → ⊥
 
--- what is shown begins there: with the line, or 57 to 60 bytes before the place
+-- no character begins from one place up to another
+abbrev pub BeginsNone : List ℕ → ℕ → ℕ → Type 0
+BeginsNone text from to =
+    (k : ℕ) → from ≤ k → k < to → begins_character (slice_index text k) ≡ false
+
+-- what is shown is cut there: at the first character that begins from the lowest place on, or three
+-- bytes behind that place where none begins before
+pub record CutsExcerpt (text : List ℕ) (low at : ℕ) : Type 0 where
+  pub order : low ≤ at
+  pub near : at ≤ low + 3
+  pub before : BeginsNone text low at
+  pub stands : (begins_character (slice_index text at) ≡ true) ⊎ (at ≡ low + 3)
+
+-- what is shown begins there: with the line, or where that is cut from 60 bytes before the place on
 pub record StartsExcerpt (text : List ℕ) (place from : ℕ) : Type 0 where
   pub order : from ≤ place
   pub line : IsOneLine text from place
   pub near : place ≤ from + 60
-  pub whole : (begins_line text from ≡ true) ⊎ (from + 57 ≤ place)
+  pub whole : (begins_line text from ≡ true)
+      ⊎ ((low : ℕ) × (low + 60 ≡ place) × CutsExcerpt text low from)
 
--- what is shown ends there: with the line, or 60 to 63 bytes behind the place
+-- what is shown ends there: with the line, or where that is cut from 60 bytes behind the place on
 pub record EndsExcerpt (text : List ℕ) (place to : ℕ) : Type 0 where
   pub order : place ≤ to
   pub fits : to ≤ length text
   pub line : IsOneLine text place to
   pub near : to ≤ place + 63
-  pub whole : ((to ≡ length text) ⊎ (slice_index text to ≡ line_feed)) ⊎ (place + 60 ≤ to)
+  pub whole : ((to ≡ length text) ⊎ (slice_index text to ≡ line_feed))
+      ⊎ CutsExcerpt text (place + 60) to
 
 -- a character of control, or a mark that sets the direction of the text behind it
 abbrev pub is_hidden : ℕ → Bool

@@ -3,7 +3,7 @@
 ghost use Rattle.std.specs.Prelude.{◌≡◌, ◌+◌, ◌-◌, ◌≤◌, ◌++◌, ◌↔◌, Bool, true, false, length, min};
 ghost use Rattle.std.specs.Prelude.{replicate, OnOk, IfOk, IsTrue, IsUtf8, string_bytes};
 ghost use Rattle.resb_diagnostics.specs.Excerpt as excerpt;
-ghost use Rattle.resb_diagnostics.specs.Excerpt.{StartsExcerpt, EndsExcerpt, PointsAt};
+ghost use Rattle.resb_diagnostics.specs.Excerpt.{StartsExcerpt, EndsExcerpt, CutsExcerpt, PointsAt};
 
 use crate::location::begins_character;
 use std::alloc::{AllocError, Global};
@@ -27,7 +27,7 @@ fn excerpt_start(text: &[u8], place: usize) -> usize
     let mut from = place;
     'back: while !begins_line(text, from) {
         if place - from == REACH {
-            return character_start(text, from, place);
+            return character_start(text, from);
         }
         from -= 1;
     }
@@ -35,12 +35,11 @@ fn excerpt_start(text: &[u8], place: usize) -> usize
 }
 
 /// The first byte from a place on that begins a character, at most three bytes on.
-fn character_start(text: &[u8], from: usize, place: usize) -> usize
-    requires order { from ≤ place }
-    requires fits { place ≤ length text.now }
-    ensures { (from ≤ result) × (result ≤ place) × (result ≤ from + 3) }
+fn character_start(text: &[u8], from: usize) -> usize
+    requires { from + 3 ≤ length text.now }
+    ensures { CutsExcerpt text.now from result }
 {
-    let last = place.min(from + 3);
+    let last = from + 3;
     for at in from..last {
         if begins_character(text[at]) {
             return at;

@@ -14,6 +14,7 @@ ghost use Rattle.resb_diagnostics.specs.Inner.IcuTokens.{IsWordRest};
 use crate::runs::{block_end, string_stop};
 
 /// Whether this byte ends a line: LF or CR.
+#[inline(always)]
 fn is_line_end(byte: u8) -> bool
     ensures { result ≡ bytes.is_line_end byte }
 {
@@ -21,6 +22,7 @@ fn is_line_end(byte: u8) -> bool
 }
 
 /// Whether a byte may stand in an unquoted string.
+#[inline(always)]
 fn is_unquoted(byte: u8) -> bool
     ensures { result ≡ words.is_unquoted byte }
 {
@@ -31,6 +33,7 @@ fn is_unquoted(byte: u8) -> bool
 }
 
 /// Whether a comment begins at a place, or seems to.
+#[inline(always)]
 fn begins_comment(text: &[u8], at: usize) -> bool
     requires { at < length text.now }
     ensures { result ≡ unquoted.begins_comment text.now at }
@@ -39,6 +42,7 @@ fn begins_comment(text: &[u8], at: usize) -> bool
 }
 
 /// Whether a word goes on with the byte at a place.
+#[inline(always)]
 pub(crate) fn word_goes_on(text: &[u8], at: usize) -> bool
     requires { at < length text.now }
     ensures { result ≡ spec.word_goes_on text.now at }
@@ -47,6 +51,7 @@ pub(crate) fn word_goes_on(text: &[u8], at: usize) -> bool
 }
 
 /// Where a word ends that goes on from a place.
+#[inline(always)]
 pub(crate) fn icu_word_end(text: &[u8], from: usize) -> usize
     requires { from ≤ length text.now }
     ensures { IsWordRest text.now from result }
@@ -62,6 +67,7 @@ pub(crate) fn icu_word_end(text: &[u8], from: usize) -> usize
 
 /// Behind the quote that closes a string, or the text's end if none does. A backslash hides the
 /// byte behind it.
+#[inline(always)]
 pub(crate) fn quotes_end(text: &[u8], from: usize) -> usize
     requires fits { from ≤ length text.now }
     requires quoted { IsInQuotes text.now from }
@@ -115,6 +121,7 @@ pub(crate) fn icu_comment_end(text: &[u8], at: usize) -> usize
 
 /// Whether a line ended before a place, behind the last byte of a word or in quotes. No such byte
 /// stands from another place on, before which a line ended or not.
+#[inline(always)]
 pub(crate) fn ended_behind(text: &[u8], from: usize, to: usize, has_ended: bool) -> bool
     requires order { from ≤ to }
     requires fits { to ≤ length text.now }

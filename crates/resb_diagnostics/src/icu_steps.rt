@@ -23,6 +23,7 @@ pub(crate) struct IcuStep {
 }
 
 /// What stands at a place between tokens where no blank does, and before which a line ended or not.
+#[inline(always)]
 pub(crate) fn next_step(text: &[u8], at: usize, has_ended: bool) -> IcuStep
     requires fits { at < length text.now }
     requires between { IsIcuBetween text.now at }
@@ -55,6 +56,7 @@ pub(crate) fn next_step(text: &[u8], at: usize, has_ended: bool) -> IcuStep
 }
 
 /// The piece in quotes that begins at a place.
+#[inline(always)]
 fn piece(text: &[u8], at: usize) -> IcuStep
     requires fits { at < length text.now }
     requires between { IsIcuBetween text.now at }
@@ -69,6 +71,7 @@ fn piece(text: &[u8], at: usize) -> IcuStep
 }
 
 /// The word that begins at a place.
+#[inline(always)]
 fn word(text: &[u8], at: usize) -> IcuStep
     requires fits { at < length text.now }
     requires between { IsIcuBetween text.now at }
@@ -100,6 +103,7 @@ fn comment(text: &[u8], at: usize, has_ended: bool) -> IcuStep
 }
 
 /// The token that is the byte at a place, if it is one.
+#[inline(always)]
 fn sign(at: usize, byte: u8) -> Option<IcuToken>
     ensures { result ≡ icu_sign at byte }
 {

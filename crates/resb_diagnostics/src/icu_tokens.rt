@@ -65,6 +65,7 @@ pub(crate) enum IcuLast {
 }
 
 /// Whether a `:` stands right before a place.
+#[inline(always)]
 pub(crate) fn is_behind_colon(text: &[u8], place: usize) -> bool
     requires { place < length text.now }
     ensures { result ≡ spec.is_behind_colon text.now place }
@@ -73,6 +74,7 @@ pub(crate) fn is_behind_colon(text: &[u8], place: usize) -> bool
 }
 
 /// Whether this is one decimal digit.
+#[inline(always)]
 fn is_digit(word: &[u8]) -> bool
     ensures { result ≡ spec.is_digit word.now }
 {
@@ -85,6 +87,7 @@ fn is_digit(word: &[u8]) -> bool
 impl IcuLast {
     /// The last token behind a word that stands between two places, where a line ended before it or
     /// not.
+    #[inline(always)]
     fn behind_word(self, text: &[u8], from: usize, to: usize, has_ended: bool) -> IcuLast
         requires order { from < to }
         requires fits { to ≤ length text.now }
@@ -112,6 +115,7 @@ impl IcuLast {
 
     /// The last token behind a word at a place, which is no type, and one digit or not. A line
     /// ended before it or not.
+    #[inline(always)]
     fn behind_plain_word(self, place: usize, has_ended: bool, is_digit: bool) -> IcuLast
         ensures { result ≡ spec.behind_plain_word place has_ended is_digit self }
     {
@@ -124,6 +128,7 @@ impl IcuLast {
     }
 
     /// The last token behind a `{` at a place.
+    #[inline(always)]
     fn behind_open(self, place: usize) -> IcuLast
         ensures { result ≡ spec.behind_open place self }
     {
@@ -141,6 +146,7 @@ impl IcuLast {
     }
 
     /// The last token behind a `}`.
+    #[inline(always)]
     fn behind_close(self) -> IcuLast
         ensures { result ≡ spec.behind_close self }
     {
@@ -151,6 +157,7 @@ impl IcuLast {
     }
 
     /// The last token behind a piece or a word at a place, where a line ended before it or not.
+    #[inline(always)]
     fn behind_string(self, place: usize, has_ended: bool) -> IcuLast
         ensures { result ≡ spec.behind_string place has_ended self }
     {
@@ -169,6 +176,7 @@ impl IcuLast {
     }
 
     /// The last token behind one more, where a line ended before it or not.
+    #[inline(always)]
     pub(crate) fn behind(self, text: &[u8], token: IcuToken, has_ended: bool) -> IcuLast
         requires inside { Fits text.now token }
         requires ended { IsEndedBefore text.now token has_ended }
@@ -185,6 +193,7 @@ impl IcuLast {
 }
 
 /// The first piece or word of a string that stands behind a line's end.
+#[inline(always)]
 fn first_joined(joined: Option<usize>, has_ended: bool, place: usize) -> Option<usize>
     ensures { result ≡ spec.first_joined joined has_ended place }
 {

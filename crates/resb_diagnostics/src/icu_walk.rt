@@ -34,6 +34,7 @@ impl<'a> IcuWalk<'a> {
     }
 
     /// Goes on behind blanks.
+    #[inline(always)]
     pub(crate) fn pass_blanks(&mut self)
         requires more { self.old.at < length self.old.text.now }
         requires walk { IsIcuWalk self.old self.old.text.now }
@@ -48,6 +49,7 @@ impl<'a> IcuWalk<'a> {
     }
 
     /// Goes on behind what stands there, where no blank does: a token, or what is none.
+    #[inline(always)]
     pub(crate) fn pass_token(&mut self) -> Option<IcuToken>
         requires more { self.old.at < length self.old.text.now }
         requires walk { IsIcuWalk self.old self.old.text.now }

@@ -53,6 +53,7 @@ impl<'a> Look<'a> {
     }
 
     /// Goes on behind blanks and what stands behind them, or to the text's end.
+    #[inline(always)]
     fn advance(&mut self) -> Result<(), AllocError>
         requires more { self.old.walk.at < length self.old.walk.text.now }
         requires looked { HasLooked self.old self.old.walk.text.now }
@@ -70,6 +71,7 @@ impl<'a> Look<'a> {
 
     /// Adds the warning that a token brings out, if one comes, and goes on behind it. A line ended
     /// before it or not.
+    #[inline(always)]
     fn take(&mut self, token: Option<IcuToken>, has_ended: bool) -> Result<(), AllocError>
         requires inside { IsIn self.old.walk.text.now token }
         requires ended { IsEndedAt self.old.walk.text.now token has_ended }
@@ -92,6 +94,7 @@ impl<'a> Look<'a> {
 }
 
 /// The warning that a token brings out behind the last one.
+#[inline(always)]
 fn told(text: &[u8], token: IcuToken, last: IcuLast) -> Option<Warning>
     requires { Fits text.now token }
     ensures { result ≡ spec.of_icu_token text.now token last }
@@ -109,6 +112,7 @@ fn told(text: &[u8], token: IcuToken, last: IcuLast) -> Option<Warning>
 }
 
 /// Whether a string in a row may go on with this token.
+#[inline(always)]
 fn is_string(text: &[u8], token: IcuToken) -> bool
     requires { Fits text.now token }
     ensures { result ≡ spec.is_string text.now token }

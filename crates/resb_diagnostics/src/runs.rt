@@ -10,7 +10,6 @@ ghost use Rattle.resb_diagnostics.specs.Inner.Tokens.{IsLineRest, IsBlockRest};
 
 use memchr::memchr;
 use resb_grammar::is_word;
-use std::simd::prelude::*;
 
 /// Where this byte stands first, from one place on and before another.
 pub(crate) fn first_byte(text: &[u8], byte: u8, from: usize, to: usize) -> Option<usize>
@@ -31,13 +30,7 @@ fn bytes_before(text: &[u8], from: usize, byte: u8) -> usize
     ensures before { NoByte byte text.now from (from + result) }
     ensures stands { result < 16 → slice_index text.now (from + result) ≡ byte }
 {
-    let sixteen = u8x16::from_slice(&text[from..]);
-    let places = sixteen.simd_eq(u8x16::splat(byte)).to_bitmask();
-    if places == 0 {
-        16
-    } else {
-        places.trailing_zeros() as usize
-    }
+    resb_grammar::bytes_before(text, from, byte)
 }
 
 /// The same where the byte is thought to be near: sixteen bytes are looked at at once.

@@ -10,7 +10,7 @@ use Rattle.resb.specs.Content.{Member, word, unit}
 use Rattle.resb.specs.Int28.{signed}
 use Rattle.resb.specs.Reading.{Lacks}
 use Rattle.resb.specs.Leaves.{type_in, value_in, signed_at, key_from, bytes_from, bytes_of_type}
-use Rattle.resb.specs.Leaves.{ReadsKey, CountsKey, CountsView}
+use Rattle.resb.specs.Leaves.{CountsOf, ReadsKey, ReadsView}
 use Rattle.resb.specs.Bytes.{units_as_bytes}
 use Rattle.resb.specs.Spots.{cost_at}
 use Rattle.resb.specs.Sequences.{at_entry, entries_in, entries_from, entries_at}
@@ -51,7 +51,7 @@ key_at_spot p (spot.Unit u) q e = cc
 key_at_spot p (spot.Word w) q e = cc
 
 -- a key costs nothing
-pub key_is_free : (p : Place) (n : ℕ) → CountsKey p n → n ≡ 0
+pub key_is_free : (p : Place) (n : ℕ) → CountsOf ReadsKey p n → n ≡ 0
 key_is_free p n (x, h) = key_at_spot p.parts p.at (x, n) h.1
 
 number_at_spot : (s : Spot) (q : ℤ × ℕ) → cost_at s ≡ 1 → signed_at s ≡ Some q → q.1 ≡ 1
@@ -74,7 +74,8 @@ bytes_at_spot p (spot.Word w) q c e = absurd (omega arith)
 bytes_at_spot p (spot.Key k) q c e = absurd (omega arith)
 
 -- and so does a view
-pub view_costs : (each : ℕ) (p : Place) (n : ℕ) → cost_at p.at ≡ 1 → CountsView each p n → n ≡ 1
+pub view_costs : (each : ℕ) (p : Place) (n : ℕ) → cost_at p.at ≡ 1 → CountsOf (ReadsView each) p n
+    → n ≡ 1
 view_costs each p n c (x, h) = bytes_at_spot p.parts p.at (x, n) c h.1
 
 -- a key has one text
@@ -97,8 +98,9 @@ module _ (e : Place
       let (m, value) = h.base (one_name e.0 h.name name n k there named ∙ same) in
       lacks_one (CountsNumber e.1) left m value (number_costs e.1 m is.1 value) lacks
 
-  pub lacks_pairs : name ≡ pairs_name → Lacks (CountsView 8 e.1) left → IsReadable e → left ≡ 0
+  pub lacks_pairs : name ≡ pairs_name → Lacks (CountsOf (ReadsView 8) e.1) left → IsReadable e
+      → left ≡ 0
   lacks_pairs same lacks h =
       let (n, there) = h.named in
       let (m, value) = h.pairs (one_name e.0 h.name name n k there named ∙ same) in
-      lacks_one (CountsView 8 e.1) left m value (view_costs 8 e.1 m is.1 value) lacks
+      lacks_one (CountsOf (ReadsView 8) e.1) left m value (view_costs 8 e.1 m is.1 value) lacks

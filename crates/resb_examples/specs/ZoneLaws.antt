@@ -5,7 +5,7 @@ use Rattle.std.specs.Cmp.Lexicographic.{slice_cmp}
 use Rattle.std.proofs.Common.{sym, ap, ◌∙◌, arith}
 use Rattle.std.proofs.lemmas.Option.{same_Some}
 use Rattle.resb.specs.Places.{Place}
-use Rattle.resb.specs.Leaves.{ReadsKey, CountsKey}
+use Rattle.resb.specs.Leaves.{CountsOf, ReadsKey}
 use Rattle.resb.specs.TypeLaws.{key_counted, key_one}
 use Rattle.resb.specs.TypeLaws.{map_counted, map_one}
 use Rattle.resb_examples.specs.Zones.{ReadsZone, CountsZone, ReadsZoneTable, CountsZoneTable}
@@ -36,10 +36,10 @@ zone_one p m n h k =
 -- a table of zones that is read has its count
 pub table_counted : (p : Place) (t : ZoneTable) (n : ℕ) → ReadsZoneTable p t n → CountsZoneTable p n
 table_counted p t n =
-    map_counted (λ q s m. ReadsKey q s.now m) ReadsZone CountsKey CountsZone
+    map_counted (λ q s m. ReadsKey q s.now m) ReadsZone (CountsOf ReadsKey) CountsZone
     (λ q s m. key_counted q s.now m) zone_counted (λ x y. slice_cmp nat_cmp x.now y.now)
     p t.zones.entries n
 
 -- a table of zones has one count
 pub table_one : (p : Place) (m n : ℕ) → CountsZoneTable p m → CountsZoneTable p n → m ≡ n
-table_one = map_one CountsKey CountsZone key_one zone_one
+table_one = map_one (CountsOf ReadsKey) CountsZone key_one zone_one

@@ -14,8 +14,7 @@ use Rattle.std.specs.BTreeMap.{get_by}
 use Rattle.std.specs.List.{All}
 use Rattle.std.specs.Cmp.Lexicographic.{slice_cmp}
 use Rattle.resb.specs.Places.{Place}
-use Rattle.resb.specs.Leaves.{ReadsSigned, CountsSigned, ReadsKey, CountsKey}
-use Rattle.resb.specs.Leaves.{ReadsView, CountsView}
+use Rattle.resb.specs.Leaves.{CountsOf, ReadsSigned, ReadsKey, ReadsView}
 use Rattle.resb.specs.Sequences.{entries_at, ReadsMap, CountsMap}
 use Rattle.resb.specs.Views.{pair_bytes}
 use Rattle.resb_examples.specs.declared.zones.zone.Zone.{Zone}
@@ -35,7 +34,7 @@ ReadsNumber = ReadsSigned (negsuc (2 ^ 31 - 1)) (pos (2 ^ 31 - 1))
 
 -- such a number takes so many resources
 abbrev pub CountsNumber : Place → ℕ → Type 0
-CountsNumber = CountsSigned (negsuc (2 ^ 31 - 1)) (pos (2 ^ 31 - 1))
+CountsNumber = CountsOf ReadsNumber
 
 -- the entry's key is this text
 abbrev pub IsNamed : List ℕ → Place × Place → Type 0
@@ -46,7 +45,7 @@ pub record IsReadable (e : Place × Place) : Type 0 where
   pub name : List ℕ
   pub named : IsNamed name e
   pub base : name ≡ base_name → (n : ℕ) × CountsNumber e.1 n
-  pub pairs : name ≡ pairs_name → (n : ℕ) × CountsView 8 e.1 n
+  pub pairs : name ≡ pairs_name → (n : ℕ) × CountsOf (ReadsView 8) e.1 n
 
 -- of the entries with this name, the last one's value stands at this place
 pub record IsLastNamed (name : List ℕ) (places : List (Place × Place)) (value : Place)
@@ -91,7 +90,7 @@ ReadsZoneTable p t n =
 
 -- such a map takes so many resources
 abbrev pub CountsZoneTable : Place → ℕ → Type 0
-CountsZoneTable = CountsMap CountsKey CountsZone
+CountsZoneTable = CountsMap (CountsOf ReadsKey) CountsZone
 
 -- each entry can be read and paid for, but there is no `base`, or no `pairs`
 pub record LacksField (p : Place) (left : ℕ) : Type 0 where

@@ -6,7 +6,8 @@
 --     ReadsRecord                 a table, and what is made of its fields; it counts as one, and
 --                                 each of its entries as one, besides what the fields take
 --     missing                     what is said of a field that has to be there and isn't
---     RefusesNext                 the first field that is refused, with its name
+--     RefusesNext                 the first field that is refused, by its name, with an error or
+--                                 with what is to blame
 --     RefusesRecord               no table, or the first field that is refused
 -- A field that may be left out is read as `ReadsFound` of the reader says.
 use Rattle.std.specs.Prelude.{◌≡◌, ◌+◌, ◌⊎◌, ℕ, List, [], ◌∷◌, Option, Some, None, length, codes}
@@ -16,7 +17,7 @@ use Rattle.resb_format.specs.declared.error.ReadingError.{ReadingError}
 use Rattle.resb_walk.specs.BlockRefusals.{Says}
 use Rattle.resb_read.specs.Places.{Place}
 use Rattle.resb_read.specs.Sequences.{entries_at}
-use Rattle.resb_read.specs.RefusedReadings.{RefusesThere}
+use Rattle.resb_read.specs.RefusedReadings.{RefusesThere, RefusesBehind}
 use Rattle.resb_read.specs.Tables.{last_named, RefusesTable}
 
 -- the places of a key and its value
@@ -68,25 +69,16 @@ CountsNext first later [] es n = ⊥
 CountsNext first later (name ∷ names) es n =
     (a : ℕ) × (b : ℕ) × first (last_named name es) a × later names es b × (n ≡ a + b)
 
--- the first name's field has its count, and one of the others is refused with what it leaves
-pub record RefusesLater (first : Option Place → ℕ → Type 0)
-    (later : List (List ℕ) → List Entry → ℕ → ℕ → ReadingError → Type 0) (name : List ℕ)
-    (names : List (List ℕ)) (es : List Entry) (left left' : ℕ) (e : ReadingError) : Type 0 where
-  pub spent : ℕ
-  pub here : ℕ
-  pub counted : first (last_named name es) spent
-  pub paid : here + spent ≡ left
-  pub refused : later names es here left' e
-
--- the field of the first name is refused at the last entry of that name, or else one of the others
-abbrev pub RefusesNext : (Option Place → ℕ → Type 0)
-    → (Option Place → ℕ → ℕ → ReadingError → Type 0)
-    → (List (List ℕ) → List Entry → ℕ → ℕ → ReadingError → Type 0)
-    → List (List ℕ) → List Entry → ℕ → ℕ → ReadingError → Type 0
+-- the field of the first name is refused by that name, at the last entry of it; or else one of the
+-- others, with what that field leaves
+abbrev pub RefusesNext : {E : Type 0} → (Option Place → ℕ → Type 0)
+    → (List ℕ → Option Place → ℕ → ℕ → E → Type 0)
+    → (List (List ℕ) → List Entry → ℕ → ℕ → E → Type 0)
+    → List (List ℕ) → List Entry → ℕ → ℕ → E → Type 0
 RefusesNext counts first later [] es left left' e = ⊥
 RefusesNext counts first later (name ∷ names) es left left' e =
-    first (last_named name es) left left' e
-    ⊎ RefusesLater counts later name names es left left' e
+    first name (last_named name es) left left' e
+    ⊎ RefusesBehind (counts (last_named name es)) (later names es) left left' e
 
 -- the record is made of the fields of a table; the count is 1, one for each entry, and the fields'
 -- own
@@ -110,9 +102,8 @@ pub record CountsRecord (counts : List (List ℕ) → List Entry → ℕ → Typ
   pub count : n ≡ 1 + length places + total
 
 -- a table stands there and is paid for, and one of its fields is refused with what is left
-pub record RefusesField
-    (refuses : List (List ℕ) → List Entry → ℕ → ℕ → ReadingError → Type 0)
-    (names : List (List ℕ)) (p : Place) (left left' : ℕ) (e : ReadingError) : Type 0 where
+pub record RefusesField {E : Type 0} (refuses : List (List ℕ) → List Entry → ℕ → ℕ → E → Type 0)
+    (names : List (List ℕ)) (p : Place) (left left' : ℕ) (e : E) : Type 0 where
   pub places : List Entry
   pub inside : ℕ
   pub are : entries_at p ≡ Some places

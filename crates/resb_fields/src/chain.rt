@@ -85,7 +85,7 @@ impl<'de, A: Field<'de>, B: Chain<'de>> Chain<'de> for (A, B) {
 
     ghost counts = { CountsNext A.counts B.counts };
 
-    ghost refuses = { RefusesNext A.counts A.refuses B.refuses };
+    ghost refuses = { RefusesNext A.counts (λ _. A.refuses) B.refuses };
 
     ghost counted = { λ names es x n. next_counted A.reads B.reads A.counts B.counts A.counted
         B.counted names es x.0 x.1 n };

@@ -5,7 +5,7 @@
 --     collated fs t       the tree with the forms of a list
 use Rattle.std.specs.Prelude.{ℕ, List, [], ◌∷◌, Option, Some, None, codes, if◌then◌else◌}
 use Rattle.resb_tree.specs.Keys.{same_text}
-use Rattle.resb_tree.specs.Tree.{Tree, string, alias, array, table, binary, integer, int_vector}
+use Rattle.resb_tree.specs.Tree.{Tree, table, binary}
 use Rattle.resb_tree.specs.Tree.{Entries, no_entries, entry, put}
 
 -- entries with each tree changed, by its key
@@ -16,12 +16,7 @@ each_entry f (entry k t es) = entry k (f k t) (each_entry f es)
 -- a table with each tree in it changed; any other tree stays
 abbrev pub each_inside : (List ℕ → Tree → Tree) → Tree → Tree
 each_inside f (table es) = table (each_entry f es)
-each_inside f (string s) = string s
-each_inside f (alias s) = alias s
-each_inside f (array ts) = array ts
-each_inside f (binary s) = binary s
-each_inside f (integer n) = integer n
-each_inside f (int_vector s) = int_vector s
+each_inside f t = t
 
 -- the first form that is listed for a type of collation
 abbrev pub form_of : List (List ℕ × List ℕ) → List ℕ → Option (List ℕ)

@@ -8,8 +8,7 @@
 use Rattle.std.specs.Prelude.{ℕ, Bool, true, false, ◌||◌, List, [], ◌∷◌, ◌++◌, Option, Some, None}
 use Rattle.std.specs.Prelude.{if◌then◌else◌}
 use Rattle.resb_tree.specs.Keys.{same_text}
-use Rattle.resb_tree.specs.Tree.{Tree, string, alias, array, table, binary, integer, int_vector}
-use Rattle.resb_tree.specs.Tree.{Entries, no_entries, entry}
+use Rattle.resb_tree.specs.Tree.{Tree, table, Entries, no_entries, entry}
 use Rattle.resb_filter.specs.declared.remaining.Verdict.{Verdict}
 use Rattle.resb_filter.specs.declared.remaining.Verdict.TheVariants.{Whole, Out, Partly}
 
@@ -64,12 +63,7 @@ abbrev mutual
   -- what rules leave of a tree: of a table, what they leave of its entries; any other tree stays
   pub filtered : List Rule → Tree → Tree
   filtered rs (table es) = table (filtered_entries rs es)
-  filtered rs (string s) = string s
-  filtered rs (alias s) = alias s
-  filtered rs (array ts) = array ts
-  filtered rs (binary s) = binary s
-  filtered rs (integer n) = integer n
-  filtered rs (int_vector s) = int_vector s
+  filtered rs t = t
 
   -- what rules leave of entries: of each, its key with what the verdict of the rules about it
   -- leaves of its tree, if this isn't nothing

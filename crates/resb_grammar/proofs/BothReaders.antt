@@ -4,11 +4,11 @@ use Rattle.std.proofs.Common.{arith}
 use Rattle.std.proofs.Common.{◌∷◌, length, get_or, drop, refl, sym, ◌∙◌, ap, subst, Some}
 use Rattle.std.proofs.Common.{add-one, drop-cons}
 use Rattle.std.proofs.lemmas.Bool.{false≢true}
-use Rattle.std.specs.Prelude.{◌↔◌, slice_get, slice_index}
+use Rattle.std.specs.Prelude.{◌↔◌, slice_get, slice_index, if◌then◌else◌}
 use Rattle.resb_grammar.specs.Ascii as ascii
 use Rattle.resb_grammar.specs.Lexical.{digits_value}
 use Rattle.resb_grammar.specs.GroupTypes.{table_kind, Stands}
-use Rattle.resb_grammar.specs.Items.{Item, is_pairs, shape_of, a_table, table_if}
+use Rattle.resb_grammar.specs.Items.{Item, is_pairs, shape_of, a_table, an_array}
 use Rattle.resb_grammar.specs.Kinds.{group_kind_of}
 use Rattle.resb_grammar.specs.declared.group_kind.Kind as code
 use Rattle.resb_grammar.specs.declared.group_kind.Kind.TheVariants as names
@@ -46,7 +46,7 @@ digits_value-suc text from at n m e e' =
 pub pairs_are_table : (xs : List Item) → is_pairs xs ≡ true → shape_of xs ≡ a_table
 pairs_are_table [] e = refl
 pairs_are_table (x ∷ []) e = absurd (false≢true e)
-pairs_are_table (x ∷ y ∷ xs) e = ap table_if e
+pairs_are_table (x ∷ y ∷ xs) e = ap (λ b. if b then a_table else an_array) e
 
 -- one digit more, as far as a number of 32 bits goes
 pub decimal_more : (text : List ℕ) (from at value next : ℕ) → from ≤ at

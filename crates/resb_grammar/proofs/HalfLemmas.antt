@@ -1,13 +1,14 @@
 -- Lists of items that may go on to be a table's.
 use Rattle.std.proofs.Common.{◌≡◌, Bool, true, false, List, [], ◌∷◌, refl, sym}
+use Rattle.std.specs.Prelude.{◌&&◌}
 use Rattle.std.proofs.lemmas.Bool.{false≢true}
 use Rattle.resb_grammar.specs.Items.{Term, string_term, group_term, Item, before_comma, is_entry}
-use Rattle.resb_grammar.specs.Items.{and_then, is_pairs}
+use Rattle.resb_grammar.specs.Items.{is_pairs}
 use Rattle.resb_grammar.specs.Machine.{is_group, is_key_place}
 use Rattle.resb_grammar.specs.Inner.Half.{is_lone_key, key_first, is_half_behind, is_half}
 
 pairs_half : (m k : Term) (f g : Bool) (xs : List Item)
-    → and_then (is_entry m k f g) (is_pairs xs) ≡ true
+    → (is_entry m k f g && is_pairs xs) ≡ true
     → is_half_behind m f (record { term = k; comma = g } ∷ xs) ≡ true
 pairs_half (group_term t ks) (string_term s) false false xs h = h
 pairs_half (group_term t ks) (string_term s) false true xs h = absurd (false≢true h)
@@ -29,7 +30,7 @@ key_place_half (group_term t ks) false [] h k = absurd (false≢true h)
 key_place_half (group_term t ks) false (y ∷ ys) h k = key_pairs y.term y.comma ys h
   where
     key_pairs : (m : Term) (f : Bool) (ys : List Item) → is_lone_key m f ys ≡ true
-        → and_then (is_entry (group_term t ks) m false f) (is_pairs ys) ≡ true
+        → (is_entry (group_term t ks) m false f && is_pairs ys) ≡ true
     key_pairs (string_term s) false ys h = h
     key_pairs (string_term s) true ys h = absurd (false≢true h)
     key_pairs (group_term u js) f ys h = absurd (false≢true h)
@@ -45,7 +46,7 @@ key_place-pairs [] h = refl
 key_place-pairs (x ∷ []) h = absurd (false≢true h)
 key_place-pairs (x ∷ y ∷ xs) h = first x.term y.term x.comma y.comma h
   where
-    first : (m k : Term) (f g : Bool) → and_then (is_entry m k f g) (is_pairs xs) ≡ true
+    first : (m k : Term) (f g : Bool) → (is_entry m k f g && is_pairs xs) ≡ true
         → is_group m ≡ true
     first (group_term t ks) k f g h = refl
     first (string_term s) k f g h = absurd (false≢true h)

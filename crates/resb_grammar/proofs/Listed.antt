@@ -2,16 +2,16 @@
 use Rattle.std.proofs.Common.{◌≡◌, ℕ, zero, suc, List, [], ◌∷◌, ◌++◌, Bool, true, false, ◌⊎◌, inl}
 use Rattle.std.proofs.Common.{inr, ⊎_elim, Ordering, Less, Equal, Greater, refl, sym, ◌∙◌, subst}
 use Rattle.std.proofs.Common.{arith}
-use Rattle.std.specs.Prelude.{◌||◌, not, filter, Contains, nat_eq, cond}
+use Rattle.std.specs.Prelude.{◌&&◌, ◌||◌, not, filter, Contains, nat_eq, cond, if◌then◌else◌}
 use Rattle.std.specs.Cmp.Lexicographic.{pointwise, slice_cmp, bytes_decides}
 use Rattle.std.specs.Ordering.{nat_cmp, match_ordering}
 use Rattle.std.proofs.lemmas.Bool.{false≢true, or_left, or_right}
 use Rattle.resb_tree.specs.Tree.{Tree, Entries, no_entries, entry, trees_of, put, put_all}
 use Rattle.resb_tree.specs.Keys.{is_key, is_key_in, is_key_of, same_text}
 use Rattle.resb_grammar.specs.Items.{Term, string_term, group_term, Item, term_tree}
-use Rattle.resb_grammar.specs.Items.{term_text, term_keys, inner_keys, is_entry, and_then}
-use Rattle.resb_grammar.specs.Items.{is_pairs, pairs_in, item_trees, table_keys, array_keys}
-use Rattle.resb_grammar.specs.Items.{a_table, an_array, shape_of_one, table_if, shape_of}
+use Rattle.resb_grammar.specs.Items.{term_text, term_keys, inner_keys, is_entry}
+use Rattle.resb_grammar.specs.Items.{is_pairs, pairs_in, item_trees, keys_by}
+use Rattle.resb_grammar.specs.Items.{a_table, an_array, shape_of_one, shape_of}
 use Rattle.resb_grammar.specs.Items.{tree_in, keys_in}
 use Rattle.resb_grammar.specs.Group.{Items, nothing, string_item, group_item, comma, Group, untyped}
 use Rattle.resb_grammar.specs.Group.{typed_table, typed_array, typed_leaf, LeafContent}
@@ -137,18 +137,18 @@ key_listed k (group_term t ks) (string_term s) f g h e = inl e
 key_listed k (group_term t ks) (group_term u js) f g h e = absurd (false≢true h)
 key_listed k (string_term s) y f g h e = absurd (false≢true h)
 
-first_entry : (a b : Bool) → and_then a b ≡ true → a ≡ true
+first_entry : (a b : Bool) → (a && b) ≡ true → a ≡ true
 first_entry true b e = refl
 first_entry false b e = absurd (false≢true e)
 
 -- an array's keys, from its terms
 trees_listed : (k : List ℕ) (xs : List Item) → AllList xs
-    → is_key_in k (trees_of (item_trees xs)) ≡ true → In k (array_keys xs)
+    → is_key_in k (trees_of (item_trees xs)) ≡ true → In k (keys_by inner_keys xs)
 trees_listed k [] l e = absurd (false≢true e)
 trees_listed k (x ∷ xs) l e = ⊎_elim
-    (λ (w : is_key_in k (trees_of (item_trees xs)) ≡ true). in_left k (array_keys xs) _
+    (λ (w : is_key_in k (trees_of (item_trees xs)) ≡ true). in_left k (keys_by inner_keys xs) _
     (trees_listed k xs l.1 w))
-    (λ (w : is_key k (term_tree x.term) ≡ true). in_right k (array_keys xs) _
+    (λ (w : is_key k (term_tree x.term) ≡ true). in_right k (keys_by inner_keys xs) _
     (inner_lists k x.term l.0 w))
     (last_tree k (item_trees xs) (term_tree x.term) e)
   where
@@ -167,7 +167,7 @@ trees_listed k (x ∷ xs) l e = ⊎_elim
         (one_of_or (is_key k u) (is_key_in k (trees_of (ts ++ t ∷ []))) e)
 
 -- a table's keys, from its pairs
-rest_pairs : (a b : Bool) → and_then a b ≡ true → b ≡ true
+rest_pairs : (a b : Bool) → (a && b) ≡ true → b ≡ true
 rest_pairs true b e = e
 rest_pairs false b e = absurd (false≢true e)
 
@@ -183,14 +183,14 @@ last_pair k x y before h l (inl (inr e)) =
 last_pair k x y before h l (inr e) = absurd e
 
 pairs_listed : (k : List ℕ) (xs : List Item) → is_pairs xs ≡ true → AllList xs
-    → KeyOf k (pairs_in xs) → In k (table_keys xs)
+    → KeyOf k (pairs_in xs) → In k (keys_by term_keys xs)
 pairs_listed k [] h l e = absurd e
 pairs_listed k (x ∷ []) h l e = absurd e
 pairs_listed k (x ∷ y ∷ xs) h l e = ⊎_elim
     (λ (w : KeyOf k (pairs_in xs)). in_left k _ (term_keys x.term)
     (in_left k _ (term_keys y.term) (pairs_listed k xs (rest_pairs _ _ h) (l.1).1 w)))
     (λ (w : KeyOf k ((term_text y.term, term_tree x.term) ∷ [])). last_pair k x y
-    (table_keys xs) (first_entry _ _ h) l.0 w)
+    (keys_by term_keys xs) (first_entry _ _ h) l.0 w)
     (KeyOf-append k (pairs_in xs) _ e)
 
 table_listed : (k : List ℕ) (xs : List Item) → is_pairs xs ≡ true → AllList xs
@@ -205,7 +205,8 @@ array_listed : (k : List ℕ) (xs : List Item) → AllList xs → is_key k (tree
 array_listed k xs l e = trees_listed k xs l e
 
 if_listed : (k : List ℕ) (b : Bool) (xs : List Item) → (b ≡ true → is_pairs xs ≡ true) → AllList xs
-    → is_key k (tree_in (table_if b) xs) ≡ true → In k (keys_in (table_if b) xs)
+    → is_key k (tree_in (if b then a_table else an_array) xs) ≡ true
+    → In k (keys_in (if b then a_table else an_array) xs)
 if_listed k true xs h l e = table_listed k xs (h refl) l e
 if_listed k false xs h l e = array_listed k xs l e
 

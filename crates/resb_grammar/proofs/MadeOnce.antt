@@ -107,8 +107,8 @@ one_making g text n m title other xs ys p q =
     (cases_lt p.tokens q.tokens)
     ∙ sym q.sum
 
-pub bundle_made : (g : Weights) (text name : List ℕ) (fallback : Bool) (tree : Tree) (keys : List (List ℕ))
-    → BundleText text name fallback tree keys
+pub bundle_made : (g : Weights) (text name : List ℕ) (fallback : Bool) (tree : Tree)
+    (keys : List (List ℕ)) → BundleText text name fallback tree keys
     → (items : List Item) × (n : ℕ)
     × Makes g text n (length text) (finished (record { name = name; fallback = fallback }) items)
 bundle_made g text name fallback tree keys b =

@@ -155,8 +155,8 @@ module _ (w : Weights) (text : List ℕ) where
       (makes_on text 0 0 h.start h.ends h.place _ (named name) (a_text name)
       (makes_none h.start h.before) refl h.named refl h.between)
     where
-      go : (f : Bool) (brace : ℕ) → Typing text h.place brace f → Makes w text 0 h.place (named name)
-          → BeforeRoot brace name f
+      go : (f : Bool) (brace : ℕ) → Typing text h.place brace f
+          → Makes w text 0 h.place (named name) → BeforeRoot brace name f
       go true brace (without e) made = record {
         state = named name;
         made = subst (λ n. Makes w text 0 n (named name)) e made;

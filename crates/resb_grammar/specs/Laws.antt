@@ -1,4 +1,4 @@
--- What the laws of the text form say.
+-- What the laws of the text form say, and those of each form, over what a text of it is.
 use Rattle.std.specs.Prelude.{◌≡◌, ℕ, Bool, true, false, nat_eq, List, length, Contains}
 use Rattle.std.specs.List.{IsDistinct}
 use Rattle.std.specs.Cmp.Lexicographic.{pointwise}
@@ -8,32 +8,38 @@ use Rattle.resb_tree.specs.Aliases.{has_alias}
 use Rattle.resb_grammar.specs.Items.{Item, a_table, tree_in, keys_in}
 use Rattle.resb_grammar.specs.BundleText.{BundleText, first_places}
 use Rattle.resb_grammar.specs.Machine.{Title, At, finished}
-use Rattle.resb_grammar.specs.Stuck.{Stuck}
-use Rattle.resb_grammar.specs.Limit.{Makes, MadeWithin, MakesMore}
+use Rattle.resb_grammar.specs.Limit.{Makes}
 use Rattle.resb_grammar.specs.declared.limit.Limit.{Limit}
 use Rattle.resb_grammar.specs.declared.limit.Weights.{Weights}
-use Rattle.resb_grammar.specs.declared.expected.Expected.{Expected}
+
+-- which texts are bundles of a form, each of a name, a flag, a tree and its keys
+abbrev pub Texts : Type 1
+Texts = List ℕ → List ℕ → Bool → Tree → List (List ℕ) → Type 0
+
+-- at which place a reading of a text gets stuck, by what is expected there
+abbrev pub Sticking : Type 0 → Type 1
+Sticking X = List ℕ → ℕ → X → Type 0
 
 -- a text has at most one name, fallback, tree and list of keys
-abbrev pub OneBundleText : Type 0
-OneBundleText =
+abbrev pub OneText : Texts → Type 0
+OneText IsText =
     (text name other : List ℕ) (fallback enabled : Bool) (tree root : Tree)
     (keys ks : List (List ℕ))
-    → BundleText text name fallback tree keys → BundleText text other enabled root ks
+    → IsText text name fallback tree keys → IsText text other enabled root ks
     → (name ≡ other) × (fallback ≡ enabled) × (tree ≡ root) × (keys ≡ ks)
 
 -- a reading that gets stuck does so at one place, where one thing is expected
-abbrev pub StuckInOneWay : Type 0
-StuckInOneWay =
-    (text : List ℕ) (at place : ℕ) (x y : Expected) → Stuck text at x → Stuck text place y
+abbrev pub StuckInOneWay : {X : Type 0} → Sticking X → Type 0
+StuckInOneWay {X} IsStuck =
+    (text : List ℕ) (at place : ℕ) (x y : X) → IsStuck text at x → IsStuck text place y
     → (at ≡ place) × (x ≡ y)
 
 -- a text whose reading gets stuck is no bundle
-abbrev pub StuckIsNoBundle : Type 0
-StuckIsNoBundle =
-    (text : List ℕ) (at : ℕ) (x : Expected) (name : List ℕ) (fallback : Bool) (tree : Tree)
-    (keys : List (List ℕ))
-    → Stuck text at x → BundleText text name fallback tree keys → ⊥
+abbrev pub StuckIsNoText : {X : Type 0} → Sticking X → Texts → Type 0
+StuckIsNoText {X} IsStuck IsText =
+    (text : List ℕ) (at : ℕ) (x : X) → IsStuck text at x
+    → (name : List ℕ) (fallback : Bool) (tree : Tree) (keys : List (List ℕ))
+    → IsText text name fallback tree keys → ⊥
 
 -- a text whose reading goes on to its end is the bundle of the entries read
 abbrev pub ReadToTheEndIsABundle : Type 0
@@ -50,17 +56,17 @@ ABundleIsReadToTheEnd =
     → (items : List Item)
     × At text (length text) (finished (record { name = name; fallback = fallback }) items)
 
--- no two discovered keys are equal
-abbrev pub KeysAreDistinct : Type 0
-KeysAreDistinct =
+-- no two of a text's keys are equal
+abbrev pub KeysAreDistinct : Texts → Type 0
+KeysAreDistinct IsText =
     (text name : List ℕ) (fallback : Bool) (tree : Tree) (keys : List (List ℕ))
-    → BundleText text name fallback tree keys → IsDistinct (pointwise nat_eq) keys
+    → IsText text name fallback tree keys → IsDistinct (pointwise nat_eq) keys
 
--- each key of a table of a bundle text's tree is among its discovered keys
-abbrev pub KeysAreListed : Type 0
-KeysAreListed =
+-- each key of a table of a text's tree is among the text's keys
+abbrev pub KeysAreListed : Texts → Type 0
+KeysAreListed IsText =
     (text name : List ℕ) (fallback : Bool) (t : Tree) (ks : List (List ℕ))
-    → BundleText text name fallback t ks → (k : List ℕ) → is_key k t ≡ true → Contains ks k
+    → IsText text name fallback t ks → (k : List ℕ) → is_key k t ≡ true → Contains ks k
 
 -- the tree of a bundle's text has no alias, since this form has no way to write one
 abbrev pub BundleTextsHaveNoAlias : Type 0
@@ -84,6 +90,6 @@ BundlesAreMade =
     × Makes w text n (length text) (finished (record { name = name; fallback = fallback }) items)
 
 -- where the whole reading of a text makes no more than a limit, no part of it makes more
-abbrev pub WithinIsNeverMore : Type 0
-WithinIsNeverMore =
-    (text : List ℕ) (limit : Limit) → MadeWithin text limit → MakesMore text limit → ⊥
+abbrev pub WithinIsNeverMore : (List ℕ → Limit → Type 0) → (List ℕ → Limit → Type 0) → Type 0
+WithinIsNeverMore IsWithin IsMore =
+    (text : List ℕ) (limit : Limit) → IsWithin text limit → IsMore text limit → ⊥

@@ -63,9 +63,9 @@ abbrev pub closing_bytes : Weights → Frame → ℕ
 closing_bytes w f = shape_bytes w (shape_in f.body f.items) f.items
 
 -- what a token adds: a group for the `{` of one that holds items; an entry for a string among
--- items, and 3 bytes for each of its own; a table for the `}` of one that has entries; 8 bytes for a
--- number of a vector; and for the `}` of a group that holds no items the group, and 3 bytes for each
--- of a string, 32 for a vector or a binary, and 1 for each byte of a binary
+-- items, and 3 bytes for each of its own; a table for the `}` of one that has entries; 8 bytes for
+-- a number of a vector; and for the `}` of a group that holds no items the group, and 3 bytes for
+-- each of a string, 32 for a vector or a binary, and 1 for each byte of a binary
 abbrev pub made_by : Weights → State → Token → ℕ
 made_by w (named name) opening = w.group
 made_by w (titled title) opening = w.group

@@ -1,5 +1,6 @@
 -- Where a reading cannot go on, and what is expected there.
 use Rattle.std.specs.Prelude.{◌≡◌, ℕ, Bool, true, false, ◌==◌, List, length, None, slice_index}
+use Rattle.std.specs.Prelude.{if◌then◌else◌}
 use Rattle.resb_grammar.specs.Ascii as ascii
 use Rattle.resb_grammar.specs.Lexical.{Text}
 use Rattle.resb_grammar.specs.Group.{hex_bytes}
@@ -11,27 +12,23 @@ use Rattle.resb_grammar.specs.ByteRuns.{is_number_start}
 use Rattle.resb_grammar.specs.declared.expected.Expected.{Expected}
 use Rattle.resb_grammar.specs.declared.expected.Expected.TheVariants as expect
 
--- one thing was expected if the condition holds, else the other
-abbrev pub choose : Bool → Expected → Expected → Expected
-choose true x y = x
-choose false x y = y
-
 -- where a type or `{` must stand
 abbrev pub expected_brace : ℕ → Expected
-expected_brace b = choose (b == ascii.colon) expect.TypeName expect.LeftBrace
+expected_brace b = if b == ascii.colon then expect.TypeName else expect.LeftBrace
 
 -- where a key or `}` must stand
 abbrev pub expected_key : ℕ → Expected
-expected_key b = choose (b == ascii.quote) expect.Text expect.RightBrace
+expected_key b = if b == ascii.quote then expect.Text else expect.RightBrace
 
 -- where an item may stand
 abbrev pub expected_item : ℕ → Expected
 expected_item b =
-    choose (b == ascii.quote) expect.Text (choose (b == ascii.colon) expect.TypeName expect.Item)
+    if b == ascii.quote then expect.Text else if b == ascii.colon then expect.TypeName else
+    expect.Item
 
 -- where a number or `}` may stand
 abbrev pub expected_number : ℕ → Expected
-expected_number b = choose (is_number_start b) expect.Number expect.RightBrace
+expected_number b = if is_number_start b then expect.Number else expect.RightBrace
 
 -- in a group that holds items
 abbrev pub expected_in : Body → Bool → ℕ → Expected

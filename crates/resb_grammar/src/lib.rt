@@ -1,6 +1,6 @@
 //! The text form of resource bundles as definitions: its grammar, the readings of a text token by
 //! token, and the laws of both. What both text forms need beside stands here too: the bytes of hex
-//! digits, runs of blanks and of digits, and lists of keys.
+//! digits, runs of blanks and of digits, lists of keys, and the limit of what a reading may make.
 #![tactic(auto)]
 
 mod expected;
@@ -16,4 +16,4 @@ pub use group_kind::{Kind, kind_named};
 pub use hex_pairs::bytes_of_hex;
 pub use key_list::KeyList;
 pub use limit::{Limit, Weights};
-pub use runs::{blanks_end, digits_end, is_word, negated};
+pub use runs::{blanks_end, bytes_before, digits_end, is_word, negated};

@@ -1,12 +1,14 @@
-//! Where a run of blanks or of digits ends among bytes, which bytes a word has in the plain form,
-//! and minus a number modulo 2 ^ 32.
+//! Where a run of blanks or of digits ends among bytes, where a byte stands that is near, which
+//! bytes a word has in the plain form, and minus a number modulo 2 ^ 32.
 //! The readers of both text forms count their turns beside it. ICU's own form has words of other
 //! characters.
-ghost use Rattle.std.specs.Prelude.{◌≡◌, ◌+◌, ◌-◌, ◌<◌, ◌≤◌, min, length, IsTrue};
+ghost use Rattle.std.specs.Prelude.{◌≡◌, ℕ, ◌+◌, ◌-◌, ◌<◌, ◌≤◌, min, length, slice_index};
 ghost use Rattle.resb_grammar.specs.ByteRuns as spec;
 ghost use Rattle.resb_grammar.specs.ByteRuns.{Each, Run, is_digit};
 ghost use Rattle.resb_grammar.specs.Lexical as lexical;
 ghost use Rattle.resb_grammar.specs.Lexical.{digits_value};
+
+use std::simd::prelude::*;
 
 /// Whether a byte is blank: a space, a tab or the end of a line.
 fn is_white(b: u8) -> bool
@@ -35,28 +37,54 @@ pub fn blanks_end(bytes: &[u8], from: usize) -> usize
     at
 }
 
-/// A place up to which all bytes are spaces. They are looked at four at a time, since lines are
-/// mostly indented by fours, so up to three more may follow.
+/// A place up to which all bytes are spaces. Sixteen bytes are looked at at once where the first is
+/// one, so others may follow.
+#[inline(always)]
 fn spaces_end(bytes: &[u8], from: usize) -> usize
     requires { from ≤ length bytes.now }
     ensures order { from ≤ result }
     ensures fits { result ≤ length bytes.now }
     ensures each { Each spec.is_white bytes.now from result }
 {
-    let mut at = from;
-    while bytes.len() - at >= 4 && are_spaces(bytes, at) {
-        at += 4;
+    if bytes.len() - from >= 16 && bytes[from] == b' ' {
+        from + spaces_before(bytes, from)
+    } else {
+        from
     }
-    at
 }
 
-/// Whether four spaces stand there.
-fn are_spaces(bytes: &[u8], at: usize) -> bool
-    requires { at + 4 ≤ length bytes.now }
-    ensures { IsTrue result → Each spec.is_white bytes.now at (at + 4) }
+/// How many of the sixteen bytes from here on stand before the first that is no space.
+#[inline(always)]
+fn spaces_before(bytes: &[u8], from: usize) -> usize
+    requires { from + 16 ≤ length bytes.now }
+    ensures few { result ≤ 16 }
+    ensures each { Each spec.is_white bytes.now from (from + result) }
 {
-    let four = [bytes[at], bytes[at + 1], bytes[at + 2], bytes[at + 3]];
-    u32::from_le_bytes(four) == u32::from_le_bytes(*b"    ")
+    let sixteen = u8x16::from_slice(&bytes[from..]);
+    let places = sixteen.simd_ne(u8x16::splat(b' ')).to_bitmask();
+    if places == 0 {
+        16
+    } else {
+        places.trailing_zeros() as usize
+    }
+}
+
+/// How many of the sixteen bytes from here on stand before the first that is this one.
+#[inline(always)]
+pub fn bytes_before(bytes: &[u8], from: usize, byte: u8) -> usize
+    requires { from + 16 ≤ length bytes.now }
+    ensures few { result ≤ 16 }
+    ensures before { (k : ℕ) → from ≤ k → k < from + result
+        → slice_index bytes.now k ≡ byte → ⊥ }
+    ensures stands { result < 16 → slice_index bytes.now (from + result) ≡ byte }
+{
+    let sixteen = u8x16::from_slice(&bytes[from..]);
+    let places = sixteen.simd_eq(u8x16::splat(byte)).to_bitmask();
+    if places == 0 {
+        16
+    } else {
+        places.trailing_zeros() as usize
+    }
 }
 
 /// Where the run of digits ends, and their value, or 2 ^ 32 where it is larger.

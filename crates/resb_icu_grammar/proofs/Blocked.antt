@@ -43,8 +43,8 @@ root_makes w text name f first h = record {
 }
 
 -- a step inside a group
-pub makes_on : {w : Weights} (text : List ℕ) (n : ℕ) (ws : List Waiting) (ks : List (List ℕ)) (s : Standing)
-    (at : ℕ) (r : Reading) → IcuMakes w text n (reading_at ws ks s at)
+pub makes_on : {w : Weights} (text : List ℕ) (n : ℕ) (ws : List Waiting) (ks : List (List ℕ))
+    (s : Standing) (at : ℕ) (r : Reading) → IcuMakes w text n (reading_at ws ks s at)
     → (m : Move text ws ks s at r) → IcuMakes w text (n + made_by w m) r
 makes_on text n ws ks s at r made m = record {
   name = made.name;
@@ -56,8 +56,8 @@ makes_on text n ws ks s at r made m = record {
 }
 
 -- a step out of one
-pub makes_out : {w : Weights} (text : List ℕ) (n : ℕ) (ws : List Waiting) (ks : List (List ℕ)) (t : Tree)
-    (at : ℕ) (r : Reading) → IcuMakes w text n (reading_at ws ks (behind_group t) at)
+pub makes_out : {w : Weights} (text : List ℕ) (n : ℕ) (ws : List Waiting) (ks : List (List ℕ))
+    (t : Tree) (at : ℕ) (r : Reading) → IcuMakes w text n (reading_at ws ks (behind_group t) at)
     → StepOut text ks t at ws r → IcuMakes w text n r
 makes_out text n ws ks t at r made m = record {
   name = made.name;
@@ -69,8 +69,8 @@ makes_out text n ws ks t at r made m = record {
 }
 
 -- what a reading comes to at the end of a text is a bundle
-pub whole_text : {w : Weights} (text : List ℕ) (n : ℕ) (places : List (List ℕ)) (tree : Tree) (end : ℕ)
-    (name : List ℕ) (f : Bool) (first : ℕ) → Header text name f first
+pub whole_text : {w : Weights} (text : List ℕ) (n : ℕ) (places : List (List ℕ)) (tree : Tree)
+    (end : ℕ) (name : List ℕ) (f : Bool) (first : ℕ) → Header text name f first
     → IcuMakes w text n (reading_at [] places (behind_group tree) end) → Skip text end (length text)
     → IcuText text name f tree (first_places places)
 whole_text text n places tree end name f first h made k =
@@ -88,8 +88,8 @@ whole_text text n places tree end name f first h made k =
     })))
 
 -- where a reading is stuck before the root, none makes anything
-pub header_never_more : (text : List ℕ) (limit : Limit) (to : ℕ) (x : IcuExpected) → HeaderStuck text to x
-    → IcuMakesMore text limit → ⊥
+pub header_never_more : (text : List ℕ) (limit : Limit) (to : ℕ) (x : IcuExpected)
+    → HeaderStuck text to x → IcuMakesMore text limit → ⊥
 header_never_more text limit to x s (by_the_root name f first h less) =
     header_never text to x s name f first h
 header_never_more text limit to x s (by_a_step bytes ws ks t at r made step more) =
@@ -109,9 +109,9 @@ NumbersFit text r room = is_vector r.stands ≡ true → (from : ℕ) → r.at �
     → number_bytes * suc (count_so_far before) ≤ room
 
 -- where a reading is stuck that has made no more than a limit, none makes more
-pub stuck_never_more : (text : List ℕ) (limit : Limit) (n room : ℕ) (r : Reading) (to : ℕ) (x : IcuExpected)
-    → IcuMakes limit.weights text n r → ReadStuck text r to x → n + room ≤ limit.bytes → NumbersFit text r room
-    → IcuMakesMore text limit → ⊥
+pub stuck_never_more : (text : List ℕ) (limit : Limit) (n room : ℕ) (r : Reading) (to : ℕ)
+    (x : IcuExpected) → IcuMakes limit.weights text n r → ReadStuck text r to x
+    → n + room ≤ limit.bytes → NumbersFit text r room → IcuMakesMore text limit → ⊥
 stuck_never_more text limit n room r to x made stuck within fit (by_the_root name f first h less) =
     omega (arith, made.sum, within, less)
 stuck_never_more text limit n room r to x made stuck within fit
@@ -125,13 +125,13 @@ stuck_never_more text limit n room r to x made stuck within fit
         before.first made.header before.header).2
 
     on : (m : ℕ)
-        → made_on_the_way limit.weights before.comes + made_by limit.weights move ≡ made_on_the_way limit.weights made.comes + m
-        → Split limit.weights text r q m → ⊥
+        → made_on_the_way limit.weights before.comes + made_by limit.weights move
+        ≡ made_on_the_way limit.weights made.comes + m → Split limit.weights text r q m → ⊥
     on m sum (no_step e z) = omega (arith, sum, z, made.sum, before.sum, within, more)
     on m sum (first_step mid next d s) = reading_stays text r mid to x stuck next
 
-    by : Meet limit.weights text r q (made_on_the_way limit.weights made.comes) (made_on_the_way limit.weights before.comes + made_by limit.weights move)
-        → ⊥
+    by : Meet limit.weights text r q (made_on_the_way limit.weights made.comes)
+        (made_on_the_way limit.weights before.comes + made_by limit.weights move) → ⊥
     by (ahead d sum) = on (made_on_the_way limit.weights d) sum (split limit.weights text r q d)
     by (behind d sum) = omega (arith, sum, made.sum, before.sum, within, more)
 stuck_never_more text limit n room r to x made stuck within fit
@@ -153,23 +153,26 @@ stuck_never_more text limit n room r to x made stuck within fit
         let fits = fit vector from place at end v so_far number in
         omega (arith, fits, sum, within, more)
 
-    on : (m : ℕ) → made_on_the_way limit.weights before.comes ≡ made_on_the_way limit.weights made.comes + m
-        → Split limit.weights text r stand m → ⊥
+    on : (m : ℕ) → made_on_the_way limit.weights before.comes
+        ≡ made_on_the_way limit.weights made.comes + m → Split limit.weights text r stand m → ⊥
     on m sum (no_step e z) = at_stand e (omega (arith, sum, z, made.sum, before.sum))
     on m sum (first_step mid next d s) = reading_stays text r mid to x stuck next
 
-    back : (m : ℕ) → made_on_the_way limit.weights made.comes ≡ made_on_the_way limit.weights before.comes + m
-        → Split limit.weights text stand r m → ⊥
+    back : (m : ℕ) → made_on_the_way limit.weights made.comes
+        ≡ made_on_the_way limit.weights before.comes + m → Split limit.weights text stand r m → ⊥
     back m sum (no_step e z) = at_stand (sym e) (omega (arith, sum, z, made.sum, before.sum))
     back m sum (first_step mid (inside _ _ _ _ _ v') d s) =
         let leaf = vector_step limit.weights text ws ks from mid v' in
-        let least = no_less limit.weights text from at end leaf.0 v leaf.1 so_far number leaf.2 leaf.3 in
+        let least =
+        no_less limit.weights text from at end leaf.0 v leaf.1 so_far number leaf.2 leaf.3 in
         let told = leaf.4 in
         omega (arith, sum, s, least, told, more, made.sum, before.sum, within)
 
-    by : Meet limit.weights text r stand (made_on_the_way limit.weights made.comes) (made_on_the_way limit.weights before.comes) → ⊥
+    by : Meet limit.weights text r stand (made_on_the_way limit.weights made.comes)
+        (made_on_the_way limit.weights before.comes) → ⊥
     by (ahead d sum) = on (made_on_the_way limit.weights d) sum (split limit.weights text r stand d)
-    by (behind d sum) = back (made_on_the_way limit.weights d) sum (split limit.weights text stand r d)
+    by (behind d sum) =
+        back (made_on_the_way limit.weights d) sum (split limit.weights text stand r d)
 
 -- numbers and their commas are none, or a first one and the others
 data Firsts (text : List ℕ) (from to n : ℕ) : Type 0 where

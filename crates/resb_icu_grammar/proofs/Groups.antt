@@ -22,7 +22,8 @@ use Rattle.resb_icu_grammar.specs.Groups.{Entries, no_entry, one_entry, Untyped,
 use Rattle.resb_icu_grammar.specs.Groups.{one_string, an_array, a_table, Typed, members, entries}
 use Rattle.resb_icu_grammar.specs.Groups.{leaf, Group, untyped, typed}
 use Rattle.resb_icu_grammar.specs.Bundle.{Typing, without, with, Header}
-use Rattle.resb_icu_grammar.specs.Laws.{OneIcuText}
+use Rattle.resb_grammar.specs.Laws.{OneText}
+use Rattle.resb_icu_grammar.specs.Bundle.{IcuText}
 use Rattle.resb_icu_grammar.proofs.Lexical.{Begins-one, Skip-one, String-one, string_first}
 use Rattle.resb_icu_grammar.proofs.Lexical.{starts_string, key_string, Number-one, number_first}
 use Rattle.resb_icu_grammar.proofs.Lexical.{GroupType-one, RootType-one, root_type_first, Name-one}
@@ -398,7 +399,7 @@ Header-one text name other f g a b p q =
     )
 
 -- a text is one bundle at most
-pub one_icu_text : OneIcuText
+pub one_icu_text : OneText IcuText
 one_icu_text text name other f g tree root keys ks p q =
     let heads = Header-one text name other f g p.first q.first p.header q.header in
     let both = Entries-one text p.first p.last q.last p.entries q.entries p.places q.places p.body

@@ -113,8 +113,8 @@ told_once g text at n m s r a b = by a.or_always b.or_always
     by (inr f) (inl p) = a.by_string p.0 p.1 p.2 ∙ sym (b.by_string p.0 p.1 p.2)
     by (inr f) (inr g) = f 0 ∙ sym (g 0)
 
-made_told : (g : Weights) (text : List ℕ) (ws : List Waiting) (ks : List (List ℕ)) (s : Standing) (at : ℕ)
-    (r : Reading) → (m : Move text ws ks s at r) → Told g text at (made_by g m) s r
+made_told : (g : Weights) (text : List ℕ) (ws : List Waiting) (ks : List (List ℕ)) (s : Standing)
+    (at : ℕ) (r : Reading) → (m : Move text ws ks s at r) → Told g text at (made_by g m) s r
 made_told g text ws ks s at r (step.string_member last ts _ i j v e p k) =
     with_string g text at i _ v s r p (sym (last_member g text at i ts (string v)))
 made_told g text ws ks s at r (step.untyped_string _ i j v p k c) =
@@ -186,8 +186,9 @@ pub data Split (g : Weights) (text : List ℕ) (from r : Reading) (n : ℕ) : Ty
   first_step : (mid : Reading) (next : Next text from mid) → (d : Comes text mid r)
       → n ≡ made_next g next + made_on_the_way g d → Split g text from r n
 
-split_on : (g : Weights) (text : List ℕ) (from last r : Reading) (n m : ℕ) → (next : Next text last r)
-    → m ≡ n + made_next g next → Split g text from last n → Split g text from r m
+split_on : (g : Weights) (text : List ℕ) (from last r : Reading) (n m : ℕ)
+    → (next : Next text last r) → m ≡ n + made_next g next → Split g text from last n
+    → Split g text from r m
 split_on g text from last r n m next sum (no_step e z) =
     let all : m ≡ made_next g next + 0 = omega (arith, sum, z) in
     let both = subst (λ u. (x : Next text u r) × (m ≡ made_next g x + 0)) (sym e) (next, all) in
@@ -231,8 +232,8 @@ meet_on g text mid r q n m k next sum (ahead d e) = by (split g text mid q d)
         let same = made_once g text mid first r other next in
         subst (λ u. Meet g text u q k m) one (ahead c (omega (arith, sum, e, s, same)))
 
-meet : (g : Weights) (text : List ℕ) (from r q : Reading) → (c : Comes text from r) → (d : Comes text from q)
-    → Meet g text r q (made_on_the_way g c) (made_on_the_way g d)
+meet : (g : Weights) (text : List ℕ) (from r q : Reading) → (c : Comes text from r)
+    → (d : Comes text from q) → Meet g text r q (made_on_the_way g c) (made_on_the_way g d)
 meet g text from _ q (here _) d = ahead d (omega arith)
 meet g text from r q (moves _ _ ws ks s at c v) d =
     meet_on g text (reading_at ws ks s at) r q (made_on_the_way g c) (made_on_the_way g d) _
@@ -306,8 +307,9 @@ some_number text at to _ (last_comma _ i j _ v p k c l) = omega arith
 some_number text at to _ (one_more _ i j m _ v us p k c l r) = omega arith
 
 -- a vector makes no less than some of its numbers
-pub no_less : (g : Weights) (text : List ℕ) (from at i to v : ℕ) (t : Tree) → (before : NumbersSoFar text from at)
-    → Number text at i v → LeafContent text from to vector_kind t → Closes text to
+pub no_less : (g : Weights) (text : List ℕ) (from at i to v : ℕ) (t : Tree)
+    → (before : NumbersSoFar text from at) → Number text at i v
+    → LeafContent text from to vector_kind t → Closes text to
     → number_bytes * suc (count_so_far before) ≤ leaf_bytes g t
 no_less g text from at i to v _ before p (no_numbers e) c =
     absurd (counted_begin text from at before (number_first text at i v p)
@@ -319,8 +321,8 @@ no_less g text from at i to v _ before p (numbers ns r) c =
     omega (arith, some, sum)
 
 -- the step from the first number of a vector on leads behind it
-pub vector_step : (g : Weights) (text : List ℕ) (ws : List Waiting) (ks : List (List ℕ)) (from : ℕ) (r : Reading)
-    → (m : Move text ws ks (in_typed vector_kind) from r)
+pub vector_step : (g : Weights) (text : List ℕ) (ws : List Waiting) (ks : List (List ℕ)) (from : ℕ)
+    (r : Reading) → (m : Move text ws ks (in_typed vector_kind) from r)
     → (to : ℕ) × (t : Tree) × LeafContent text from to vector_kind t × Closes text to
     × (made_by g m ≡ leaf_bytes g t)
 vector_step g text ws ks from _ (step.leaf_follows _ _ to t p c) = (to, t, p, c, refl)
@@ -333,11 +335,13 @@ icu_never_more text limit w (by_the_root name fallback first h less) =
 icu_never_more text limit w (by_a_step bytes ws ks s at r made move more) =
     let same = (Header-one text made.name w.made.name made.fallback w.made.fallback made.first
     w.made.first made.header w.made.header).2 in
-    let least = most_at_the_end limit.weights text made.first w.made.first r w.places w.tree w.end same
+    let least =
+    most_at_the_end limit.weights text made.first w.made.first r w.places w.tree w.end same
     (moves (at_root made.first) r ws ks s at made.comes move) w.made.comes in
     omega (arith, least, more, made.sum, w.made.sum, w.within)
 icu_never_more text limit w (by_a_number bytes ws ks from at to v made before number more) =
-    by (meet_roots limit.weights text made.first w.made.first stand end same made.comes w.made.comes)
+    by
+    (meet_roots limit.weights text made.first w.made.first stand end same made.comes w.made.comes)
   where
     stand : Reading
     stand = reading_at ws ks (in_typed vector_kind) from
@@ -353,19 +357,23 @@ icu_never_more text limit w (by_a_number bytes ws ks from at to v made before nu
     apart : stand ≡ end → ⊥
     apart e = let here : stand.stands ≡ end.stands = ap (λ (u : Reading). u.stands) e in cc
 
-    on : (n : ℕ) → made_on_the_way limit.weights w.made.comes ≡ made_on_the_way limit.weights made.comes + n
-        → Split limit.weights text stand end n → ⊥
+    on : (n : ℕ) → made_on_the_way limit.weights w.made.comes
+        ≡ made_on_the_way limit.weights made.comes + n → Split limit.weights text stand end n → ⊥
     on n sum (no_step e z) = apart e
     on n sum (first_step mid (inside _ _ _ _ _ v') d s) =
         let leaf = vector_step limit.weights text ws ks from mid v' in
-        let least = no_less limit.weights text from at to leaf.0 v leaf.1 before number leaf.2 leaf.3 in
+        let least =
+        no_less limit.weights text from at to leaf.0 v leaf.1 before number leaf.2 leaf.3 in
         let told = leaf.4 in
         omega (arith, sum, s, least, told, more, made.sum, w.made.sum, w.within)
 
-    back : (d : Comes text end stand) → Split limit.weights text end stand (made_on_the_way limit.weights d) → ⊥
+    back : (d : Comes text end stand)
+        → Split limit.weights text end stand (made_on_the_way limit.weights d) → ⊥
     back d (no_step e z) = apart (sym e)
     back d (first_step mid next _ _) = at_the_end text w.places w.tree w.end mid next
 
-    by : Meet limit.weights text stand end (made_on_the_way limit.weights made.comes) (made_on_the_way limit.weights w.made.comes) → ⊥
-    by (ahead d sum) = on (made_on_the_way limit.weights d) sum (split limit.weights text stand end d)
+    by : Meet limit.weights text stand end (made_on_the_way limit.weights made.comes)
+        (made_on_the_way limit.weights w.made.comes) → ⊥
+    by (ahead d sum) =
+        on (made_on_the_way limit.weights d) sum (split limit.weights text stand end d)
     by (behind d sum) = back d (split limit.weights text end stand d)

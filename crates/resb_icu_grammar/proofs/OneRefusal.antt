@@ -9,7 +9,7 @@ use Rattle.resb_icu_grammar.specs.Kinds.{Kind}
 use Rattle.resb_tree.specs.Tree.{Tree}
 use Rattle.resb_icu_grammar.specs.Blanks.{Begins, Skip}
 use Rattle.resb_icu_grammar.specs.Words.{Text, Name, Number, RootType}
-use Rattle.resb_icu_grammar.specs.Laws.{IcuStuckInOneWay}
+use Rattle.resb_grammar.specs.Laws.{StuckInOneWay}
 use Rattle.resb_icu_grammar.specs.Machine.{Waiting, Standing, Reading}
 use Rattle.resb_icu_grammar.specs.Machine.{Move, BeginsGroup, StepOut, Comes}
 use Rattle.resb_icu_grammar.specs.Machine.{at_root}
@@ -500,7 +500,7 @@ HeaderCase-one text to end x y (faulty at _ _ t h) (faulty place _ _ u k) =
     (subst (λ n. HeaderFault text n end y) (sym (Titled-one text at place t u)) k)
 
 -- a text gets stuck at one place, where one thing is expected
-pub stuck_in_one_way : IcuStuckInOneWay
+pub stuck_in_one_way : StuckInOneWay stuck.Stuck
 stuck_in_one_way text to end x y (in_header s) (in_header t) =
     HeaderCase-one text to end x y (header_case text to x s) (header_case text end y t)
 stuck_in_one_way text to end x y (in_header s) (in_root name f first h t) =

@@ -9,7 +9,8 @@ use Rattle.resb_icu_grammar.specs.Blanks.{Begins, Skip}
 use Rattle.resb_icu_grammar.specs.Words.{KeyText, Name, GroupType, RootType}
 use Rattle.resb_icu_grammar.specs.Bundle.{Header, Typing, without, with}
 use Rattle.resb_icu_grammar.specs.Groups.{TypedOpening}
-use Rattle.resb_icu_grammar.specs.Laws.{IcuStuckIsNoText}
+use Rattle.resb_grammar.specs.Laws.{StuckIsNoText}
+use Rattle.resb_icu_grammar.specs.Bundle.{IcuText}
 use Rattle.resb_icu_grammar.specs.Machine.{Waiting, Standing, Reading, at_root}
 use Rattle.resb_icu_grammar.specs.Stuck.{StepStuck, EndStuck, HeaderStuck}
 use Rattle.resb_icu_grammar.specs.Stuck.{ReadStuck, StuckFrom}
@@ -151,7 +152,7 @@ header_never text to x (no_typed_brace a start end at i _ other g b k n l r m d)
     no_typed text at i to h.brace g f r m d (subst (λ i. Typing text i h.brace f) e h.typed) h.opens
 
 -- a text in which a reading gets stuck is no bundle
-pub stuck_is_no_text : IcuStuckIsNoText
+pub stuck_is_no_text : StuckIsNoText stuck.Stuck IcuText
 stuck_is_no_text text to x (in_header s) name f tree keys p =
     header_never text to x s name f p.first p.header
 stuck_is_no_text text to x (in_root other g first h s) name f tree keys p =

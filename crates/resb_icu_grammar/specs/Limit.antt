@@ -73,11 +73,11 @@ opening_bytes w _ = 0
 
 -- what a step adds: a group for the `{` of one without a type, of an array and of a table; a group
 -- for a string among members, and 3 bytes for each of its own; those 3 alone for the string that
--- such a group without a type is; for either 32 more, and 1 for each byte, where it is put together;
--- an entry for a key, which never is, and 3 for each of its bytes, and a table more for the first
--- key of one; and for a group of another type, up to its `}`, what it holds
-abbrev pub made_by : Weights → {text : List ℕ} {ws : List Waiting} {ks : List (List ℕ)} {s : Standing}
-    {at : ℕ} {r : Reading} → Move text ws ks s at r → ℕ
+-- such a group without a type is; for either 32 more, and 1 for each byte, where it is put
+-- together; an entry for a key, which never is, and 3 for each of its bytes, and a table more for
+-- the first key of one; and for a group of another type, up to its `}`, what it holds
+abbrev pub made_by : Weights → {text : List ℕ} {ws : List Waiting} {ks : List (List ℕ)}
+    {s : Standing} {at : ℕ} {r : Reading} → Move text ws ks s at r → ℕ
 made_by w {text} (string_member last ts at i j s alone stands after) =
     string_bytes w s + joining_bytes text at i s
 made_by w (key_of_entry es at i j k stands after) = next_key_bytes w es k
@@ -131,7 +131,8 @@ pub data IcuMakesMore (text : List ℕ) (limit : Limit) : Type 0 where
   -- a step inside the open groups
   by_a_step : (bytes : ℕ) (ws : List Waiting) (ks : List (List ℕ)) (s : Standing) (at : ℕ)
       (r : Reading) → IcuMakes limit.weights text bytes (reading_at ws ks s at)
-      → (step : Move text ws ks s at r) → limit.bytes < bytes + made_by limit.weights step → IcuMakesMore text limit
+      → (step : Move text ws ks s at r) → limit.bytes < bytes + made_by limit.weights step
+      → IcuMakesMore text limit
   -- a number of a vector, whatever follows it: 8 bytes for each up to that
   by_a_number : (bytes : ℕ) (ws : List Waiting) (ks : List (List ℕ)) (from at to v : ℕ)
       → IcuMakes limit.weights text bytes (reading_at ws ks (in_typed vector_kind) from)

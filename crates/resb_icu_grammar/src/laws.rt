@@ -1,32 +1,35 @@
 //! The laws of ICU's text form, each the contract of a function that does nothing.
 //! They speak of the definitions alone.
-ghost use Rattle.resb_icu_grammar.specs.Laws.{OneIcuText, IcuKeysAreDistinct, IcuKeysAreListed};
-ghost use Rattle.resb_icu_grammar.specs.Laws.{IcuStuckIsNoText, IcuStuckInOneWay};
-ghost use Rattle.resb_icu_grammar.specs.Laws.{IcuMachineReadsTheForm, IcuWithinIsNeverMore};
+ghost use Rattle.resb_grammar.specs.Laws.{OneText, KeysAreDistinct, KeysAreListed};
+ghost use Rattle.resb_grammar.specs.Laws.{StuckInOneWay, StuckIsNoText, WithinIsNeverMore};
+ghost use Rattle.resb_icu_grammar.specs.Bundle.{IcuText};
+ghost use Rattle.resb_icu_grammar.specs.Laws.{IcuMachineReadsTheForm};
+ghost use Rattle.resb_icu_grammar.specs.Limit.{IcuMadeWithin, IcuMakesMore};
+ghost use Rattle.resb_icu_grammar.specs.Stuck.{Stuck};
 
 /// A text of ICU's form has one name, fallback, tree and list of keys.
 pub fn one_icu_text()
-    ensures { OneIcuText }
+    ensures { OneText IcuText }
 {}
 
 /// No two discovered keys of a text in ICU's form are equal.
 pub fn icu_keys_are_distinct()
-    ensures { IcuKeysAreDistinct }
+    ensures { KeysAreDistinct IcuText }
 {}
 
 /// The discovered keys of a text in ICU's form hold each key of its tree.
 pub fn icu_keys_are_listed()
-    ensures { IcuKeysAreListed }
+    ensures { KeysAreListed IcuText }
 {}
 
 /// A text in which a reading gets stuck is no bundle in ICU's form.
 pub fn icu_stuck_is_no_text()
-    ensures { IcuStuckIsNoText }
+    ensures { StuckIsNoText Stuck IcuText }
 {}
 
 /// A text in which a reading gets stuck does so at one place, where one thing is expected.
 pub fn one_icu_refusal()
-    ensures { IcuStuckInOneWay }
+    ensures { StuckInOneWay Stuck }
 {}
 
 /// The steps of a reading lead to the end of a text exactly where it is a bundle in ICU's form,
@@ -38,5 +41,5 @@ pub fn icu_machine_reads_the_form()
 /// Where the whole reading of a text in ICU's form makes no more bytes than a limit, no part of it
 /// makes more.
 pub fn icu_within_is_never_more()
-    ensures { IcuWithinIsNeverMore }
+    ensures { WithinIsNeverMore IcuMadeWithin IcuMakesMore }
 {}

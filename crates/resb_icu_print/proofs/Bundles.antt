@@ -5,7 +5,7 @@ use Rattle.std.proofs.lemmas.List.{get_or_past}
 use Rattle.std.proofs.lemmas.Bool.{false≢true}
 use Rattle.std.specs.Prelude.{slice_index, codes, ◌⊎◌}
 use Rattle.std.specs.List.Sorted.{IsStrictlySortedBy}
-use Rattle.resb_tree.specs.Tree.{Tree, string, alias, array, table, binary, integer, int_vector}
+use Rattle.resb_tree.specs.Tree.{Tree, table}
 use Rattle.resb_tree.specs.Tree.{Entries}
 use Rattle.resb_tree.specs.Maps.{text_cmp, keyed_trees}
 use Rattle.resb_tree.specs.LayingOrder.{entry_keys}
@@ -16,14 +16,16 @@ use Rattle.resb_icu_grammar.specs.Bytes.{is_word}
 use Rattle.resb_icu_grammar.specs.Blanks.{Blanks, none, Skip, without_a_mark}
 use Rattle.resb_icu_grammar.specs.Words.{a_word, no_fallback_type}
 use Rattle.resb_icu_grammar.specs.Bundle.{Typing, without, with, IcuText}
-use Rattle.resb_print.specs.Printed.{root_type_on}
+use Rattle.resb_print.specs.Printed.{root_type_on, entries_on, printed_bundle}
+use Rattle.resb_print.specs.Laws.{HasNoText, PrintedIsABundle}
+use Rattle.resb_print.specs.Paths.{first_found, first_cause}
 use Rattle.resb_print.specs.Held.{HeldIn}
 use Rattle.resb_print.proofs.Places.{From, byte_at, from_behind, from_next, at_end, from_inside}
 use Rattle.resb_print.proofs.Bundles.{stands}
+use Rattle.resb_print.proofs.Tracing.{nothing_found}
 use Rattle.resb_tree.proofs.MapsLemmas.{map_of-keyed_trees}
-use Rattle.resb_icu_print.specs.Printed.{is_bare, entries_on, printed_icu_bundle}
-use Rattle.resb_icu_print.specs.Causes.{TakenIn, causes_in_else, first_cause, SaysIcuCause}
-use Rattle.resb_icu_print.specs.Laws.{NoTextHas, PrintedIcuIsABundle}
+use Rattle.resb_icu_print.specs.Printed.{is_bare, icu_spelling}
+use Rattle.resb_icu_print.specs.Causes.{TakenIn, icu_tests, SaysIcuCause}
 use Rattle.resb_icu_print.specs.declared.cause.IcuCause.{IcuCause}
 use Rattle.resb_icu_print.specs.declared.error.IcuPrintError.{IcuPrintError}
 use Rattle.resb_icu_print.specs.declared.error.IcuPrintError.TheVariants.{OutOfMemory}
@@ -95,11 +97,11 @@ module _ (text : List ℕ) where
 
   bundle_read : (name : List ℕ) (fallback : Bool) (es : Entries) → is_bare name ≡ true
       → IsStrictlySortedBy text_cmp (entry_keys es) → HeldIn es → TakenIn es
-      → From text 0 (printed_icu_bundle name fallback es)
+      → From text 0 (printed_bundle icu_spelling name fallback es)
       → (keys : List (List ℕ)) × IcuText text name fallback (table es) keys
   bundle_read name fallback es bare ascend held taken h =
       let last = ascii.line_feed ∷ ascii.right_brace ∷ ascii.line_feed ∷ [] in
-      let s = root_starts fallback (entries_on 1 es last) in
+      let s = root_starts fallback (entries_on icu_spelling 1 es last) in
       let f : From text 0 (name ++ s.b ∷ s.more) =
       subst (λ l. From text 0 (name ++ l)) s.is h in
       let (solid, row, word, g) = bare_read text name s.b s.more bare s.stop f in
@@ -152,32 +154,23 @@ module _ (text : List ℕ) where
 pub printed_is_icu : (name : List ℕ) (fallback : Bool) (es : Entries) → is_bare name ≡ true
     → IsStrictlySortedBy text_cmp (entry_keys es) → HeldIn es → TakenIn es
     → (keys : List (List ℕ))
-    × IcuText (printed_icu_bundle name fallback es) name fallback (table es) keys
+    × IcuText (printed_bundle icu_spelling name fallback es) name fallback (table es) keys
 printed_is_icu name fallback es bare ascend held taken =
-    bundle_read (printed_icu_bundle name fallback es) name fallback es bare ascend held taken
-    (record { is = refl })
+    bundle_read (printed_bundle icu_spelling name fallback es) name fallback es bare ascend held
+    taken (record { is = refl })
 
 -- so for what is printed of a bundle without a cause
-pub printed_without_cause : PrintedIcuIsABundle
+pub printed_without_cause : PrintedIsABundle icu_tests icu_spelling IcuText
 printed_without_cause = λ name fallback es held none.
-    let a = none_named name (causes_in_else es None) none in
-    let b = none_in_taken es None a.1 in
+    let found = nothing_found (first_found icu_tests name (table es)) none in
+    let a = none_named name [] _ found in
+    let b = none_in_taken [] es None a.1 in
     printed_is_icu name fallback es a.0 held.0 held.1 b.0
-
--- a bundle without a cause has a table for its root
-pub root_without_cause : (name : List ℕ) (t : Tree) → first_cause name t ≡ None
-    → (es : Entries) × (t ≡ table es)
-root_without_cause name (string s) e = absurd (cc)
-root_without_cause name (alias s) e = absurd (cc)
-root_without_cause name (array ts) e = absurd (cc)
-root_without_cause name (table es) e = (es, refl)
-root_without_cause name (binary bs) e = absurd (cc)
-root_without_cause name (integer n) e = absurd (cc)
-root_without_cause name (int_vector ns) e = absurd (cc)
 
 -- a cause is in the way of each text
 pub no_text : (name : List ℕ) (f : Bool) (t : Tree) (e : IcuPrintError)
-    → SaysIcuCause e (first_cause name t) → (e ≡ OutOfMemory) ⊎ NoTextHas name f t
+    → SaysIcuCause e (first_cause icu_tests name t)
+    → (e ≡ OutOfMemory) ⊎ HasNoText IcuText name f t
 no_text name f t e (inl h) = inl h
 no_text name f t e (inr (x, h, found)) =
     inr (λ text keys b. none_some x (sym (no_cause text name f t keys b) ∙ found))

@@ -38,7 +38,8 @@ use Rattle.resb_print.proofs.Groups.{hex_read, hex_free}
 use Rattle.resb_tree.proofs.MapsLemmas.{map_of-keyed_trees}
 use Rattle.resb_tree.proofs.LayingOrderLemmas.{trees_of-array_members}
 use Rattle.resb_tree.proofs.Numbers.{low_bits_kept}
-use Rattle.resb_icu_print.specs.Printed.{piece_on, key_on, tree_on, trees_on, entries_on}
+use Rattle.resb_print.specs.Printed.{tree_on, trees_on, entries_on}
+use Rattle.resb_icu_print.specs.Printed.{piece_on, key_on, icu_spelling}
 use Rattle.resb_icu_print.specs.Causes.{IsTaken, AreTaken, TakenIn, is_icu_key}
 use Rattle.resb_icu_grammar.specs.Bytes.{are_key_bytes}
 use Rattle.resb_print.specs.Quotes.{has_quote}
@@ -121,7 +122,7 @@ pub record Starts (bytes : List ℕ) : Type 0 where
 starts_with : (b : ℕ) (more : List ℕ) → opens b ≡ true → Starts (b ∷ more)
 starts_with b more h = record { b = b; more = more; is = refl; stop = opens_stop b h }
 
-starts : (n : ℕ) (t : Tree) (rest : List ℕ) → Starts (tree_on InTable n t rest)
+starts : (n : ℕ) (t : Tree) (rest : List ℕ) → Starts (tree_on icu_spelling InTable n t rest)
 unfolding opens
 starts n (string s) rest = starts_with _ _ refl
 starts n (alias s) rest = starts_with _ _ refl
@@ -223,9 +224,9 @@ module _ (text : List ℕ) where
 
   entry_more : (n : ℕ) (k : List ℕ) (t : Tree) (es : Entries) (tail : List ℕ) {at : ℕ}
       {rest : List ℕ} → is_icu_key k ≡ true → is_new k (keyed_trees es) ≡ true
-      → ((p : ℕ) → From text p (tree_on InTable n t tail) → GroupAt p t tail)
+      → ((p : ℕ) → From text p (tree_on icu_spelling InTable n t tail) → GroupAt p t tail)
       → ((p : ℕ) → From text p tail → EntriesAt p es rest)
-      → From text at (line_on n (key_on k (tree_on InTable n t tail)))
+      → From text at (line_on n (key_on k (tree_on icu_spelling InTable n t tail)))
       → EntriesAt at (entry k t es) rest
   entry_more n k t es tail {at} {rest} key new group more h =
       let (p, blanks, f) = line_blanks text n h in
@@ -293,10 +294,10 @@ module _ (text : List ℕ) where
       }
 
   member_more : (n : ℕ) (t : Tree) (ts : Trees) (tail : List ℕ) {at : ℕ} {rest : List ℕ}
-      → ((p : ℕ) → From text p (tree_on InTable n t (ascii.comma ∷ tail))
+      → ((p : ℕ) → From text p (tree_on icu_spelling InTable n t (ascii.comma ∷ tail))
       → GroupAt p t (ascii.comma ∷ tail))
       → ((p : ℕ) → From text p tail → TreesAt p ts rest)
-      → From text at (line_on n (tree_on InArray n t tail))
+      → From text at (line_on n (tree_on icu_spelling InArray n t tail))
       → TreesAt at (more_trees t ts) rest
   member_more n (string s) ts tail group more h =
       let (p, blanks, f) = line_blanks text n h in string_done s ts tail blanks f more
@@ -352,9 +353,9 @@ module _ (text : List ℕ) where
 
   table_group : (n : ℕ) (es : Entries) (at : ℕ) (rest : List ℕ)
       → IsStrictlySortedBy text_cmp (entry_keys es)
-      → ((b : ℕ) → From text b (entries_on (deeper n) es (entries_end es n rest))
+      → ((b : ℕ) → From text b (entries_on icu_spelling (deeper n) es (entries_end es n rest))
       → EntriesAt b es rest)
-      → From text at (tree_on InTable n (table es) rest) → GroupAt at (table es) rest
+      → From text at (tree_on icu_spelling InTable n (table es) rest) → GroupAt at (table es) rest
   table_group n no_entries at rest ascend inner h =
       let (brace, f, head) = opening_at text table_kind (codes "table") refl refl h in
       let c = close_here f in
@@ -379,7 +380,7 @@ module _ (text : List ℕ) where
 
   mutual
     pub group_at : (n : ℕ) (t : Tree) (at : ℕ) (rest : List ℕ) → IsHeld t → IsTaken t
-        → From text at (tree_on InTable n t rest) → GroupAt at t rest
+        → From text at (tree_on icu_spelling InTable n t rest) → GroupAt at t rest
     group_at n (string s) at rest held taken h = string_group s h
     group_at n (alias s) at rest held taken h =
         let (brace, f, head) = opening_at text alias_kind (codes "alias") refl refl h in
@@ -429,7 +430,7 @@ module _ (text : List ℕ) where
 
     trees_at : (n : ℕ) (ts : Trees) (end : List ℕ) (at : ℕ) (rest : List ℕ) → AreHeld ts
         → AreTaken ts → ((p : ℕ) → From text p end → Closes p rest)
-        → From text at (trees_on n ts end) → TreesAt at ts rest
+        → From text at (trees_on icu_spelling n ts end) → TreesAt at ts rest
     trees_at n no_trees end at rest held taken close h =
         let c = close at h in
         record {
@@ -442,12 +443,14 @@ module _ (text : List ℕ) where
           after = c.after;
         }
     trees_at n (more_trees t ts) end at rest held taken close h =
-        member_more n t ts (trees_on n ts end) (λ p f. group_at n t p _ held.0 taken.0 f)
+        member_more n t ts (trees_on icu_spelling n ts end)
+        (λ p f. group_at n t p _ held.0 taken.0 f)
         (λ p f. trees_at n ts end p rest held.1 taken.1 close f) h
 
     pub entries_at : (n : ℕ) (es : Entries) (end : List ℕ) (at : ℕ) (rest : List ℕ)
         → IsStrictlySortedBy text_cmp (entry_keys es) → HeldIn es → TakenIn es
-        → ((p : ℕ) → From text p end → Closes p rest) → From text at (entries_on n es end)
+        → ((p : ℕ) → From text p end → Closes p rest)
+        → From text at (entries_on icu_spelling n es end)
         → EntriesAt at es rest
     entries_at n no_entries end at rest ascend held taken close h =
         let c = close at h in
@@ -461,6 +464,6 @@ module _ (text : List ℕ) where
           after = c.after;
         }
     entries_at n (entry k t es) end at rest ascend held taken close h =
-        entry_more n k t es (entries_on n es end) taken.0 (sorted_new k t es ascend)
+        entry_more n k t es (entries_on icu_spelling n es end) taken.0 (sorted_new k t es ascend)
         (λ p f. group_at n t p _ held.0 taken.1 f)
         (λ p f. entries_at n es end p rest (sorted_rest k t es ascend) held.1 taken.2 close f) h

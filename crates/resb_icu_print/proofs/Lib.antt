@@ -6,5 +6,4 @@ pub mod Groups
 pub mod Bundles
 pub mod Taken
 pub mod Sizes
-pub mod CausePaths
 mod Examples

@@ -13,16 +13,16 @@ use Rattle.resb_print.specs.declared.place.Place.{Place}
 use Rattle.resb_print.specs.declared.place.Place.TheVariants.{InTable, InArray}
 use Rattle.resb_print.specs.Held.{IsHeld, AreHeld, HeldIn}
 use Rattle.resb_print.specs.Printed.{deeper, quoted_on, end_on, trees_end, entries_end}
-use Rattle.resb_print.specs.Printed.{root_type_on}
+use Rattle.resb_print.specs.Printed.{root_type_on, string_on, tree_on, trees_on, entries_on}
+use Rattle.resb_print.specs.Printed.{printed_bundle}
+use Rattle.resb_print.specs.Sizes.{data_length, data_lengths, data_length_in, text_limit}
 use Rattle.resb_print.proofs.Sizes.{deeper_le, line_length, quoted_length}
 use Rattle.resb_print.proofs.Lists.{number_length}
 use Rattle.resb_print.proofs.Sizes.{numbers_length, end_length, trees_end_length}
 use Rattle.resb_print.proofs.Sizes.{entries_end_length, table_length, root_type_length}
 use Rattle.resb_icu_grammar.specs.Bytes.{backslash}
 use Rattle.resb_icu_print.specs.Printed.{is_marked, is_control, escaped_on, inside_on}
-use Rattle.resb_icu_print.specs.Printed.{is_bare, key_on, string_on, tree_on, trees_on, entries_on}
-use Rattle.resb_icu_print.specs.Printed.{piece_on, printed_icu_bundle}
-use Rattle.resb_icu_print.specs.Sizes.{data_length, data_lengths, data_length_in, icu_text_limit}
+use Rattle.resb_icu_print.specs.Printed.{is_bare, key_on, piece_on, icu_spelling}
 
 escaped_length : (b : ℕ) (rest : List ℕ) → length (escaped_on b rest) ≤ 6 + length rest
 escaped_length b rest = by (is_marked b) (is_control b)
@@ -52,14 +52,15 @@ key_length k rest = by (is_bare k)
     by false = omega (arith, quoted_length k rest)
 
 string_length : (p : Place) (s rest : List ℕ)
-    → length (string_on p s rest) ≤ 6 * length s + 4 + length rest
+    → length (string_on icu_spelling p s rest) ≤ 6 * length s + 4 + length rest
 string_length InTable s rest = omega (arith, inside_length s (34 ∷ 125 ∷ rest))
 string_length InArray s rest = omega (arith, inside_length s (34 ∷ 44 ∷ rest))
 
 -- of a resource's 270, its line and the quotes of its key have 131, and 139 are for the rest
 mutual
   tree_length : (p : Place) (n : ℕ) (t : Tree) (rest : List ℕ) → n ≤ 32 → IsHeld t
-      → 131 + length (tree_on p n t rest) ≤ 270 * tree_count t + data_length t + length rest
+      → 131 + length (tree_on icu_spelling p n t rest)
+      ≤ 270 * tree_count t + data_length 6 t + length rest
   tree_length p n (string s) rest h held = omega (arith, string_length p s rest)
   tree_length p n (alias s) rest h held =
       omega (arith, inside_length s (34 ∷ 125 ∷ end_on p rest), end_length p rest)
@@ -75,7 +76,7 @@ mutual
       let end = entries_end es n (end_on p rest) in
       omega (
         arith,
-        table_length es (entries_on (deeper n) es end),
+        table_length es (entries_on icu_spelling (deeper n) es end),
         entries_length (deeper n) es end (deeper_le n h) held.1,
         entries_end_length es n (end_on p rest) h,
         end_length p rest,
@@ -93,26 +94,28 @@ mutual
       omega (arith, numbers_length ns (125 ∷ end_on p rest) held, end_length p rest)
 
   trees_length : (n : ℕ) (ts : Trees) (rest : List ℕ) → n ≤ 32 → AreHeld ts
-      → length (trees_on n ts rest) ≤ 270 * trees_count ts + data_lengths ts + length rest
+      → length (trees_on icu_spelling n ts rest)
+      ≤ 270 * trees_count ts + data_lengths 6 ts + length rest
   trees_length n no_trees rest h held = omega arith
   trees_length n (more_trees t ts) rest h held =
       omega (
         arith,
-        line_length n (tree_on InArray n t (trees_on n ts rest)) h,
-        tree_length InArray n t (trees_on n ts rest) h held.0,
+        line_length n (tree_on icu_spelling InArray n t (trees_on icu_spelling n ts rest)) h,
+        tree_length InArray n t (trees_on icu_spelling n ts rest) h held.0,
         trees_length n ts rest h held.1,
       )
 
   entries_length : (n : ℕ) (es : Entries) (rest : List ℕ) → n ≤ 32 → HeldIn es
-      → length (entries_on n es rest) ≤ 270 * entries_count es + data_length_in es + length rest
+      → length (entries_on icu_spelling n es rest)
+      ≤ 270 * entries_count es + data_length_in 6 es + length rest
   entries_length n no_entries rest h held = omega arith
   entries_length n (entry k t es) rest h held =
-      let more = tree_on InTable n t (entries_on n es rest) in
+      let more = tree_on icu_spelling InTable n t (entries_on icu_spelling n es rest) in
       omega (
         arith,
         line_length n (key_on k more) h,
         key_length k more,
-        tree_length InTable n t (entries_on n es rest) h held.0,
+        tree_length InTable n t (entries_on icu_spelling n es rest) h held.0,
         entries_length n es rest h held.1,
       )
 
@@ -144,10 +147,10 @@ piece_grows s rest = omega (arith, inside_least s (34 ∷ rest))
 
 -- no text of a bundle is longer than its limit
 pub within_limit : (name : List ℕ) (fallback : Bool) (es : Entries) → HeldIn es
-    → length (printed_icu_bundle name fallback es) ≤ icu_text_limit name (table es)
+    → length (printed_bundle icu_spelling name fallback es) ≤ text_limit 6 name (table es)
 within_limit name fallback es held =
     let last = 10 ∷ 125 ∷ 10 ∷ [] in
-    let body = entries_on 1 es last in
+    let body = entries_on icu_spelling 1 es last in
     omega (
       arith,
       length-append name (root_type_on fallback (123 ∷ body)),
@@ -157,9 +160,9 @@ within_limit name fallback es held =
 
 -- so for what is printed
 pub printed_within : (text name : List ℕ) (fallback : Bool) (es : Entries) (t : Tree)
-    → text ≡ printed_icu_bundle name fallback es → HeldIn es → t ≡ table es
-    → length text ≤ icu_text_limit name t
+    → text ≡ printed_bundle icu_spelling name fallback es → HeldIn es → t ≡ table es
+    → length text ≤ text_limit 6 name t
 printed_within text name fallback es t is held root =
-    subst (λ (u : Tree). length text ≤ icu_text_limit name u) (sym root)
-    (subst (λ w. length w ≤ icu_text_limit name (table es)) (sym is)
+    subst (λ (u : Tree). length text ≤ text_limit 6 name u) (sym root)
+    (subst (λ w. length w ≤ text_limit 6 name (table es)) (sym is)
     (within_limit name fallback es held))

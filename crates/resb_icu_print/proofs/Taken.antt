@@ -1,11 +1,12 @@
 -- What a text of ICU's form gives as keys may be keys.
 use Rattle.std.proofs.Common.{◌≡◌, ◌≢◌, ℕ, ◌+◌, ◌-◌, ◌≤◌, ◌<◌, Bool, true, false, List, [], ◌∷◌}
 use Rattle.std.proofs.Common.{refl, sym, ◌∙◌, ap, length, arith, suc}
-use Rattle.std.proofs.Common.{Ordering, Less, Equal, Greater, Option, None, drop}
-use Rattle.std.specs.Prelude.{slice_index, slice_range, not, ◌==◌}
+use Rattle.std.proofs.Common.{Ordering, Less, Equal, Greater, Option, Some, None, drop, ◌++◌}
+use Rattle.std.specs.Prelude.{slice_index, slice_range, not, ◌==◌, cond}
 use Rattle.std.specs.Ordering.{match_ordering}
 use Rattle.std.proofs.lemmas.Bool.{false≢true, and_from, and_parts, or_from}
 use Rattle.std.proofs.lemmas.Bool.Decides.{nat_tests}
+use Rattle.std.proofs.lemmas.Option.{none-some}
 use Rattle.std.proofs.lemmas.List.{length-take, get_or-take, get_or-drop}
 use Rattle.resb_tree.specs.Tree.{Tree, string, alias, array, table, binary, integer, int_vector}
 use Rattle.resb_tree.specs.Tree.{Trees, no_trees, more_trees, Entries, no_entries, entry, trees_of}
@@ -31,24 +32,30 @@ use Rattle.resb_icu_grammar.specs.Groups.{an_array, a_table, Typed, members, ent
 use Rattle.resb_icu_grammar.specs.Groups.{untyped, typed}
 use Rattle.resb_icu_grammar.specs.Bundle.{IcuText}
 use Rattle.resb_print.specs.Quotes.{has_quote, NoQuote}
+use Rattle.resb_print.specs.Paths.{Step, by_key, by_number, found_else, found_at, found_among}
+use Rattle.resb_print.specs.Paths.{found_in, first_cause}
+use Rattle.resb_print.proofs.Tracing.{cause_in}
 use Rattle.resb_icu_print.specs.declared.cause.IcuCause.{IcuCause}
 use Rattle.resb_icu_print.specs.declared.cause.IcuCause.TheVariants.{NameIsNoWord}
 use Rattle.resb_icu_print.specs.declared.cause.IcuCause.TheVariants.{KeyHasOtherBytes}
 use Rattle.resb_icu_print.specs.Printed.{are_words, is_bare}
 use Rattle.resb_icu_print.specs.Causes.{is_icu_key, IsTaken, AreTaken, TakenIn}
-use Rattle.resb_icu_print.specs.Causes.{cause_if, key_cause_else, cause_else, causes_else}
-use Rattle.resb_icu_print.specs.Causes.{causes_in_else, first_cause}
+use Rattle.resb_icu_print.specs.Causes.{icu_tests}
 use Rattle.resb_icu_print.proofs.Lists.{true_from_not}
 
+-- what is found from a place on
+abbrev Found : Type 0
+Found = Option (List Step × IcuCause)
+
 -- a test that finds no cause
-missed_if : (b : Bool) (x : IcuCause) (later : Option IcuCause) → b ≡ false
-    → cause_if b x later ≡ later
-missed_if b x later h = rw h refl
+missed_if : (b : Bool) (x : IcuCause) (path : List Step) (later : Found) → b ≡ false
+    → found_else (cond b (Some x) None) path later ≡ later
+missed_if b x path later h = ap (λ c. found_else (cond c (Some x) None) path later) h
 
 -- a key that is no cause
-key_passed : (k : List ℕ) (later : Option IcuCause) → is_icu_key k ≡ true
-    → key_cause_else k later ≡ later
-key_passed k later q = missed_if (not (is_icu_key k)) KeyHasOtherBytes later (ap not q)
+key_passed : (k : List ℕ) (path : List Step) (later : Found) → is_icu_key k ≡ true
+    → found_else (icu_tests.of_key k) path later ≡ later
+key_passed k path later q = missed_if (not (is_icu_key k)) KeyHasOtherBytes path later (ap not q)
 
 -- a byte that is no quote, before others
 free_more : (b : ℕ) (s : List ℕ) → b ≢ ascii.quote → NoQuote s → NoQuote (b ∷ s)
@@ -204,68 +211,76 @@ mutual
 
 -- there is no cause where everything is taken
 mutual
-  taken_no_cause : (t : Tree) (later : Option IcuCause) → IsTaken t → cause_else t later ≡ later
-  taken_no_cause (string s) later h = refl
-  taken_no_cause (alias s) later h = refl
-  taken_no_cause (array ts) later h = taken_no_causes ts later h
-  taken_no_cause (table es) later h = taken_none_in es later h
-  taken_no_cause (binary bs) later h = refl
-  taken_no_cause (integer n) later h = refl
-  taken_no_cause (int_vector ns) later h = refl
+  taken_no_cause : (path : List Step) (t : Tree) (later : Found) → IsTaken t
+      → found_at icu_tests path t later ≡ later
+  taken_no_cause path (string s) later h = refl
+  taken_no_cause path (alias s) later h = refl
+  taken_no_cause path (array ts) later h = taken_no_causes path 0 ts later h
+  taken_no_cause path (table es) later h = taken_none_in path es later h
+  taken_no_cause path (binary bs) later h = refl
+  taken_no_cause path (integer n) later h = refl
+  taken_no_cause path (int_vector ns) later h = refl
 
-  taken_no_causes : (ts : Trees) (later : Option IcuCause) → AreTaken ts
-      → causes_else ts later ≡ later
-  taken_no_causes no_trees later h = refl
-  taken_no_causes (more_trees t ts) later h =
-      taken_no_cause t (causes_else ts later) h.0 ∙ taken_no_causes ts later h.1
+  taken_no_causes : (path : List Step) (n : ℕ) (ts : Trees) (later : Found) → AreTaken ts
+      → found_among icu_tests path n ts later ≡ later
+  taken_no_causes path n no_trees later h = refl
+  taken_no_causes path n (more_trees t ts) later h =
+      taken_no_cause (path ++ by_number n ∷ []) t (found_among icu_tests path (suc n) ts later)
+      h.0
+      ∙ taken_no_causes path (suc n) ts later h.1
 
-  taken_none_in : (es : Entries) (later : Option IcuCause) → TakenIn es
-      → causes_in_else es later ≡ later
-  taken_none_in no_entries later h = refl
-  taken_none_in (entry k t es) later h =
-      key_passed k (cause_else t (causes_in_else es later)) h.0
-      ∙ taken_no_cause t (causes_in_else es later) h.1 ∙ taken_none_in es later h.2
+  taken_none_in : (path : List Step) (es : Entries) (later : Found) → TakenIn es
+      → found_in icu_tests path es later ≡ later
+  taken_none_in path no_entries later h = refl
+  taken_none_in path (entry k t es) later h =
+      let here = path ++ by_key k ∷ [] in
+      let rest = found_in icu_tests path es later in
+      key_passed k here (found_at icu_tests here t rest) h.0
+      ∙ taken_no_cause here t rest h.1 ∙ taken_none_in path es later h.2
 
 -- and where there is none, everything is
-none_if : (b : Bool) (x : IcuCause) (later : Option IcuCause) → cause_if b x later ≡ None
-    → (b ≡ false) × (later ≡ None)
-none_if true x later e = absurd (cc)
-none_if false x later e = (refl, e)
+none_if : (b : Bool) (x : IcuCause) (path : List Step) (later : Found)
+    → found_else (cond b (Some x) None) path later ≡ None → (b ≡ false) × (later ≡ None)
+none_if true x path later e = absurd (none-some (path, x) (sym e))
+none_if false x path later e = (refl, e)
 
 mutual
-  no_cause_taken : (t : Tree) (later : Option IcuCause) → cause_else t later ≡ None
-      → IsTaken t × (later ≡ None)
-  no_cause_taken (string s) later h = (tt, h)
-  no_cause_taken (alias s) later h = (tt, h)
-  no_cause_taken (array ts) later h = no_causes_taken ts later h
-  no_cause_taken (table es) later h = none_in_taken es later h
-  no_cause_taken (binary bs) later h = (tt, h)
-  no_cause_taken (integer n) later h = (tt, h)
-  no_cause_taken (int_vector ns) later h = (tt, h)
+  no_cause_taken : (path : List Step) (t : Tree) (later : Found)
+      → found_at icu_tests path t later ≡ None → IsTaken t × (later ≡ None)
+  no_cause_taken path (string s) later h = (tt, h)
+  no_cause_taken path (alias s) later h = (tt, h)
+  no_cause_taken path (array ts) later h = no_causes_taken path 0 ts later h
+  no_cause_taken path (table es) later h = none_in_taken path es later h
+  no_cause_taken path (binary bs) later h = (tt, h)
+  no_cause_taken path (integer n) later h = (tt, h)
+  no_cause_taken path (int_vector ns) later h = (tt, h)
 
-  no_causes_taken : (ts : Trees) (later : Option IcuCause) → causes_else ts later ≡ None
-      → AreTaken ts × (later ≡ None)
-  no_causes_taken no_trees later h = (tt, h)
-  no_causes_taken (more_trees t ts) later h =
-      let a = no_cause_taken t (causes_else ts later) h in
-      let b = no_causes_taken ts later a.1 in
+  no_causes_taken : (path : List Step) (n : ℕ) (ts : Trees) (later : Found)
+      → found_among icu_tests path n ts later ≡ None → AreTaken ts × (later ≡ None)
+  no_causes_taken path n no_trees later h = (tt, h)
+  no_causes_taken path n (more_trees t ts) later h =
+      let rest = found_among icu_tests path (suc n) ts later in
+      let a = no_cause_taken (path ++ by_number n ∷ []) t rest h in
+      let b = no_causes_taken path (suc n) ts later a.1 in
       ((a.0, b.0), b.1)
 
-  pub none_in_taken : (es : Entries) (later : Option IcuCause) → causes_in_else es later ≡ None
-      → TakenIn es × (later ≡ None)
-  none_in_taken no_entries later h = (tt, h)
-  none_in_taken (entry k t es) later h =
-      let rest = cause_else t (causes_in_else es later) in
-      let a = none_if (not (is_icu_key k)) KeyHasOtherBytes rest h in
-      let b = no_cause_taken t (causes_in_else es later) a.1 in
-      let c = none_in_taken es later b.1 in
+  pub none_in_taken : (path : List Step) (es : Entries) (later : Found)
+      → found_in icu_tests path es later ≡ None → TakenIn es × (later ≡ None)
+  none_in_taken path no_entries later h = (tt, h)
+  none_in_taken path (entry k t es) later h =
+      let here = path ++ by_key k ∷ [] in
+      let rest = found_in icu_tests path es later in
+      let a = none_if (not (is_icu_key k)) KeyHasOtherBytes here (found_at icu_tests here t rest) h
+      in
+      let b = no_cause_taken here t rest a.1 in
+      let c = none_in_taken path es later b.1 in
       ((true_from_not (is_icu_key k) a.0, b.0, c.0), c.1)
 
-pub none_named : (name : List ℕ) (later : Option IcuCause)
-    → cause_if (not (is_bare name)) NameIsNoWord later ≡ None
+pub none_named : (name : List ℕ) (path : List Step) (later : Found)
+    → found_else (icu_tests.of_name name) path later ≡ None
     → (is_bare name ≡ true) × (later ≡ None)
-none_named name later h =
-    let a = none_if (not (is_bare name)) NameIsNoWord later h in
+none_named name path later h =
+    let a = none_if (not (is_bare name)) NameIsNoWord path later h in
     (true_from_not (is_bare name) a.0, a.1)
 
 -- a name of word characters
@@ -282,13 +297,14 @@ bare_from (b ∷ name) l h = h
 
 -- a text of ICU's form gives no cause
 pub no_cause : (text name : List ℕ) (fallback : Bool) (t : Tree) (keys : List (List ℕ))
-    → IcuText text name fallback t keys → first_cause name t ≡ None
+    → IcuText text name fallback t keys → first_cause icu_tests name t ≡ None
 no_cause text name fallback t keys b =
     let named = b.header.named in
     let bare = bare_from name named.some
     (run_words name (λ k l. named.word.each k (omega arith) l)) in
-    ap (first_cause name) b.means
-    ∙ missed_if (not (is_bare name)) NameIsNoWord (causes_in_else (map_of b.entries) None)
+    let es = map_of b.entries in
+    ap (first_cause icu_tests name) b.means
+    ∙ ap cause_in (missed_if (not (is_bare name)) NameIsNoWord [] (found_in icu_tests [] es None)
     (ap not bare)
-    ∙ taken_none_in (map_of b.entries) None
-    (map_taken b.entries (entries_taken text b.first b.last b.entries b.places b.body))
+    ∙ taken_none_in [] es None
+    (map_taken b.entries (entries_taken text b.first b.last b.entries b.places b.body)))

@@ -1,9 +1,5 @@
--- The words of the contracts: the text of a bundle in ICU's form, what keeps it from having one,
--- and the laws.
+-- The words of the contracts: how ICU's form spells a bundle, and what keeps it from having a text.
 pub mod Printed
 pub mod Causes
-pub mod CausePaths
-pub mod Sizes
-pub mod Laws
 pub mod Message
 pub mod Inner

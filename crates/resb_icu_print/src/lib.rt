@@ -1,6 +1,6 @@
-//! What the text of a bundle is in ICU's form, and why a bundle has none, with the keys and strings
-//! of which its printer `resb_lines` makes it. What a text is stands in `resb_icu_grammar`, and its
-//! reader in `resb_icu_text`.
+//! How ICU's form spells the text of a bundle, and why a bundle has none in it, with the keys and
+//! strings of which its printer `resb_lines` makes it. What such a printed text is stands in
+//! `resb_print`, what any text is in `resb_icu_grammar`, and its reader in `resb_icu_text`.
 #![tactic(auto)]
 
 mod cause;

@@ -1,5 +1,5 @@
 -- Laws of the first quote or backslash, as memchr finds it.
-use Rattle.std.proofs.Common.{◌≡◌, ◌≢◌, ℕ, ◌+◌, ◌-◌, ◌<◌, ◌⊎◌, inl, inr, Bool, true, false}
+use Rattle.std.proofs.Common.{◌≡◌, ◌≢◌, ℕ, ◌+◌, ◌-◌, ◌<◌, ◌≤◌, ◌⊎◌, inl, inr, Bool, true, false}
 use Rattle.std.proofs.Common.{List, length, drop, length-drop, arith, sym, ap, ◌∙◌, refl}
 use Rattle.std.specs.Prelude.{slice_index, ◌==◌}
 use Rattle.std.proofs.lemmas.Bool.Decides.{nat_tests}
@@ -50,6 +50,24 @@ stop_found text rest from n e lt never is = record {
   fits = omega (arith, lt, ap length e, length-drop from text);
   before = none_before text rest from n e never;
   stops = stop_is _ (ap is_stop (sym (at_rest text rest from n e)) ∙ is);
+}
+
+-- a byte stands nowhere among so many from a place on
+abbrev Lacks : List ℕ → ℕ → ℕ → ℕ → Type 0
+Lacks text from n b = (k : ℕ) → from ≤ k → k < from + n → slice_index text k ≡ b → ⊥
+
+-- what stops behind no more bytes than lack a quote and a backslash is the first that does
+pub near_stop : (text : List ℕ) (from n q s : ℕ) → n ≤ q → n ≤ s → from + n < length text
+    → (slice_index text (from + n) ≡ ascii.quote) ⊎ (slice_index text (from + n) ≡ backslash)
+    → Lacks text from q ascii.quote → Lacks text from s backslash → FirstStop text from (from + n)
+near_stop text from n q s below below' fits stops quotes slashes = record {
+  order = omega arith;
+  fits = fits;
+  before = λ k low high. (
+    quotes k low (omega (arith, high, below)),
+    slashes k low (omega (arith, high, below')),
+  );
+  stops = stops;
 }
 
 -- a first stop that is no quote is a backslash

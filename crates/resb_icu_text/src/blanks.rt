@@ -5,6 +5,7 @@ ghost use Rattle.std.specs.Prelude.{slice_index};
 ghost use Rattle.std.specs.Prelude.{IfSome, IfNone};
 ghost use Rattle.resb_grammar.specs.Ascii as ascii;
 ghost use Rattle.resb_grammar.specs.ByteRuns as spec;
+ghost use Rattle.resb_grammar.specs.ByteRuns.{Each};
 ghost use Rattle.resb_grammar.specs.Lexical.{FirstCloser};
 ghost use Rattle.resb_icu_grammar.specs.Blanks.{LineRest, Comment, Skip};
 ghost use Rattle.resb_icu_grammar.specs.Blanks.{IsParagraphEnd};
@@ -102,10 +103,45 @@ fn block_end(text: &str, from: usize) -> Option<usize>
     }
 }
 
-/// Where the white characters and comments end that begin at a place of a text. Counts a turn for
-/// each byte up to there, one for each round of its loop, which passes white characters and a
-/// comment, and one for each byte of the text behind a comment that has no end.
+/// Behind the space that stands there, if one does.
+#[inline(always)]
+fn behind_space(text: &str, from: usize) -> usize
+    requires within { from ≤ length text.now }
+    ensures order { from ≤ result }
+    ensures fits { result ≤ length text.now }
+    ensures each { Each spec.is_white text.now from result }
+{
+    if byte(text, from) == b' ' {
+        from + 1
+    } else {
+        from
+    }
+}
+
+/// Where the white characters and comments end that begin at a place of a text: mostly there, or
+/// behind one space. Counts a turn for each byte up to there, one for each round of its loop, which
+/// passes white characters and a comment, and one for each byte of the text behind a comment that
+/// has no end.
+#[inline(always)]
 pub fn skip(text: &str, from: usize, turns: &mut IcuTurns) -> usize
+    requires within { from ≤ length text.now }
+    ensures skip { Skip text.now from result }
+    ensures order { from ≤ result }
+    ensures fits { result ≤ length text.now }
+    ensures cost { turns.new.count + 2 * from ≤ turns.old.count + 2 * reach text.now result + 1 }
+{
+    let at = behind_space(text, from);
+    let b = byte(text, at);
+    if b > b' ' && b != b'/' {
+        turns.add(at - from + 1);
+        return at;
+    }
+    skip_all(text, from, turns)
+}
+
+/// The same, where more than one space or a comment is thought to stand.
+#[inline(never)]
+fn skip_all(text: &str, from: usize, turns: &mut IcuTurns) -> usize
     requires within { from ≤ length text.now }
     ensures skip { Skip text.now from result }
     ensures order { from ≤ result }

@@ -10,6 +10,7 @@ use resb_draft::{Draft, Piece};
 use resb_tree::{NoMemory, Resource};
 use std::alloc::Global;
 use std::borrow::CowStr;
+use std::mem;
 
 impl<'a> Build<'a> for Draft<'a> {
     ghost use Rattle.resb_draft.specs.Drafts.{tree_at, is_whole};
@@ -23,7 +24,9 @@ impl<'a> Build<'a> for Draft<'a> {
     #[inline(always)]
     fn leaf(&mut self, resource: Resource<'a>) -> Result<u32, NoMemory> {
         if let Resource::String(CowStr::Borrowed(text)) = &resource {
-            return self.push_string(*text);
+            let text = *text;
+            mem::forget(resource);
+            return self.push_string(text);
         }
         self.push_leaf(resource)
     }

@@ -15,11 +15,34 @@ use crate::error::IcuTextError;
 use crate::escapes::escape;
 use crate::turns::IcuTurns;
 use memchr::memchr2;
+use resb_grammar::bytes_before;
 use resb_icu_grammar::IcuExpected;
 use std::alloc::AllocError;
 
-/// The first place from here on where a quote or a backslash stands.
+/// The first place from here on where a quote or a backslash stands, which mostly is near.
+#[inline(always)]
 fn first_stop(text: &str, from: usize) -> Option<usize>
+    requires within { from ≤ length text.now }
+    ensures found { IfSome result (FirstStop text.now from) }
+    ensures none { IfNone result (HasNoStop text.now from (length text.now)) }
+{
+    let bytes = text.as_bytes();
+    if bytes.len() - from >= 16 {
+        let quote = bytes_before(bytes, from, b'"');
+        let slash = bytes_before(bytes, from, b'\\');
+        if quote < slash {
+            return Some(from + quote);
+        }
+        if slash < 16 {
+            return Some(from + slash);
+        }
+    }
+    far_stop(text, from)
+}
+
+/// The same, where neither need be near.
+#[inline(never)]
+fn far_stop(text: &str, from: usize) -> Option<usize>
     requires within { from ≤ length text.now }
     ensures found { IfSome result (FirstStop text.now from) }
     ensures none { IfNone result (HasNoStop text.now from (length text.now)) }

@@ -126,8 +126,9 @@ impl IcuReader {
         draft_limited(alloc, input, &mut Meter::new(Limit::of_drafts(u64::MAX)))
     }
 
-    /// The bundle as `read_draft` gives it, where reading makes no more bytes than the limit: as in
-    /// `read_within`, but that 112 are counted for a key and 64 for a table.
+    /// The bundle as `read_draft` gives it, where reading makes no more bytes than the limit. They
+    /// are counted as in `read_within`, but that a key counts as 112 and the first key of a table
+    /// as 64 more.
     pub fn read_draft_within<'a>(
         alloc: Global,
         input: &'a str,

@@ -9,7 +9,7 @@ ghost use Rattle.std.specs.Prelude.{◌≡◌, ◌+◌, ◌-◌, ◌^◌, ◌≤
 /// once it holds the greatest number that it can.
 #[derive(Clone, Copy, Debug, PartialEq, Eq)]
 pub struct IcuTurns {
-    count: u128,
+    count: u64,
 }
 
 impl IcuTurns {
@@ -24,20 +24,20 @@ impl IcuTurns {
     pub fn count(&self) -> u128
         ensures { result ≡ self.now.count }
     {
-        self.count
+        u128::from(self.count)
     }
 
     /// Counts turns.
     pub(crate) fn add(&mut self, turns: usize)
-        ensures counted { self.new.count ≡ min (self.old.count + turns) (2 ^ 128 - 1) }
+        ensures counted { self.new.count ≡ min (self.old.count + turns) (2 ^ 64 - 1) }
         ensures most { self.new.count ≤ self.old.count + turns }
     {
-        self.count = self.count.saturating_add(turns as u128);
+        self.count = self.count.saturating_add(turns as u64);
     }
 
     /// Counts the turns of a reading that had a counter of its own.
     pub(crate) fn add_counted(&mut self, turns: IcuTurns)
-        ensures counted { self.new.count ≡ min (self.old.count + turns.count) (2 ^ 128 - 1) }
+        ensures counted { self.new.count ≡ min (self.old.count + turns.count) (2 ^ 64 - 1) }
         ensures grows { self.old.count ≤ self.new.count }
         ensures most { self.new.count ≤ self.old.count + turns.count }
     {

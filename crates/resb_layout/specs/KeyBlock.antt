@@ -1,14 +1,13 @@
--- The key block of a written file, and where each key stands in it. (ICU's `uresdata.h`: key
--- block.)
---     key_block t ks          the block that a file of t has for the keys ks of a list
---     key_position t ks k     the position of the key k, in bytes of the body
+-- What the key block of a written file is made of, and where a key stands among keys. (ICU's
+-- `uresdata.h`: key block.)
+--     used us ks              which keys of a list are among the used ones
+--     padded (key_bytes ks)   the bytes of a block of these keys
+--     position_in js k        the position of the key k among them, in bytes of the body
 use Rattle.std.specs.Prelude.{ℕ, ◌+◌, List, [], ◌∷◌, ◌++◌, length, filter}
 use Rattle.std.specs.Prelude.{Option, Some, None, option_map, Bool, if◌then◌else◌}
 use Rattle.std.specs.List.{flat_map, list_any}
-use Rattle.resb_tree.specs.Tree.{Tree}
 use Rattle.resb_tree.specs.Keys.{same_text}
 use Rattle.resb_layout.specs.Laid.{fill, to_word}
-use Rattle.resb_tree.specs.LayingOrder.{keys_of}
 
 -- the key is one of these
 abbrev pub is_among : List (List ℕ) → List ℕ → Bool
@@ -26,10 +25,6 @@ key_bytes ks = flat_map (λ k. k ++ 0 ∷ []) ks
 abbrev pub padded : List ℕ → List ℕ
 padded bytes = bytes ++ fill (to_word (length bytes))
 
--- the listed keys that a tree uses, each with a zero byte, filled to a word
-abbrev pub key_block : Tree → List (List ℕ) → List ℕ
-key_block t ks = padded (key_bytes (used (keys_of t) ks))
-
 -- how many bytes stand before the last occurrence of k among keys that stand one behind the other
 abbrev pub last_place : List ℕ → List (List ℕ) → Option ℕ
 last_place k [] = None
@@ -46,7 +41,3 @@ keys_start = 32
 -- the position of the last occurrence of k among keys that begin there
 abbrev pub position_in : List (List ℕ) → List ℕ → Option ℕ
 position_in js k = option_map (λ n. keys_start + n) (last_place k js)
-
--- where a key stands last among the listed keys that a tree uses, in bytes from the body's start
-abbrev pub key_position : Tree → List (List ℕ) → List ℕ → Option ℕ
-key_position t ks k = position_in (used (keys_of t) ks) k

@@ -3,9 +3,9 @@
 -- `uresdata.h`.)
 --     Lays g before t after w         from where before stands, the tree t takes what after has
 --                                     more, and its word is w
---     LaysEach g before ts after ws   the same of trees in a row
---     LaysBy lent g .., LaysEachBy lent g ..    the same of a file to which a pool bundle lends, or
---                                     of one that uses none
+--     LaysBy lent g ..                the same of a file to which a pool bundle lends, or of one
+--                                     that uses none
+--     LaysEachBy lent g .. ts .. ws   the same of trees in a row
 use Rattle.std.specs.Prelude.{◌≡◌, ℕ, ◌+◌, ◌-◌, ◌*◌, ◌^◌, ◌<◌, ◌%◌, List, [], ◌∷◌, ◌++◌}
 use Rattle.std.specs.Prelude.{length, map, replicate, All, Option, Some, None, Bool, true, false}
 use Rattle.std.specs.Prelude.{◌&&◌, ◌||◌, nat_le, nat_lt, nat_eq, if◌then◌else◌}
@@ -196,14 +196,6 @@ pub data ClosesTableBy (lent : Option Lends) (g : Given) (s : Laid) (ps ws : Lis
       → length ps < 2 ^ 32 → All (λ p. p < 2 ^ 32) ps
       → ClosesTableBy lent g s ps ws (more_bytes s (wide_table_body ps ws)) (0x4000_0000 + at)
 
--- the same of a file that uses no pool
-abbrev pub ClosesArray : Given → Laid → List ℕ → Laid → ℕ → Type 0
-ClosesArray = ClosesArrayBy None
-
--- the same of a file that uses no pool
-abbrev pub ClosesTable : Given → Laid → List ℕ → List ℕ → Laid → ℕ → Type 0
-ClosesTable = ClosesTableBy None
-
 -- the trees of entries, in their order
 abbrev pub entry_trees : Entries → Trees
 entry_trees no_entries = no_trees
@@ -255,7 +247,3 @@ mutual
 -- the same of a file that uses no pool
 abbrev pub Lays : Given → Laid → Tree → Laid → ℕ → Type 0
 Lays = LaysBy None
-
--- the same of a file that uses no pool
-abbrev pub LaysEach : Given → Laid → Trees → Laid → List ℕ → Type 0
-LaysEach = LaysEachBy None

@@ -19,5 +19,4 @@ pub mod WritingFault
 pub mod TreeFaults
 pub mod WrittenHead
 pub mod Written
-pub mod WrittenCompact
 pub mod Laws

@@ -68,17 +68,7 @@ comes_after a b c n g = by (end_last_cmp a b) refl
     by Greater e = turned c a Less (end_last_total.trans c b a (turned b c Greater g)
         (turned a b Greater e))
 
--- what holds a text doesn't come after it
-pub holds_not_after : (r s : List ℕ) → IsUtf8 r → IsUtf8 s → Holds r s
-    → NotAfter (letters r) (letters s)
-holds_not_after r s u v (inl e) = extends_not_after (letters r) (letters s) (record {
-  rest = [];
-  is = ap letters e ∙ sym (append-nil (letters s));
-})
-holds_not_after r s u v (inr h) = extends_not_after (letters r) (letters s)
-    (ends_extends r s u v h.ends)
-
--- so does what ends with it
+-- what holds a text ends with it
 pub ends_of : (q s : List ℕ) → Holds q s → EndsWith q s
 ends_of q s (inl e) = record { front = []; is = e }
 ends_of q s (inr h) = h.ends

@@ -1,22 +1,19 @@
 -- How the strings of a file stand that uses a pool bundle: where the pool has them, and the others
 -- in records of the file's own. (ICU's `reslist.cpp`, `uresdata.h`: string index limits.)
---     AreLent block S os          os is what the pool has of the texts S, one answer for each
---     AreLentBy way block A S os  the same of texts S in a file of the strings A that is packed
---                                 this way
+--     AreLentBy way block A S os  os is what the pool has of the texts S, one answer for each, in
+--                                 a file of the strings A that is packed this way
 --     lacking S os                those of S that the pool lacks
 --     short_limit_of limit own    the first index of the file's own, as a unit tells it
 --     StandAt S is offset         each index that is given is that of one of the strings S
 --     IsPlanWithBy way block S us is limit short   how the strings S stand in a file that is packed
 --                                 this way
---     IsPlanWith block S us is limit short     how they stand in a plain file
---     NotPlannedWithBy way block S e, NotPlannedWith block S e     the error e is the answer for S
+--     NotPlannedWithBy way block S e      the error e is the answer for S
 use Rattle.std.specs.Prelude.{◌≡◌, ℕ, ◌+◌, ◌*◌, ◌/◌, ◌^◌, ◌<◌, ◌≤◌, List, [], ◌∷◌, map, max}
 use Rattle.std.specs.Prelude.{Option, Some, None, ◌&&◌, nat_le, nat_eq, slice_get, if◌then◌else◌}
 use Rattle.std.specs.Prelude.{All}
 use Rattle.std.specs.Str.{IsUtf8}
 use Rattle.resb_pool.specs.Plan.{IsPlanAmong, NotPlanned}
 use Rattle.resb_pool.specs.declared.packing.Packing.{Packing}
-use Rattle.resb_pool.specs.declared.packing.Packing.TheVariants.{Plain}
 use Rattle.resb_pool.specs.declared.error.PlanError.{PlanError}
 use Rattle.resb_pool.specs.declared.error.PlanError.TheVariants.{TooLarge, OutOfMemory}
 use Rattle.resb_lent.specs.LentBeside.{IsTextBeside, LendsTextBy}
@@ -29,10 +26,6 @@ pub data AreLentBy (way : Packing) (block : List ℕ) (A : List (List ℕ))
   lent_more : {s : List ℕ} {ss : List (List ℕ)} {o : Option ℕ} {os : List (Option ℕ)}
       → LendsTextBy way block A s o → AreLentBy way block A ss os
       → AreLentBy way block A (s ∷ ss) (o ∷ os)
-
--- the same of a plain file, where it doesn't hang on its other strings
-abbrev pub AreLent : List ℕ → List (List ℕ) → List (Option ℕ) → Type 0
-AreLent block S = AreLentBy Plain block S S
 
 -- the texts without an index, in their order
 abbrev pub lacking : List (List ℕ) → List (Option ℕ) → List (List ℕ)
@@ -94,10 +87,6 @@ pub record IsPlanWithBy (way : Packing) (block : List ℕ) (S : List (List ℕ))
   pub room : limit + limit_of offsets ≤ 2 ^ 28
   pub indexes_are : is ≡ in_turn limit found offsets
 
--- the same of a plain file
-abbrev pub IsPlanWith : List ℕ → List (List ℕ) → List ℕ → List ℕ → ℕ → ℕ → Type 0
-IsPlanWith = IsPlanWithBy Plain
-
 -- why strings have no plan: want of memory, a fault of those that the pool lacks, or indexes of
 -- more than 28 bits
 pub data NotPlannedWithBy (way : Packing) (block : List ℕ) (S : List (List ℕ))
@@ -111,7 +100,3 @@ pub data NotPlannedWithBy (way : Packing) (block : List ℕ) (S : List (List ℕ
       → map offset (lacking S found) ≡ map Some offsets
       → 2 ^ 28 < limit_of (given found) + limit_of offsets
       → NotPlannedWithBy way block S TooLarge
-
--- the same of a plain file
-abbrev pub NotPlannedWith : List ℕ → List (List ℕ) → PlanError → Type 0
-NotPlannedWith = NotPlannedWithBy Plain

@@ -214,7 +214,6 @@ impl PlanWithPool {
     ghost use Rattle.std.specs.Prelude.{ℕ, List, IfOk, IfErr};
     ghost use Rattle.resb_pool.specs.Plan.{nows};
     ghost use Rattle.resb_lent.specs.Lending.{LendsTexts};
-    ghost use Rattle.resb_lent.specs.PlanWithPool.{IsPlanWith, NotPlannedWith};
     ghost use Rattle.resb_lent.specs.PlanWithPool.{IsPlanWithBy, NotPlannedWithBy};
 
     /// Plans the strings of a plain file, each of which may be given more than once. Those that the
@@ -225,10 +224,10 @@ impl PlanWithPool {
     /// than 28 bits.
     pub fn of(alloc: Global, lent: &LentTexts, strings: &[&str]) -> Result<PlanWithPool, PlanError>
         ensures ok { IfOk result (λ p. (block : List ℕ) → LendsTexts lent.now block
-            → IsPlanWith block (nows strings.now) p.units.items p.indexes.items p.limit
+            → IsPlanWithBy Plain block (nows strings.now) p.units.items p.indexes.items p.limit
             p.short_limit) }
         ensures err { IfErr result (λ e. (block : List ℕ) → LendsTexts lent.now block
-            → NotPlannedWith block (nows strings.now) e) }
+            → NotPlannedWithBy Plain block (nows strings.now) e) }
     {
         PlanWithPool::by(alloc, Packing::Plain, lent, strings)
     }

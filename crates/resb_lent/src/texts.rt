@@ -163,8 +163,8 @@ impl LentTexts {
 
     /// The index of a text in the pool: where its marker stands, or its first unit if it has none.
     /// The text has a record of its own, or it has no marker and a record ends with it; then it
-    /// lies in the greatest such record in the order from the end. The empty text has index 0. A
-    /// pool whose block doesn't begin with 0 lends no text.
+    /// lies in the greatest such record in a plain file's order from the end. The empty text has
+    /// index 0. A pool whose block doesn't begin with 0 lends no text.
     pub fn index(&self, text: &str) -> Option<u32>
         ensures { (block : List ℕ) → LendsTexts self.now block → LendsText block text.now result }
     {

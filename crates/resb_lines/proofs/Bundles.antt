@@ -3,7 +3,7 @@ use Rattle.std.specs.Prelude.{◌≡◌, ℕ, List, Bool}
 use Rattle.std.proofs.Common.{ap, ◌∙◌}
 use Rattle.resb_tree.specs.Tree.{Tree}
 use Rattle.resb_print.specs.Paths.{Tests, first_found}
-use Rattle.resb_lines.specs.Spelling.{Spelling}
+use Rattle.resb_print.specs.Spelling.{Spelling}
 use Rattle.resb_lines.specs.Lines.{lines_of}
 
 pub same_found : {C : Type 0} (c : Tests C) (n m : List ℕ) (t u : Tree) → n ≡ m → t ≡ u

@@ -8,8 +8,8 @@ use Rattle.std.proofs.lemmas.List.{map_push, length-append}
 use Rattle.resb_tree.specs.Tree.{Tree, Trees, Entries}
 use Rattle.resb_print.specs.Inner.Appends.{Appends}
 use Rattle.resb_print.specs.declared.place.Place.{Place}
-use Rattle.resb_lines.specs.Spelling.{Spelling}
-use Rattle.resb_lines.specs.Lines.{tree_on}
+use Rattle.resb_print.specs.Spelling.{Spelling}
+use Rattle.resb_print.specs.Printed.{tree_on}
 use Rattle.resb_lines.specs.declared.task.Task.{Task}
 use Rattle.resb_lines.specs.Inner.Jobs.{Job, job_of, jobs_in, job_on, jobs_on, job_turns, turns_of}
 use Rattle.resb_lines.specs.Inner.Jobs.{value_job, DoesJob}

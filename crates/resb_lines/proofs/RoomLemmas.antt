@@ -8,13 +8,13 @@ use Rattle.std.proofs.lemmas.List.{length-append}
 use Rattle.hex.specs.Hex.{encode_lower, lower_digits}
 use Rattle.hex.proofs.HexLemmas.{length-encode_with}
 use Rattle.resb_tree.specs.Tree.{Tree, string, alias, array, table, binary, integer, int_vector}
-use Rattle.resb_print.specs.Printed.{line_on, end_on}
+use Rattle.resb_print.specs.Spelling.{Spelling}
+use Rattle.resb_print.specs.Printed.{line_on, end_on, tree_on, string_on}
 use Rattle.resb_print.specs.declared.place.Place.{Place}
 use Rattle.resb_print.specs.declared.place.Place.TheVariants.{InTable, InArray}
 use Rattle.resb_print.proofs.Sizes.{indent_length}
 use Rattle.resb_shown.specs.Shown.{text_in}
-use Rattle.resb_lines.specs.Spelling.{Spelling, Grows}
-use Rattle.resb_lines.specs.Lines.{tree_on, string_on}
+use Rattle.resb_lines.specs.Spelling.{Grows}
 use Rattle.resb_lines.specs.Inner.Jobs.{Job, head_job, entry_job, member_job, value_job}
 use Rattle.resb_lines.specs.Inner.Jobs.{entries_job, members_job, numbers_job, digits_job}
 use Rattle.resb_lines.specs.Inner.Jobs.{line_feed_job, job_on, jobs_on}

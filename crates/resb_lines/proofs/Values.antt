@@ -17,8 +17,9 @@ use Rattle.resb_print.specs.declared.place.Place.{Place}
 use Rattle.resb_shown.specs.Shown.{text_in, numbers_in}
 use Rattle.resb_tree.specs.Tree.{Tree, string, alias, array, table, binary, integer, int_vector}
 use Rattle.resb_tree.specs.Tree.{Trees, no_trees, more_trees, Entries, no_entries, entry}
-use Rattle.resb_lines.specs.Spelling.{Spelling}
-use Rattle.resb_lines.specs.Lines.{string_on, alias_on, tree_on, end_line_on}
+use Rattle.resb_print.specs.Spelling.{Spelling}
+use Rattle.resb_print.specs.Printed.{alias_on, string_on, tree_on}
+use Rattle.resb_lines.specs.Lines.{end_line_on}
 use Rattle.resb_lines.specs.Inner.Jobs.{Job, entry_job, member_job, value_job}
 use Rattle.resb_lines.specs.Inner.Jobs.{entries_job, members_job, numbers_job, digits_job}
 use Rattle.resb_lines.specs.Inner.Jobs.{comma_on, numbers_left, DoesJob}

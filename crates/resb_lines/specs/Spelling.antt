@@ -1,11 +1,6 @@
--- How a form of texts spells what differs among the forms.
+-- What is promised of how a form of texts spells keys and strings.
 use Rattle.std.specs.Prelude.{◌≤◌, ◌+◌, ℕ, List, length}
-
--- how a name, a key and a string are written before what follows them
-pub record Spelling : Type 0 where
-  pub name_on : List ℕ → List ℕ → List ℕ
-  pub key_on : List ℕ → List ℕ → List ℕ
-  pub piece_on : List ℕ → List ℕ → List ℕ
+use Rattle.resb_print.specs.Spelling.{Spelling}
 
 -- keys and strings are no shorter as they are spelled
 pub record Grows (f : Spelling) : Type 0 where

@@ -4,7 +4,8 @@ ghost use Rattle.std.specs.Prelude.{◌≡◌, ℕ, List, None, OnOk, MatchOptio
 ghost use Rattle.resb_print.specs.Inner.Appends.{Appends};
 ghost use Rattle.resb_print.specs.Paths as paths;
 ghost use Rattle.resb_print.specs.Paths.{Tests};
-ghost use Rattle.resb_lines.specs.Spelling.{Spelling, Grows};
+ghost use Rattle.resb_print.specs.Spelling.{Spelling};
+ghost use Rattle.resb_lines.specs.Spelling.{Grows};
 ghost use Rattle.resb_lines.specs.Causes.{IsCauseByItself};
 
 use resb_icu_print::{IcuCause, is_bare, is_key};
@@ -72,12 +73,12 @@ fn quote_cause(text: &str, cause: Cause) -> Option<Cause>
 
 impl Form for Plain {
     ghost use Rattle.resb_print.specs.Paths.{plain_tests};
-    ghost use Rattle.resb_lines.specs.Laws.{plain};
+    ghost use Rattle.resb_print.specs.Printed.{plain_spelling};
     ghost use Rattle.resb_print.proofs.Sizes.{name_grows, quoted_grows};
 
     type Cause = Cause;
 
-    ghost spelling = { plain };
+    ghost spelling = { plain_spelling };
 
     ghost tests = { plain_tests };
 
@@ -122,13 +123,13 @@ impl Form for Plain {
 pub struct Icu;
 
 impl Form for Icu {
-    ghost use Rattle.resb_icu_print.specs.CausePaths.{icu_tests};
-    ghost use Rattle.resb_lines.specs.Laws.{icu};
+    ghost use Rattle.resb_icu_print.specs.Causes.{icu_tests};
+    ghost use Rattle.resb_icu_print.specs.Printed.{icu_spelling};
     ghost use Rattle.resb_icu_print.proofs.Sizes.{key_grows, piece_grows};
 
     type Cause = IcuCause;
 
-    ghost spelling = { icu };
+    ghost spelling = { icu_spelling };
 
     ghost tests = { icu_tests };
 

@@ -5,12 +5,12 @@ ghost use Rattle.std.specs.Prelude.{IfOk, IfErr, IfSome, MatchOption};
 ghost use Rattle.std.specs.String.{string_bytes};
 ghost use Rattle.resb_tree.specs.Bundle.{name_of, root_of};
 ghost use Rattle.resb_icu_grammar.specs.Bundle.{IcuText};
-ghost use Rattle.resb_print.specs.Paths.{path_found};
-ghost use Rattle.resb_icu_print.specs.CausePaths as paths;
-ghost use Rattle.resb_icu_print.specs.Causes.{first_cause, SaysIcuCause};
-ghost use Rattle.resb_icu_print.specs.Laws.{NoTextHas};
-ghost use Rattle.resb_icu_print.specs.Printed.{IsIcuBundleText, IsLongIcuBundle};
-ghost use Rattle.resb_icu_print.specs.Sizes.{icu_text_limit};
+ghost use Rattle.resb_print.specs.Laws.{HasNoText};
+ghost use Rattle.resb_print.specs.Paths.{first_cause, cause_path, path_found};
+ghost use Rattle.resb_print.specs.Printed.{IsBundleText, IsLongBundle};
+ghost use Rattle.resb_print.specs.Sizes.{text_limit};
+ghost use Rattle.resb_icu_print.specs.Causes.{icu_tests, SaysIcuCause};
+ghost use Rattle.resb_icu_print.specs.Printed.{icu_spelling};
 
 use crate::causes::find_cause;
 use crate::form::Icu;
@@ -32,14 +32,14 @@ use std::alloc::{AllocError, Global};
 pub fn print_icu_text(alloc: Global, bundle: &ResourceBundle<'_>) -> Result<String, IcuPrintError>
     ensures text { IfOk result (λ text. (keys : List (List ℕ)) × IcuText (string_bytes text)
         (name_of bundle.now) bundle.now.is_locale_fallback_enabled (root_of bundle.now) keys) }
-    ensures exact { IfOk result (λ text. IsIcuBundleText (string_bytes text)
+    ensures exact { IfOk result (λ text. IsBundleText icu_spelling (string_bytes text)
         (name_of bundle.now) bundle.now.is_locale_fallback_enabled (root_of bundle.now)) }
     ensures size { IfOk result (λ text. length (string_bytes text)
-        ≤ icu_text_limit (name_of bundle.now) (root_of bundle.now)) }
+        ≤ text_limit 6 (name_of bundle.now) (root_of bundle.now)) }
     ensures refusal { IfErr result (λ e.
-        SaysIcuCause e (first_cause (name_of bundle.now) (root_of bundle.now))) }
+        SaysIcuCause e (first_cause icu_tests (name_of bundle.now) (root_of bundle.now))) }
     ensures none { IfErr result (λ e. (e ≡ IcuPrintError.OutOfMemory)
-        ⊎ NoTextHas (name_of bundle.now) bundle.now.is_locale_fallback_enabled
+        ⊎ HasNoText IcuText (name_of bundle.now) bundle.now.is_locale_fallback_enabled
         (root_of bundle.now)) }
 {
     match print_icu_text_within(alloc, bundle, u64::MAX) {
@@ -64,18 +64,18 @@ pub fn print_icu_text_within(
         (keys : List (List ℕ)) × IcuText (string_bytes text) (name_of bundle.now)
         bundle.now.is_locale_fallback_enabled (root_of bundle.now) keys)) }
     ensures exact { IfOk result (λ found. MatchOption found
-        (IsLongIcuBundle limit (name_of bundle.now) bundle.now.is_locale_fallback_enabled
-        (root_of bundle.now))
-        (λ text. IsIcuBundleText (string_bytes text) (name_of bundle.now)
+        (IsLongBundle icu_spelling limit (name_of bundle.now)
+        bundle.now.is_locale_fallback_enabled (root_of bundle.now))
+        (λ text. IsBundleText icu_spelling (string_bytes text) (name_of bundle.now)
         bundle.now.is_locale_fallback_enabled (root_of bundle.now))) }
     ensures within { IfOk result (λ found.
         IfSome found (λ text. length (string_bytes text) ≤ limit)) }
     ensures size { IfOk result (λ found. IfSome found (λ text.
-        length (string_bytes text) ≤ icu_text_limit (name_of bundle.now) (root_of bundle.now))) }
+        length (string_bytes text) ≤ text_limit 6 (name_of bundle.now) (root_of bundle.now))) }
     ensures refusal { IfErr result (λ e.
-        SaysIcuCause e (first_cause (name_of bundle.now) (root_of bundle.now))) }
+        SaysIcuCause e (first_cause icu_tests (name_of bundle.now) (root_of bundle.now))) }
     ensures none { IfErr result (λ e. (e ≡ IcuPrintError.OutOfMemory)
-        ⊎ NoTextHas (name_of bundle.now) bundle.now.is_locale_fallback_enabled
+        ⊎ HasNoText IcuText (name_of bundle.now) bundle.now.is_locale_fallback_enabled
         (root_of bundle.now)) }
 {
     let shown = ShownBundle::of(bundle);
@@ -94,7 +94,7 @@ pub fn icu_cause_path<'t>(
     bundle: &'t ResourceBundle<'_>,
 ) -> Result<Option<Vec<PathStep<'t>>>, AllocError>
     ensures { IfOk result (λ found. path_found found
-        ≡ paths.icu_cause_path (name_of bundle.now) (root_of bundle.now)) }
+        ≡ cause_path icu_tests (name_of bundle.now) (root_of bundle.now)) }
 {
     match find_cause(alloc, Icu, ShownBundle::of(bundle))? {
         Some((path, _)) => Ok(Some(path)),

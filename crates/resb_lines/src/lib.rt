@@ -1,13 +1,12 @@
 //! The printer of bundles: their texts in either form, as a text or line by line into any writer,
-//! from whatever holds the bundle, and what keeps it from having one. What a text of a form is
-//! stands in `resb_print` and `resb_icu_print`.
+//! from whatever holds the bundle, and what keeps it from having one. What such a text is stands in
+//! `resb_print`, and how ICU's form spells it in `resb_icu_print`.
 #![tactic(auto)]
 
 mod causes;
 mod form;
 mod icu_print;
 mod inside;
-pub mod laws;
 mod print;
 mod room;
 mod task;

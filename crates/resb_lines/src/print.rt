@@ -7,9 +7,9 @@ ghost use Rattle.resb_tree.specs.Bundle.{name_of, root_of};
 ghost use Rattle.resb_grammar.specs.BundleText.{BundleText};
 ghost use Rattle.resb_print.specs.Laws.{HasNoText};
 ghost use Rattle.resb_print.specs.Paths as paths;
-ghost use Rattle.resb_print.specs.Paths.{path_found};
-ghost use Rattle.resb_print.specs.Printed.{IsBundleText, IsLongBundle};
-ghost use Rattle.resb_print.specs.Quotes.{first_cause, SaysCause};
+ghost use Rattle.resb_print.specs.Paths.{plain_tests, first_cause, path_found};
+ghost use Rattle.resb_print.specs.Printed.{plain_spelling, IsBundleText, IsLongBundle};
+ghost use Rattle.resb_print.specs.Quotes.{SaysCause};
 ghost use Rattle.resb_print.specs.Sizes.{text_limit};
 
 use crate::causes::find_cause;
@@ -29,14 +29,14 @@ use std::alloc::{AllocError, Global};
 pub fn print_text(alloc: Global, bundle: &ResourceBundle<'_>) -> Result<String, PrintError>
     ensures text { IfOk result (λ text. (keys : List (List ℕ)) × BundleText (string_bytes text)
         (name_of bundle.now) bundle.now.is_locale_fallback_enabled (root_of bundle.now) keys) }
-    ensures exact { IfOk result (λ text. IsBundleText (string_bytes text)
+    ensures exact { IfOk result (λ text. IsBundleText plain_spelling (string_bytes text)
         (name_of bundle.now) bundle.now.is_locale_fallback_enabled (root_of bundle.now)) }
     ensures size { IfOk result (λ text. length (string_bytes text)
-        ≤ text_limit (name_of bundle.now) (root_of bundle.now)) }
+        ≤ text_limit 1 (name_of bundle.now) (root_of bundle.now)) }
     ensures refusal { IfErr result (λ e.
-        SaysCause e (first_cause (name_of bundle.now) (root_of bundle.now))) }
+        SaysCause e (first_cause plain_tests (name_of bundle.now) (root_of bundle.now))) }
     ensures none { IfErr result (λ e. (e ≡ PrintError.OutOfMemory)
-        ⊎ HasNoText (name_of bundle.now) bundle.now.is_locale_fallback_enabled
+        ⊎ HasNoText BundleText (name_of bundle.now) bundle.now.is_locale_fallback_enabled
         (root_of bundle.now)) }
 {
     match print_text_within(alloc, bundle, u64::MAX) {
@@ -62,18 +62,18 @@ pub fn print_text_within(
         (keys : List (List ℕ)) × BundleText (string_bytes text) (name_of bundle.now)
         bundle.now.is_locale_fallback_enabled (root_of bundle.now) keys)) }
     ensures exact { IfOk result (λ found. MatchOption found
-        (IsLongBundle limit (name_of bundle.now) bundle.now.is_locale_fallback_enabled
-        (root_of bundle.now))
-        (λ text. IsBundleText (string_bytes text) (name_of bundle.now)
+        (IsLongBundle plain_spelling limit (name_of bundle.now)
+        bundle.now.is_locale_fallback_enabled (root_of bundle.now))
+        (λ text. IsBundleText plain_spelling (string_bytes text) (name_of bundle.now)
         bundle.now.is_locale_fallback_enabled (root_of bundle.now))) }
     ensures within { IfOk result (λ found.
         IfSome found (λ text. length (string_bytes text) ≤ limit)) }
     ensures size { IfOk result (λ found. IfSome found (λ text.
-        length (string_bytes text) ≤ text_limit (name_of bundle.now) (root_of bundle.now))) }
+        length (string_bytes text) ≤ text_limit 1 (name_of bundle.now) (root_of bundle.now))) }
     ensures refusal { IfErr result (λ e.
-        SaysCause e (first_cause (name_of bundle.now) (root_of bundle.now))) }
+        SaysCause e (first_cause plain_tests (name_of bundle.now) (root_of bundle.now))) }
     ensures none { IfErr result (λ e. (e ≡ PrintError.OutOfMemory)
-        ⊎ HasNoText (name_of bundle.now) bundle.now.is_locale_fallback_enabled
+        ⊎ HasNoText BundleText (name_of bundle.now) bundle.now.is_locale_fallback_enabled
         (root_of bundle.now)) }
 {
     let shown = ShownBundle::of(bundle);
@@ -92,7 +92,7 @@ pub fn cause_path<'t>(
     bundle: &'t ResourceBundle<'_>,
 ) -> Result<Option<Vec<PathStep<'t>>>, AllocError>
     ensures { IfOk result (λ found. path_found found
-        ≡ paths.cause_path (name_of bundle.now) (root_of bundle.now)) }
+        ≡ paths.cause_path plain_tests (name_of bundle.now) (root_of bundle.now)) }
 {
     match find_cause(alloc, Plain, ShownBundle::of(bundle))? {
         Some((path, _)) => Ok(Some(path)),

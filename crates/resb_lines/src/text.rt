@@ -7,6 +7,7 @@ ghost use Rattle.hex.specs.Hex.{encode_lower};
 ghost use Rattle.resb_print.specs.Inner.Appends.{Appends};
 ghost use Rattle.resb_shown.specs.Shown.{numbers_in, text_in};
 ghost use Rattle.resb_tree.specs.Tree.{array, table};
+ghost use Rattle.resb_print.specs.Printed.{alias_on, printed_bundle, string_on};
 ghost use Rattle.resb_lines.specs.Lines as lines;
 ghost use Rattle.resb_lines.specs.Lines.{IsTextWithin};
 ghost use Rattle.resb_lines.specs.Inner.Jobs.{jobs_in, job_of, all_on, turns_of, DoesJob};
@@ -61,7 +62,7 @@ impl<'s, F: Form, S: Shown<'s>> LinesText<'s, F, S, S::Members, S::Entries> {
     ) -> Result<LinesText<'s, F, S, S::Members, S::Entries>, AllocError>
         ensures ahead { IfOk result (λ text. all_on F.spelling
             (jobs_in S.tree S.members S.entries text.pending.items)
-            ≡ lines.bundle_on F.spelling name.now fallback (S.entries entries)) }
+            ≡ printed_bundle F.spelling name.now fallback (S.entries entries)) }
         ensures line { IfOk result (λ text. string_bytes text.line ≡ []) }
     {
         let mut pending = Vec::with_capacity(alloc, 32)?;
@@ -124,7 +125,7 @@ impl<'s, F: Form, S: Shown<'s>> LinesText<'s, F, S, S::Members, S::Entries> {
     /// Writes a string, in braces where it stands behind a key.
     fn push_string(&mut self, shown: S, place: Place) -> Result<(), AllocError>
         ensures written { OnOk result (Appends self.old.line self.new.line
-            (lines.string_on F.spelling place (text_in (S.tree shown)))) }
+            (string_on F.spelling place (text_in (S.tree shown)))) }
         ensures kept { self.new.pending ≡ self.old.pending }
     {
         if let Place::InTable = place {
@@ -140,7 +141,7 @@ impl<'s, F: Form, S: Shown<'s>> LinesText<'s, F, S, S::Members, S::Entries> {
     /// Writes an alias, its path as a string is written.
     fn push_alias(&mut self, shown: S, place: Place) -> Result<(), AllocError>
         ensures written { OnOk result (Appends self.old.line self.new.line
-            (lines.alias_on F.spelling place (text_in (S.tree shown)))) }
+            (alias_on F.spelling place (text_in (S.tree shown)))) }
         ensures kept { self.new.pending ≡ self.old.pending }
     {
         self.line.push_str(":alias{")?;

@@ -24,14 +24,14 @@ use Rattle.resb_format.proofs.Lists.{same_some}
 use Rattle.resb_read.specs.Sequences.{at_entry}
 use Rattle.resb_read.specs.Tables.{keys_ascend, keys_ascend_above, is_above, key_of}
 use Rattle.resb_read.specs.Tables.{text_or_empty, keys_ascend_from}
-use Rattle.resb_opened.specs.Ahead.{EachDenotes, EachStands, EachStands-prop, same_trees}
-use Rattle.resb_opened.specs.Ahead.{PairsDenote, PairsStand, PairsStand-prop, same_pairs}
-use Rattle.resb_opened.specs.Ahead.{trees-set, pairs-set}
+use Rattle.resb_opened.specs.Ahead.{EachDenotes, EachStands, PairsDenote, PairsStand}
+use Rattle.resb_opened.specs.FieldLaws.{EachStands-prop, PairsStand-prop, same_trees, same_pairs}
+use Rattle.resb_opened.specs.FieldLaws.{trees-set, pairs-set, Stands-prop, Tree-set}
 use Rattle.resb_opened.specs.Handles.{entries_in}
 use Rattle.resb_opened.specs.Inner.Holding.{EntriesDenote}
 use Rattle.resb_opened.specs.Ordered.{Ordered, OrderedEach}
 use Rattle.resb_opened.specs.Ordered.{each_more as more_ordered}
-use Rattle.resb_opened.specs.Standing.{Stands, Stands-prop, Tree-set}
+use Rattle.resb_opened.specs.Standing.{Stands}
 use Rattle.resb_opened.proofs.StandingLemmas.{none_some}
 
 -- what is still to come is one list of trees, or of entries

@@ -22,7 +22,8 @@ use Rattle.resb_read.specs.declared.cursor.Spot.TheVariants as spot
 use Rattle.resb_read.proofs.InsideTrees.{entries_stand_inside}
 use Rattle.resb_opened.specs.Handles.{entries_in}
 use Rattle.resb_opened.specs.Ordered.{Ordered, OrderedEach, each_more}
-use Rattle.resb_opened.specs.Standing.{Denoted, Stands, Stands-prop}
+use Rattle.resb_opened.specs.FieldLaws.{Stands-prop}
+use Rattle.resb_opened.specs.Standing.{Denoted, Stands}
 use Rattle.resb_opened.proofs.OrderedLemmas.{place_denotes}
 use Rattle.resb_opened.proofs.StandingLemmas.{none_some, option_tree-set}
 

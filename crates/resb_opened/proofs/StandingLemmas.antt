@@ -12,7 +12,8 @@ use Rattle.resb_format.specs.Denotes.{Den, den_leaf, den_list, den_entries, DenM
 use Rattle.resb_format.specs.Denotes.{den_unit, DenEach, each_none, each_more}
 use Rattle.resb_format.specs.Parts.{Parts}
 use Rattle.resb_walk.specs.Inner.MemberContent.{member_content}
-use Rattle.resb_opened.specs.Standing.{Denoted, Stands, Tree-set, Stands-prop}
+use Rattle.resb_opened.specs.FieldLaws.{Tree-set, Stands-prop}
+use Rattle.resb_opened.specs.Standing.{Denoted, Stands}
 use Rattle.resb_opened.specs.Ahead.{EachDenotes}
 use Rattle.resb_opened.specs.Inner.Holding.{Holds}
 

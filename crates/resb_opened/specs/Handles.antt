@@ -34,49 +34,25 @@ kind_of (int_vector ns) = kind.IntVector
 -- the members of an array, in their order; of any other tree none
 abbrev pub members_in : Tree → List Tree
 members_in (array ts) = array_members ts
-members_in (string s) = []
-members_in (alias s) = []
-members_in (table es) = []
-members_in (binary bytes) = []
-members_in (integer n) = []
-members_in (int_vector ns) = []
+members_in _ = []
 
 -- the entries of a table, in the order of their keys; of any other tree none
 abbrev pub entries_in : Tree → Entries
 entries_in (table es) = es
-entries_in (string s) = no_entries
-entries_in (alias s) = no_entries
-entries_in (array ts) = no_entries
-entries_in (binary bytes) = no_entries
-entries_in (integer n) = no_entries
-entries_in (int_vector ns) = no_entries
+entries_in _ = no_entries
 
 -- the bytes of a binary, if the tree is one
 abbrev pub bytes_in : Tree → Option (List ℕ)
 bytes_in (binary bytes) = Some bytes
-bytes_in (string s) = None
-bytes_in (alias s) = None
-bytes_in (array ts) = None
-bytes_in (table es) = None
-bytes_in (integer n) = None
-bytes_in (int_vector ns) = None
+bytes_in _ = None
 
 -- the text of a string, or the path of an alias, if the tree is one
 abbrev pub text_of : Tree → Option (List ℕ)
 text_of (string s) = Some s
 text_of (alias s) = Some s
-text_of (array ts) = None
-text_of (table es) = None
-text_of (binary bytes) = None
-text_of (integer n) = None
-text_of (int_vector ns) = None
+text_of _ = None
 
 -- the number of an integer, if the tree is one
 abbrev pub integer_in : Tree → Option ℕ
 integer_in (integer n) = Some n
-integer_in (string s) = None
-integer_in (alias s) = None
-integer_in (array ts) = None
-integer_in (table es) = None
-integer_in (binary bytes) = None
-integer_in (int_vector ns) = None
+integer_in _ = None

@@ -5,5 +5,6 @@ pub mod Handles
 pub mod Paths
 pub mod Opening
 pub mod Ahead
+pub mod FieldLaws
 pub mod Shown
 pub mod Inner

@@ -3,8 +3,8 @@
 ghost use Rattle.std.specs.Prelude.{◌≡◌, map, true};
 ghost use Rattle.resb_format.specs.Parts.{parts_in};
 ghost use Rattle.resb_walk.specs.Inner.Members.{members_of, keyed_members};
-ghost use Rattle.resb_opened.specs.Ahead.{MembersStand, members-prop};
-ghost use Rattle.resb_opened.specs.Ahead.{EntriesStand, entries-prop};
+ghost use Rattle.resb_opened.specs.Ahead.{MembersStand, EntriesStand};
+ghost use Rattle.resb_opened.specs.FieldLaws.{members-prop, entries-prop};
 ghost use Rattle.resb_opened.specs.Ordered.{OrderedEach};
 
 use crate::opened::Opened;

@@ -4,7 +4,8 @@ ghost use Rattle.std.specs.Prelude.{◌≡◌, true};
 ghost use Rattle.resb_format.specs.Parts.{parts_in};
 ghost use Rattle.resb_walk.specs.Inner.Members.{member_of};
 ghost use Rattle.resb_opened.specs.Ordered.{Ordered};
-ghost use Rattle.resb_opened.specs.Standing.{StandsAt, StandsAt-prop};
+ghost use Rattle.resb_opened.specs.FieldLaws.{StandsAt-prop};
+ghost use Rattle.resb_opened.specs.Standing.{StandsAt};
 
 use crate::opened::Opened;
 use resb_walk::Member;
@@ -26,7 +27,7 @@ impl<'a> Handle<'a> {
 
     /// The handle of a member of a file.
     #[inline(always)]
-    #[tactic(auto, using(crate::specs::Standing::one_denoted))]
+    #[tactic(auto, using(crate::specs::FieldLaws::one_denoted))]
     pub(crate) fn at(file: &'a Opened<'a>, member: Member) -> Handle<'a>
         requires stands { StandsAt file.now.parts member }
         requires ordered { file.now.ascends ≡ true

@@ -4,7 +4,8 @@ ghost use Rattle.std.specs.Prelude.{◌≡◌, true};
 ghost use Rattle.resb_format.specs.Content.{word};
 ghost use Rattle.resb_format.specs.Parts.{parts_in};
 ghost use Rattle.resb_opened.specs.Ordered.{Ordered};
-ghost use Rattle.resb_opened.specs.Standing.{RootStands, RootStands-prop};
+ghost use Rattle.resb_opened.specs.FieldLaws.{RootStands-prop};
+ghost use Rattle.resb_opened.specs.Standing.{RootStands};
 
 use resb_format::FileBlocks;
 use resb_head::CheckedFile;
@@ -27,7 +28,7 @@ impl<'de> Opened<'de> {
     ghost use Rattle.resb_opened.specs.Standing.{Denoted};
 
     /// The file of these parts, of which so much was learned.
-    #[tactic(auto, using(crate::specs::Standing::one_denoted))]
+    #[tactic(auto, using(crate::specs::FieldLaws::one_denoted))]
     pub(crate) fn of(parts: CheckedFile<'de>, count: usize, ascends: bool) -> Opened<'de>
         requires stands { RootStands parts.file parts.root }
         requires ordered { ascends ≡ true → ∥ Ordered (parts_in parts.file) (word parts.root) ∥₁ }

@@ -9,8 +9,7 @@ use Rattle.std.specs.Prelude.{slice_get, if◌then◌else◌}
 use Rattle.std.specs.Option.{option_and_then}
 use Rattle.std.specs.Char.{is_digit}
 use Rattle.std.specs.Str.Parse.{digits_value}
-use Rattle.resb_tree.specs.Tree.{Tree, string, alias, array, table, binary, integer, int_vector}
-use Rattle.resb_tree.specs.Tree.{Trees}
+use Rattle.resb_tree.specs.Tree.{Tree, Trees, array, table, int_vector}
 use Rattle.resb_tree.specs.LayingOrder.{array_members}
 use Rattle.resb_tree.specs.Maps.{get}
 use Rattle.resb_tree.specs.View.{tree_of}
@@ -64,11 +63,7 @@ abbrev pub found_inside : Spot → List ℕ → Option Spot
 found_inside (tree_spot (table es)) name = option_map tree_spot (get name es)
 found_inside (tree_spot (array ts)) name = option_map tree_spot (member_said ts name)
 found_inside (tree_spot (int_vector ns)) name = option_map number_spot (element_said ns name)
-found_inside (tree_spot (string s)) name = None
-found_inside (tree_spot (alias s)) name = None
-found_inside (tree_spot (binary bs)) name = None
-found_inside (tree_spot (integer n)) name = None
-found_inside (number_spot n) name = None
+found_inside _ name = None
 
 -- what stands at a path of names, one inside the other
 abbrev pub found_at : Spot → List (List ℕ) → Option Spot

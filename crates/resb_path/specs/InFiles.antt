@@ -5,8 +5,7 @@
 --     IsAt p s                what a path leads to in a tree stands at this place
 --     AreFound p s            the one stands at the other, or there is neither
 --     LeadsOn p names r, LeadsOnWith w names r    what is answered for a path in a file
---     AnswersPath p names r, AnswersPathWith pool bytes names r
---                             that it is what stands in the tree, where one is denoted
+--     AnswersPath denotes names r     that it is what stands in the tree, where one is denoted
 use Rattle.std.specs.Prelude.{◌≡◌, ◌==◌, ◌||◌, ◌⊎◌, ℕ, List, [], ◌∷◌, Option, Some, None, Result}
 use Rattle.std.specs.Prelude.{true, Ok, Err, MatchResult, option_map, slice_get, if◌then◌else◌}
 use Rattle.std.specs.Option.{option_and_then}
@@ -14,8 +13,6 @@ use Rattle.resb_tree.specs.Tree.{Tree}
 use Rattle.resb_format.specs.Error.{refusal_of}
 use Rattle.resb_format.specs.Types as types
 use Rattle.resb_format.specs.declared.error.ReadingError.{ReadingError}
-use Rattle.resb_pool_bundle.specs.FileWith.{DenotesWith}
-use Rattle.resb_pool_bundle.specs.Pool.{Pool}
 use Rattle.resb_walk.specs.BlockRefusals.{Says}
 use Rattle.resb_read.specs.Places.{Place, place_of}
 use Rattle.resb_read.specs.PlaceRefusals.{untold, entries_refusal, members_refusal}
@@ -93,18 +90,12 @@ IsAt p (number_spot m) = p.at ≡ spot.Word m
 -- there is a place, and what was found stands there; or there is neither
 abbrev pub AreFound : Option Place → Option Spot → Type 0
 AreFound (Some p) (Some s) = IsAt p s
-AreFound (Some p) None = ⊥
-AreFound None (Some s) = ⊥
 AreFound None None = Unit {0}
+AreFound _ _ = ⊥
 
--- where a place denotes a tree, the answer is no refusal: it is the place of what stands in the
--- tree at these names, or none where nothing does
-abbrev pub AnswersPath : Place → List (List ℕ) → Result (Option Cursor) ReadingError → Type 0
-AnswersPath p names r = (t : Tree) (n : ℕ) → DenPlace p t n
-    → MatchResult r (λ c. AreFound (option_map place_of c) (found_at (tree_spot t) names)) (λ e. ⊥)
-
--- the same of a file beside the pool bundle that is given, if one is, from its root on
-abbrev pub AnswersPathWith : Option Pool → List ℕ → List (List ℕ)
-    → Result (Option Cursor) ReadingError → Type 0
-AnswersPathWith pool bytes names r = (t : Tree) (n : ℕ) → DenotesWith pool bytes t n
+-- where a tree is denoted, by a place or by a file, the answer is no refusal: it is the place of
+-- what stands in the tree at these names, or none where nothing does
+abbrev pub AnswersPath : (Tree → ℕ → Type 0) → List (List ℕ) → Result (Option Cursor) ReadingError
+    → Type 0
+AnswersPath denotes names r = (t : Tree) (n : ℕ) → denotes t n
     → MatchResult r (λ c. AreFound (option_map place_of c) (found_at (tree_spot t) names)) (λ e. ⊥)

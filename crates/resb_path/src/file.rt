@@ -4,10 +4,12 @@ ghost use Rattle.std.specs.Prelude.{◌≡◌, ◌==◌, ◌||◌, map, option_m
 ghost use Rattle.resb_format.specs.Descriptor.{type_number};
 ghost use Rattle.resb_format.specs.Types as types;
 ghost use Rattle.resb_read.specs.Places.{place_of};
+ghost use Rattle.resb_read.specs.Resources.{DenPlace};
 ghost use Rattle.resb_path.specs.Finding.{Spot, found_inside};
-ghost use Rattle.resb_path.specs.InFiles.{IsAt, AreFound, AnswersPath, AnswersPathWith};
+ghost use Rattle.resb_path.specs.InFiles.{IsAt, AreFound, AnswersPath};
 ghost use Rattle.resb_path.specs.InFiles.{LeadsIn, LeadsOn, LeadsOnWith};
 ghost use Rattle.resb_read.specs.WithPool.{over};
+ghost use Rattle.resb_pool_bundle.specs.FileWith.{DenotesWith};
 ghost use Rattle.resb_pool_bundle.specs.Pool.{pool_in};
 
 use crate::names::number_of;
@@ -25,7 +27,8 @@ pub fn find_in<'de>(
     path: &[&str],
 ) -> Result<Option<Cursor<'de>>, BinaryDeserializerError>
     ensures leads { LeadsOn (place_of root.entry) (map (λ name. name.now) path.now) result }
-    ensures tree { AnswersPath (place_of root.entry) (map (λ name. name.now) path.now) result }
+    ensures tree { AnswersPath (DenPlace (place_of root.entry))
+        (map (λ name. name.now) path.now) result }
 {
     let mut found = root;
     for name in path {
@@ -47,7 +50,7 @@ pub fn find_with_pool<'de>(
     ensures leads { let file = over (option_map pool_in pool.entry) bytes.now in
         LeadsOnWith file (map (λ name. name.now) path.now) result }
     ensures tree { let given = option_map pool_in pool.entry in
-        AnswersPathWith given bytes.now (map (λ name. name.now) path.now) result }
+        AnswersPath (DenotesWith given bytes.now) (map (λ name. name.now) path.now) result }
 {
     let (root, _) = Cursor::root_with_pool(bytes, pool)?;
     find_in(root, path)

@@ -13,7 +13,6 @@ use Rattle.resb_pool.specs.Plan.{NotPlanned}
 use Rattle.resb_pool.specs.declared.error.PlanError.{PlanError}
 use Rattle.resb_pool.specs.declared.error.PlanError.TheVariants as planning
 use Rattle.resb_pool.specs.declared.packing.Packing.{Packing}
-use Rattle.resb_pool.specs.declared.packing.Packing.TheVariants.{Plain, Compact}
 use Rattle.resb_pool_maker.specs.PoolOf.{Bundle, GiveRecords, pool_keys_by, used_keys}
 use Rattle.resb_pool_maker.specs.declared.error.PoolMakerError.{PoolMakerError}
 use Rattle.resb_pool_maker.specs.declared.error.PoolMakerError.TheVariants.{StringTooLong}
@@ -43,14 +42,6 @@ pub data RefusesPoolBy (packing : Packing) (bs : List Bundle) : PoolMakerError �
       → RefusesPoolBy packing bs (plan_fault p)
   pool_keys_far : 2 ^ 31 < length (key_bytes (pool_keys_by packing bs))
       → RefusesPoolBy packing bs KeysTooLarge
-
--- the same of a pool with each key by itself
-abbrev pub RefusesPool : List Bundle → PoolMakerError → Type 0
-RefusesPool = RefusesPoolBy Plain
-
--- the same of a compact pool
-abbrev pub RefusesCompactPool : List Bundle → PoolMakerError → Type 0
-RefusesCompactPool = RefusesPoolBy Compact
 
 -- what each refusal prints
 abbrev pub message_of : PoolMakerError → List ℕ

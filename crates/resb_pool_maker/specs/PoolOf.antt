@@ -3,8 +3,8 @@
 --     Bundle                  a bundle that a pool is made of
 --     pool_keys_by q bs       the keys that the pool of the bundles bs has, packed like this
 --     GiveRecords bs S        S are the records that the bundles bs give
---     IsPoolOf bytes bs       the bytes are the pool bundle of the bundles bs
---     IsCompactPoolOf bytes bs    they are the compact one, which ICU's `genrb` makes of them
+--     IsPoolOfBy q bytes bs   the bytes are the pool bundle of the bundles bs, packed like this;
+--                             the compact one is what ICU's `genrb` makes of them
 use Rattle.std.specs.Prelude.{◌≡◌, ℕ, ◌<◌, ◌≤◌, ◌^◌, List, [], ◌∷◌, ◌++◌, length, slice_index}
 use Rattle.std.specs.Prelude.{if◌then◌else◌, false}
 use Rattle.std.specs.List.{flat_map, fold, list_any}
@@ -13,7 +13,6 @@ use Rattle.resb_tree.specs.LayingOrder.{texts_of, keys_of}
 use Rattle.resb_layout.specs.KeyBlock.{is_among, used, key_bytes, padded}
 use Rattle.resb_layout.specs.CompactKeys.{keys_by}
 use Rattle.resb_pool.specs.declared.packing.Packing.{Packing}
-use Rattle.resb_pool.specs.declared.packing.Packing.TheVariants.{Plain, Compact}
 use Rattle.resb_layout.specs.Written.{even}
 use Rattle.resb_layout.specs.TreeFaults.{has_nul}
 use Rattle.resb_pool.specs.Records.{IsRecords}
@@ -67,11 +66,3 @@ pub record IsPoolOfBy (packing : Packing) (bytes : List ℕ) (bs : List Bundle) 
   pub checksum_fits :
       blocks_checksum (padded (key_bytes (pool_keys_by packing bs))) (even units) < 2 ^ 32
   pub file : bytes ≡ pool_file packing (pool_keys_by packing bs) units
-
--- the pool bundle with each key by itself
-abbrev pub IsPoolOf : List ℕ → List Bundle → Type 0
-IsPoolOf = IsPoolOfBy Plain
-
--- the pool bundle in which keys lie at the ends of others
-abbrev pub IsCompactPoolOf : List ℕ → List Bundle → Type 0
-IsCompactPoolOf = IsPoolOfBy Compact

@@ -42,11 +42,11 @@ impl PoolMaker {
     ghost use Rattle.std.specs.Prelude.{true};
     ghost use Rattle.resb_draft.specs.Drafts.{draft_tree, is_ready};
     ghost use Rattle.resb_tree.specs.View.{tree_of};
+    ghost use Rattle.resb_pool.specs.declared.packing.Packing.TheVariants.{Plain, Compact};
     ghost use Rattle.resb_pool_maker.specs.Holding.{Holds};
     ghost use Rattle.resb_pool_maker.specs.Inner.Given.{Gives};
-    ghost use Rattle.resb_pool_maker.specs.PoolFault.{RefusesBundle, RefusesPool};
-    ghost use Rattle.resb_pool_maker.specs.PoolFault.{RefusesPoolBy, RefusesCompactPool};
-    ghost use Rattle.resb_pool_maker.specs.PoolOf.{Bundle, IsPoolOf, IsCompactPoolOf, IsPoolOfBy};
+    ghost use Rattle.resb_pool_maker.specs.PoolFault.{RefusesBundle, RefusesPoolBy};
+    ghost use Rattle.resb_pool_maker.specs.PoolOf.{Bundle, IsPoolOfBy};
 
     /// A maker to which no bundle was added.
     pub fn new(alloc: Global) -> PoolMaker
@@ -132,9 +132,9 @@ impl PoolMaker {
     /// units and 16 for each come to 2^28 or more.
     pub fn finish(&self, alloc: Global) -> Result<Vec<u8>, PoolMakerError>
         ensures ok { IfOk result (λ v. (bs : List Bundle) → Holds self.now bs
-            → IsPoolOf v.items bs) }
+            → IsPoolOfBy Plain v.items bs) }
         ensures err { IfErr result (λ e. (bs : List Bundle) → Holds self.now bs
-            → RefusesPool bs e) }
+            → RefusesPoolBy Plain bs e) }
     {
         self.finish_by(alloc, Packing::Plain)
     }
@@ -148,9 +148,9 @@ impl PoolMaker {
     /// Refused is what `finish` refuses, where the keys are those that lie in themselves.
     pub fn finish_compact(&self, alloc: Global) -> Result<Vec<u8>, PoolMakerError>
         ensures ok { IfOk result (λ v. (bs : List Bundle) → Holds self.now bs
-            → IsCompactPoolOf v.items bs) }
+            → IsPoolOfBy Compact v.items bs) }
         ensures err { IfErr result (λ e. (bs : List Bundle) → Holds self.now bs
-            → RefusesCompactPool bs e) }
+            → RefusesPoolBy Compact bs e) }
     {
         self.finish_by(alloc, Packing::Compact)
     }

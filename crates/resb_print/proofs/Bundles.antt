@@ -5,7 +5,7 @@ use Rattle.std.proofs.lemmas.List.{get_or_past}
 use Rattle.std.specs.Prelude.{slice_index, slice_get, codes, ◌⊎◌}
 use Rattle.std.proofs.Common.{None, inl, inr}
 use Rattle.std.specs.List.Sorted.{IsStrictlySortedBy}
-use Rattle.resb_tree.specs.Tree.{Tree, string, alias, array, table, binary, integer, int_vector}
+use Rattle.resb_tree.specs.Tree.{Tree, table}
 use Rattle.resb_tree.specs.Tree.{Entries, map_of}
 use Rattle.resb_tree.specs.Maps.{text_cmp}
 use Rattle.resb_tree.specs.LayingOrder.{entry_keys}
@@ -16,13 +16,16 @@ use Rattle.resb_grammar.specs.Items.{a_table, keys_in}
 use Rattle.resb_grammar.specs.GroupTypes.{Stands, no_fallback_type}
 use Rattle.resb_grammar.specs.BundleText.{first_places, Typing, without, with, BundleText}
 use Rattle.resb_print.specs.Printed.{name_on, root_type_on, entries_on, printed_bundle}
+use Rattle.resb_print.specs.Printed.{plain_spelling}
 use Rattle.resb_print.specs.Held.{HeldIn}
 use Rattle.resb_print.specs.declared.cause.Cause.{Cause}
 use Rattle.resb_print.specs.declared.error.PrintError.{PrintError}
 use Rattle.resb_print.specs.declared.error.PrintError.TheVariants.{OutOfMemory}
 use Rattle.resb_print.specs.Laws.{HasNoText, PrintedIsABundle}
-use Rattle.resb_print.specs.Quotes.{NoQuote, FreeIn, first_cause, SaysCause}
+use Rattle.resb_print.specs.Paths.{plain_tests, first_found, first_cause}
+use Rattle.resb_print.specs.Quotes.{NoQuote, FreeIn, SaysCause}
 use Rattle.resb_print.proofs.Free.{no_quote_from_none, none_in_free, no_cause}
+use Rattle.resb_print.proofs.Tracing.{nothing_found}
 use Rattle.resb_print.proofs.Places.{From, byte_at, from_behind, from_next, solid_at, no_skip}
 use Rattle.resb_print.proofs.Places.{at_end, from_inside}
 use Rattle.resb_print.proofs.Places.{run_at, range_is, white_on, solid_byte}
@@ -111,11 +114,11 @@ module _ (text : List ℕ) where
 
   bundle_read : (name : List ℕ) (fallback : Bool) (es : Entries) → NoQuote name
       → IsStrictlySortedBy text_cmp (entry_keys es) → HeldIn es → FreeIn es
-      → From text 0 (printed_bundle name fallback es)
+      → From text 0 (printed_bundle plain_spelling name fallback es)
       → (keys : List (List ℕ)) × BundleText text name fallback (table es) keys
   bundle_read name fallback es free ascend held frees h =
       let last = ascii.line_feed ∷ ascii.right_brace ∷ ascii.line_feed ∷ [] in
-      let s = root_starts fallback (entries_on 1 es last) in
+      let s = root_starts fallback (entries_on plain_spelling 1 es last) in
       let f : From text 0 (name_on name (s.b ∷ s.more)) =
       subst (λ l. From text 0 (name_on name l)) s.is h in
       let (solid, (ends, named, f2)) = name_text text name s.b s.more free f s.no_word in
@@ -155,32 +158,23 @@ module _ (text : List ℕ) where
 pub printed_is_bundle : (name : List ℕ) (fallback : Bool) (es : Entries) → NoQuote name
     → IsStrictlySortedBy text_cmp (entry_keys es) → HeldIn es → FreeIn es
     → (keys : List (List ℕ))
-    × BundleText (printed_bundle name fallback es) name fallback (table es) keys
+    × BundleText (printed_bundle plain_spelling name fallback es) name fallback (table es) keys
 printed_is_bundle name fallback es free ascend held frees =
-    bundle_read (printed_bundle name fallback es) name fallback es free ascend held frees
-    (record { is = refl })
+    bundle_read (printed_bundle plain_spelling name fallback es) name fallback es free ascend held
+    frees (record { is = refl })
 
 -- so for what is printed of a bundle without a cause
-pub printed_without_cause : PrintedIsABundle
+pub printed_without_cause : PrintedIsABundle plain_tests plain_spelling BundleText
 printed_without_cause = λ name fallback es held none.
-    let a = no_quote_from_none _ name _ none in
-    let b = none_in_free es None a.1 in
+    let found = nothing_found (first_found plain_tests name (table es)) none in
+    let a = no_quote_from_none _ name [] _ found in
+    let b = none_in_free [] es None a.1 in
     printed_is_bundle name fallback es a.0 held.0 held.1 b.0
-
--- a bundle without a cause has a table for its root
-pub root_without_cause : (name : List ℕ) (t : Tree) → first_cause name t ≡ None
-    → (es : Entries) × (t ≡ table es)
-root_without_cause name (string s) e = absurd (cc)
-root_without_cause name (alias s) e = absurd (cc)
-root_without_cause name (array ts) e = absurd (cc)
-root_without_cause name (table es) e = (es, refl)
-root_without_cause name (binary bs) e = absurd (cc)
-root_without_cause name (integer n) e = absurd (cc)
-root_without_cause name (int_vector ns) e = absurd (cc)
 
 -- a cause is in the way of each text
 pub no_text : (name : List ℕ) (f : Bool) (t : Tree) (e : PrintError)
-    → SaysCause e (first_cause name t) → (e ≡ OutOfMemory) ⊎ HasNoText name f t
+    → SaysCause e (first_cause plain_tests name t)
+    → (e ≡ OutOfMemory) ⊎ HasNoText BundleText name f t
 no_text name f t e (inl h) = inl h
 no_text name f t e (inr (x, h, found)) =
     inr (λ text keys b. none_some x (sym (no_cause text name f t keys b) ∙ found))

@@ -7,8 +7,7 @@ use Rattle.resb_tree.specs.Tree.{Tree, string, array, table, integer}
 use Rattle.resb_tree.specs.Tree.{no_trees, more_trees, no_entries, entry}
 use Rattle.resb_print.specs.declared.cause.Cause.{Cause}
 use Rattle.resb_print.specs.declared.cause.Cause.TheVariants as cause
-use Rattle.resb_print.specs.Paths.{Step, by_key, by_number, plain_tests, cause_path}
-use Rattle.resb_print.specs.Quotes.{first_cause}
+use Rattle.resb_print.specs.Paths.{Step, by_key, by_number, plain_tests, cause_path, first_cause}
 use Rattle.resb_print.specs.Standing.{at_path, bundle_cause, Stands, IsFirst}
 use Rattle.resb_print.specs.Standing.{IsBefore, goes_on, one_way, parts}
 
@@ -27,7 +26,7 @@ abbrev to_key : List Step
 to_key = by_key (codes "a") ∷ by_number 1 ∷ by_key (codes "\"") ∷ []
 
 -- the key is the cause, not the string behind it
-at_key : (cause_path (codes "n") bundle ≡ Some to_key)
+at_key : (cause_path plain_tests (codes "n") bundle ≡ Some to_key)
     × Stands plain_tests (codes "n") bundle to_key cause.QuoteInKey
 at_key = (
   refl,
@@ -67,7 +66,7 @@ twice = table (entry (codes "k") (integer 1) (entry (codes "k") (string (codes "
 
 -- there the first cause stands where no path leads, so that the law asks for maps
 needs_maps : ((name : List ℕ) (t : Tree) (path : List Step) (x : Cause)
-    → cause_path name t ≡ Some path → first_cause name t ≡ Some x
+    → cause_path plain_tests name t ≡ Some path → first_cause plain_tests name t ≡ Some x
     → IsFirst plain_tests name t path x) → ⊥
 needs_maps law =
     let h = law (codes "n") twice (by_key (codes "k") ∷ []) cause.QuoteInString refl refl in
@@ -83,7 +82,8 @@ needs_maps law =
 
 -- other causes may stand behind the first: that none does is no law
 needs_before : ((name : List ℕ) (t : Tree) (path p : List Step) (y : Cause) → AreMaps t
-    → cause_path name t ≡ Some path → IsBefore path p → Stands plain_tests name t p y → ⊥) → ⊥
+    → cause_path plain_tests name t ≡ Some path → IsBefore path p
+    → Stands plain_tests name t p y → ⊥) → ⊥
 needs_before law =
     law (codes "n") bundle to_key (by_key (codes "b") ∷ []) cause.QuoteInString
     (tt, ((tt, ((tt, (tt, tt)), tt)), (tt, tt))) refl behind.0 behind.1

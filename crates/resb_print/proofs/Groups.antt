@@ -30,7 +30,7 @@ use Rattle.resb_grammar.specs.Group.{Group, untyped, typed_table, typed_array, t
 use Rattle.resb_print.specs.declared.place.Place.TheVariants.{InTable, InArray}
 use Rattle.resb_print.specs.Printed.{deeper, line_on, quoted_on, name_on, numbers_on}
 use Rattle.resb_print.specs.Printed.{more_numbers_on, trees_end, entries_end, tree_on, trees_on}
-use Rattle.resb_print.specs.Printed.{entries_on}
+use Rattle.resb_print.specs.Printed.{entries_on, plain_spelling}
 use Rattle.resb_print.specs.Held.{IsHeld, AreHeld, HeldIn, AreBelow}
 use Rattle.resb_print.specs.Quotes.{NoQuote, IsFree, AreFree, FreeIn}
 use Rattle.resb_print.proofs.Places.{From, byte_at, from_next, solid_at, no_skip, line_blanks}
@@ -50,7 +50,7 @@ pub record Starts (bytes : List ℕ) : Type 0 where
   pub no_white : is_white b ≡ false
   pub no_slash : (b == ascii.slash) ≡ false
 
-starts : (n : ℕ) (t : Tree) (rest : List ℕ) → Starts (tree_on InTable n t rest)
+starts : (n : ℕ) (t : Tree) (rest : List ℕ) → Starts (tree_on plain_spelling InTable n t rest)
 starts n (string s) rest = record {
   b = _;
   more = _;
@@ -301,9 +301,9 @@ module _ (text : List ℕ) where
 
   entry_more : (n : ℕ) (k : List ℕ) (t : Tree) {b at : ℕ} {xs : List Item} {rest : List ℕ}
       → NoQuote k
-      → ((p : ℕ) → From text p (tree_on InTable n t rest) → GroupAt p t rest)
+      → ((p : ℕ) → From text p (tree_on plain_spelling InTable n t rest) → GroupAt p t rest)
       → Gathered b at xs → is_pairs xs ≡ true
-      → From text at (line_on n (name_on k (tree_on InTable n t rest)))
+      → From text at (line_on n (name_on k (tree_on plain_spelling InTable n t rest)))
       → EntriesAt b xs (entry k t no_entries) rest
   entry_more n k t {b} {at} {xs} {rest} free group g pairs h =
       let (p, blanks, f) = line_blanks text n h in
@@ -355,9 +355,9 @@ module _ (text : List ℕ) where
       own.after
 
   item_more : (n : ℕ) (t : Tree) {b at : ℕ} {xs : List Item} {rest : List ℕ} → IsFree t
-      → ((p : ℕ) → From text p (tree_on InTable n t (ascii.comma ∷ rest))
+      → ((p : ℕ) → From text p (tree_on plain_spelling InTable n t (ascii.comma ∷ rest))
       → GroupAt p t (ascii.comma ∷ rest))
-      → Gathered b at xs → From text at (line_on n (tree_on InArray n t rest))
+      → Gathered b at xs → From text at (line_on n (tree_on plain_spelling InArray n t rest))
       → TreesAt b xs (more_trees t no_trees) rest
   item_more n (string s) {b} {at} {xs} {rest} free group g h =
       let (p, blanks, f) = line_blanks text n h in
@@ -418,9 +418,9 @@ module _ (text : List ℕ) where
 
   table_group : (n : ℕ) (es : Entries) (at : ℕ) (rest : List ℕ)
       → IsStrictlySortedBy text_cmp (entry_keys es)
-      → ((b : ℕ) → From text b (entries_on (deeper n) es (entries_end es n rest))
+      → ((b : ℕ) → From text b (entries_on plain_spelling (deeper n) es (entries_end es n rest))
       → EntriesAt b [] es (entries_end es n rest))
-      → From text at (tree_on InTable n (table es) rest) → GroupAt at (table es) rest
+      → From text at (tree_on plain_spelling InTable n (table es) rest) → GroupAt at (table es) rest
   table_group n no_entries at rest ascend inner h =
       let (brace, f, head) = opening_at text table_kind (codes "table") refl refl h in
       let c = close_here f in
@@ -449,7 +449,7 @@ module _ (text : List ℕ) where
 
   mutual
     pub group_at : (n : ℕ) (t : Tree) (at : ℕ) (rest : List ℕ) → IsHeld t → IsFree t
-        → From text at (tree_on InTable n t rest) → GroupAt at t rest
+        → From text at (tree_on plain_spelling InTable n t rest) → GroupAt at t rest
     group_at n (string s) at rest held free h = string_group s free h
     group_at n (alias s) at rest held free h = absurd free
     group_at n (array ts) at rest held free h =
@@ -492,7 +492,8 @@ module _ (text : List ℕ) where
         (vector_content ns vector) f2
 
     trees_at : (n : ℕ) (ts : Trees) (b at : ℕ) (xs : List Item) (rest : List ℕ) → AreHeld ts
-        → AreFree ts → Gathered b at xs → From text at (trees_on n ts rest) → TreesAt b xs ts rest
+        → AreFree ts → Gathered b at xs → From text at (trees_on plain_spelling n ts rest)
+        → TreesAt b xs ts rest
     trees_at n no_trees b at xs rest held free g h = record {
       at = at;
       items = xs;
@@ -513,7 +514,8 @@ module _ (text : List ℕ) where
         }
 
     pub entries_at : (n : ℕ) (es : Entries) (b at : ℕ) (xs : List Item) (rest : List ℕ) → HeldIn es
-        → FreeIn es → Gathered b at xs → is_pairs xs ≡ true → From text at (entries_on n es rest)
+        → FreeIn es → Gathered b at xs → is_pairs xs ≡ true
+        → From text at (entries_on plain_spelling n es rest)
         → EntriesAt b xs es rest
     entries_at n no_entries b at xs rest held free g pairs h = record {
       at = at;

@@ -16,7 +16,7 @@ use Rattle.resb_print.specs.Held.{AreBelow, IsHeld, AreHeld, HeldIn}
 use Rattle.resb_print.specs.Printed.{deeper, indent_on, line_on, quoted_on, is_bare, name_on}
 use Rattle.resb_print.specs.Printed.{more_numbers_on, numbers_on, end_on, string_on}
 use Rattle.resb_print.specs.Printed.{trees_end, entries_end, table_on, tree_on, trees_on}
-use Rattle.resb_print.specs.Printed.{entries_on, root_type_on, printed_bundle}
+use Rattle.resb_print.specs.Printed.{entries_on, root_type_on, printed_bundle, plain_spelling}
 use Rattle.resb_print.specs.Sizes.{data_length, data_lengths, data_length_in, text_limit}
 use Rattle.resb_print.proofs.Lists.{number_length}
 
@@ -71,7 +71,7 @@ end_length InTable rest = omega arith
 end_length InArray rest = omega arith
 
 string_length : (p : Place) (s rest : List ℕ)
-    → length (string_on p s rest) ≤ length s + 4 + length rest
+    → length (string_on plain_spelling p s rest) ≤ length s + 4 + length rest
 string_length InTable s rest = omega (arith, quoted_length s (125 ∷ rest))
 string_length InArray s rest = omega (arith, quoted_length s (44 ∷ rest))
 
@@ -95,7 +95,8 @@ table_length (entry k t es) rest = omega arith
 -- of a resource's 270, its line and the quotes of its key have 131, and 139 are for the rest
 mutual
   tree_length : (p : Place) (n : ℕ) (t : Tree) (rest : List ℕ) → n ≤ 32 → IsHeld t
-      → 131 + length (tree_on p n t rest) ≤ 270 * tree_count t + data_length t + length rest
+      → 131 + length (tree_on plain_spelling p n t rest)
+      ≤ 270 * tree_count t + data_length 1 t + length rest
   tree_length p n (string s) rest h held = omega (arith, string_length p s rest)
   tree_length p n (alias s) rest h held =
       omega (arith, quoted_length s (125 ∷ end_on p rest), end_length p rest)
@@ -111,7 +112,7 @@ mutual
       let end = entries_end es n (end_on p rest) in
       omega (
         arith,
-        table_length es (entries_on (deeper n) es end),
+        table_length es (entries_on plain_spelling (deeper n) es end),
         entries_length (deeper n) es end (deeper_le n h) held.1,
         entries_end_length es n (end_on p rest) h,
         end_length p rest,
@@ -129,26 +130,28 @@ mutual
       omega (arith, numbers_length ns (125 ∷ end_on p rest) held, end_length p rest)
 
   trees_length : (n : ℕ) (ts : Trees) (rest : List ℕ) → n ≤ 32 → AreHeld ts
-      → length (trees_on n ts rest) ≤ 270 * trees_count ts + data_lengths ts + length rest
+      → length (trees_on plain_spelling n ts rest)
+      ≤ 270 * trees_count ts + data_lengths 1 ts + length rest
   trees_length n no_trees rest h held = omega arith
   trees_length n (more_trees t ts) rest h held =
       omega (
         arith,
-        line_length n (tree_on InArray n t (trees_on n ts rest)) h,
-        tree_length InArray n t (trees_on n ts rest) h held.0,
+        line_length n (tree_on plain_spelling InArray n t (trees_on plain_spelling n ts rest)) h,
+        tree_length InArray n t (trees_on plain_spelling n ts rest) h held.0,
         trees_length n ts rest h held.1,
       )
 
   entries_length : (n : ℕ) (es : Entries) (rest : List ℕ) → n ≤ 32 → HeldIn es
-      → length (entries_on n es rest) ≤ 270 * entries_count es + data_length_in es + length rest
+      → length (entries_on plain_spelling n es rest)
+      ≤ 270 * entries_count es + data_length_in 1 es + length rest
   entries_length n no_entries rest h held = omega arith
   entries_length n (entry k t es) rest h held =
-      let more = tree_on InTable n t (entries_on n es rest) in
+      let more = tree_on plain_spelling InTable n t (entries_on plain_spelling n es rest) in
       omega (
         arith,
         line_length n (name_on k more) h,
         name_length k more,
-        tree_length InTable n t (entries_on n es rest) h held.0,
+        tree_length InTable n t (entries_on plain_spelling n es rest) h held.0,
         entries_length n es rest h held.1,
       )
 
@@ -170,10 +173,10 @@ root_type_length false rest = omega arith
 
 -- no text of a bundle is longer than its limit
 pub within_limit : (name : List ℕ) (fallback : Bool) (es : Entries) → HeldIn es
-    → length (printed_bundle name fallback es) ≤ text_limit name (table es)
+    → length (printed_bundle plain_spelling name fallback es) ≤ text_limit 1 name (table es)
 within_limit name fallback es held =
     let last = 10 ∷ 125 ∷ 10 ∷ [] in
-    let body = entries_on 1 es last in
+    let body = entries_on plain_spelling 1 es last in
     omega (
       arith,
       name_length name (root_type_on fallback (123 ∷ body)),
@@ -183,9 +186,9 @@ within_limit name fallback es held =
 
 -- so for what is printed
 pub printed_within : (text name : List ℕ) (fallback : Bool) (es : Entries) (t : Tree)
-    → text ≡ printed_bundle name fallback es → HeldIn es → t ≡ table es
-    → length text ≤ text_limit name t
+    → text ≡ printed_bundle plain_spelling name fallback es → HeldIn es → t ≡ table es
+    → length text ≤ text_limit 1 name t
 printed_within text name fallback es t is held root =
-    subst (λ (u : Tree). length text ≤ text_limit name u) (sym root)
-    (subst (λ w. length w ≤ text_limit name (table es)) (sym is)
+    subst (λ (u : Tree). length text ≤ text_limit 1 name u) (sym root)
+    (subst (λ w. length w ≤ text_limit 1 name (table es)) (sym is)
     (within_limit name fallback es held))

@@ -43,7 +43,8 @@ pub record Tests (C : Type 0) : Type 0 where
 abbrev pub quote_cause : Cause → List ℕ → Option Cause
 quote_cause x s = if has_quote s then Some x else None
 
--- a name that holds a quote, a key that does, a string that does, and each alias
+-- what keeps a bundle from having a text of the plain form: a root that is no table, a name, a key
+-- or a string that holds a quote, and each alias
 abbrev pub plain_tests : Tests Cause
 plain_tests = record {
   of_root = cause.RootIsNoTable;
@@ -96,5 +97,9 @@ first_found c name _ = Some ([], c.of_root)
 
 -- the path to the first cause of a bundle of this name and root, if it has one: no step where the
 -- root or the name is the cause
-abbrev pub cause_path : List ℕ → Tree → Option (List Step)
-cause_path name t = option_map (λ found. found.0) (first_found plain_tests name t)
+abbrev pub cause_path : {C : Type 0} → Tests C → List ℕ → Tree → Option (List Step)
+cause_path c name t = option_map (λ found. found.0) (first_found c name t)
+
+-- the first cause itself, if the bundle has one: why it has no text of the form
+abbrev pub first_cause : {C : Type 0} → Tests C → List ℕ → Tree → Option C
+first_cause c name t = option_map (λ found. found.1) (first_found c name t)

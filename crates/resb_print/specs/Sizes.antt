@@ -8,28 +8,29 @@ use Rattle.resb_tree.specs.Tree.{tree_count}
 -- what is held in trees, as it counts towards a text
 abbrev mutual
   -- what the strings, paths, keys, binaries and vectors of a tree add to the length of its text:
-  -- one for each byte of a string, of an alias's path or of a key, two for each byte of a binary,
-  -- eleven for each number of a vector
-  pub data_length : Tree → ℕ
-  data_length (string s) = length s
-  data_length (alias s) = length s
-  data_length (array ts) = data_lengths ts
-  data_length (table es) = data_length_in es
-  data_length (binary bs) = 2 * length bs
-  data_length (integer n) = 0
-  data_length (int_vector ns) = 11 * length ns
+  -- this many for each byte of a string or of an alias's path, one for each byte of a key, two for
+  -- each byte of a binary, eleven for each number of a vector
+  pub data_length : ℕ → Tree → ℕ
+  data_length most (string s) = most * length s
+  data_length most (alias s) = most * length s
+  data_length most (array ts) = data_lengths most ts
+  data_length most (table es) = data_length_in most es
+  data_length most (binary bs) = 2 * length bs
+  data_length most (integer n) = 0
+  data_length most (int_vector ns) = 11 * length ns
 
   -- the same of trees, added up
-  pub data_lengths : Trees → ℕ
-  data_lengths no_trees = 0
-  data_lengths (more_trees t ts) = data_length t + data_lengths ts
+  pub data_lengths : ℕ → Trees → ℕ
+  data_lengths most no_trees = 0
+  data_lengths most (more_trees t ts) = data_length most t + data_lengths most ts
 
   -- the same of entries, added up, each key with its tree
-  pub data_length_in : Entries → ℕ
-  data_length_in no_entries = 0
-  data_length_in (entry k t es) = length k + data_length t + data_length_in es
+  pub data_length_in : ℕ → Entries → ℕ
+  data_length_in most no_entries = 0
+  data_length_in most (entry k t es) = length k + data_length most t + data_length_in most es
 
--- the most bytes that the text of a bundle of this name and root may have: 270 for each resource,
--- those of the name, and what the strings, paths, keys, binaries and vectors add
-abbrev pub text_limit : List ℕ → Tree → ℕ
-text_limit name t = 270 * tree_count t + length name + data_length t
+-- the most bytes that the text of a bundle of this name and root may have in a form that writes a
+-- byte of a string as at most this many: 270 for each resource, those of the name, and what the
+-- strings, paths, keys, binaries and vectors add
+abbrev pub text_limit : ℕ → List ℕ → Tree → ℕ
+text_limit most name t = 270 * tree_count t + length name + data_length most t

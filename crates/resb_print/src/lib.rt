@@ -1,6 +1,7 @@
-//! What the text of a bundle is in the text form, and why a bundle has none, with the tokens of
-//! which its printer `resb_lines` makes it: one entry or item a line, four blanks a level.
-//! What a text is stands in `resb_grammar`, and its reader in `resb_text`.
+//! What the printed text of a bundle is in a form, by how the form spells it, and what keeps a
+//! bundle from having one: one entry or item a line, four blanks a level. With that the plain
+//! form's spelling, and the tokens of which the printer `resb_lines` makes a text.
+//! What any text is stands in `resb_grammar`, and its reader in `resb_text`.
 #![tactic(auto)]
 
 mod cause;

@@ -6,7 +6,7 @@ ghost use Rattle.resb_tree.specs.Tree.{integer};
 ghost use Rattle.resb_print.specs.Quotes as quotes;
 ghost use Rattle.resb_print.specs.Printed as printed;
 ghost use Rattle.resb_print.specs.Printed.{indent_on, line_on, quoted_on, name_on, tree_on};
-ghost use Rattle.resb_print.specs.Printed.{end_on, root_type_on};
+ghost use Rattle.resb_print.specs.Printed.{end_on, root_type_on, plain_spelling};
 ghost use Rattle.resb_print.specs.Inner.Appends.{Appends};
 ghost use Rattle.resb_grammar.specs.ByteRuns as bytes;
 
@@ -130,7 +130,8 @@ pub fn push_number(out: &mut String, number: u32) -> Result<(), AllocError>
 
 /// Writes an integer.
 pub fn push_integer(out: &mut String, place: Place, number: u32) -> Result<(), AllocError>
-    ensures { OnOk result (Appends out.old out.new (tree_on place 0 (integer number))) }
+    ensures { OnOk result (Appends out.old out.new
+        (tree_on plain_spelling place 0 (integer number))) }
 {
     out.push_str(":int{")?;
     push_number(out, number)?;

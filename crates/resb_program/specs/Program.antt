@@ -17,7 +17,7 @@ use Rattle.resb_head.specs.File.{Denotes, budget}
 use Rattle.resb_format.specs.declared.error.ReadingError.{ReadingError}
 use Rattle.resb_read.specs.RefusedReadings.{RefusesTree}
 use Rattle.resb_read.specs.Resources.{DenPlace}
-use Rattle.resb_read.specs.Roots.{HoldsAtRoot, RefusesRoot, AnswersCount}
+use Rattle.resb_read.specs.Roots.{HoldsAt, RefusesAt, AnswersCountOf, alone}
 use Rattle.resb_tree.specs.View.{tree_of}
 use Rattle.resb_tree.specs.declared.resource.Resource.{Resource}
 use Rattle.resb_compile.specs.Compiling as compiling
@@ -74,8 +74,8 @@ message_of Memory = codes "out of memory"
 
 -- the number of resources of the file's tree, or the reader's refusal
 abbrev pub CountsFile : List ℕ → Result ℕ ToolError → Type 0
-CountsFile bytes (Ok n) = AnswersCount bytes (Ok n)
-CountsFile bytes (Err (Checking e)) = AnswersCount bytes (Err e)
+CountsFile bytes (Ok n) = AnswersCountOf (alone bytes) (Ok n)
+CountsFile bytes (Err (Checking e)) = AnswersCountOf (alone bytes) (Err e)
 CountsFile bytes (Err NotUtf8) = ⊥
 CountsFile bytes (Err (Compiling e)) = ⊥
 CountsFile bytes (Err Input) = ⊥
@@ -85,8 +85,8 @@ CountsFile bytes (Err Memory) = ⊥
 -- a tree at the root, read with a count within the budget, or its refusal there
 abbrev pub ReadsCounted : List ℕ → Result (Resource × ℕ) ReadingError → Type 0
 ReadsCounted bytes (Ok r) =
-    HoldsAtRoot (λ p. DenPlace p (tree_of r.0) r.1) bytes × (r.1 ≤ budget bytes)
-ReadsCounted bytes (Err e) = RefusesRoot RefusesTree bytes e
+    HoldsAt (λ p. DenPlace p (tree_of r.0) r.1) (alone bytes) × (r.1 ≤ budget bytes)
+ReadsCounted bytes (Err e) = RefusesAt RefusesTree (alone bytes) e
 
 -- where both are Ok, the value that is read has the count; where one is refused and the other
 -- isn't, for want of memory; and where both are, for want of memory or by the same refusal

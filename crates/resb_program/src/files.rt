@@ -4,7 +4,7 @@ ghost use Rattle.std.specs.Prelude.{◌≡◌, IfOk, IfErr, IfSome, OnOk};
 ghost use Rattle.std.specs.Prelude.{option_map, Ok, Some};
 ghost use Rattle.resb_pool_bundle.specs.Heads.{head_bytes};
 ghost use Rattle.resb_pool_bundle.specs.Pool.{pool_in};
-ghost use Rattle.resb_read.specs.Roots.{AnswersTree};
+ghost use Rattle.resb_read.specs.Roots.{AnswersTreeOf, alone};
 ghost use Rattle.resb_read.specs.WithPool.{over};
 ghost use Rattle.resb_program.specs.Program.{CountsFile, ReadsCounted, Agrees, HasCount};
 ghost use Rattle.resb_program.specs.Program.{IsCounted};
@@ -35,7 +35,8 @@ pub fn check_file(alloc: Global, file: &[u8]) -> Result<usize, ToolError>
     // aside.
     ensures as_read { (r : _) → ReadsCounted file.now r → Agrees HasCount result r }
     // It is that of `tree_from_bytes` in the same way.
-    ensures as_tree { (r : _) → AnswersTree file.now r → Agrees (IsCounted file.now) result r }
+    ensures as_tree { (r : _) → AnswersTreeOf (alone file.now) r
+        → Agrees (IsCounted file.now) result r }
 {
     match count_resources(alloc, file) {
         Ok(count) => Ok(count),

@@ -42,13 +42,13 @@ skipped name found (e ∷ es) (other, rest) =
 
 found_last : (name : List ℕ) (es : List (Place × Place)) (p : Place) → IsLastNamed name es p
     → last_named name es ≡ Some p
-found_last name es p h =
+found_last name es p (h, last) =
     let yes : has_name name (h.key, p) ≡ true = so_is name (h.key, p) h.named in
     let before : Option Place = last_from name None h.before in
     ap (last_from name None) h.are
     ∙ from_append name h.before None ((h.key, p) ∷ h.after)
     ∙ ap (λ b. last_from name (if b then Some p else before) h.after) yes
-    ∙ skipped name (Some p) h.after h.last
+    ∙ skipped name (Some p) h.after last
 
 -- no entry has the name, or one is the last that has it
 abbrev Found : List ℕ → List (Place × Place) → Option Place → Option Place → Type 0
@@ -57,15 +57,16 @@ Found name es found r =
 
 last_of_more : (name : List ℕ) (e : Place × Place) (es : List (Place × Place)) (p : Place)
     → IsLastNamed name es p → IsLastNamed name (e ∷ es) p
-last_of_more name e es p h =
-    record {
-      before = e ∷ h.before;
-      key = h.key;
-      after = h.after;
-      are = ap (λ r. e ∷ r) h.are;
-      named = h.named;
-      last = h.last;
-    }
+last_of_more name e es p (h, last) = (
+  record {
+    before = e ∷ h.before;
+    key = h.key;
+    after = h.after;
+    are = ap (λ r. e ∷ r) h.are;
+    named = h.named;
+  },
+  last,
+)
 
 look : (name : List ℕ) (es : List (Place × Place)) (found : Option Place)
     → Found name es found (last_from name found es)
@@ -86,14 +87,16 @@ look name (e ∷ es) found = by (look name es) (has_name name e) refl
         (λ none is. inr (
           e.1,
           is,
-          record {
-            before = [];
-            key = e.0;
-            after = es;
-            are = refl;
-            named = is_so name e h;
-            last = none;
-          },
+          (
+            record {
+              before = [];
+              key = e.0;
+              after = es;
+              are = refl;
+              named = is_so name e h;
+            },
+            none,
+          ),
         ))
     by rest false h =
         further found (last_from name found es) (rest found)

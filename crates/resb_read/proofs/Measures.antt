@@ -20,7 +20,7 @@ use Rattle.resb_read.specs.Inner.AtRoot.{IsRoot, RefusesHere, CountHere, Measure
 use Rattle.resb_read.specs.Inner.AtRoot.{MoreHere, TreeWithinHere}
 use Rattle.resb_read.specs.Measuring.{HoldsPieces, AnswersMeasureOf, TakesMoreOf, TreeWithinOf}
 use Rattle.resb_read.specs.Measuring.{key_bytes}
-use Rattle.resb_read.specs.Measuring.{OneWeight, TreesWeighNoMore}
+use Rattle.resb_read.specs.Measuring.{HasOneWeight, WeighsNoMore}
 use Rattle.resb_read.specs.Places.{Place}
 use Rattle.resb_read.specs.Resources.{DenSpot, DenPlace, HoldsSpot, HoldsPlace}
 use Rattle.resb_read.specs.Roots.{Whole, alone, place_of_root}
@@ -109,7 +109,7 @@ pub one_weight_of : (w : Whole) (xs ys : List Piece) → HoldsPieces w xs → Ho
     → xs ≡ ys
 one_weight_of w xs ys h k = one_holding w.parts h k
 
-pub one_weight : OneWeight
+pub one_weight : (bytes : List ℕ) → HasOneWeight (alone bytes)
 one_weight bytes = one_weight_of (alone bytes)
 
 pub no_more_of : (f : Piece → ℕ) (w : Whole) (t : Tree) (n : ℕ) (xs : List Piece)
@@ -131,5 +131,5 @@ no_more_of f w t n xs d h =
     equal same (inl e) = e
     equal same (inr l) = absurd (omega (arith, same, l))
 
-pub trees_weigh_no_more : TreesWeighNoMore
+pub trees_weigh_no_more : (bytes : List ℕ) → WeighsNoMore (alone bytes)
 trees_weigh_no_more bytes f t n xs d h = no_more_of f (alone bytes) t n xs d.root h

@@ -1,12 +1,11 @@
 -- A file is refused in one way.
-use Rattle.std.proofs.Common.{◌≡◌, ◌⊎◌, inl, inr, sym, ◌∙◌}
+use Rattle.std.proofs.Common.{ℕ, List, ◌≡◌, ◌⊎◌, inl, inr, sym, ◌∙◌}
 use Rattle.std.proofs.lemmas.Option.{same_Some}
 use Rattle.resb_format.specs.Error.{IsWantOfMemory, refusal_of}
 use Rattle.resb_format.specs.declared.error.ReadingError.{ReadingError}
 use Rattle.resb_walk.specs.Refusals.{IsSpent}
 use Rattle.resb_walk.proofs.Meeting.{one_fault}
-use Rattle.resb_read.specs.Laws.{OneRefusalOfAFile}
-use Rattle.resb_read.specs.Roots.{Whole, RefusesWhole, alone}
+use Rattle.resb_read.specs.Roots.{Whole, RefusesWhole, IsRefusedOnce, alone}
 use Rattle.resb_read.proofs.Rooted.{IsLinked, alone_linked, no_file}
 
 both_spent : (d e : ReadingError) → IsSpent d → IsSpent e → refusal_of d ≡ refusal_of e
@@ -33,5 +32,5 @@ one_refusal_of w d e l (inr (_, inr (inr (f, _)), m)) (inr (_, inr (inr (g, _)),
     inr (one_fault w.parts (m f) (n g))
 
 -- a file is refused with one kind and message at most, memory aside
-pub one_refusal : OneRefusalOfAFile
+pub one_refusal : (bytes : List ℕ) → IsRefusedOnce (alone bytes)
 one_refusal bytes d e h k = one_refusal_of (alone bytes) d e (alone_linked bytes) h k

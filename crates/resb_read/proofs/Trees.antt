@@ -8,7 +8,8 @@ use Rattle.resb_walk.specs.Refusals.{Refuses}
 use Rattle.resb_format.proofs.Denoting.{counted_member}
 use Rattle.resb_read.specs.Places.{Place}
 use Rattle.resb_read.specs.Reading.{LacksOrMemory}
-use Rattle.resb_read.specs.Resources.{DenSpot, ReachesSpot, DenPlace, ReachesPlace, CountsTree}
+use Rattle.resb_read.specs.Leaves.{CountsOf}
+use Rattle.resb_read.specs.Resources.{DenSpot, ReachesSpot, DenPlace, ReachesPlace}
 use Rattle.resb_read.specs.declared.cursor.Spot.{Spot}
 use Rattle.resb_read.specs.declared.cursor.Spot.TheVariants as spot
 
@@ -21,7 +22,7 @@ counted_at p (spot.Key k) t m n d r = absurd d
 
 -- a refusal is for want of memory, or no count that can be paid for stands there
 pub refuses_lacks : (p : Place) (left : ℕ) (e : ReadingError)
-    → Refuses (DenPlace p) (ReachesPlace p) left e → LacksOrMemory (CountsTree p) left e
+    → Refuses (DenPlace p) (ReachesPlace p) left e → LacksOrMemory (CountsOf DenPlace p) left e
 refuses_lacks p left e (inl m) = inl m
 refuses_lacks p left e (inr (inl (s, r))) =
     inr (λ n (t, d) paid.

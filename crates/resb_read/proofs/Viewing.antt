@@ -9,16 +9,15 @@ use Rattle.resb_format.specs.Error.{Refusal, IsWrongLength}
 use Rattle.resb_format.specs.declared.error.ReadingError.{ReadingError}
 use Rattle.resb_walk.specs.BlockRefusals.{Says}
 use Rattle.resb_read.specs.Places.{Place}
-use Rattle.resb_read.specs.Reading.{Lacks, CountsThere}
-use Rattle.resb_read.specs.Reading.{any}
-use Rattle.resb_read.specs.Leaves.{CountsBytes, bytes_from}
+use Rattle.resb_read.specs.Reading.{Lacks, IsThere, any}
+use Rattle.resb_read.specs.Leaves.{CountsOf, ReadsBytes, bytes_from}
 use Rattle.resb_read.specs.PlaceRefusals.{bytes_refusal_from}
 use Rattle.resb_read.specs.PlaceRefusals.{are_paid, view_refusal_from}
 use Rattle.std.proofs.lemmas.List.{length-map}
 use Rattle.resb_read.proofs.PlainLists.{same_bytes}
 
 unpaid : (there : Option (List ℕ × ℕ)) (left : ℕ) (wrong other : Refusal)
-    → Lacks (CountsThere any there) left
+    → Lacks (λ n. (x : List ℕ) × IsThere any there x n) left
     → (if are_paid there left then wrong else other) ≡ other
 unpaid None left wrong other lacks = refl
 unpaid (Some (x, n)) left wrong other lacks = either (nat_le n left) refl
@@ -28,7 +27,7 @@ unpaid (Some (x, n)) left wrong other lacks = either (nat_le n left) refl
     either false e = refl
 
 -- where no bytes are read, it is said why
-pub no_bytes_says : (p : Place) (left : ℕ) (e : ReadingError) → Lacks (CountsBytes p) left
+pub no_bytes_says : (p : Place) (left : ℕ) (e : ReadingError) → Lacks (CountsOf ReadsBytes p) left
     → Says (bytes_refusal_from p.parts p.at left) e
     → Says (view_refusal_from p.parts p.at left) e
 no_bytes_says p left e lacks says =

@@ -3,8 +3,9 @@ use Rattle.std.proofs.Common.{ℕ, List}
 use Rattle.std.specs.Prelude.{Option}
 use Rattle.resb_format.proofs.Denoting.{unique}
 use Rattle.resb_pool_bundle.specs.Pool.{Pool, parts_with}
-use Rattle.resb_read.specs.WithPool.{over, OneTreeWithPool, OneRefusalWithPool, OneWeightWithPool}
-use Rattle.resb_read.specs.WithPool.{TreesWeighNoMoreWithPool}
+use Rattle.resb_read.specs.Measuring.{HasOneWeight, WeighsNoMore}
+use Rattle.resb_read.specs.Roots.{IsRefusedOnce}
+use Rattle.resb_read.specs.WithPool.{over, OneTreeWithPool}
 use Rattle.resb_read.proofs.Measures.{one_weight_of, no_more_of}
 use Rattle.resb_read.proofs.OneRefusal.{one_refusal_of}
 use Rattle.resb_read.proofs.Rooted.{IsLinked}
@@ -21,12 +22,12 @@ over_linked pool bytes = record {
 pub one_tree_with_pool : OneTreeWithPool
 one_tree_with_pool pool bytes t u m n d e = unique (parts_with pool bytes) d.root e.root
 
-pub one_refusal_with_pool : OneRefusalWithPool
+pub one_refusal_with_pool : (pool : Option Pool) (bytes : List ℕ) → IsRefusedOnce (over pool bytes)
 one_refusal_with_pool pool bytes d e =
     one_refusal_of (over pool bytes) d e (over_linked pool bytes)
 
-pub one_weight_with_pool : OneWeightWithPool
+pub one_weight_with_pool : (pool : Option Pool) (bytes : List ℕ) → HasOneWeight (over pool bytes)
 one_weight_with_pool pool bytes = one_weight_of (over pool bytes)
 
-pub no_more_with_pool : TreesWeighNoMoreWithPool
+pub no_more_with_pool : (pool : Option Pool) (bytes : List ℕ) → WeighsNoMore (over pool bytes)
 no_more_with_pool pool bytes f t n xs d h = no_more_of f (over pool bytes) t n xs d.root h

@@ -28,13 +28,11 @@ module _ {P X : Type 0} (takes : P → X → ℕ → ℕ → Type 0)
   abbrev pub StepsOver : List P → ℕ → AccessOver P → ℕ → Result (Option X) ReadingError → Type 0
   StepsOver [] left new left' (Ok None) =
       (new ≡ record { rest = []; failed = None }) × (left' ≡ left)
-  StepsOver [] left new left' (Ok (Some x)) = ⊥
-  StepsOver [] left new left' (Err e) = ⊥
-  StepsOver (p ∷ ps) left new left' (Ok None) = ⊥
   StepsOver (p ∷ ps) left new left' (Ok (Some x)) =
       (new ≡ record { rest = ps; failed = None }) × takes p x left left'
   StepsOver (p ∷ ps) left new left' (Err e) =
       (new ≡ record { rest = p ∷ ps; failed = Some e }) × refuses p left left' e
+  StepsOver _ left new left' _ = ⊥
 
   -- one step: an error that was kept is answered again, and nothing else changes
   abbrev pub StepsAfter : Option ReadingError → AccessOver P → ℕ → AccessOver P → ℕ

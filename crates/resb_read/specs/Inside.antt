@@ -7,8 +7,7 @@
 use Rattle.std.specs.Prelude.{◌≡◌, ◌==◌, ℕ, List, map, true, false, Option, Some, None, slice_get}
 use Rattle.resb_tree.specs.LayingOrder.{array_members}
 use Rattle.resb_tree.specs.Maps.{get}
-use Rattle.resb_tree.specs.Tree.{Tree, string, alias, array, table, binary, integer, int_vector}
-use Rattle.resb_tree.specs.Tree.{Trees, Entries}
+use Rattle.resb_tree.specs.Tree.{Tree, array, table, int_vector, Trees, Entries}
 use Rattle.resb_format.specs.Types as types
 use Rattle.resb_read.specs.Places.{Place}
 use Rattle.resb_read.specs.Resources.{DenPlace}
@@ -20,9 +19,8 @@ use Rattle.resb_read.specs.declared.cursor.Spot.TheVariants as spot
 -- the place denotes the tree, with some count; or there is neither
 abbrev pub StandsAs : Option Place → Option Tree → Type 0
 StandsAs (Some p) (Some t) = (n : ℕ) × DenPlace p t n
-StandsAs (Some p) None = ⊥
-StandsAs None (Some t) = ⊥
 StandsAs None None = Unit {0}
+StandsAs _ _ = ⊥
 
 -- where a place denotes a table, entries stand there, and the last of a name has the tree that the
 -- table has at this key, or neither is there
@@ -55,10 +53,7 @@ abbrev pub IsTypeOf : Tree → ℕ → Type 0
 IsTypeOf (table es) type = types.is_table type ≡ true
 IsTypeOf (array ts) type = types.is_array type ≡ true
 IsTypeOf (int_vector ns) type = (type == types.int_vector) ≡ true
-IsTypeOf (string s) type = HasNoMembers type
-IsTypeOf (alias s) type = HasNoMembers type
-IsTypeOf (binary s) type = HasNoMembers type
-IsTypeOf (integer n) type = HasNoMembers type
+IsTypeOf _ type = HasNoMembers type
 
 -- where a place denotes a tree, the type that stands there is told, and is that of the tree
 abbrev pub TypesTellTrees : Type 0

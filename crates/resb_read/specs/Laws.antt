@@ -1,5 +1,4 @@
 -- What the laws of reading say.
---     OneRefusalOfAFile              memory aside, a file is refused in one way
 --     OneValue                at a place stands one value of each type without parts, and one tree
 use Rattle.std.specs.Prelude.{◌≡◌, ℕ, ℤ, List}
 use Rattle.resb_read.specs.Leaves.{ReadsSigned, ReadsUnsigned, ReadsBool, ReadsBits, ReadsText}
@@ -7,11 +6,6 @@ use Rattle.resb_read.specs.Leaves.{ReadsKey, ReadsBytes}
 use Rattle.resb_read.specs.Leaves.{ReadsView}
 use Rattle.resb_read.specs.Places.{Place}
 use Rattle.resb_read.specs.Resources.{DenPlace}
-use Rattle.resb_read.specs.Roots.{IsRefusedOnce, alone}
-
--- two refusals of a file are equal, by kind and message, if neither is want of memory
-abbrev pub OneRefusalOfAFile : Type 0
-OneRefusalOfAFile = (bytes : List ℕ) → IsRefusedOnce (alone bytes)
 
 -- two values that are read at one place are equal
 abbrev pub OneAtPlace : {X : Type 0} → (Place → X → ℕ → Type 0) → Type 0

@@ -1,5 +1,6 @@
 -- What stands at a place for the types that have no parts, with its count: 1 at a descriptor or a
 -- unit, 0 at a word or a key.
+--     CountsOf reads p n      the count of what is read there
 use Rattle.std.specs.Prelude.{ℕ, ℤ, ◌≡◌, ◌≤ℤ◌, ◌≤◌, ◌+◌, ◌*◌, ◌/◌, ◌%◌, ◌^◌, ◌==◌, ◌&&◌, length}
 use Rattle.std.specs.Prelude.{List, [], Bool, true, false, Option, Some, None, option_map}
 use Rattle.std.specs.Prelude.{if◌then◌else◌}
@@ -11,8 +12,7 @@ use Rattle.resb_format.specs.Parts.{Parts, reads_older}
 use Rattle.resb_format.specs.Content.{behind_count, counted_text}
 use Rattle.resb_format.specs.Types as types
 use Rattle.resb_read.specs.Places.{Place}
-use Rattle.resb_read.specs.Reading.{IsThere, CountsThere}
-use Rattle.resb_read.specs.Reading.{any}
+use Rattle.resb_read.specs.Reading.{IsThere, any}
 use Rattle.resb_read.specs.declared.cursor.Spot.{Spot}
 use Rattle.resb_read.specs.declared.cursor.Spot.TheVariants as spot
 use Rattle.resb_format.specs.Bytes.{units_as_bytes}
@@ -47,6 +47,10 @@ abbrev pub bool_at : Spot → Option (Bool × ℕ)
 bool_at (spot.Descriptor w) = if type_in w == types.integer then bool_of (value_in w) else None
 bool_at s = None
 
+-- some value is read at the place, with this count
+abbrev pub CountsOf : {X : Type 0} → (Place → X → ℕ → Type 0) → Place → ℕ → Type 0
+CountsOf {X} reads p n = (x : X) × reads p x n
+
 -- a number lies between two others, or is one of them
 abbrev pub LiesInRange : ℤ → ℤ → ℤ → Type 0
 LiesInRange low high x = (low ≤ℤ x) × (x ≤ℤ high)
@@ -55,25 +59,13 @@ LiesInRange low high x = (low ≤ℤ x) × (x ≤ℤ high)
 abbrev pub ReadsSigned : ℤ → ℤ → Place → ℤ → ℕ → Type 0
 ReadsSigned low high p x n = IsThere (LiesInRange low high) (signed_at p.at) x n
 
--- a number with a sign stands there that is within the bounds of its type, and takes n
-abbrev pub CountsSigned : ℤ → ℤ → Place → ℕ → Type 0
-CountsSigned low high p n = CountsThere (LiesInRange low high) (signed_at p.at) n
-
 -- a number without a sign stands there, and is at most the greatest of its type
 abbrev pub ReadsUnsigned : ℕ → Place → ℕ → ℕ → Type 0
 ReadsUnsigned high p x n = IsThere (λ x. x ≤ high) (unsigned_at p.at) x n
 
--- a number without a sign stands there that is at most the greatest of its type, and takes n
-abbrev pub CountsUnsigned : ℕ → Place → ℕ → Type 0
-CountsUnsigned high p n = CountsThere (λ x. x ≤ high) (unsigned_at p.at) n
-
 -- this bool stands there
 abbrev pub ReadsBool : Place → Bool → ℕ → Type 0
 ReadsBool p x n = IsThere any (bool_at p.at) x n
-
--- a bool stands there, and takes n
-abbrev pub CountsBool : Place → ℕ → Type 0
-CountsBool p n = CountsThere any (bool_at p.at) n
 
 -- the 28 bits of an Int
 abbrev pub bits_at : Spot → Option (ℕ × ℕ)
@@ -83,10 +75,6 @@ bits_at s = None
 -- these 28 bits stand there
 abbrev pub ReadsBits : Place → ℕ → ℕ → Type 0
 ReadsBits p x n = IsThere any (bits_at p.at) x n
-
--- some 28 bits stand there
-abbrev pub CountsBits : Place → ℕ → Type 0
-CountsBits p n = CountsThere any (bits_at p.at) n
 
 -- the text of the string that a descriptor leads to; a descriptor of another type has none
 abbrev pub described_text : Parts → ℕ → Option (List ℕ)
@@ -108,10 +96,6 @@ text_from p (spot.Key k) = option_map (λ s. (s, 0)) (key_in p k)
 abbrev pub ReadsText : Place → List ℕ → ℕ → Type 0
 ReadsText p x n = IsThere any (text_from p.parts p.at) x n
 
--- a text stands there, and takes n
-abbrev pub CountsText : Place → ℕ → Type 0
-CountsText p n = CountsThere any (text_from p.parts p.at) n
-
 -- the key at a spot, for no resource, if one stands there
 abbrev pub key_from : Parts → Spot → Option (List ℕ × ℕ)
 key_from p (spot.Key k) = option_map (λ s. (s, 0)) (key_in p k)
@@ -120,10 +104,6 @@ key_from p s = None
 -- this key stands there
 abbrev pub ReadsKey : Place → List ℕ → ℕ → Type 0
 ReadsKey p x n = IsThere any (key_from p.parts p.at) x n
-
--- a key that is a text stands there, and takes n
-abbrev pub CountsKey : Place → ℕ → Type 0
-CountsKey p n = CountsThere any (key_from p.parts p.at) n
 
 -- n items of so many bytes each, where word v is n and they follow it
 abbrev pub counted_bytes : Parts → ℕ → ℕ → Option (List ℕ)
@@ -153,14 +133,6 @@ bytes_from p (spot.Key k) = option_map (λ s. (s, 0)) (key_in p k)
 abbrev pub ReadsBytes : Place → List ℕ → ℕ → Type 0
 ReadsBytes p x n = IsThere any (bytes_from p.parts p.at) x n
 
--- bytes stand there, and take n
-abbrev pub CountsBytes : Place → ℕ → Type 0
-CountsBytes p n = CountsThere any (bytes_from p.parts p.at) n
-
 -- bytes that are whole items of so many bytes each
 abbrev pub ReadsView : ℕ → Place → List ℕ → ℕ → Type 0
 ReadsView each p b n = IsThere (λ b. length b % each ≡ 0) (bytes_from p.parts p.at) b n
-
--- some bytes stand there whose number is a multiple of an item's
-abbrev pub CountsView : ℕ → Place → ℕ → Type 0
-CountsView each p n = CountsThere (λ b. length b % each ≡ 0) (bytes_from p.parts p.at) n

@@ -6,7 +6,6 @@
 --     FitsWithin limit xs     neither the tree nor the keys of its entries take more bytes
 --     TreeWithinOf w limit r  what reading it within a limit answers
 --     HasOneWeight w, WeighsNoMore w  the tree has one weight, and is no heavier
---     OneWeight, TreesWeighNoMore     so it is of each file that is read alone
 use Rattle.std.specs.Prelude.{◌≡◌, ◌<◌, ◌≤◌, ◌⊎◌, ℕ, List, Result, Ok, Err, codes, sum_by}
 use Rattle.resb_tree.specs.Tree.{Tree, tree_count}
 use Rattle.resb_tree.specs.declared.resource.Resource.{Resource}
@@ -15,7 +14,7 @@ use Rattle.resb_format.specs.declared.error.ReadingError.{ReadingError}
 use Rattle.resb_walk.specs.Pieces.{Piece, Holds, pieces}
 use Rattle.resb_walk.specs.Sums.{AddsUp, count_of, key_bytes_in}
 use Rattle.resb_walk.specs.TreeBytes.{tree_bytes}
-use Rattle.resb_read.specs.Roots.{Whole, RefusesWhole, AnswersTreeOf, alone}
+use Rattle.resb_read.specs.Roots.{Whole, RefusesWhole, AnswersTreeOf}
 use Rattle.resb_read.specs.declared.measuring.Measured.{Measured}
 
 -- the pieces of the tree at the root, in the order of the file
@@ -83,11 +82,3 @@ WeighsNoMore w =
     (weight : Piece → ℕ) (t : Tree) (n : ℕ) (xs : List Piece) → w.denotes t n → HoldsPieces w xs
     → (count_of xs ≡ n) × (sum_by weight (pieces t) ≤ sum_by weight xs)
     × (tree_count t ≡ n → sum_by weight (pieces t) ≡ sum_by weight xs)
-
--- the tree of a file that is read alone has one list of pieces, and so one of each sum
-abbrev pub OneWeight : Type 0
-OneWeight = (bytes : List ℕ) → HasOneWeight (alone bytes)
-
--- the tree of a file that is read alone weighs no more than what is read of it, by any weights
-abbrev pub TreesWeighNoMore : Type 0
-TreesWeighNoMore = (bytes : List ℕ) → WeighsNoMore (alone bytes)

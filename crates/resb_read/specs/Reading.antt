@@ -26,10 +26,6 @@ LacksOrMemory counts left e = IsWantOfMemory e ⊎ Lacks counts left
 abbrev pub IsThere : {X : Type 0} → (X → Type 0) → Option (X × ℕ) → X → ℕ → Type 0
 IsThere fits there x n = fits x × (there ≡ Some (x, n))
 
--- some value that fits stands there, with its count
-abbrev pub CountsThere : {X : Type 0} → (X → Type 0) → Option (X × ℕ) → ℕ → Type 0
-CountsThere {X} fits there n = (x : X) × IsThere fits there x n
-
 -- whatever the value is, it fits
 abbrev pub any : {X : Type 0} → X → Type 0
 any _ = Unit {0}

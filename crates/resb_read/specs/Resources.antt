@@ -29,10 +29,6 @@ DenPlace p t n = DenSpot p.parts p.at t n
 abbrev pub ReadsTree : Place → Resource → ℕ → Type 0
 ReadsTree p r n = DenPlace p (tree_of r) n × Borrows r
 
--- some tree is denoted there, with this count
-abbrev pub CountsTree : Place → ℕ → Type 0
-CountsTree p n = (t : Tree) × DenPlace p t n
-
 -- at least n resources stand at this spot up to the first fault
 abbrev pub ReachesSpot : Parts → Spot → ℕ → Type 0
 ReachesSpot p (spot.Descriptor w) n = Reaches p w n

@@ -4,9 +4,7 @@
 --     RefusesAt refuses w e   what a type that refuses so answers of it
 --     IsRefusedOnce w         memory aside, it is refused in one way
 --     AnswersTreeOf, AnswersCountOf   what reading and counting its tree answer
--- The same of files that are read alone:
---     alone bytes             what the bytes come to
---     HoldsAtRoot, RefusesRoot, RefusesFile, AnswersTree, AnswersCount
+--     alone bytes             what the bytes of a file come to that is read alone
 use Rattle.std.specs.Prelude.{◌≡◌, ◌≤◌, ◌⊎◌, ℕ, List, Option, Some, None, Result, Ok, Err}
 use Rattle.std.specs.Prelude.{MatchResult}
 use Rattle.resb_tree.specs.Tree.{Tree}
@@ -67,7 +65,7 @@ RefusesWhole w e =
     × Refuses (Den w.parts w.root) (Reaches w.parts w.root) w.budget e
     × Blames (Meets w.parts (word w.root)) e)
 
--- two such refusals are equal, by kind and message, if neither is want of memory
+-- two refusals of what a file comes to are equal, by kind and message, unless one is want of memory
 abbrev pub IsRefusedOnce : Whole → Type 0
 IsRefusedOnce w =
     (d e : ReadingError) → RefusesWhole w d → RefusesWhole w e
@@ -94,26 +92,3 @@ alone bytes = record {
   is_file = IsBundleFile bytes;
   denotes = Denotes bytes;
 }
-
--- the file is a bundle, and this holds of the place of its root
-abbrev pub HoldsAtRoot : (Place → Type 0) → List ℕ → Type 0
-HoldsAtRoot P bytes = HoldsAt P (alone bytes)
-
--- the first check of a file's head that fails, or what the type answers at the root, with the whole
--- budget
-abbrev pub RefusesRoot : (Place → ℕ → ℕ → ReadingError → Type 0) → List ℕ → ReadingError → Type 0
-RefusesRoot refuses bytes e = RefusesAt refuses (alone bytes) e
-
--- the first check of a file's head that fails, or what is refused at the root, by the first fault
--- there
-abbrev pub RefusesFile : List ℕ → ReadingError → Type 0
-RefusesFile bytes e = RefusesWhole (alone bytes) e
-
--- what reading a file's tree answers: a tree that is denoted within the budget and borrows, or its
--- refusal
-abbrev pub AnswersTree : List ℕ → Result Resource ReadingError → Type 0
-AnswersTree bytes r = AnswersTreeOf (alone bytes) r
-
--- what counting a file's tree answers: the count of a tree within the budget, or its refusal
-abbrev pub AnswersCount : List ℕ → Result ℕ ReadingError → Type 0
-AnswersCount bytes r = AnswersCountOf (alone bytes) r

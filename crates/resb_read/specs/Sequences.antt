@@ -5,7 +5,7 @@ use Rattle.std.specs.Prelude.{◌≡◌, ◌+◌, ◌==◌, ◌||◌, ℕ, List,
 use Rattle.std.specs.Prelude.{option_map, if◌then◌else◌}
 use Rattle.std.specs.BTreeMap.{insert_entry}
 use Rattle.std.specs.declared.cmp.Ordering.{Ordering}
-use Rattle.resb_tree.specs.Tree.{Tree, string, alias, array, table, binary, integer, int_vector}
+use Rattle.resb_tree.specs.Tree.{Tree, int_vector}
 use Rattle.resb_format.specs.Parts.{Parts}
 use Rattle.resb_format.specs.Types as types
 use Rattle.resb_format.specs.Content.{Content, Member, leaf, list, entry_list, content_at}
@@ -18,22 +18,16 @@ use Rattle.resb_read.specs.declared.cursor.Spot.TheVariants as spot
 abbrev pub at_spot : Parts → Spot → Place
 at_spot p s = record { parts = p; at = s }
 
--- the numbers of a vector
+-- the numbers of a vector; of any other tree none
 abbrev pub numbers_in : Tree → Option (List Spot)
 numbers_in (int_vector ns) = Some (map spot.Word ns)
-numbers_in (string s) = None
-numbers_in (alias s) = None
-numbers_in (array ts) = None
-numbers_in (table es) = None
-numbers_in (binary s) = None
-numbers_in (integer n) = None
+numbers_in _ = None
 
 -- the spots of a list's members or of a vector's numbers; other things have none
 abbrev pub member_spots : Option Content → Option (List Spot)
 member_spots (Some (list ms)) = Some (map spot_of ms)
 member_spots (Some (leaf t)) = numbers_in t
-member_spots (Some (entry_list es)) = None
-member_spots None = None
+member_spots _ = None
 
 -- the spots of the members of an Array, an Array16 or an IntVector
 abbrev pub members_in : Parts → ℕ → Option (List Spot)
@@ -51,12 +45,10 @@ members_from p s = None
 abbrev pub members_at : Place → Option (List Place)
 members_at p = members_from p.parts p.at
 
--- a table's entries: each a key's position and a member
+-- a table's entries: each a key's position and a member; other things have none
 abbrev pub content_entries : Option Content → Option (List (ℕ × Member))
 content_entries (Some (entry_list es)) = Some es
-content_entries (Some (list ms)) = None
-content_entries (Some (leaf t)) = None
-content_entries None = None
+content_entries _ = None
 
 -- the entries of a Table, a Table16 or a table of 32-bit positions
 abbrev pub entries_in : Parts → ℕ → Option (List (ℕ × Member))
@@ -79,10 +71,9 @@ entries_at p = entries_from p.parts p.at
 -- each place is read to the value beside it, and n is the sum of the counts
 abbrev pub ReadsEach : {P X : Type 0} → (P → X → ℕ → Type 0) → List P → List X → ℕ → Type 0
 ReadsEach reads [] [] n = n ≡ 0
-ReadsEach reads [] (x ∷ xs) n = ⊥
-ReadsEach reads (p ∷ ps) [] n = ⊥
 ReadsEach reads (p ∷ ps) (x ∷ xs) n =
     (a : ℕ) × (b : ℕ) × reads p x a × ReadsEach reads ps xs b × (n ≡ a + b)
+ReadsEach reads _ _ n = ⊥
 
 -- n is the sum of a count at each place
 abbrev pub CountsEach : {P : Type 0} → (P → ℕ → Type 0) → List P → ℕ → Type 0

@@ -23,7 +23,8 @@ use Rattle.resb_format.specs.Parts.{Parts}
 use Rattle.resb_format.specs.Lookups.{key_place}
 use Rattle.resb_read.specs.Places.{Place}
 use Rattle.resb_read.specs.Leaves.{key_from, ReadsKey}
-use Rattle.resb_read.specs.RefusedReadings.{RefusesThere, RefusesEntries}
+use Rattle.resb_read.specs.PlaceRefusals.{entries_refusal_from}
+use Rattle.resb_read.specs.RefusedReadings.{RefusesAs, RefusesThere, RefusesInside}
 use Rattle.resb_read.specs.Sequences.{entries_at}
 use Rattle.resb_read.specs.Inner.Elements.{entry_places}
 use Rattle.resb_read.specs.declared.cursor.Spot.{Spot}
@@ -74,13 +75,8 @@ NoneNamed name [] = Unit {0}
 NoneNamed name (e ∷ es) = (IsNamed name e → ⊥) × NoneNamed name es
 
 -- an entry has this name and its value stands at this place, and no entry behind it has the name
-pub record IsLastNamed (name : List ℕ) (es : List (Place × Place)) (value : Place) : Type 0 where
-  pub before : List (Place × Place)
-  pub key : Place
-  pub after : List (Place × Place)
-  pub are : es ≡ before ++ (key, value) ∷ after
-  pub named : IsNamed name (key, value)
-  pub last : NoneNamed name after
+abbrev pub IsLastNamed : List ℕ → List (Place × Place) → Place → Type 0
+IsLastNamed name es value = (entry : HasEntry name es value) × NoneNamed name entry.after
 
 -- a value is found for a name exactly where it is the last of that name, and none exactly where no
 -- entry has the name
@@ -149,9 +145,8 @@ price_of (e ∷ es) = size_at e.0.parts e.0.at / 16 + price_of es
 abbrev pub ReadsFound : {X : Type 0} → (Place → X → ℕ → Type 0) → Option Place → Option X → ℕ
     → Type 0
 ReadsFound reads None None n = n ≡ 0
-ReadsFound reads None (Some x) n = ⊥
-ReadsFound reads (Some p) None n = ⊥
 ReadsFound reads (Some p) (Some x) n = reads p x n
+ReadsFound reads _ _ n = ⊥
 
 -- there is no place, which costs nothing; or some value is read there, with this count
 abbrev pub CountsFound : (Place → ℕ → Type 0) → Option Place → ℕ → Type 0
@@ -171,16 +166,9 @@ pub record RefusesPaying (es : List (Place × Place)) (left left' : ℕ) (e : Re
   pub lacks : left < length es
   pub kept : left' ≡ left
 
--- a table stands there and is paid for, but not its entries
-pub record RefusesUnpaid (p : Place) (left left' : ℕ) (e : ReadingError) : Type 0 where
-  pub places : List (Place × Place)
-  pub inside : ℕ
-  pub are : entries_at p ≡ Some places
-  pub paid : inside + 1 ≡ left
-  pub refused : RefusesPaying places inside left' e
-
--- no entries stand there, or the budget is spent, before the entries or by them
+-- no table is read: no entries stand there, or the budget is spent, and the whole is refused; or
+-- one is paid for the table, and its entries can't be paid for
 abbrev pub RefusesTable : Place → ℕ → ℕ → ReadingError → Type 0
 RefusesTable p left left' e =
-    ((entries_at p ≡ None ⊎ left ≡ 0) × RefusesEntries p left left' e)
-    ⊎ RefusesUnpaid p left left' e
+    ((entries_at p ≡ None ⊎ left ≡ 0) × RefusesAs entries_refusal_from p left left' e)
+    ⊎ RefusesInside (entries_at p) RefusesPaying left left' e

@@ -5,13 +5,10 @@ use Rattle.std.specs.Prelude.{◌+◌, IsSomeAnd}
 use Rattle.std.proofs.Common.{sym, ap, ◌∙◌, subst, arith}
 use Rattle.std.proofs.lemmas.Option.{same_Some}
 use Rattle.resb_read.specs.Places.{Place}
-use Rattle.resb_read.specs.Reading.{any, IsThere, CountsThere}
+use Rattle.resb_read.specs.Reading.{any, IsThere}
 use Rattle.resb_read.specs.Leaves.{LiesInRange, signed_at, unsigned_at, bool_at, bits_at, text_from}
-use Rattle.resb_read.specs.Leaves.{key_from, bytes_from, ReadsSigned, CountsSigned, ReadsUnsigned}
-use Rattle.resb_read.specs.Leaves.{CountsUnsigned, ReadsBool, CountsBool, ReadsBits, CountsBits}
-use Rattle.resb_read.specs.Leaves.{ReadsText, CountsText, ReadsKey, CountsKey, ReadsBytes}
-use Rattle.resb_read.specs.Leaves.{CountsBytes}
-use Rattle.resb_read.specs.Leaves.{ReadsView, CountsView}
+use Rattle.resb_read.specs.Leaves.{key_from, bytes_from, CountsOf, ReadsSigned, ReadsUnsigned}
+use Rattle.resb_read.specs.Leaves.{ReadsBool, ReadsBits, ReadsText, ReadsKey, ReadsBytes, ReadsView}
 use Rattle.std.specs.declared.cmp.Ordering.{Ordering}
 use Rattle.resb_read.specs.Sequences.{members_at, entries_at, Collects, ReadsEach, CountsEach}
 use Rattle.resb_read.specs.Sequences.{ReadsSeq, CountsSeq, ReadsEntry, CountsEntry, ReadsMap}
@@ -19,9 +16,13 @@ use Rattle.resb_read.specs.Sequences.{CountsMap}
 use Rattle.resb_tree.specs.Tree.{Tree}
 use Rattle.resb_format.specs.Parts.{Parts}
 use Rattle.resb_format.proofs.Denoting.{unique, unique_member}
-use Rattle.resb_read.specs.Resources.{DenSpot, DenPlace, CountsTree}
+use Rattle.resb_read.specs.Resources.{DenSpot, DenPlace}
 use Rattle.resb_read.specs.declared.cursor.Spot.{Spot}
 use Rattle.resb_read.specs.declared.cursor.Spot.TheVariants as spot
+
+-- some value that fits stands there, with its count
+abbrev CountsThere : {X : Type 0} → (X → Type 0) → Option (X × ℕ) → ℕ → Type 0
+CountsThere {X} fits there n = (x : X) × IsThere fits there x n
 
 module _ {X : Type 0} (fits : X → Type 0) (there : Option (X × ℕ)) where
   there_counted : (x : X) (n : ℕ) → IsThere fits there x n → CountsThere fits there n
@@ -39,58 +40,59 @@ module _ {X : Type 0} (fits : X → Type 0) (there : Option (X × ℕ)) where
   there_one m n h k = same_count h.1.1 k.1.1
 
 pub signed_counted : (low high : ℤ) (p : Place) (x : ℤ) (n : ℕ) → ReadsSigned low high p x n
-    → CountsSigned low high p n
+    → CountsOf (ReadsSigned low high) p n
 signed_counted low high p = there_counted (LiesInRange low high) (signed_at p.at)
 
-pub signed_one : (low high : ℤ) (p : Place) (m n : ℕ) → CountsSigned low high p m
-    → CountsSigned low high p n → m ≡ n
+pub signed_one : (low high : ℤ) (p : Place) (m n : ℕ) → CountsOf (ReadsSigned low high) p m
+    → CountsOf (ReadsSigned low high) p n → m ≡ n
 signed_one low high p = there_one (LiesInRange low high) (signed_at p.at)
 
 pub unsigned_counted : (high : ℕ) (p : Place) (x : ℕ) (n : ℕ) → ReadsUnsigned high p x n
-    → CountsUnsigned high p n
+    → CountsOf (ReadsUnsigned high) p n
 unsigned_counted high p = there_counted (λ x. x ≤ high) (unsigned_at p.at)
 
-pub unsigned_one : (high : ℕ) (p : Place) (m n : ℕ) → CountsUnsigned high p m
-    → CountsUnsigned high p n → m ≡ n
+pub unsigned_one : (high : ℕ) (p : Place) (m n : ℕ) → CountsOf (ReadsUnsigned high) p m
+    → CountsOf (ReadsUnsigned high) p n → m ≡ n
 unsigned_one high p = there_one (λ x. x ≤ high) (unsigned_at p.at)
 
-pub bool_counted : (p : Place) (x : Bool) (n : ℕ) → ReadsBool p x n → CountsBool p n
+pub bool_counted : (p : Place) (x : Bool) (n : ℕ) → ReadsBool p x n → CountsOf ReadsBool p n
 bool_counted p = there_counted any (bool_at p.at)
 
-pub bool_one : (p : Place) (m n : ℕ) → CountsBool p m → CountsBool p n → m ≡ n
+pub bool_one : (p : Place) (m n : ℕ) → CountsOf ReadsBool p m → CountsOf ReadsBool p n → m ≡ n
 bool_one p = there_one any (bool_at p.at)
 
 -- 28 bits that are read have their count
-pub bits_counted : (p : Place) (x : ℕ) (n : ℕ) → ReadsBits p x n → CountsBits p n
+pub bits_counted : (p : Place) (x : ℕ) (n : ℕ) → ReadsBits p x n → CountsOf ReadsBits p n
 bits_counted p = there_counted any (bits_at p.at)
 
 -- and one count
-pub bits_one : (p : Place) (m n : ℕ) → CountsBits p m → CountsBits p n → m ≡ n
+pub bits_one : (p : Place) (m n : ℕ) → CountsOf ReadsBits p m → CountsOf ReadsBits p n → m ≡ n
 bits_one p = there_one any (bits_at p.at)
 
-pub text_counted : (p : Place) (x : List ℕ) (n : ℕ) → ReadsText p x n → CountsText p n
+pub text_counted : (p : Place) (x : List ℕ) (n : ℕ) → ReadsText p x n → CountsOf ReadsText p n
 text_counted p = there_counted any (text_from p.parts p.at)
 
-pub text_one : (p : Place) (m n : ℕ) → CountsText p m → CountsText p n → m ≡ n
+pub text_one : (p : Place) (m n : ℕ) → CountsOf ReadsText p m → CountsOf ReadsText p n → m ≡ n
 text_one p = there_one any (text_from p.parts p.at)
 
-pub key_counted : (p : Place) (x : List ℕ) (n : ℕ) → ReadsKey p x n → CountsKey p n
+pub key_counted : (p : Place) (x : List ℕ) (n : ℕ) → ReadsKey p x n → CountsOf ReadsKey p n
 key_counted p = there_counted any (key_from p.parts p.at)
 
-pub key_one : (p : Place) (m n : ℕ) → CountsKey p m → CountsKey p n → m ≡ n
+pub key_one : (p : Place) (m n : ℕ) → CountsOf ReadsKey p m → CountsOf ReadsKey p n → m ≡ n
 key_one p = there_one any (key_from p.parts p.at)
 
-pub bytes_counted : (p : Place) (x : List ℕ) (n : ℕ) → ReadsBytes p x n → CountsBytes p n
+pub bytes_counted : (p : Place) (x : List ℕ) (n : ℕ) → ReadsBytes p x n → CountsOf ReadsBytes p n
 bytes_counted p = there_counted any (bytes_from p.parts p.at)
 
-pub bytes_one : (p : Place) (m n : ℕ) → CountsBytes p m → CountsBytes p n → m ≡ n
+pub bytes_one : (p : Place) (m n : ℕ) → CountsOf ReadsBytes p m → CountsOf ReadsBytes p n → m ≡ n
 bytes_one p = there_one any (bytes_from p.parts p.at)
 
 pub view_counted : (each : ℕ) (p : Place) (b : List ℕ) (n : ℕ) → ReadsView each p b n
-    → CountsView each p n
+    → CountsOf (ReadsView each) p n
 view_counted each p = there_counted (λ b. length b % each ≡ 0) (bytes_from p.parts p.at)
 
-pub view_one : (each : ℕ) (p : Place) (m n : ℕ) → CountsView each p m → CountsView each p n → m ≡ n
+pub view_one : (each : ℕ) (p : Place) (m n : ℕ) → CountsOf (ReadsView each) p m
+    → CountsOf (ReadsView each) p n → m ≡ n
 view_one each p = there_one (λ b. length b % each ≡ 0) (bytes_from p.parts p.at)
 
 module _ {P X : Type 0} (reads : P → X → ℕ → Type 0) (counts : P → ℕ → Type 0)
@@ -180,8 +182,8 @@ one_tree_at p (spot.Unit v) t u m n h k = unique_member p h k
 one_tree_at p (spot.Word w) t u m n h k = absurd h
 one_tree_at p (spot.Key j) t u m n h k = absurd h
 
-pub tree_counted : (p : Place) (t : Tree) (n : ℕ) → DenPlace p t n → CountsTree p n
+pub tree_counted : (p : Place) (t : Tree) (n : ℕ) → DenPlace p t n → CountsOf DenPlace p n
 tree_counted p t n h = (t, h)
 
-pub tree_one : (p : Place) (m n : ℕ) → CountsTree p m → CountsTree p n → m ≡ n
+pub tree_one : (p : Place) (m n : ℕ) → CountsOf DenPlace p m → CountsOf DenPlace p n → m ≡ n
 tree_one p m n (t, h) (u, k) = (one_tree_at p.parts p.at t u m n h k).1

@@ -11,7 +11,8 @@ ghost use Rattle.resb_walk.specs.BlockRefusals.{Says};
 ghost use Rattle.resb_format.specs.Parts.{parts_in};
 ghost use Rattle.resb_walk.specs.Inner.Members.{keyed_members};
 ghost use Rattle.resb_read.specs.PlaceRefusals.{word_entries_refusal};
-ghost use Rattle.resb_read.specs.RefusedReadings.{RefusesEntries, RefusesKeyOrValue};
+ghost use Rattle.resb_read.specs.PlaceRefusals.{entries_refusal_from};
+ghost use Rattle.resb_read.specs.RefusedReadings.{RefusesAs, RefusesKeyOrValue};
 ghost use Rattle.resb_read.specs.Tables.{view_entries, RefusesPaying};
 
 use crate::cursor::{Cursor, Spot};
@@ -193,7 +194,7 @@ impl<'de> Cursor<'de> {
             × (s.failed ≡ None) × (walk.new + 1 ≡ walk.old)) }
         ensures refused { IfErr result (λ e. (walk.new ≤ walk.old)
             × (sequences.entries_at (place_of self.entry) ≡ None ⊎ walk.old ≡ 0)
-            × RefusesEntries (place_of self.entry) walk.old walk.new e) }
+            × RefusesAs entries_refusal_from (place_of self.entry) walk.old walk.new e) }
     {
         let Spot::Descriptor(word) = self.at else {
             return Err(refused_here(self, walk));

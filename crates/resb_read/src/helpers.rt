@@ -5,8 +5,9 @@ ghost use Rattle.resb_format.specs.Views.{unit_bytes, word_bytes, number_bytes, 
 ghost use Rattle.resb_read.specs.Places.{place_of};
 ghost use Rattle.resb_read.specs.Reading.{Reads, LacksOrMemory};
 ghost use Rattle.resb_read.specs.Sequences.{ReadsSeq, CountsSeq};
-ghost use Rattle.resb_read.specs.Leaves.{ReadsView, CountsView};
-ghost use Rattle.resb_read.specs.RefusedReadings.{RefusesView, RefusesSeq};
+ghost use Rattle.resb_read.specs.Leaves.{CountsOf, ReadsView};
+ghost use Rattle.resb_read.specs.PlaceRefusals.{view_refusal_from};
+ghost use Rattle.resb_read.specs.RefusedReadings.{RefusesAs, RefusesSeq};
 
 use crate::cursor::Cursor;
 use crate::deserialize::Deserialize;
@@ -22,9 +23,9 @@ pub fn option_utf_16<'de>(
     walk: &mut Walk,
 ) -> Result<Option<Utf16View<'de>>, BinaryDeserializerError>
     ensures { let p = place_of at.entry in
-        Reads (RefusesView p)
+        Reads (RefusesAs view_refusal_from p)
         (λ o n. IsSomeAnd o (λ v. ReadsView 2 p (unit_bytes v) n))
-        (CountsView 2 p) walk.old walk.new result }
+        (CountsOf (ReadsView 2) p) walk.old walk.new result }
 {
     Ok(Some(at.units(walk)?))
 }
@@ -35,9 +36,9 @@ pub fn option_u32<'de>(
     walk: &mut Walk,
 ) -> Result<Option<WordView<'de>>, BinaryDeserializerError>
     ensures { let p = place_of at.entry in
-        Reads (RefusesView p)
+        Reads (RefusesAs view_refusal_from p)
         (λ o n. IsSomeAnd o (λ v. ReadsView 4 p (word_bytes v) n))
-        (CountsView 4 p) walk.old walk.new result }
+        (CountsOf (ReadsView 4) p) walk.old walk.new result }
 {
     Ok(Some(at.words(walk)?))
 }
@@ -48,9 +49,9 @@ pub fn option_i32<'de>(
     walk: &mut Walk,
 ) -> Result<Option<I32View<'de>>, BinaryDeserializerError>
     ensures { let p = place_of at.entry in
-        Reads (RefusesView p)
+        Reads (RefusesAs view_refusal_from p)
         (λ o n. IsSomeAnd o (λ v. ReadsView 4 p (number_bytes v) n))
-        (CountsView 4 p) walk.old walk.new result }
+        (CountsOf (ReadsView 4) p) walk.old walk.new result }
 {
     let words = at.words(walk)?;
     Ok(Some(cast_u32_to_i32_slice(words)))
@@ -62,8 +63,8 @@ pub fn i32_tuple<'de>(
     walk: &mut Walk,
 ) -> Result<PairView<'de>, BinaryDeserializerError>
     ensures { let p = place_of at.entry in
-        Reads (RefusesView p) (λ v n. ReadsView 8 p (pair_bytes v) n)
-        (CountsView 8 p) walk.old walk.new result }
+        Reads (RefusesAs view_refusal_from p) (λ v n. ReadsView 8 p (pair_bytes v) n)
+        (CountsOf (ReadsView 8) p) walk.old walk.new result }
 {
     at.pairs(walk)
 }
@@ -74,9 +75,9 @@ pub fn option_i32_tuple<'de>(
     walk: &mut Walk,
 ) -> Result<Option<PairView<'de>>, BinaryDeserializerError>
     ensures { let p = place_of at.entry in
-        Reads (RefusesView p)
+        Reads (RefusesAs view_refusal_from p)
         (λ o n. IsSomeAnd o (λ v. ReadsView 8 p (pair_bytes v) n))
-        (CountsView 8 p) walk.old walk.new result }
+        (CountsOf (ReadsView 8) p) walk.old walk.new result }
 {
     Ok(Some(at.pairs(walk)?))
 }
@@ -91,9 +92,10 @@ pub fn vec_utf_16<'de>(
         × ReadsSeq (λ p x n. ReadsView 2 p (unit_bytes x) n) (place_of at.entry) v.items n
         × (walk.new + n ≡ walk.old)) }
     ensures refused { IfErr result (λ e. (walk.new ≤ walk.old)
-        × LacksOrMemory (CountsSeq (CountsView 2) (place_of at.entry)) walk.old e) }
+        × LacksOrMemory (CountsSeq (CountsOf (ReadsView 2)) (place_of at.entry)) walk.old e) }
     ensures says { IfErr result
-        (RefusesSeq (CountsView 2) RefusesView (place_of at.entry) walk.old walk.new) }
+        (RefusesSeq (CountsOf (ReadsView 2)) (RefusesAs view_refusal_from) (place_of at.entry)
+        walk.old walk.new) }
 {
     Vec::deserialize(alloc, at, walk)
 }

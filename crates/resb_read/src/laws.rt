@@ -1,15 +1,17 @@
 //! Laws of reading, each the contract of a call that does nothing.
-//! Their statements stand in `specs/Laws`.
+//! Longer statements stand in `specs/Laws`.
+ghost use Rattle.std.specs.Prelude.{ℕ, List, Option};
+ghost use Rattle.resb_pool_bundle.specs.Pool.{Pool};
 ghost use Rattle.resb_read.specs.Inside.{EntriesStand, MembersStand, NumbersStand, TypesTellTrees};
-ghost use Rattle.resb_read.specs.Laws.{OneRefusalOfAFile, OneValue};
-ghost use Rattle.resb_read.specs.Measuring.{OneWeight, TreesWeighNoMore};
+ghost use Rattle.resb_read.specs.Laws.{OneValue};
+ghost use Rattle.resb_read.specs.Measuring.{HasOneWeight, WeighsNoMore};
+ghost use Rattle.resb_read.specs.Roots.{IsRefusedOnce, alone};
 ghost use Rattle.resb_read.specs.Tables.{LastOfAName, AscendIsTold};
-ghost use Rattle.resb_read.specs.WithPool.{OneTreeWithPool, OneRefusalWithPool, OneWeightWithPool};
-ghost use Rattle.resb_read.specs.WithPool.{TreesWeighNoMoreWithPool};
+ghost use Rattle.resb_read.specs.WithPool.{OneTreeWithPool, over};
 
 /// A file whose tree isn't read is refused in one way, by kind and message, memory aside.
 pub fn one_refusal_of_a_file()
-    ensures { OneRefusalOfAFile }
+    ensures { (bytes : List ℕ) → IsRefusedOnce (alone bytes) }
 {}
 
 /// Two readings of one place give one value: a number of a range, a bool, an `Int28`, a text, a
@@ -42,13 +44,13 @@ pub fn ascend_is_told()
 /// What a reading of a file's tree goes through is one list of resources and keys: so each sum over
 /// them is one number.
 pub fn one_weight()
-    ensures { OneWeight }
+    ensures { (bytes : List ℕ) → HasOneWeight (alone bytes) }
 {}
 
 /// By any weights the tree of a file weighs no more than what is read of it, and the same where no
 /// entry is replaced.
 pub fn trees_weigh_no_more()
-    ensures { TreesWeighNoMore }
+    ensures { (bytes : List ℕ) → WeighsNoMore (alone bytes) }
 {}
 
 /// The bytes of a file denote at most one tree beside a pool bundle, with one count.
@@ -59,17 +61,17 @@ pub fn one_tree_of_a_file_with_pool()
 /// A file beside a pool bundle whose tree isn't read is refused in one way, by kind and message,
 /// memory aside.
 pub fn one_refusal_with_pool()
-    ensures { OneRefusalWithPool }
+    ensures { (pool : Option Pool) (bytes : List ℕ) → IsRefusedOnce (over pool bytes) }
 {}
 
 /// What a reading of the tree of a file beside a pool bundle goes through is one list of resources
 /// and keys: so each sum over them is one number.
 pub fn one_weight_with_pool()
-    ensures { OneWeightWithPool }
+    ensures { (pool : Option Pool) (bytes : List ℕ) → HasOneWeight (over pool bytes) }
 {}
 
 /// By any weights the tree of a file beside a pool bundle weighs no more than what is read of it,
 /// and the same where no entry is replaced.
 pub fn trees_weigh_no_more_with_pool()
-    ensures { TreesWeighNoMoreWithPool }
+    ensures { (pool : Option Pool) (bytes : List ℕ) → WeighsNoMore (over pool bytes) }
 {}

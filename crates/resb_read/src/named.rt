@@ -5,11 +5,11 @@ ghost use Rattle.std.specs.Prelude.{MatchOption};
 ghost use Rattle.std.specs.String.{string_bytes};
 ghost use Rattle.resb_read.specs.Places.{place_of};
 ghost use Rattle.resb_read.specs.Reading.{Reads, LacksOrMemory};
-ghost use Rattle.resb_read.specs.RefusedReadings.{RefusesText, RefusesKey, RefusesBytes};
-ghost use Rattle.resb_read.specs.RefusedReadings.{RefusesNumber};
-ghost use Rattle.resb_read.specs.Leaves.{ReadsText, CountsText, ReadsKey, CountsKey, ReadsBytes};
-ghost use Rattle.resb_read.specs.Leaves.{CountsBytes, ReadsSigned, CountsSigned, ReadsUnsigned};
-ghost use Rattle.resb_read.specs.Leaves.{CountsUnsigned};
+ghost use Rattle.resb_read.specs.PlaceRefusals.{number_refusal_from, key_refusal_from};
+ghost use Rattle.resb_read.specs.PlaceRefusals.{bytes_refusal_from};
+ghost use Rattle.resb_read.specs.RefusedReadings.{RefusesText, RefusesAs};
+ghost use Rattle.resb_read.specs.Leaves.{CountsOf, ReadsText, ReadsKey, ReadsBytes, ReadsSigned};
+ghost use Rattle.resb_read.specs.Leaves.{ReadsUnsigned};
 ghost use Rattle.resb_read.specs.Spots.{IsUnitSpot, IsWordSpot, IsKeySpot};
 ghost use Rattle.resb_read.specs.Inner.Named as named;
 
@@ -94,7 +94,7 @@ impl<'de> Resource16BitDeserializer<'de> {
             × ReadsText (named.unit_place self.entry) (string_bytes s) n
             × (walk.new + n ≡ walk.old)) }
         ensures refused { IfErr result (λ e. (walk.new ≤ walk.old)
-            × LacksOrMemory (CountsText (named.unit_place self.entry)) walk.old e) }
+            × LacksOrMemory (CountsOf ReadsText (named.unit_place self.entry)) walk.old e) }
         ensures says { IfErr result
             (RefusesText (named.unit_place self.entry) walk.old walk.new) }
     {
@@ -108,7 +108,8 @@ impl<'de> Resource16BitDeserializer<'de> {
     /// Reads the bytes of the string's units, which need be no text.
     pub fn read_bytes(self, walk: &mut Walk) -> Result<&'de [u8], BinaryDeserializerError>
         ensures { let p = named.unit_place self.entry in
-            Reads (RefusesBytes p) (λ b n. ReadsBytes p b.now n) (CountsBytes p)
+            Reads (RefusesAs bytes_refusal_from p) (λ b n. ReadsBytes p b.now n)
+            (CountsOf ReadsBytes p)
             walk.old walk.new result }
     {
         let at = Cursor {
@@ -123,8 +124,8 @@ impl<'de> KeyDeserializer<'de> {
     /// Reads the key, which lives as long as the file.
     pub fn read_str(self) -> Result<&'de str, BinaryDeserializerError>
         ensures { let p = named.key_place self.entry in
-            Reads (RefusesKey p) (λ s n. ReadsKey p s.now n)
-            (CountsKey p) 0 0 result }
+            Reads (RefusesAs key_refusal_from p) (λ s n. ReadsKey p s.now n)
+            (CountsOf ReadsKey p) 0 0 result }
     {
         key_at(self.file, self.position)
     }
@@ -145,7 +146,8 @@ impl<'de> IntVectorDeserializer<'de> {
     pub fn read_i8(self) -> Result<i8, BinaryDeserializerError>
         ensures { let low = negsuc (2 ^ 7 - 1) in let high = pos (2 ^ 7 - 1) in
             let p = named.word_place self.entry in
-            Reads (RefusesNumber p) (ReadsSigned low high p) (CountsSigned low high p) 0 0
+            Reads (RefusesAs number_refusal_from p) (ReadsSigned low high p)
+            (CountsOf (ReadsSigned low high) p) 0 0
             result }
     {
         let mut walk = Walk::new(0);
@@ -156,7 +158,8 @@ impl<'de> IntVectorDeserializer<'de> {
     pub fn read_i16(self) -> Result<i16, BinaryDeserializerError>
         ensures { let low = negsuc (2 ^ 15 - 1) in let high = pos (2 ^ 15 - 1) in
             let p = named.word_place self.entry in
-            Reads (RefusesNumber p) (ReadsSigned low high p) (CountsSigned low high p) 0 0
+            Reads (RefusesAs number_refusal_from p) (ReadsSigned low high p)
+            (CountsOf (ReadsSigned low high) p) 0 0
             result }
     {
         let mut walk = Walk::new(0);
@@ -167,7 +170,8 @@ impl<'de> IntVectorDeserializer<'de> {
     pub fn read_i32(self) -> Result<i32, BinaryDeserializerError>
         ensures { let low = negsuc (2 ^ 31 - 1) in let high = pos (2 ^ 31 - 1) in
             let p = named.word_place self.entry in
-            Reads (RefusesNumber p) (ReadsSigned low high p) (CountsSigned low high p) 0 0
+            Reads (RefusesAs number_refusal_from p) (ReadsSigned low high p)
+            (CountsOf (ReadsSigned low high) p) 0 0
             result }
     {
         let mut walk = Walk::new(0);
@@ -178,7 +182,8 @@ impl<'de> IntVectorDeserializer<'de> {
     pub fn read_i64(self) -> Result<i64, BinaryDeserializerError>
         ensures { let low = negsuc (2 ^ 63 - 1) in let high = pos (2 ^ 63 - 1) in
             let p = named.word_place self.entry in
-            Reads (RefusesNumber p) (ReadsSigned low high p) (CountsSigned low high p) 0 0
+            Reads (RefusesAs number_refusal_from p) (ReadsSigned low high p)
+            (CountsOf (ReadsSigned low high) p) 0 0
             result }
     {
         let mut walk = Walk::new(0);
@@ -188,7 +193,8 @@ impl<'de> IntVectorDeserializer<'de> {
     /// Reads the number, as one from 0 to 2^8 - 1.
     pub fn read_u8(self) -> Result<u8, BinaryDeserializerError>
         ensures { let high = 2 ^ 8 - 1 in let p = named.word_place self.entry in
-            Reads (RefusesNumber p) (ReadsUnsigned high p) (CountsUnsigned high p) 0 0 result }
+            Reads (RefusesAs number_refusal_from p) (ReadsUnsigned high p)
+            (CountsOf (ReadsUnsigned high) p) 0 0 result }
     {
         let mut walk = Walk::new(0);
         self.at().read_u8(&mut walk)
@@ -197,7 +203,8 @@ impl<'de> IntVectorDeserializer<'de> {
     /// Reads the number, as one from 0 to 2^16 - 1.
     pub fn read_u16(self) -> Result<u16, BinaryDeserializerError>
         ensures { let high = 2 ^ 16 - 1 in let p = named.word_place self.entry in
-            Reads (RefusesNumber p) (ReadsUnsigned high p) (CountsUnsigned high p) 0 0 result }
+            Reads (RefusesAs number_refusal_from p) (ReadsUnsigned high p)
+            (CountsOf (ReadsUnsigned high) p) 0 0 result }
     {
         let mut walk = Walk::new(0);
         self.at().read_u16(&mut walk)
@@ -206,7 +213,8 @@ impl<'de> IntVectorDeserializer<'de> {
     /// Reads the number, as one from 0 to 2^32 - 1.
     pub fn read_u32(self) -> Result<u32, BinaryDeserializerError>
         ensures { let high = 2 ^ 32 - 1 in let p = named.word_place self.entry in
-            Reads (RefusesNumber p) (ReadsUnsigned high p) (CountsUnsigned high p) 0 0 result }
+            Reads (RefusesAs number_refusal_from p) (ReadsUnsigned high p)
+            (CountsOf (ReadsUnsigned high) p) 0 0 result }
     {
         let mut walk = Walk::new(0);
         self.at().read_u32(&mut walk)
@@ -215,7 +223,8 @@ impl<'de> IntVectorDeserializer<'de> {
     /// Reads the number, as one from 0 to 2^64 - 1.
     pub fn read_u64(self) -> Result<u64, BinaryDeserializerError>
         ensures { let high = 2 ^ 64 - 1 in let p = named.word_place self.entry in
-            Reads (RefusesNumber p) (ReadsUnsigned high p) (CountsUnsigned high p) 0 0 result }
+            Reads (RefusesAs number_refusal_from p) (ReadsUnsigned high p)
+            (CountsOf (ReadsUnsigned high) p) 0 0 result }
     {
         let mut walk = Walk::new(0);
         self.at().read_u64(&mut walk)

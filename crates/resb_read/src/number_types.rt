@@ -1,9 +1,11 @@
 //! The numbers as types that can be read.
 //! How they are read is said in `numbers`.
 ghost use Rattle.std.specs.Prelude.{◌-◌, ◌^◌, pos, negsuc};
-ghost use Rattle.resb_read.specs.Leaves.{ReadsSigned, CountsSigned, ReadsUnsigned, CountsUnsigned};
-ghost use Rattle.resb_read.specs.Leaves.{ReadsBool, CountsBool, ReadsBits, CountsBits};
-ghost use Rattle.resb_read.specs.RefusedReadings.{RefusesNumber, RefusesBool, RefusesBits};
+ghost use Rattle.resb_read.specs.Leaves.{CountsOf, ReadsSigned, ReadsUnsigned, ReadsBool};
+ghost use Rattle.resb_read.specs.Leaves.{ReadsBits};
+ghost use Rattle.resb_read.specs.PlaceRefusals.{number_refusal_from, bool_refusal_from};
+ghost use Rattle.resb_read.specs.PlaceRefusals.{bits_refusal_from};
+ghost use Rattle.resb_read.specs.RefusedReadings.{RefusesAs};
 ghost use Rattle.resb_read.specs.TypeLaws.{signed_counted, signed_one, unsigned_counted};
 ghost use Rattle.resb_read.specs.TypeLaws.{unsigned_one, bool_counted, bool_one, bits_counted};
 ghost use Rattle.resb_read.specs.TypeLaws.{bits_one};
@@ -17,9 +19,9 @@ use std::alloc::Global;
 impl<'de> Deserialize<'de> for i8 {
     ghost reads = { ReadsSigned (negsuc (2 ^ 7 - 1)) (pos (2 ^ 7 - 1)) };
 
-    ghost counts = { CountsSigned (negsuc (2 ^ 7 - 1)) (pos (2 ^ 7 - 1)) };
+    ghost counts = { CountsOf (ReadsSigned (negsuc (2 ^ 7 - 1)) (pos (2 ^ 7 - 1))) };
 
-    ghost refuses = { RefusesNumber };
+    ghost refuses = { RefusesAs number_refusal_from };
 
     ghost counted = { signed_counted (negsuc (2 ^ 7 - 1)) (pos (2 ^ 7 - 1)) };
 
@@ -37,9 +39,9 @@ impl<'de> Deserialize<'de> for i8 {
 impl<'de> Deserialize<'de> for i16 {
     ghost reads = { ReadsSigned (negsuc (2 ^ 15 - 1)) (pos (2 ^ 15 - 1)) };
 
-    ghost counts = { CountsSigned (negsuc (2 ^ 15 - 1)) (pos (2 ^ 15 - 1)) };
+    ghost counts = { CountsOf (ReadsSigned (negsuc (2 ^ 15 - 1)) (pos (2 ^ 15 - 1))) };
 
-    ghost refuses = { RefusesNumber };
+    ghost refuses = { RefusesAs number_refusal_from };
 
     ghost counted = { signed_counted (negsuc (2 ^ 15 - 1)) (pos (2 ^ 15 - 1)) };
 
@@ -57,9 +59,9 @@ impl<'de> Deserialize<'de> for i16 {
 impl<'de> Deserialize<'de> for i32 {
     ghost reads = { ReadsSigned (negsuc (2 ^ 31 - 1)) (pos (2 ^ 31 - 1)) };
 
-    ghost counts = { CountsSigned (negsuc (2 ^ 31 - 1)) (pos (2 ^ 31 - 1)) };
+    ghost counts = { CountsOf (ReadsSigned (negsuc (2 ^ 31 - 1)) (pos (2 ^ 31 - 1))) };
 
-    ghost refuses = { RefusesNumber };
+    ghost refuses = { RefusesAs number_refusal_from };
 
     ghost counted = { signed_counted (negsuc (2 ^ 31 - 1)) (pos (2 ^ 31 - 1)) };
 
@@ -77,9 +79,9 @@ impl<'de> Deserialize<'de> for i32 {
 impl<'de> Deserialize<'de> for i64 {
     ghost reads = { ReadsSigned (negsuc (2 ^ 63 - 1)) (pos (2 ^ 63 - 1)) };
 
-    ghost counts = { CountsSigned (negsuc (2 ^ 63 - 1)) (pos (2 ^ 63 - 1)) };
+    ghost counts = { CountsOf (ReadsSigned (negsuc (2 ^ 63 - 1)) (pos (2 ^ 63 - 1))) };
 
-    ghost refuses = { RefusesNumber };
+    ghost refuses = { RefusesAs number_refusal_from };
 
     ghost counted = { signed_counted (negsuc (2 ^ 63 - 1)) (pos (2 ^ 63 - 1)) };
 
@@ -97,9 +99,9 @@ impl<'de> Deserialize<'de> for i64 {
 impl<'de> Deserialize<'de> for u8 {
     ghost reads = { ReadsUnsigned (2 ^ 8 - 1) };
 
-    ghost counts = { CountsUnsigned (2 ^ 8 - 1) };
+    ghost counts = { CountsOf (ReadsUnsigned (2 ^ 8 - 1)) };
 
-    ghost refuses = { RefusesNumber };
+    ghost refuses = { RefusesAs number_refusal_from };
 
     ghost counted = { unsigned_counted (2 ^ 8 - 1) };
 
@@ -117,9 +119,9 @@ impl<'de> Deserialize<'de> for u8 {
 impl<'de> Deserialize<'de> for u16 {
     ghost reads = { ReadsUnsigned (2 ^ 16 - 1) };
 
-    ghost counts = { CountsUnsigned (2 ^ 16 - 1) };
+    ghost counts = { CountsOf (ReadsUnsigned (2 ^ 16 - 1)) };
 
-    ghost refuses = { RefusesNumber };
+    ghost refuses = { RefusesAs number_refusal_from };
 
     ghost counted = { unsigned_counted (2 ^ 16 - 1) };
 
@@ -137,9 +139,9 @@ impl<'de> Deserialize<'de> for u16 {
 impl<'de> Deserialize<'de> for u32 {
     ghost reads = { ReadsUnsigned (2 ^ 32 - 1) };
 
-    ghost counts = { CountsUnsigned (2 ^ 32 - 1) };
+    ghost counts = { CountsOf (ReadsUnsigned (2 ^ 32 - 1)) };
 
-    ghost refuses = { RefusesNumber };
+    ghost refuses = { RefusesAs number_refusal_from };
 
     ghost counted = { unsigned_counted (2 ^ 32 - 1) };
 
@@ -157,9 +159,9 @@ impl<'de> Deserialize<'de> for u32 {
 impl<'de> Deserialize<'de> for u64 {
     ghost reads = { ReadsUnsigned (2 ^ 64 - 1) };
 
-    ghost counts = { CountsUnsigned (2 ^ 64 - 1) };
+    ghost counts = { CountsOf (ReadsUnsigned (2 ^ 64 - 1)) };
 
-    ghost refuses = { RefusesNumber };
+    ghost refuses = { RefusesAs number_refusal_from };
 
     ghost counted = { unsigned_counted (2 ^ 64 - 1) };
 
@@ -177,9 +179,9 @@ impl<'de> Deserialize<'de> for u64 {
 impl<'de> Deserialize<'de> for bool {
     ghost reads = { ReadsBool };
 
-    ghost counts = { CountsBool };
+    ghost counts = { CountsOf ReadsBool };
 
-    ghost refuses = { RefusesBool };
+    ghost refuses = { RefusesAs bool_refusal_from };
 
     ghost counted = { bool_counted };
 
@@ -197,9 +199,9 @@ impl<'de> Deserialize<'de> for bool {
 impl<'de> Deserialize<'de> for Int28 {
     ghost reads = { ReadsBits };
 
-    ghost counts = { CountsBits };
+    ghost counts = { CountsOf ReadsBits };
 
-    ghost refuses = { RefusesBits };
+    ghost refuses = { RefusesAs bits_refusal_from };
 
     ghost counted = { bits_counted };
 

@@ -3,10 +3,11 @@
 ghost use Rattle.std.specs.Prelude.{◌≡◌, ◌-◌, ◌^◌, ℕ, ℤ, pos, negsuc, Some};
 ghost use Rattle.resb_read.specs.Places.{place_of};
 ghost use Rattle.resb_read.specs.Reading.{Reads};
-ghost use Rattle.resb_read.specs.RefusedReadings.{RefusesNumber, RefusesBool, RefusesBits};
-ghost use Rattle.resb_read.specs.Leaves.{signed_at, unsigned_at, ReadsSigned, CountsSigned};
-ghost use Rattle.resb_read.specs.Leaves.{ReadsUnsigned, CountsUnsigned, ReadsBool, CountsBool};
-ghost use Rattle.resb_read.specs.Leaves.{ReadsBits, CountsBits};
+ghost use Rattle.resb_read.specs.PlaceRefusals.{number_refusal_from, bool_refusal_from};
+ghost use Rattle.resb_read.specs.PlaceRefusals.{bits_refusal_from};
+ghost use Rattle.resb_read.specs.RefusedReadings.{RefusesAs};
+ghost use Rattle.resb_read.specs.Leaves.{signed_at, unsigned_at, CountsOf, ReadsSigned};
+ghost use Rattle.resb_read.specs.Leaves.{ReadsUnsigned, ReadsBool, ReadsBits};
 
 use crate::cursor::{Cursor, Spot};
 use crate::faults::{out_of_range, refused_here, value_of};
@@ -20,8 +21,9 @@ impl<'de> Cursor<'de> {
     /// The number here, as a signed one.
     fn signed(self, walk: &mut Walk) -> Result<i32, BinaryDeserializerError>
         ensures { let there = signed_at self.entry.at in
-            Reads (RefusesNumber (place_of self.entry)) (λ x n. there ≡ Some (x, n))
-            (λ n. (x : ℤ) × (there ≡ Some (x, n))) walk.old walk.new result }
+            Reads (RefusesAs number_refusal_from (place_of self.entry))
+            (λ x n. there ≡ Some (x, n)) (λ n. (x : ℤ) × (there ≡ Some (x, n))) walk.old
+            walk.new result }
     {
         match self.at {
             Spot::Descriptor(word) => {
@@ -37,8 +39,9 @@ impl<'de> Cursor<'de> {
     /// The number here, from 0.
     fn unsigned(self, walk: &mut Walk) -> Result<u32, BinaryDeserializerError>
         ensures { let there = unsigned_at self.entry.at in
-            Reads (RefusesNumber (place_of self.entry)) (λ x n. there ≡ Some (x, n))
-            (λ n. (x : ℕ) × (there ≡ Some (x, n))) walk.old walk.new result }
+            Reads (RefusesAs number_refusal_from (place_of self.entry))
+            (λ x n. there ≡ Some (x, n)) (λ n. (x : ℕ) × (there ≡ Some (x, n))) walk.old
+            walk.new result }
     {
         match self.at {
             Spot::Descriptor(word) => {
@@ -53,7 +56,7 @@ impl<'de> Cursor<'de> {
     /// Reads whether an Int is 1; it must be 0 or 1.
     pub fn read_bool(self, walk: &mut Walk) -> Result<bool, BinaryDeserializerError>
         ensures { let p = place_of self.entry in
-            Reads (RefusesBool p) (ReadsBool p) (CountsBool p) walk.old
+            Reads (RefusesAs bool_refusal_from p) (ReadsBool p) (CountsOf ReadsBool p) walk.old
             walk.new result }
     {
         let Spot::Descriptor(word) = self.at else {
@@ -72,7 +75,7 @@ impl<'de> Cursor<'de> {
     /// Reads the 28 bits of an Int.
     pub(crate) fn read_bits(self, walk: &mut Walk) -> Result<Int28, BinaryDeserializerError>
         ensures { let p = place_of self.entry in
-            Reads (RefusesBits p) (ReadsBits p) (CountsBits p) walk.old
+            Reads (RefusesAs bits_refusal_from p) (ReadsBits p) (CountsOf ReadsBits p) walk.old
             walk.new result }
     {
         let Spot::Descriptor(word) = self.at else {
@@ -87,8 +90,8 @@ impl<'de> Cursor<'de> {
     pub fn read_i8(self, walk: &mut Walk) -> Result<i8, BinaryDeserializerError>
         ensures { let low = negsuc (2 ^ 7 - 1) in let high = pos (2 ^ 7 - 1) in
             let p = place_of self.entry in
-            Reads (RefusesNumber p) (ReadsSigned low high p)
-            (CountsSigned low high p) walk.old walk.new result }
+            Reads (RefusesAs number_refusal_from p) (ReadsSigned low high p)
+            (CountsOf (ReadsSigned low high) p) walk.old walk.new result }
     {
         let value = self.signed(walk)?;
         if value < -0x80 || value > 0x7f {
@@ -101,8 +104,8 @@ impl<'de> Cursor<'de> {
     pub fn read_i16(self, walk: &mut Walk) -> Result<i16, BinaryDeserializerError>
         ensures { let low = negsuc (2 ^ 15 - 1) in let high = pos (2 ^ 15 - 1) in
             let p = place_of self.entry in
-            Reads (RefusesNumber p) (ReadsSigned low high p)
-            (CountsSigned low high p) walk.old walk.new result }
+            Reads (RefusesAs number_refusal_from p) (ReadsSigned low high p)
+            (CountsOf (ReadsSigned low high) p) walk.old walk.new result }
     {
         let value = self.signed(walk)?;
         if value < -0x8000 || value > 0x7fff {
@@ -115,8 +118,8 @@ impl<'de> Cursor<'de> {
     pub fn read_i32(self, walk: &mut Walk) -> Result<i32, BinaryDeserializerError>
         ensures { let low = negsuc (2 ^ 31 - 1) in let high = pos (2 ^ 31 - 1) in
             let p = place_of self.entry in
-            Reads (RefusesNumber p) (ReadsSigned low high p)
-            (CountsSigned low high p) walk.old walk.new result }
+            Reads (RefusesAs number_refusal_from p) (ReadsSigned low high p)
+            (CountsOf (ReadsSigned low high) p) walk.old walk.new result }
     {
         let value = self.signed(walk)?;
         Ok(value)
@@ -126,8 +129,8 @@ impl<'de> Cursor<'de> {
     pub fn read_i64(self, walk: &mut Walk) -> Result<i64, BinaryDeserializerError>
         ensures { let low = negsuc (2 ^ 63 - 1) in let high = pos (2 ^ 63 - 1) in
             let p = place_of self.entry in
-            Reads (RefusesNumber p) (ReadsSigned low high p)
-            (CountsSigned low high p) walk.old walk.new result }
+            Reads (RefusesAs number_refusal_from p) (ReadsSigned low high p)
+            (CountsOf (ReadsSigned low high) p) walk.old walk.new result }
     {
         let value = self.signed(walk)?;
         Ok(i64::from(value))
@@ -136,8 +139,8 @@ impl<'de> Cursor<'de> {
     /// Reads a number from 0 to 2^8 - 1. Refused where it is out of range.
     pub fn read_u8(self, walk: &mut Walk) -> Result<u8, BinaryDeserializerError>
         ensures { let high = 2 ^ 8 - 1 in let p = place_of self.entry in
-            Reads (RefusesNumber p) (ReadsUnsigned high p)
-            (CountsUnsigned high p) walk.old walk.new result }
+            Reads (RefusesAs number_refusal_from p) (ReadsUnsigned high p)
+            (CountsOf (ReadsUnsigned high) p) walk.old walk.new result }
     {
         let value = self.unsigned(walk)?;
         if value > 0xff {
@@ -149,8 +152,8 @@ impl<'de> Cursor<'de> {
     /// Reads a number from 0 to 2^16 - 1. Refused where it is out of range.
     pub fn read_u16(self, walk: &mut Walk) -> Result<u16, BinaryDeserializerError>
         ensures { let high = 2 ^ 16 - 1 in let p = place_of self.entry in
-            Reads (RefusesNumber p) (ReadsUnsigned high p)
-            (CountsUnsigned high p) walk.old walk.new result }
+            Reads (RefusesAs number_refusal_from p) (ReadsUnsigned high p)
+            (CountsOf (ReadsUnsigned high) p) walk.old walk.new result }
     {
         let value = self.unsigned(walk)?;
         if value > 0xffff {
@@ -162,8 +165,8 @@ impl<'de> Cursor<'de> {
     /// Reads a number from 0 to 2^32 - 1. Refused where it is out of range.
     pub fn read_u32(self, walk: &mut Walk) -> Result<u32, BinaryDeserializerError>
         ensures { let high = 2 ^ 32 - 1 in let p = place_of self.entry in
-            Reads (RefusesNumber p) (ReadsUnsigned high p)
-            (CountsUnsigned high p) walk.old walk.new result }
+            Reads (RefusesAs number_refusal_from p) (ReadsUnsigned high p)
+            (CountsOf (ReadsUnsigned high) p) walk.old walk.new result }
     {
         let value = self.unsigned(walk)?;
         Ok(value)
@@ -172,8 +175,8 @@ impl<'de> Cursor<'de> {
     /// Reads a number from 0 to 2^64 - 1. Refused where it is out of range.
     pub fn read_u64(self, walk: &mut Walk) -> Result<u64, BinaryDeserializerError>
         ensures { let high = 2 ^ 64 - 1 in let p = place_of self.entry in
-            Reads (RefusesNumber p) (ReadsUnsigned high p)
-            (CountsUnsigned high p) walk.old walk.new result }
+            Reads (RefusesAs number_refusal_from p) (ReadsUnsigned high p)
+            (CountsOf (ReadsUnsigned high) p) walk.old walk.new result }
     {
         let value = self.unsigned(walk)?;
         Ok(u64::from(value))

@@ -7,7 +7,8 @@ ghost use Rattle.resb_walk.specs.Meets.{Blames};
 ghost use Rattle.resb_walk.specs.Refusals.{Refuses};
 ghost use Rattle.resb_read.specs.Places.{place_of};
 ghost use Rattle.resb_read.specs.Resources.{DenPlace, ReachesPlace, MeetsPlace};
-ghost use Rattle.resb_read.specs.Resources.{ReadsTree, CountsTree};
+ghost use Rattle.resb_read.specs.Leaves.{CountsOf};
+ghost use Rattle.resb_read.specs.Resources.{ReadsTree, DenPlace};
 ghost use Rattle.resb_read.specs.RefusedReadings.{RefusesTree, TakesSome};
 ghost use Rattle.resb_read.specs.TypeLaws.{tree_counted, tree_one};
 
@@ -69,7 +70,7 @@ impl<'de> Cursor<'de> {
 impl<'de> Deserialize<'de> for Resource<'de> {
     ghost reads = { ReadsTree };
 
-    ghost counts = { CountsTree };
+    ghost counts = { CountsOf DenPlace };
 
     ghost refuses = { RefusesTree };
 

@@ -9,7 +9,8 @@ ghost use Rattle.resb_format.specs.Parts.{parts_in};
 ghost use Rattle.resb_read.specs.Access.{StepsTo, StepsReading};
 ghost use Rattle.resb_walk.specs.BlockRefusals.{Says};
 ghost use Rattle.resb_read.specs.PlaceRefusals.{word_members_refusal};
-ghost use Rattle.resb_read.specs.RefusedReadings.{RefusesMembers};
+ghost use Rattle.resb_read.specs.PlaceRefusals.{members_refusal_from};
+ghost use Rattle.resb_read.specs.RefusedReadings.{RefusesAs};
 
 use crate::cursor::{Cursor, Spot};
 use crate::deserialize::Deserialize;
@@ -147,7 +148,7 @@ impl<'de> Cursor<'de> {
             × (s.failed ≡ None) × (walk.new + 1 ≡ walk.old)) }
         ensures refused { IfErr result (λ e. (walk.new ≤ walk.old)
             × (members_at (place_of self.entry) ≡ None ⊎ walk.old ≡ 0)
-            × RefusesMembers (place_of self.entry) walk.old walk.new e) }
+            × RefusesAs members_refusal_from (place_of self.entry) walk.old walk.new e) }
     {
         let Spot::Descriptor(word) = self.at else {
             return Err(refused_here(self, walk));

@@ -13,12 +13,12 @@ ghost use Rattle.resb_read.specs.Places.{place_of};
 ghost use Rattle.resb_read.specs.Reading.{Reads, LacksOrMemory};
 ghost use Rattle.resb_walk.specs.Inner.Members.{text_of_bytes};
 ghost use Rattle.resb_read.specs.PlaceRefusals.{word_text_refusal, word_bytes_refusal};
-ghost use Rattle.resb_read.specs.RefusedReadings.{RefusesText, RefusesKey, RefusesBytes};
+ghost use Rattle.resb_read.specs.PlaceRefusals.{key_refusal_from, bytes_refusal_from};
+ghost use Rattle.resb_read.specs.RefusedReadings.{RefusesText, RefusesAs};
 ghost use Rattle.resb_read.specs.Leaves.{described_text as text_there};
 ghost use Rattle.resb_read.specs.Leaves.{type_in, value_in, counted_bytes};
 ghost use Rattle.resb_format.specs.Bytes.{units_as_bytes};
-ghost use Rattle.resb_read.specs.Leaves.{bytes_of_type, ReadsText, CountsText, ReadsKey, CountsKey};
-ghost use Rattle.resb_read.specs.Leaves.{ReadsBytes, CountsBytes};
+ghost use Rattle.resb_read.specs.Leaves.{bytes_of_type, CountsOf, ReadsText, ReadsKey, ReadsBytes};
 ghost use Rattle.resb_read.specs.TypeLaws.{text_counted, text_one, key_counted, key_one};
 ghost use Rattle.resb_read.specs.TypeLaws.{bytes_counted, bytes_one};
 
@@ -124,7 +124,7 @@ impl<'de> Cursor<'de> {
         ensures read { IfOk result (λ s. (n : ℕ)
             × ReadsText (place_of self.entry) (string_bytes s) n × (walk.new + n ≡ walk.old)) }
         ensures refused { IfErr result (λ e. (walk.new ≤ walk.old)
-            × LacksOrMemory (CountsText (place_of self.entry)) walk.old e) }
+            × LacksOrMemory (CountsOf ReadsText (place_of self.entry)) walk.old e) }
         ensures says { IfErr result (RefusesText (place_of self.entry) walk.old walk.new) }
     {
         match self.at {
@@ -149,7 +149,7 @@ impl<'de> Cursor<'de> {
     /// Reads a key, which lives as long as the file.
     pub fn read_str(self, walk: &mut Walk) -> Result<&'de str, BinaryDeserializerError>
         ensures { let p = place_of self.entry in
-            Reads (RefusesKey p) (λ s n. ReadsKey p s.now n) (CountsKey p)
+            Reads (RefusesAs key_refusal_from p) (λ s n. ReadsKey p s.now n) (CountsOf ReadsKey p)
             walk.old walk.new result }
     {
         match self.at {
@@ -162,7 +162,8 @@ impl<'de> Cursor<'de> {
     /// string's units, which need be no text, or of a key.
     pub fn read_bytes(self, walk: &mut Walk) -> Result<&'de [u8], BinaryDeserializerError>
         ensures { let p = place_of self.entry in
-            Reads (RefusesBytes p) (λ b n. ReadsBytes p b.now n) (CountsBytes p)
+            Reads (RefusesAs bytes_refusal_from p) (λ b n. ReadsBytes p b.now n)
+            (CountsOf ReadsBytes p)
             walk.old walk.new result }
     {
         match self.at {
@@ -184,7 +185,7 @@ impl<'de> Cursor<'de> {
 impl<'de> Deserialize<'de> for String {
     ghost reads = { λ p s n. ReadsText p (string_bytes s) n };
 
-    ghost counts = { CountsText };
+    ghost counts = { CountsOf ReadsText };
 
     ghost refuses = { RefusesText };
 
@@ -204,9 +205,9 @@ impl<'de> Deserialize<'de> for String {
 impl<'de> Deserialize<'de> for &'de str {
     ghost reads = { λ p s n. ReadsKey p s.now n };
 
-    ghost counts = { CountsKey };
+    ghost counts = { CountsOf ReadsKey };
 
-    ghost refuses = { RefusesKey };
+    ghost refuses = { RefusesAs key_refusal_from };
 
     ghost counted = { λ p s n. key_counted p s.now n };
 
@@ -224,9 +225,9 @@ impl<'de> Deserialize<'de> for &'de str {
 impl<'de> Deserialize<'de> for Key<'de> {
     ghost reads = { ReadsKey };
 
-    ghost counts = { CountsKey };
+    ghost counts = { CountsOf ReadsKey };
 
-    ghost refuses = { RefusesKey };
+    ghost refuses = { RefusesAs key_refusal_from };
 
     ghost counted = { key_counted };
 
@@ -245,9 +246,9 @@ impl<'de> Deserialize<'de> for Key<'de> {
 impl<'de> Deserialize<'de> for &'de [u8] {
     ghost reads = { λ p b n. ReadsBytes p b.now n };
 
-    ghost counts = { CountsBytes };
+    ghost counts = { CountsOf ReadsBytes };
 
-    ghost refuses = { RefusesBytes };
+    ghost refuses = { RefusesAs bytes_refusal_from };
 
     ghost counted = { λ p b n. bytes_counted p b.now n };
 

@@ -3,8 +3,9 @@
 ghost use Rattle.resb_format.specs.Views.{unit_bytes, word_bytes, number_bytes, pair_bytes};
 ghost use Rattle.resb_read.specs.Places.{place_of};
 ghost use Rattle.resb_read.specs.Reading.{Reads};
-ghost use Rattle.resb_read.specs.Leaves.{ReadsView, CountsView};
-ghost use Rattle.resb_read.specs.RefusedReadings.{RefusesView};
+ghost use Rattle.resb_read.specs.Leaves.{CountsOf, ReadsView};
+ghost use Rattle.resb_read.specs.PlaceRefusals.{view_refusal_from};
+ghost use Rattle.resb_read.specs.RefusedReadings.{RefusesAs};
 ghost use Rattle.resb_read.specs.TypeLaws.{view_counted, view_one};
 
 use crate::cursor::Cursor;
@@ -22,8 +23,8 @@ impl<'de> Cursor<'de> {
     #[tactic(auto, using(crate::proofs::Viewing::no_items))]
     pub(crate) fn units(self, walk: &mut Walk) -> Result<Utf16View<'de>, BinaryDeserializerError>
         ensures { let p = place_of self.entry in
-            Reads (RefusesView p) (λ v n. ReadsView 2 p (unit_bytes v) n)
-            (CountsView 2 p) walk.old walk.new result }
+            Reads (RefusesAs view_refusal_from p) (λ v n. ReadsView 2 p (unit_bytes v) n)
+            (CountsOf (ReadsView 2) p) walk.old walk.new result }
     {
         let bytes = self.read_bytes(walk)?;
         let view = cast_bytes_to_u16_slice(bytes)?;
@@ -34,8 +35,8 @@ impl<'de> Cursor<'de> {
     #[tactic(auto, using(crate::proofs::Viewing::no_items))]
     pub(crate) fn words(self, walk: &mut Walk) -> Result<WordView<'de>, BinaryDeserializerError>
         ensures { let p = place_of self.entry in
-            Reads (RefusesView p) (λ v n. ReadsView 4 p (word_bytes v) n)
-            (CountsView 4 p) walk.old walk.new result }
+            Reads (RefusesAs view_refusal_from p) (λ v n. ReadsView 4 p (word_bytes v) n)
+            (CountsOf (ReadsView 4) p) walk.old walk.new result }
     {
         let bytes = self.read_bytes(walk)?;
         let view = cast_bytes_to_u32_slice(bytes)?;
@@ -46,8 +47,8 @@ impl<'de> Cursor<'de> {
     #[tactic(auto, using(resb_format::proofs::Spelled::words_length))]
     pub(crate) fn pairs(self, walk: &mut Walk) -> Result<PairView<'de>, BinaryDeserializerError>
         ensures { let p = place_of self.entry in
-            Reads (RefusesView p) (λ v n. ReadsView 8 p (pair_bytes v) n)
-            (CountsView 8 p) walk.old walk.new result }
+            Reads (RefusesAs view_refusal_from p) (λ v n. ReadsView 8 p (pair_bytes v) n)
+            (CountsOf (ReadsView 8) p) walk.old walk.new result }
     {
         let words = self.words(walk)?;
         let view = cast_u32_to_i32_pair_slice(words)?;
@@ -58,9 +59,9 @@ impl<'de> Cursor<'de> {
 impl<'de> Deserialize<'de> for Utf16View<'de> {
     ghost reads = { λ p v n. ReadsView 2 p (unit_bytes v) n };
 
-    ghost counts = { CountsView 2 };
+    ghost counts = { CountsOf (ReadsView 2) };
 
-    ghost refuses = { RefusesView };
+    ghost refuses = { RefusesAs view_refusal_from };
 
     ghost counted = { λ p v n. view_counted 2 p (unit_bytes v) n };
 
@@ -78,9 +79,9 @@ impl<'de> Deserialize<'de> for Utf16View<'de> {
 impl<'de> Deserialize<'de> for WordView<'de> {
     ghost reads = { λ p v n. ReadsView 4 p (word_bytes v) n };
 
-    ghost counts = { CountsView 4 };
+    ghost counts = { CountsOf (ReadsView 4) };
 
-    ghost refuses = { RefusesView };
+    ghost refuses = { RefusesAs view_refusal_from };
 
     ghost counted = { λ p v n. view_counted 4 p (word_bytes v) n };
 
@@ -98,9 +99,9 @@ impl<'de> Deserialize<'de> for WordView<'de> {
 impl<'de> Deserialize<'de> for PairView<'de> {
     ghost reads = { λ p v n. ReadsView 8 p (pair_bytes v) n };
 
-    ghost counts = { CountsView 8 };
+    ghost counts = { CountsOf (ReadsView 8) };
 
-    ghost refuses = { RefusesView };
+    ghost refuses = { RefusesAs view_refusal_from };
 
     ghost counted = { λ p v n. view_counted 8 p (pair_bytes v) n };
 
@@ -118,9 +119,9 @@ impl<'de> Deserialize<'de> for PairView<'de> {
 impl<'de> Deserialize<'de> for I32View<'de> {
     ghost reads = { λ p v n. ReadsView 4 p (number_bytes v) n };
 
-    ghost counts = { CountsView 4 };
+    ghost counts = { CountsOf (ReadsView 4) };
 
-    ghost refuses = { RefusesView };
+    ghost refuses = { RefusesAs view_refusal_from };
 
     ghost counted = { λ p v n. view_counted 4 p (number_bytes v) n };
 

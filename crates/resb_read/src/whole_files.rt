@@ -8,7 +8,7 @@ ghost use Rattle.resb_head.specs.HeadChecks.{file_refusal};
 ghost use Rattle.resb_read.specs.Inner.AtRoot.{TreeHere, CountHere};
 ghost use Rattle.resb_read.specs.Places.{place_of};
 ghost use Rattle.resb_read.specs.Reading.{LacksOrMemory};
-ghost use Rattle.resb_read.specs.Roots.{HoldsAtRoot, RefusesRoot, AnswersTree, AnswersCount};
+ghost use Rattle.resb_read.specs.Roots.{HoldsAt, RefusesAt, AnswersTreeOf, AnswersCountOf, alone};
 
 use crate::cursor::Cursor;
 use crate::deserialize::Deserialize;
@@ -25,13 +25,14 @@ pub fn from_bytes<'a, 'm, T: Deserialize<'a>>(
     alloc: Global,
     bytes: &'a [u8],
 ) -> Result<T, ReadingError<'m>>
-    ensures read { IfOk result (λ x. (n : ℕ) × HoldsAtRoot (λ p. T.reads p x n) bytes.entry.now
+    ensures read { IfOk result
+        (λ x. (n : ℕ) × HoldsAt (λ p. T.reads p x n) (alone bytes.entry.now)
         × (n ≤ budget bytes.entry.now)) }
     ensures refused { IfErr result (λ e. LacksOrMemory
-        (λ n. HoldsAtRoot (λ p. T.counts p n) bytes.entry.now) (budget bytes.entry.now) e) }
+        (λ n. HoldsAt (λ p. T.counts p n) (alone bytes.entry.now)) (budget bytes.entry.now) e) }
     ensures head { IfErr result
         (λ e. (f : reading.Refusal) → file_refusal bytes.entry.now ≡ Some f → refusal_of e ≡ f) }
-    ensures says { IfErr result (RefusesRoot T.refuses bytes.entry.now) }
+    ensures says { IfErr result (RefusesAt T.refuses (alone bytes.entry.now)) }
 {
     let (value, _) = from_bytes_counted::<T>(alloc, bytes)?;
     Ok(value)
@@ -43,13 +44,13 @@ pub fn from_bytes_counted<'a, 'm, T: Deserialize<'a>>(
     bytes: &'a [u8],
 ) -> Result<(T, usize), ReadingError<'m>>
     ensures read { IfOk result
-        (λ r. HoldsAtRoot (λ p. T.reads p r.0 r.1) bytes.entry.now
+        (λ r. HoldsAt (λ p. T.reads p r.0 r.1) (alone bytes.entry.now)
         × (r.1 ≤ budget bytes.entry.now)) }
     ensures refused { IfErr result (λ e. LacksOrMemory
-        (λ n. HoldsAtRoot (λ p. T.counts p n) bytes.entry.now) (budget bytes.entry.now) e) }
+        (λ n. HoldsAt (λ p. T.counts p n) (alone bytes.entry.now)) (budget bytes.entry.now) e) }
     ensures head { IfErr result
         (λ e. (f : reading.Refusal) → file_refusal bytes.entry.now ≡ Some f → refusal_of e ≡ f) }
-    ensures says { IfErr result (RefusesRoot T.refuses bytes.entry.now) }
+    ensures says { IfErr result (RefusesAt T.refuses (alone bytes.entry.now)) }
 {
     let (root, walk) = Cursor::root(bytes)?;
     read_root::<T>(alloc, root, walk)
@@ -58,7 +59,7 @@ pub fn from_bytes_counted<'a, 'm, T: Deserialize<'a>>(
 /// Reads the tree of a file. It is `Ok` exactly where the bytes denote a tree of at most as many
 /// resources as the budget, memory aside.
 pub fn tree_from_bytes(alloc: Global, bytes: &[u8]) -> Result<Resource<'_>, BinaryDeserializerError>
-    ensures { AnswersTree bytes.now result }
+    ensures { AnswersTreeOf (alone bytes.now) result }
 {
     let (root, walk) = Cursor::root(bytes)?;
     read_root_tree(alloc, root, walk)
@@ -67,7 +68,7 @@ pub fn tree_from_bytes(alloc: Global, bytes: &[u8]) -> Result<Resource<'_>, Bina
 /// Counts the resources of a file's tree, and makes no tree: the number that `from_bytes_counted`
 /// gives with the tree, or its refusal.
 pub fn count_resources(alloc: Global, bytes: &[u8]) -> Result<usize, BinaryDeserializerError>
-    ensures { AnswersCount bytes.now result }
+    ensures { AnswersCountOf (alone bytes.now) result }
 {
     let (root, walk) = Cursor::root(bytes)?;
     count_root(alloc, root, walk)

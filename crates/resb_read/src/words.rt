@@ -12,7 +12,7 @@ ghost use Rattle.resb_head.specs.File.{budget};
 ghost use Rattle.resb_head.specs.Codes.{endianness_number};
 ghost use Rattle.resb_head.specs.HeadChecks.{file_refusal, header_refusal};
 ghost use Rattle.resb_read.specs.Reading.{LacksOrMemory};
-ghost use Rattle.resb_read.specs.Roots.{HoldsAtRoot, RefusesRoot};
+ghost use Rattle.resb_read.specs.Roots.{HoldsAt, RefusesAt, alone};
 
 use crate::deserialize::Deserialize;
 use crate::whole_files::from_bytes;
@@ -55,15 +55,16 @@ pub fn from_words<'a, 'm, T: Deserialize<'a>>(
     buffer: &'a mut Vec<u8>,
 ) -> Result<T, ReadingError<'m>>
     ensures read { let bytes = flat_map (to_le_bytes w32) words.now in
-        IfOk result (λ x. (n : ℕ) × HoldsAtRoot (λ p. T.reads p x n) bytes × (n ≤ budget bytes)) }
+        IfOk result (λ x. (n : ℕ) × HoldsAt (λ p. T.reads p x n) (alone bytes)
+        × (n ≤ budget bytes)) }
     ensures refused { let bytes = flat_map (to_le_bytes w32) words.now in
-        IfErr result (λ e. LacksOrMemory (λ n. HoldsAtRoot (λ p. T.counts p n) bytes) (budget bytes)
-        e) }
+        IfErr result (λ e. LacksOrMemory (λ n. HoldsAt (λ p. T.counts p n) (alone bytes))
+        (budget bytes) e) }
     ensures head { let bytes = flat_map (to_le_bytes w32) words.now in
         IfErr result (λ e. IsWantOfMemory e ⊎
         ((f : reading.Refusal) → file_refusal bytes ≡ Some f → refusal_of e ≡ f)) }
     ensures says { let bytes = flat_map (to_le_bytes w32) words.now in
-        IfErr result (λ e. IsWantOfMemory e ⊎ RefusesRoot T.refuses bytes e) }
+        IfErr result (λ e. IsWantOfMemory e ⊎ RefusesAt T.refuses (alone bytes) e) }
 {
     lay_words(alloc, words, buffer)?;
     let bytes: &'a [u8] = buffer.as_slice();

@@ -1,10 +1,12 @@
 -- From one entry of a table to the next.
 use Rattle.std.proofs.Common.{ℕ, List, [], ◌∷◌, ◌≡◌, ◌+◌, ◌≤◌, Some, None, Ok, refl, sym, ◌∙◌, ap}
 use Rattle.std.proofs.Common.{subst, inl, inr, arith, length}
-use Rattle.std.specs.Prelude.{codes}
+use Rattle.std.specs.Prelude.{codes, Result, Err}
+use Rattle.std.specs.Result.{IfErr}
 use Rattle.resb_format.specs.declared.error.ReadingError.{ReadingError}
 use Rattle.resb_read.specs.Places.{Place, place_of}
-use Rattle.resb_read.specs.Reading.{LacksOrMemory}
+use Rattle.resb_read.specs.Leaves.{CountsOf, ReadsKey}
+use Rattle.resb_read.specs.Reading.{Lacks, LacksOrMemory}
 use Rattle.resb_read.specs.Access.{EntryAccess, EntersTo, StepsOver, StepsAfter, HandsOnBoth}
 use Rattle.resb_read.specs.Access.{RefusesNone}
 use Rattle.resb_read.specs.Sequences.{entries_at}
@@ -31,6 +33,19 @@ pub first_entered_after : (old new : EntryAccess) (k v : Cursor) → old.failed 
 first_entered_after old new k v none h =
     first_is_entered old.rest new k v
     (subst (λ f. StepsAfter HandsOnBoth RefusesNone f old 0 new 0 (Ok (Some (k, v)))) none h)
+
+-- whatever is refused, where this is so of each error
+pub each_error : {X E : Type 0} {P : E → Type 0} → ((e : E) → P e) → (r : Result X E) → IfErr r P
+each_error h (Ok x) = tt
+each_error h (Err e) = h e
+
+-- where no key that can be paid for stands first, no such field does
+pub no_first_field : (name : List ℕ) (counts : Place → ℕ → Type 0) (k v : Place)
+    (es rest : List Entry) (left : ℕ) → rest ≡ (k, v) ∷ es → Lacks (CountsOf ReadsKey k) left
+    → Lacks (CountsFirst name counts rest) left
+no_first_field name counts k v es rest left e lacks =
+    subst (λ r. Lacks (CountsFirst name counts r) left) (sym e)
+    (λ n (a, b, key, x, s) within. lacks a (name, key) (omega (arith, s, within)))
 
 module _ (ci cv : Place → ℕ → Type 0) (p : Place) (left left1 : ℕ) (paid : left1 + 1 ≡ left)
     (e : ReadingError) where

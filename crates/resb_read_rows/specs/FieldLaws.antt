@@ -3,7 +3,7 @@ use Rattle.std.specs.Prelude.{◌≡◌, ◌-◌, ◌^◌, ℕ, ℤ, pos, negsuc
 use Rattle.std.specs.Prelude.{codes}
 use Rattle.std.proofs.Common.{sym, ◌∙◌, subst, arith}
 use Rattle.resb_read.specs.Places.{Place}
-use Rattle.resb_read.specs.Leaves.{ReadsKey, ReadsSigned, CountsSigned}
+use Rattle.resb_read.specs.Leaves.{CountsOf, ReadsKey, ReadsSigned}
 use Rattle.resb_read.specs.TypeLaws.{key_one, signed_counted, signed_one, seq_counted, seq_one}
 use Rattle.resb_read.specs.Sequences.{ReadsSeq, CountsSeq}
 use Rattle.resb_read_rows.specs.Fields.{Entry, CountsField, ReadsBoth, CountsBoth, ReadsI32}
@@ -59,11 +59,12 @@ module _ (ci cv : Place → ℕ → Type 0) (oi : (p : Place) (m n : ℕ) → ci
 -- the laws of an i16, and those of a list of i32, which come from those of an i32
 pub i16_counted : (p : Place) (x : ℤ) (n : ℕ)
     → ReadsSigned (negsuc (2 ^ 15 - 1)) (pos (2 ^ 15 - 1)) p x n
-    → CountsSigned (negsuc (2 ^ 15 - 1)) (pos (2 ^ 15 - 1)) p n
+    → CountsOf (ReadsSigned (negsuc (2 ^ 15 - 1)) (pos (2 ^ 15 - 1))) p n
 i16_counted = signed_counted (negsuc (2 ^ 15 - 1)) (pos (2 ^ 15 - 1))
 
-pub i16_one : (p : Place) (m n : ℕ) → CountsSigned (negsuc (2 ^ 15 - 1)) (pos (2 ^ 15 - 1)) p m
-    → CountsSigned (negsuc (2 ^ 15 - 1)) (pos (2 ^ 15 - 1)) p n → m ≡ n
+pub i16_one : (p : Place) (m n : ℕ)
+    → CountsOf (ReadsSigned (negsuc (2 ^ 15 - 1)) (pos (2 ^ 15 - 1))) p m
+    → CountsOf (ReadsSigned (negsuc (2 ^ 15 - 1)) (pos (2 ^ 15 - 1))) p n → m ≡ n
 i16_one = signed_one (negsuc (2 ^ 15 - 1)) (pos (2 ^ 15 - 1))
 
 pub list_counted : (p : Place) (xs : List ℤ) (n : ℕ) → ReadsSeq ReadsI32 p xs n

@@ -4,7 +4,7 @@
 use Rattle.std.specs.Prelude.{◌≡◌, ◌+◌, ◌-◌, ◌^◌, ℕ, ℤ, pos, negsuc, List, [], ◌∷◌, Some}
 use Rattle.std.specs.Prelude.{codes}
 use Rattle.resb_read.specs.Places.{Place}
-use Rattle.resb_read.specs.Leaves.{ReadsKey, ReadsSigned, CountsSigned}
+use Rattle.resb_read.specs.Leaves.{CountsOf, ReadsKey, ReadsSigned}
 use Rattle.resb_read.specs.Sequences.{entries_at}
 
 -- the place of a key, and of its value
@@ -53,4 +53,4 @@ ReadsI32 = ReadsSigned (negsuc (2 ^ 31 - 1)) (pos (2 ^ 31 - 1))
 
 -- some number of 32 bits with a sign is read
 abbrev pub CountsI32 : Place → ℕ → Type 0
-CountsI32 = CountsSigned (negsuc (2 ^ 31 - 1)) (pos (2 ^ 31 - 1))
+CountsI32 = CountsOf ReadsI32

@@ -15,21 +15,12 @@ use Rattle.resb_shown.specs.declared.node.Node.TheVariants.{Integer, IntVector}
 abbrev pub text_in : Tree → List ℕ
 text_in (string s) = s
 text_in (alias s) = s
-text_in (array ts) = []
-text_in (table es) = []
-text_in (binary bytes) = []
-text_in (integer n) = []
-text_in (int_vector ns) = []
+text_in _ = []
 
 -- the numbers of a vector; none of any other tree
 abbrev pub numbers_in : Tree → List ℕ
-numbers_in (string s) = []
-numbers_in (alias s) = []
-numbers_in (array ts) = []
-numbers_in (table es) = []
-numbers_in (binary bytes) = []
-numbers_in (integer n) = []
 numbers_in (int_vector ns) = ns
+numbers_in _ = []
 
 -- each number is one of 32 bits
 abbrev pub AreWords : List ℕ → Type 0

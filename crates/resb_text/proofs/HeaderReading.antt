@@ -1,14 +1,14 @@
 -- What stands before the root's items: where it leads to, and where it is refused.
 use Rattle.std.proofs.Common.{◌≡◌, ◌≢◌, ℕ, Bool, true, false, List, refl, sym, ap, subst}
 use Rattle.std.proofs.Common.{arith, Some, None, inl, inr, ⊎_elim}
-use Rattle.std.specs.Prelude.{◌⊎◌, ◌==◌, slice_index, Result, Ok, Err, IfErr}
+use Rattle.std.specs.Prelude.{◌⊎◌, ◌==◌, slice_index, Result, Ok, Err, IfErr, if◌then◌else◌}
 use Rattle.std.proofs.lemmas.Bool.Decides.{nat_tests}
 use Rattle.resb_grammar.specs.Ascii as ascii
 use Rattle.resb_grammar.specs.Lexical.{Skip, Text}
 use Rattle.resb_grammar.specs.GroupTypes.{RootType}
 use Rattle.resb_grammar.specs.BundleText.{Typing, without, with}
 use Rattle.resb_grammar.specs.Machine.{a_text, a_root_type, State, start, named, titled}
-use Rattle.resb_grammar.specs.Stuck.{choose, expectation, NoToken, IsEnd, HasDigits, Stuck}
+use Rattle.resb_grammar.specs.Stuck.{expectation, NoToken, IsEnd, HasDigits, Stuck}
 use Rattle.resb_grammar.specs.Stuck.{blocked}
 use Rattle.resb_grammar.specs.Limit.{Makes}
 use Rattle.resb_grammar.specs.declared.limit.Weights.{Weights}
@@ -82,10 +82,10 @@ module _ (text : List ℕ) where
       (λ to f u is e. never to f is)) (λ h. h) (λ h. h) (sym (ap (expectation (named name)) colon))
 
   brace_expected : (b : ℕ) → b ≢ ascii.colon
-      → expect.LeftBrace ≡ choose (b == ascii.colon) expect.TypeName expect.LeftBrace
+      → expect.LeftBrace ≡ (if b == ascii.colon then expect.TypeName else expect.LeftBrace)
   brace_expected b ne =
       let no : (b == ascii.colon) ≡ false = grind (arith, nat_tests) in
-      sym (ap (λ k. choose k expect.TypeName expect.LeftBrace) no)
+      sym (ap (λ k. if k then expect.TypeName else expect.LeftBrace) no)
 
   -- no `{` where one must stand
   pub no_open : {w : Weights} (n : ℕ) (name : List ℕ) (place brace : ℕ) (f : Bool)

@@ -12,7 +12,7 @@ ghost use Rattle.resb_text.specs.Inner.TextPieces.{IsTextPiece};
 use crate::runs;
 use crate::ticks::Ticks;
 use memchr::{memchr, memchr2};
-use resb_grammar::blanks_end;
+use resb_grammar::{blanks_end, bytes_before};
 
 /// Counts one turn, and gives the byte there, if the text reaches so far.
 pub(crate) fn look(text: &str, ticks: &mut Ticks, at: usize) -> Option<u8>
@@ -57,7 +57,7 @@ pub(crate) fn find(text: &str, ticks: &mut Ticks, from: usize, b: u8) -> Option<
         (λ to. FirstByte b text.now from to × Ticked ticks.old ticks.new (to + 1 - from)) }
 {
     if text.len() - from >= 16 {
-        let before = runs::bytes_before(text.as_bytes(), from, b);
+        let before = bytes_before(text.as_bytes(), from, b);
         if before < 16 {
             ticks.add(before + 1);
             return Some(from + before);

@@ -11,10 +11,11 @@ use Rattle.resb_format.specs.Bytes.{units_of, words_of}
 use Rattle.resb_layout.specs.WritingFault.{unexpected, limit, out_of_memory, message_of}
 use Rattle.resb_pool.specs.Records.{IsRecord, IsHeldBy}
 use Rattle.resb_pool.specs.declared.packing.Packing.TheVariants.{Plain, Compact}
-use Rattle.resb_layout.specs.CompactKeys.{container, kept, end_position}
+use Rattle.resb_layout.specs.CompactKeys.{container, kept, end_position, key_block_by}
+use Rattle.resb_layout.specs.CompactKeys.{key_position_by}
 use Rattle.resb_layout.specs.Laid.{Lays, lays_integer, lays_members, each_none, each_more}
 use Rattle.resb_layout.specs.Laid.{long_array, lays_path, word_of_string}
-use Rattle.resb_layout.specs.KeyBlock.{key_block, key_position, key_bytes, padded}
+use Rattle.resb_layout.specs.KeyBlock.{key_bytes, padded}
 use Rattle.resb_layout.specs.PlainSize.{plain_size}
 use Rattle.resb_layout.specs.TreeFaults.{tree_fault}
 use Rattle.resb_layout.specs.WrittenHead.{written_header, IndexOf}
@@ -26,17 +27,18 @@ use Rattle.resb_write.specs.Inner.Files.{file_of}
 two_keys : Tree
 two_keys = table (entry (97 ∷ []) (string []) (entry (99 ∷ []) (string []) no_entries))
 
-keys_written_twice : key_block two_keys ((97 ∷ []) ∷ (97 ∷ []) ∷ (99 ∷ []) ∷ (100 ∷ []) ∷ []) ≡ 97 ∷
-    0 ∷ 97 ∷ 0 ∷ 99 ∷ 0 ∷ 0xaa ∷ 0xaa ∷ []
+keys_written_twice : key_block_by Plain two_keys
+    ((97 ∷ []) ∷ (97 ∷ []) ∷ (99 ∷ []) ∷ (100 ∷ []) ∷ [])
+    ≡ 97 ∷ 0 ∷ 97 ∷ 0 ∷ 99 ∷ 0 ∷ 0xaa ∷ 0xaa ∷ []
 unfolding two_keys
 keys_written_twice = refl
 
-last_place_counts : key_position two_keys ((97 ∷ []) ∷ (97 ∷ []) ∷ (99 ∷ []) ∷ []) (97 ∷ []) ≡ Some
-    34
+last_place_counts : key_position_by Plain two_keys ((97 ∷ []) ∷ (97 ∷ []) ∷ (99 ∷ []) ∷ [])
+    (97 ∷ []) ≡ Some 34
 unfolding two_keys
 last_place_counts = refl
 
-unused_key : key_position two_keys ((97 ∷ []) ∷ (100 ∷ []) ∷ []) (100 ∷ []) ≡ None
+unused_key : key_position_by Plain two_keys ((97 ∷ []) ∷ (100 ∷ []) ∷ []) (100 ∷ []) ≡ None
 unfolding two_keys
 unused_key = refl
 

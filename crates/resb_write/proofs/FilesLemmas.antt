@@ -36,13 +36,11 @@ use Rattle.resb_tree.specs.LayingOrder.{keys_of}
 use Rattle.resb_layout.specs.PlainSize.{held_size, resources_size, list_size}
 use Rattle.resb_layout.specs.TreeFaults.{key_fault, tree_fault, first_of}
 use Rattle.resb_layout.specs.WrittenHead.{written_header}
-use Rattle.resb_layout.specs.Written.{even, tail_start, BlocksBy, block_bytes, Written}
-use Rattle.resb_layout.specs.WrittenCompact.{WrittenCompact}
+use Rattle.resb_layout.specs.Written.{even, tail_start, BlocksBy, block_bytes, WrittenBy}
+use Rattle.resb_layout.specs.Written.{LacksEmpty}
 use Rattle.resb_layout.specs.WrittenHead.{IndexOf}
 use Rattle.resb_pool.specs.declared.packing.Packing.{Packing}
 use Rattle.resb_pool.specs.declared.packing.Packing.TheVariants.{Plain, Compact}
-use Rattle.resb_write.specs.Inner.Beside.{IsFileOver}
-use Rattle.resb_write.specs.declared.target.Target.TheVariants.{Alone}
 use Rattle.resb_tree.specs.Aliases.{has_alias}
 use Rattle.resb_write.specs.Inner.Gathered.{entry_count_of, largest_of}
 use Rattle.resb_write.specs.Inner.Files.{file_of, fields_of}
@@ -98,25 +96,6 @@ pub record Made (q : Packing) (t : Tree) (ks : List (List ℕ)) : Type 0 where
   pub room : HasRoomFor base laid []
   pub units_fit : (k : ℕ) → get_or laid.units k 0 < 2 ^ 16
   pub root_fits : root < 2 ^ 32
-
--- the tree has no empty string, or the file isn't compact
-abbrev LacksEmpty : Packing → Tree → Type 0
-LacksEmpty Plain t = Unit {0}
-LacksEmpty Compact t = Contains (texts_of t) [] → ⊥
-
--- what is said of a file, however it is packed
-pub record Shaped (q : Packing) (bytes : List ℕ) (t : Tree) (fallback : Bool)
-    (ks : List (List ℕ)) : Type 0 where
-  pub faultless : tree_fault t ks ≡ None
-  pub tree : DenotesWithAliases bytes t (tree_count t)
-  pub alone : has_alias t ≡ false → LacksEmpty q t → Denotes bytes t (tree_count t)
-  pub within_budget : tree_count t ≤ budget bytes
-  pub index : IndexOf bytes t fallback
-  pub blocks : BlocksBy q t ks
-  pub root : root_word bytes ≡ blocks.root
-  pub keys_end : 4 * keys_end bytes ≡ keys_start + length (key_block_by q t ks)
-  pub block_end : 4 * block_end bytes ≡ tail_start (key_block_by q t ks) blocks.laid
-  pub body : drop keys_start (body_of bytes) ≡ block_bytes blocks
 
 -- where aliases are read, so is the empty string of a compact file
 older_read : (q : Packing) (empty : Option ℕ) (p : Parts) (t : Tree) → reads_older p ≡ true
@@ -364,9 +343,9 @@ module _ (q : Packing) (t : Tree) (ks : List (List ℕ)) (m : Made q t ks) (larg
       ap (λ o. first_of o (size_fault (laying_order t))) m.faultless
       ∙ small_sizes (laying_order t) (omega (arith, m.small))
 
-  pub shaped : Shaped q file t fallback ks
+  pub written : WrittenBy q file t fallback ks
   unfolding blocks
-  shaped = record {
+  written = record {
     faultless = no_fault;
     tree = record {
       head = heads.is_bundle_file whole;
@@ -410,61 +389,3 @@ module _ (q : Packing) (t : Tree) (ks : List (List ℕ)) (m : Made q t ks) (larg
     );
     body = heads.behind_head whole;
   }
-
--- a file is shaped by its packing, and no more is said of it
-pub plain_shaped : (bytes : List ℕ) (t : Tree) (fallback : Bool) (ks : List (List ℕ))
-    → Written bytes t fallback ks → Shaped Plain bytes t fallback ks
-plain_shaped bytes t fallback ks w = record {
-  faultless = w.faultless;
-  tree = w.tree;
-  alone = λ none lacks. w.alone none;
-  within_budget = w.within_budget;
-  index = w.index;
-  blocks = w.blocks;
-  root = w.root;
-  keys_end = w.keys_end;
-  block_end = w.block_end;
-  body = w.body;
-}
-
-pub compact_shaped : (bytes : List ℕ) (t : Tree) (fallback : Bool) (ks : List (List ℕ))
-    → WrittenCompact bytes t fallback ks → Shaped Compact bytes t fallback ks
-compact_shaped bytes t fallback ks w = record {
-  faultless = w.faultless;
-  tree = w.tree;
-  alone = w.alone;
-  within_budget = w.within_budget;
-  index = w.index;
-  blocks = w.blocks;
-  root = w.root;
-  keys_end = w.keys_end;
-  block_end = w.block_end;
-  body = w.body;
-}
-
-pub shaped_written : (q : Packing) (bytes : List ℕ) (t : Tree) (fallback : Bool)
-    (ks : List (List ℕ)) → Shaped q bytes t fallback ks → IsFileOver (Alone q) bytes t fallback ks
-shaped_written Plain bytes t fallback ks w = record {
-  faultless = w.faultless;
-  tree = w.tree;
-  alone = λ none. w.alone none tt;
-  within_budget = w.within_budget;
-  index = w.index;
-  blocks = w.blocks;
-  root = w.root;
-  keys_end = w.keys_end;
-  block_end = w.block_end;
-  body = w.body;
-}
-shaped_written Compact bytes t fallback ks w = record {
-  faultless = w.faultless;
-  tree = w.tree;
-  alone = w.alone;
-  within_budget = w.within_budget;
-  index = w.index;
-  blocks = w.blocks;
-  root = w.root;
-  keys_end = w.keys_end;
-  block_end = w.block_end;
-  body = w.body;
-}

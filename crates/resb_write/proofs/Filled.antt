@@ -15,22 +15,12 @@ use Rattle.resb_layout.proofs.InOrderLemmas.{laid_in_order}
 use Rattle.resb_layout.specs.KeyBlock.{keys_start}
 use Rattle.resb_layout.specs.CompactKeys.{key_block_by, key_position_by}
 use Rattle.resb_layout.specs.Written.{even, tail_start, BlocksBy, block_bytes}
-use Rattle.resb_write.specs.Laws.{WrittenInOrder, CompactInOrder}
+use Rattle.resb_write.specs.Laws.{WrittenInOrder}
 use Rattle.resb_write.proofs.Lists.{drop_two}
 
--- what stands in order in a file of these blocks, however it is packed
-record Filled {q : Packing} (bytes : List ℕ) {t : Tree} {ks : List (List ℕ)} (b : BlocksBy q t ks)
-    : Type 0 where
-  tail : FillsTail (4 * block_end bytes) (laying_order t) (drop (4 * block_end bytes) (body_of
-      bytes))
-  short : List ℕ
-  units : b.laid.units ≡ b.pool ++ short
-  block : FillsBlock (laying_order t) short
-
-filled : (q : Packing) (bytes : List ℕ) (t : Tree) (ks : List (List ℕ)) (b : BlocksBy q t ks)
-    → 4 * block_end bytes ≡ tail_start (key_block_by q t ks) b.laid
-    → drop keys_start (body_of bytes) ≡ block_bytes b → Filled bytes b
-filled q bytes t ks b ends body =
+pub written_in_order : WrittenInOrder
+written_in_order q bytes t fallback ks w =
+    let b = w.blocks in
     let keys = key_block_by q t ks in
     let base = tail_start keys b.laid in
     let g : Given = record {
@@ -40,15 +30,15 @@ filled q bytes t ks b ends body =
       packing = q;
     } in
     let s : Laid = record { units = b.pool; tail = [] } in
-    let begins : here g s ≡ 4 * block_end bytes = omega (arith, ends) in
+    let begins : here g s ≡ 4 * block_end bytes = omega (arith, w.block_end) in
     let word : here g s % 4 ≡ 0 = omega (arith, begins) in
     let h = laid_in_order None g s b.laid t b.root word b.lays in
     let long : base ≡ keys_start + length keys + length (units_as_bytes (even b.laid.units)) =
     omega (arith, halves_len (even b.laid.units)) in
     let behind : drop (4 * block_end bytes) (body_of bytes) ≡ b.laid.tail =
-    ap (λ n. drop n (body_of bytes)) (ends ∙ long)
+    ap (λ n. drop n (body_of bytes)) (w.block_end ∙ long)
     ∙ drop_two keys_start (body_of bytes) keys
-    (units_as_bytes (even b.laid.units)) b.laid.tail body in
+    (units_as_bytes (even b.laid.units)) b.laid.tail w.body in
     record {
       tail = subst (λ n. FillsTail n (laying_order t) (drop (4 * block_end bytes) (body_of bytes)))
           begins
@@ -58,13 +48,3 @@ filled q bytes t ks b ends body =
       units = h.units_are;
       block = h.block;
     }
-
-pub written_in_order : WrittenInOrder
-written_in_order bytes t f ks w =
-    let h = filled Plain bytes t ks w.blocks w.block_end w.body in
-    record { tail = h.tail; short = h.short; units = h.units; block = h.block }
-
-pub compact_in_order : CompactInOrder
-compact_in_order bytes t f ks w =
-    let h = filled Compact bytes t ks w.blocks w.block_end w.body in
-    record { tail = h.tail; short = h.short; units = h.units; block = h.block }

@@ -20,11 +20,9 @@ use Rattle.resb_write.proofs.OneBlock.{one_block}
 use Rattle.resb_layout.specs.KeyBlock.{keys_start}
 use Rattle.resb_layout.specs.CompactKeys.{key_block_by, key_position_by}
 use Rattle.resb_layout.specs.WrittenHead.{written_header}
-use Rattle.resb_layout.specs.Written.{even, tail_start, BlocksBy, block_bytes}
+use Rattle.resb_layout.specs.Written.{even, tail_start, BlocksBy, block_bytes, WrittenBy}
 use Rattle.resb_pool.specs.declared.packing.Packing.{Packing}
-use Rattle.resb_pool.specs.declared.packing.Packing.TheVariants.{Plain, Compact}
-use Rattle.resb_write.proofs.FilesLemmas.{Shaped, plain_shaped, compact_shaped}
-use Rattle.resb_write.specs.Laws.{OneFile, OneCompactFile}
+use Rattle.resb_write.specs.Laws.{OneFile}
 use Rattle.resb_write.proofs.Heads.{body_behind}
 use Rattle.resb_write.proofs.Lists.{same_front}
 
@@ -82,7 +80,7 @@ module _ (q : Packing) (t : Tree) (ks : List (List ℕ)) (x y : BlocksBy q t ks)
   bytes_same = ap (λ s. key_block_by q t ks ++ (units_as_bytes (even s.units) ++ s.tail)) laid_is
 
 module _ (q : Packing) (a : List ℕ) (t : Tree) (fallback : Bool) (ks : List (List ℕ))
-    (w : Shaped q a t fallback ks) where
+    (w : WrittenBy q a t fallback ks) where
   whole : a ≡ written_header ++ drop 32 a
   whole = sym (take-append-drop 32 a) ∙ ap (λ l. l ++ drop 32 a) w.index.header
 
@@ -108,8 +106,8 @@ module _ (q : Packing) (a : List ℕ) (t : Tree) (fallback : Bool) (ks : List (L
       )
 
 module _ (q : Packing) (a b : List ℕ) (t : Tree) (fallback : Bool) (ks : List (List ℕ))
-    (fa : EachFits 8 a) (fb : EachFits 8 b) (x : Shaped q a t fallback ks)
-    (y : Shaped q b t fallback ks) where
+    (fa : EachFits 8 a) (fb : EachFits 8 b) (x : WrittenBy q a t fallback ks)
+    (y : WrittenBy q b t fallback ks) where
   bytes_are : block_bytes x.blocks ≡ block_bytes y.blocks
   bytes_are = bytes_same q t ks x.blocks y.blocks
 
@@ -141,10 +139,11 @@ module _ (q : Packing) (a b : List ℕ) (t : Tree) (fallback : Bool) (ks : List 
       omega (arith, x.block_end, y.block_end, start_same q t ks x.blocks y.blocks)
   word_same (suc (suc (suc (suc (suc (suc (suc (suc i)))))))) h = absurd (omega (arith, h))
 
-  fits_body : (c : List ℕ) → EachFits 8 c → (w : Shaped q c t fallback ks) → EachFits 8 (body_of c)
+  fits_body : (c : List ℕ) → EachFits 8 c → (w : WrittenBy q c t fallback ks)
+      → EachFits 8 (body_of c)
   fits_body c f w = subst (EachFits 8) (sym (body_is q c t fallback ks w)) (fits_drop 8 c 32 f)
 
-  head_of : (c : List ℕ) → EachFits 8 c → (w : Shaped q c t fallback ks)
+  head_of : (c : List ℕ) → EachFits 8 c → (w : WrittenBy q c t fallback ks)
       → take 32 (body_of c) ≡ flat_map (to_le_bytes w32) (take 8 (words_of (body_of c)))
   head_of c f w = sym (bytes_back (body_of c) 8 (fits_body c f w)
       (omega (arith, long q c t fallback ks w)))
@@ -166,9 +165,4 @@ module _ (q : Packing) (a b : List ℕ) (t : Tree) (fallback : Bool) (ks : List 
       ∙ sym (whole q b t fallback ks y)
 
 pub one_file : OneFile
-one_file a b t fallback ks fa fb x y = same_file Plain a b t fallback ks fa fb
-    (plain_shaped a t fallback ks x) (plain_shaped b t fallback ks y)
-
-pub one_compact_file : OneCompactFile
-one_compact_file a b t fallback ks fa fb x y = same_file Compact a b t fallback ks fa fb
-    (compact_shaped a t fallback ks x) (compact_shaped b t fallback ks y)
+one_file q a b t fallback ks fa fb x y = same_file q a b t fallback ks fa fb x y

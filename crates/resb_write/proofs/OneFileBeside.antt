@@ -9,7 +9,6 @@ use Rattle.resb_layout.specs.KeyBlock.{used}
 use Rattle.resb_format.specs.Bytes.{units_as_bytes}
 use Rattle.resb_pool_bundle.specs.Pool.{Pool}
 use Rattle.resb_pool.specs.declared.packing.Packing.{Packing}
-use Rattle.resb_pool.specs.declared.packing.Packing.TheVariants.{Plain, Compact}
 use Rattle.resb_layout.specs.Laid.{Given, Lends, Laid, LaysBy}
 use Rattle.resb_layout.specs.Written.{even}
 use Rattle.resb_layout.proofs.Once.{one_layout}
@@ -17,7 +16,7 @@ use Rattle.resb_lent.specs.HeadWithPool.{head_bytes}
 use Rattle.resb_lent.specs.declared.head_with_pool.HeadWithPool.{HeadWithPool}
 use Rattle.resb_write.proofs.PlacedBeside.{one_lent}
 use Rattle.resb_lent.proofs.PlanRead.{one_plan_with}
-use Rattle.resb_write.specs.Laws.{OneFileWithPool, OneCompactFileWithPool}
+use Rattle.resb_write.specs.Laws.{OneFileWithPool}
 use Rattle.resb_write.specs.WrittenWith.{BlocksWithBy, own_keys_of, key_block_beside, own_end_of}
 use Rattle.resb_write.specs.WrittenWith.{position_beside, tail_start_beside, head_of}
 use Rattle.resb_write.proofs.FilesBeside.{one_or_none}
@@ -140,9 +139,5 @@ module _ (q : Packing) (pool : Pool) (t : Tree) (ks : List (List ℕ))
       ++ (units_as_bytes (even (same.0 i).units) ++ (same.0 i).tail))
 
 pub one_file_with_pool : OneFileWithPool
-one_file_with_pool pool a b t fallback ks x y =
-    x.file ∙ file_same Plain pool t ks x.blocks y.blocks fallback ∙ sym y.file
-
-pub one_compact_file_with_pool : OneCompactFileWithPool
-one_compact_file_with_pool pool a b t fallback ks x y =
-    x.file ∙ file_same Compact pool t ks x.blocks y.blocks fallback ∙ sym y.file
+one_file_with_pool q pool a b t fallback ks x y =
+    x.file ∙ file_same q pool t ks x.blocks y.blocks fallback ∙ sym y.file

@@ -19,7 +19,6 @@ pub use Rattle.resb_layout.specs.TreeFaults
 pub use Rattle.resb_layout.specs.WrittenHead
 pub use Rattle.resb_layout.specs.CompactKeys
 pub use Rattle.resb_layout.specs.Written
-pub use Rattle.resb_layout.specs.WrittenCompact
 pub use Rattle.resb_pool_bundle.specs.Pool
 pub use Rattle.resb_pool_bundle.specs.FileWith
 pub use Rattle.resb_lent.specs.LentKeys

@@ -102,10 +102,6 @@ pub record BlocksWithBy (q : Packing) (pool : Pool) (t : Tree) (ks : List (List 
       })
       (record { units = units; tail = [] }) t laid root
 
--- the same of a file in which each key stands by itself
-abbrev pub BlocksWith : Pool → Tree → List (List ℕ) → Type 0
-BlocksWith = BlocksWithBy Plain
-
 -- the head of a file of these blocks
 abbrev pub head_of : {q : Packing} {pool : Pool} {t : Tree} {ks : List (List ℕ)} → Bool
     → BlocksWithBy q pool t ks → HeadWithPool

@@ -2,27 +2,20 @@
 //! nothing.
 //! Their statements are in `specs/Laws.antt`.
 ghost use Rattle.resb_write.specs.Laws.{OneBlock, OneFile, WrittenIsDenoted, WrittenInOrder};
-ghost use Rattle.resb_write.specs.Laws.{OneCompactFile, CompactInOrder};
 ghost use Rattle.resb_write.specs.Laws.{OneFileWithPool, WrittenWithPoolIsRead};
-ghost use Rattle.resb_write.specs.Laws.{OneCompactFileWithPool, CompactWithPoolIsRead};
 
 /// The units that a tree takes in the 16-bit block don't depend on where the tail begins.
 pub fn one_block()
     ensures { OneBlock }
 {}
 
-/// A bundle and a list of keys leave one file.
+/// A bundle and a list of keys leave one file of each packing.
 pub fn one_file()
     ensures { OneFile }
 {}
 
-/// A bundle and a list of keys leave one compact file.
-pub fn one_compact_file()
-    ensures { OneCompactFile }
-{}
-
 /// A written file denotes its tree for a reader of aliases, and a tree without aliases for each
-/// reader.
+/// reader, unless the file is compact and the tree has an empty string.
 pub fn written_is_denoted()
     ensures { WrittenIsDenoted }
 {}
@@ -32,12 +25,7 @@ pub fn written_in_order()
     ensures { WrittenInOrder }
 {}
 
-/// In a compact file no byte is left between two bodies, and each filling is of bytes 0xaa.
-pub fn compact_in_order()
-    ensures { CompactInOrder }
-{}
-
-/// A bundle, a list of keys and a pool bundle leave one file.
+/// A bundle, a list of keys and a pool bundle leave one file of each packing.
 pub fn one_file_with_pool()
     ensures { OneFileWithPool }
 {}
@@ -45,14 +33,4 @@ pub fn one_file_with_pool()
 /// A file that is written over a pool bundle denotes its tree beside that pool bundle.
 pub fn written_with_pool_is_read()
     ensures { WrittenWithPoolIsRead }
-{}
-
-/// A bundle, a list of keys and a pool bundle leave one compact file.
-pub fn one_compact_file_with_pool()
-    ensures { OneCompactFileWithPool }
-{}
-
-/// A compact file that is written over a pool bundle denotes its tree beside that pool bundle.
-pub fn compact_with_pool_is_read()
-    ensures { CompactWithPoolIsRead }
 {}

@@ -16,8 +16,7 @@ ghost use Rattle.resb_write.specs.Inner.NearPositions.{IsKeyBlockBy};
 ghost use Rattle.resb_write.specs.Inner.Numbered.{NumbersKeys};
 ghost use Rattle.resb_layout.specs.PlainSize.{list_size, resources_size};
 ghost use Rattle.resb_layout.specs.TreeFaults.{RefusesWriting};
-ghost use Rattle.resb_layout.specs.Written.{Written};
-ghost use Rattle.resb_layout.specs.WrittenCompact.{WrittenCompact};
+ghost use Rattle.resb_layout.specs.Written.{Written, WrittenCompact};
 ghost use Rattle.resb_write.specs.declared.target.Target.TheVariants.{Alone};
 ghost use Rattle.resb_pool_bundle.specs.Pool.{pool_in};
 ghost use Rattle.resb_write.specs.WrittenWith.{WrittenWith, WrittenCompactWith};
@@ -137,7 +136,7 @@ impl Serializer {
     /// other one of these ends with. Of the pool's keys that end with a key the last one is looked
     /// at, by their bytes from the last to the first, where an end is the greatest. The key lies in
     /// it unless the one in which `to_bytes_compact` lays the key is behind it. So ICU's `genrb`
-    /// writes it, but for what `to_bytes_compact` says.
+    /// writes it.
     ///
     /// Refused is what `to_bytes_with_pool` refuses.
     pub fn to_bytes_compact_with_pool(

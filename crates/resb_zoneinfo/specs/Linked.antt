@@ -1,11 +1,11 @@
 -- Members of a list that are values of their own or links to others.
 use Rattle.std.specs.Prelude.{ℕ, ℤ, pos, negsuc, ◌≡◌, ◌≢◌, ◌-◌, ◌^◌, ◌⊎◌, Some, None}
 use Rattle.resb.specs.Places.{Place}
-use Rattle.resb.specs.Leaves.{ReadsSigned, CountsSigned}
+use Rattle.resb.specs.Leaves.{CountsOf, ReadsSigned}
 use Rattle.resb.specs.Spots.{type_at}
 use Rattle.resb.specs.BlockRefusals.{Says}
-use Rattle.resb.specs.PlaceRefusals.{untold}
-use Rattle.resb.specs.RefusedReadings.{RefusesNumber}
+use Rattle.resb.specs.PlaceRefusals.{number_refusal_from, untold}
+use Rattle.resb.specs.RefusedReadings.{RefusesAs}
 use Rattle.resb.specs.declared.binary.ReadingError.{ReadingError}
 use Rattle.resb_zoneinfo.specs.declared.linked.Linked.{Linked}
 use Rattle.resb_zoneinfo.specs.declared.linked.Linked.TheVariants.{Link, Value}
@@ -28,7 +28,7 @@ ReadsNumber = ReadsSigned (negsuc (2 ^ 31 - 1)) (pos (2 ^ 31 - 1))
 
 -- some number of 32 bits with a sign is read
 abbrev pub CountsNumber : Place → ℕ → Type 0
-CountsNumber = CountsSigned (negsuc (2 ^ 31 - 1)) (pos (2 ^ 31 - 1))
+CountsNumber = CountsOf ReadsNumber
 
 -- an integer is read as a link, anything else as a value
 abbrev pub ReadsLinked : {T : Type 0} → (Place → T → ℕ → Type 0) → Place → Linked T → ℕ → Type 0
@@ -45,5 +45,5 @@ abbrev pub RefusesLinked : (Place → ℕ → ℕ → ReadingError → Type 0) �
     → Type 0
 RefusesLinked refuses p left left' e =
     ((type_at p ≡ None) × Says (untold p) e × (left' ≡ left))
-    ⊎ (IsInteger p × RefusesNumber p left left' e)
+    ⊎ (IsInteger p × RefusesAs number_refusal_from p left left' e)
     ⊎ (IsOther p × refuses p left left' e)

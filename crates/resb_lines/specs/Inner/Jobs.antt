@@ -10,12 +10,11 @@ use Rattle.resb_tree.specs.Tree.{Trees, no_trees, more_trees, Entries as TableEn
 use Rattle.resb_tree.specs.Tree.{no_entries, entry}
 use Rattle.resb_grammar.specs.Ascii as ascii
 use Rattle.resb_print.specs.Printed.{deeper, line_on, close_on, end_on, numbers_on}
-use Rattle.resb_print.specs.Printed.{more_numbers_on, root_type_on}
+use Rattle.resb_print.specs.Printed.{more_numbers_on, root_type_on, tree_on, trees_on, entries_on}
+use Rattle.resb_print.specs.Spelling.{Spelling}
 use Rattle.resb_print.specs.declared.place.Place.{Place}
 use Rattle.resb_print.specs.declared.place.Place.TheVariants.{InTable, InArray}
 use Rattle.resb_shown.specs.Shown.{numbers_in}
-use Rattle.resb_lines.specs.Spelling.{Spelling}
-use Rattle.resb_lines.specs.Lines.{tree_on, trees_on, entries_on}
 use Rattle.resb_lines.specs.declared.task.Task.{Task}
 use Rattle.resb_lines.specs.declared.task.Task.TheVariants.{Head, Entry, Member, Entries, Members}
 use Rattle.resb_lines.specs.declared.task.Task.TheVariants.{Numbers, Digits, LineFeed}

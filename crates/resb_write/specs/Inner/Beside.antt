@@ -18,8 +18,7 @@ use Rattle.resb_pool.specs.declared.error.PlanError.{PlanError}
 use Rattle.resb_layout.specs.KeyBlock.{used, key_bytes}
 use Rattle.resb_layout.specs.TreeFaults.{key_fault, RefusesWriting}
 use Rattle.resb_layout.specs.WritingFault.{WritingFault}
-use Rattle.resb_layout.specs.Written.{Written}
-use Rattle.resb_layout.specs.WrittenCompact.{WrittenCompact}
+use Rattle.resb_layout.specs.Written.{WrittenBy}
 use Rattle.resb_layout.specs.CompactKeys.{keys_by}
 use Rattle.resb_pool.specs.declared.packing.Packing.{Packing}
 use Rattle.resb_pool.specs.declared.packing.Packing.TheVariants.{Plain, Compact}
@@ -81,8 +80,7 @@ pub record FitsLimits (l : Lends) : Type 0 where
   pub none : l.limit ≡ 0 → l.short_limit ≡ 0
 
 abbrev pub IsFileOver : Target → List ℕ → Tree → Bool → List (List ℕ) → Type 0
-IsFileOver (Alone Plain) bytes t fallback ks = Written bytes t fallback ks
-IsFileOver (Alone Compact) bytes t fallback ks = WrittenCompact bytes t fallback ks
+IsFileOver (Alone q) bytes t fallback ks = WrittenBy q bytes t fallback ks
 IsFileOver (OverPool o) bytes t fallback ks =
     WrittenWithBy o.packing (pool_in o.pool) bytes t fallback ks
 

@@ -1,4 +1,5 @@
-use Rattle.std.proofs.Common.{rules, ◌≡◌, ◌++◌, map, reverse, ℕ, ◌+◌, ◌-◌, ◌<◌, ◌≤◌, length, List, [], ◌∷◌, refl, sym, ap, ◌∙◌, subst, arith}
+use Rattle.std.proofs.Common.{rules, ◌≡◌, ◌++◌, map, reverse, ℕ, ◌+◌, ◌-◌, ◌<◌, ◌≤◌, length, List}
+use Rattle.std.proofs.Common.{[], ◌∷◌, refl, sym, ap, ◌∙◌, subst, arith}
 use Rattle.std.proofs.Common.{append_assoc, take, get_or}
 use Rattle.std.proofs.Output.{has_written_append, has_written_of_eq}
 use Rattle.std.proofs.lemmas.List.{take_more, map-append, reverse-append}
@@ -46,6 +47,7 @@ loop-number-preserved g c = (
         has_written_append _ _ _ _ _ _ so_far.1
             (c.write_step.ensures so_far.1.plain (search rules)),
         written_more c.args.steps.now c.loop-number.number _ so_far.0 c.divider.result.now _
-            (omega (arith, c.loop-number-test.true)) c.loop-number.invariant.0 c.divider.ensures so_far.2,
+            (omega (arith, c.loop-number-test.true)) c.loop-number.invariant.0 c.divider.ensures
+            so_far.2,
       ),
 )

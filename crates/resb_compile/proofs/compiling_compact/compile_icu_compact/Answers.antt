@@ -1,6 +1,6 @@
 use Rattle.std.proofs.Common.{subst}
 use Rattle.resb_draft.specs.Drafts.{draft_tree}
-use Rattle.resb_layout.specs.WrittenCompact.{WrittenCompact}
+use Rattle.resb_layout.specs.Written.{WrittenCompact}
 use Rattle.resb_layout.specs.TreeFaults.{RefusesWriting}
 use Rattle.resb_write.specs.FaultOf.{fault_of}
 use Rattle.resb_compile.proofs.Reasons.{icu_writing_refused, icu_reading_refused}

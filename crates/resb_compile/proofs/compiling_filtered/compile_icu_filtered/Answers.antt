@@ -5,7 +5,7 @@ use Rattle.resb_filter.specs.Filtered.{filtered}
 use Rattle.resb_layout.specs.Written.{Written}
 use Rattle.resb_layout.specs.TreeFaults.{RefusesWriting}
 use Rattle.resb_write.specs.FaultOf.{fault_of}
-use Rattle.resb_compile.specs.CompilingFiltered.{IsFilteredRefused}
+use Rattle.resb_compile.specs.CompilingIcu.{IsIcuRefusedBy}
 use Rattle.resb_compile.specs.declared.compiling_icu.IcuCompileError.TheVariants.{Writing}
 use Rattle.resb_compile.proofs.Reasons.{carried, unfiltered_refused, filtered_unwritable}
 use Rattle.resb_compile.proofs.compiling_filtered.compile_icu_filtered.Goals as goal
@@ -42,7 +42,7 @@ returns-in_err-file-clause-err c =
     let h = subst (λ ks. RefusesWriting (filtered rules r.bundle.tree) ks (fault_of e))
     r.keys of_tree in
     let made = c.from_residual-in_err-file in
-    carried (IsFilteredRefused rules c.args.text.now) (Writing e)
+    carried (IsIcuRefusedBy (λ t. RefusesWriting (filtered rules t)) c.args.text.now) (Writing e)
     (filtered_unwritable rules c.args.text.now e r.bundle h)
     made.result made.ensures.1
 
@@ -50,6 +50,6 @@ pub returns-in_err-bundle-clause-err : goal.returns-in_err-bundle-clause-err
 returns-in_err-bundle-clause-err c =
     let rules = rules_of c.args.rules.now in
     let e = c.in_err-bundle.field-0.0 in
-    carried (IsFilteredRefused rules c.args.text.now) e
+    carried (IsIcuRefusedBy (λ t. RefusesWriting (filtered rules t)) c.args.text.now) e
     (unfiltered_refused rules c.args.text.now e c.in_err-bundle.ensures.err)
     c.from_residual.result c.from_residual.ensures.1

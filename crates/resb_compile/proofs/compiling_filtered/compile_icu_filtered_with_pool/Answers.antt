@@ -5,7 +5,7 @@ use Rattle.resb_filter.specs.Filtered.{filtered}
 use Rattle.resb_pool_bundle.specs.Pool.{pool_in}
 use Rattle.resb_write.specs.WrittenWith.{WrittenWith, RefusesWritingWith}
 use Rattle.resb_write.specs.FaultOf.{fault_of}
-use Rattle.resb_compile.specs.CompilingFiltered.{IsFilteredRefusedWithPool}
+use Rattle.resb_compile.specs.CompilingIcu.{IsIcuRefusedBy}
 use Rattle.resb_compile.specs.declared.compiling_icu.IcuCompileError.TheVariants.{Writing}
 use Rattle.resb_compile.proofs.Reasons.{carried, unfiltered_refused_with, filtered_unwritable_with}
 use Rattle.resb_compile.proofs.compiling_filtered.compile_icu_filtered_with_pool.Goals as goal
@@ -44,7 +44,8 @@ returns-in_err-file-clause-err c =
     let h = subst (λ ks. RefusesWritingWith pool (filtered rules r.bundle.tree) ks (fault_of e))
     r.keys of_tree in
     let made = c.from_residual-in_err-file in
-    carried (IsFilteredRefusedWithPool rules pool c.args.text.now) (Writing e)
+    carried (IsIcuRefusedBy (λ t. RefusesWritingWith pool (filtered rules t)) c.args.text.now)
+    (Writing e)
     (filtered_unwritable_with rules pool c.args.text.now e r.bundle h)
     made.result made.ensures.1
 
@@ -53,6 +54,6 @@ returns-in_err-bundle-clause-err c =
     let rules = rules_of c.args.rules.now in
     let pool = pool_in c.args.pool.now in
     let e = c.in_err-bundle.field-0.0 in
-    carried (IsFilteredRefusedWithPool rules pool c.args.text.now) e
+    carried (IsIcuRefusedBy (λ t. RefusesWritingWith pool (filtered rules t)) c.args.text.now) e
     (unfiltered_refused_with rules pool c.args.text.now e c.in_err-bundle.ensures.err)
     c.from_residual.result c.from_residual.ensures.1

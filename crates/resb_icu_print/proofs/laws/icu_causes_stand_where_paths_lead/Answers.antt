@@ -1,13 +1,12 @@
-use Rattle.std.proofs.Common.{◌∙◌}
+use Rattle.std.proofs.Common.{ap}
+use Rattle.std.specs.Prelude.{option_map}
 use Rattle.resb_print.proofs.Leading.{first_by_path, none_without_cause}
-use Rattle.resb_icu_print.specs.CausePaths.{icu_tests}
-use Rattle.resb_icu_print.proofs.CausePaths.{first_is_found}
+use Rattle.resb_icu_print.specs.Causes.{icu_tests}
 use Rattle.resb_icu_print.proofs.laws.icu_causes_stand_where_paths_lead.Goals as goal
 
 pub returns : goal.returns
 returns c = record {
-  first = λ name t path x maps e k.
-      first_by_path icu_tests name t path x maps e (first_is_found name t ∙ k);
-  none = λ name t path x maps e.
-      none_without_cause icu_tests name t path x maps (first_is_found name t ∙ e);
+  first = λ name t path x maps h. first_by_path icu_tests name t path x maps
+      (ap (option_map (λ found. found.0)) h) (ap (option_map (λ found. found.1)) h);
+  none = λ name t path x maps e. none_without_cause icu_tests name t path x maps e;
 }

@@ -5,11 +5,11 @@ use Rattle.resb_tree.specs.View.{tree_of}
 use Rattle.resb_print.specs.Held.{IsHeld}
 use Rattle.resb_print.specs.Paths.{first_found}
 use Rattle.resb_print.specs.Paths.{steps_in}
-use Rattle.resb_icu_print.specs.CausePaths.{icu_tests}
+use Rattle.resb_icu_print.specs.Causes.{icu_tests}
+use Rattle.resb_icu_print.specs.Printed.{icu_spelling}
 use Rattle.resb_icu_print.specs.declared.error.IcuPrintError.TheVariants.{NotPrintable}
 use Rattle.resb_icu_print.proofs.Bundles.{no_text}
 use Rattle.resb_lines.specs.Causes.{found_as}
-use Rattle.resb_lines.specs.Laws.{icu}
 use Rattle.resb_lines.specs.Lines.{lines_of, IsTextWithin}
 use Rattle.resb_lines.proofs.Bundles.{same_found, same_lines}
 use Rattle.resb_lines.proofs.IcuPrinted.{says_cause, found_exact, found_bundle, found_small}
@@ -54,10 +54,10 @@ returns-clause-text c =
     c.of-shown.ensures.root in
     let held : IsHeld t =
     subst IsHeld c.of-shown.ensures.root (c.in_ok-cause.ensures.held c.in_default.is) in
-    let lines = same_lines icu shown.name.now own shown.is_locale_fallback_enabled flag
+    let lines = same_lines icu_spelling shown.name.now own shown.is_locale_fallback_enabled flag
     (tree_of shown.root.now) t c.of-shown.ensures.name c.of-shown.ensures.fallback
     c.of-shown.ensures.root in
-    let within : IsTextWithin c.args.limit (lines_of icu own flag t) c.in_ok-text.text =
+    let within : IsTextWithin c.args.limit (lines_of icu_spelling own flag t) c.in_ok-text.text =
     subst (λ l. IsTextWithin c.args.limit l c.in_ok-text.text) lines c.in_ok-text.ensures in
     found_bundle own flag t found c.args.limit c.in_ok-text.text within held
 
@@ -73,10 +73,10 @@ returns-clause-exact c =
     c.of-shown.ensures.root in
     let held : IsHeld t =
     subst IsHeld c.of-shown.ensures.root (c.in_ok-cause.ensures.held c.in_default.is) in
-    let lines = same_lines icu shown.name.now own shown.is_locale_fallback_enabled flag
+    let lines = same_lines icu_spelling shown.name.now own shown.is_locale_fallback_enabled flag
     (tree_of shown.root.now) t c.of-shown.ensures.name c.of-shown.ensures.fallback
     c.of-shown.ensures.root in
-    let within : IsTextWithin c.args.limit (lines_of icu own flag t) c.in_ok-text.text =
+    let within : IsTextWithin c.args.limit (lines_of icu_spelling own flag t) c.in_ok-text.text =
     subst (λ l. IsTextWithin c.args.limit l c.in_ok-text.text) lines c.in_ok-text.ensures in
     found_exact own flag t found c.args.limit c.in_ok-text.text within
 
@@ -92,9 +92,9 @@ returns-clause-size c =
     c.of-shown.ensures.root in
     let held : IsHeld t =
     subst IsHeld c.of-shown.ensures.root (c.in_ok-cause.ensures.held c.in_default.is) in
-    let lines = same_lines icu shown.name.now own shown.is_locale_fallback_enabled flag
+    let lines = same_lines icu_spelling shown.name.now own shown.is_locale_fallback_enabled flag
     (tree_of shown.root.now) t c.of-shown.ensures.name c.of-shown.ensures.fallback
     c.of-shown.ensures.root in
-    let within : IsTextWithin c.args.limit (lines_of icu own flag t) c.in_ok-text.text =
+    let within : IsTextWithin c.args.limit (lines_of icu_spelling own flag t) c.in_ok-text.text =
     subst (λ l. IsTextWithin c.args.limit l c.in_ok-text.text) lines c.in_ok-text.ensures in
     found_small own flag t found c.args.limit c.in_ok-text.text within held

@@ -5,10 +5,10 @@ use Rattle.resb_tree.specs.View.{tree_of}
 use Rattle.resb_print.specs.Held.{IsHeld}
 use Rattle.resb_print.specs.Paths.{first_found}
 use Rattle.resb_print.specs.Paths.{plain_tests, steps_in}
+use Rattle.resb_print.specs.Printed.{plain_spelling}
 use Rattle.resb_print.specs.declared.error.PrintError.TheVariants.{NotPrintable}
 use Rattle.resb_print.proofs.Bundles.{no_text}
 use Rattle.resb_lines.specs.Causes.{found_as}
-use Rattle.resb_lines.specs.Laws.{plain}
 use Rattle.resb_lines.specs.Lines.{lines_of, IsTextWithin}
 use Rattle.resb_lines.proofs.Bundles.{same_found, same_lines}
 use Rattle.resb_lines.proofs.PlainPrinted.{says_cause, found_exact, found_bundle, found_small}
@@ -53,10 +53,10 @@ returns-clause-text c =
     c.of-shown.ensures.root in
     let held : IsHeld t =
     subst IsHeld c.of-shown.ensures.root (c.in_ok-cause.ensures.held c.in_default.is) in
-    let lines = same_lines plain shown.name.now own shown.is_locale_fallback_enabled flag
+    let lines = same_lines plain_spelling shown.name.now own shown.is_locale_fallback_enabled flag
     (tree_of shown.root.now) t c.of-shown.ensures.name c.of-shown.ensures.fallback
     c.of-shown.ensures.root in
-    let within : IsTextWithin c.args.limit (lines_of plain own flag t) c.in_ok-text.text =
+    let within : IsTextWithin c.args.limit (lines_of plain_spelling own flag t) c.in_ok-text.text =
     subst (λ l. IsTextWithin c.args.limit l c.in_ok-text.text) lines c.in_ok-text.ensures in
     found_bundle own flag t found c.args.limit c.in_ok-text.text within held
 
@@ -72,10 +72,10 @@ returns-clause-exact c =
     c.of-shown.ensures.root in
     let held : IsHeld t =
     subst IsHeld c.of-shown.ensures.root (c.in_ok-cause.ensures.held c.in_default.is) in
-    let lines = same_lines plain shown.name.now own shown.is_locale_fallback_enabled flag
+    let lines = same_lines plain_spelling shown.name.now own shown.is_locale_fallback_enabled flag
     (tree_of shown.root.now) t c.of-shown.ensures.name c.of-shown.ensures.fallback
     c.of-shown.ensures.root in
-    let within : IsTextWithin c.args.limit (lines_of plain own flag t) c.in_ok-text.text =
+    let within : IsTextWithin c.args.limit (lines_of plain_spelling own flag t) c.in_ok-text.text =
     subst (λ l. IsTextWithin c.args.limit l c.in_ok-text.text) lines c.in_ok-text.ensures in
     found_exact own flag t found c.args.limit c.in_ok-text.text within
 
@@ -91,9 +91,9 @@ returns-clause-size c =
     c.of-shown.ensures.root in
     let held : IsHeld t =
     subst IsHeld c.of-shown.ensures.root (c.in_ok-cause.ensures.held c.in_default.is) in
-    let lines = same_lines plain shown.name.now own shown.is_locale_fallback_enabled flag
+    let lines = same_lines plain_spelling shown.name.now own shown.is_locale_fallback_enabled flag
     (tree_of shown.root.now) t c.of-shown.ensures.name c.of-shown.ensures.fallback
     c.of-shown.ensures.root in
-    let within : IsTextWithin c.args.limit (lines_of plain own flag t) c.in_ok-text.text =
+    let within : IsTextWithin c.args.limit (lines_of plain_spelling own flag t) c.in_ok-text.text =
     subst (λ l. IsTextWithin c.args.limit l c.in_ok-text.text) lines c.in_ok-text.ensures in
     found_small own flag t found c.args.limit c.in_ok-text.text within held

@@ -1,13 +1,12 @@
-use Rattle.std.proofs.Common.{◌∙◌}
+use Rattle.std.proofs.Common.{ap}
+use Rattle.std.specs.Prelude.{option_map}
 use Rattle.resb_print.specs.Paths.{plain_tests}
 use Rattle.resb_print.proofs.Leading.{first_by_path, none_without_cause}
-use Rattle.resb_print.proofs.Tracing.{first_is_found}
 use Rattle.resb_print.proofs.laws.causes_stand_where_paths_lead.Goals as goal
 
 pub returns : goal.returns
 returns c = record {
-  first = λ name t path x maps e k.
-      first_by_path plain_tests name t path x maps e (first_is_found name t ∙ k);
-  none = λ name t path x maps e.
-      none_without_cause plain_tests name t path x maps (first_is_found name t ∙ e);
+  first = λ name t path x maps h. first_by_path plain_tests name t path x maps
+      (ap (option_map (λ found. found.0)) h) (ap (option_map (λ found. found.1)) h);
+  none = λ name t path x maps e. none_without_cause plain_tests name t path x maps e;
 }

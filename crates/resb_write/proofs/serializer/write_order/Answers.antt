@@ -11,12 +11,12 @@ use Rattle.resb_write.specs.Inner.Room.{laid_of, GivesInTurn}
 use Rattle.resb_write.specs.Inner.Numbered.{NumbersKeys}
 use Rattle.resb_layout.specs.KeyBlock.{used, key_bytes, padded}
 use Rattle.resb_layout.specs.TreeFaults.{RefusesWriting, no_memory}
-use Rattle.resb_layout.specs.Written.{even}
+use Rattle.resb_layout.specs.Written.{even, WrittenBy}
 use Rattle.resb_write.specs.Inner.Files.{file_of}
 use Rattle.resb_write.proofs.Room.{units_room, bytes_room, used_room, length-padded, pool_room}
 use Rattle.resb_write.proofs.Known.{near_offsets}
 use Rattle.resb_write.proofs.Blocks.{laying_order_long}
-use Rattle.resb_write.proofs.FilesLemmas.{largest_room, Made, Shaped, shaped, shaped_written}
+use Rattle.resb_write.proofs.FilesLemmas.{largest_room, Made, written}
 use Rattle.resb_write.proofs.PackedKeys.{packed_room}
 use Rattle.resb_layout.specs.CompactKeys.{key_position_by}
 use Rattle.resb_write.proofs.Refusals.{plan_refused}
@@ -225,5 +225,5 @@ returns-clause-ok g c = λ t f k.
     (even laid.units) laid.tail) c.deref-4.ensures.value
     ∙ ap (λ l. file_of c.in_ok-bodies.word largest fallback (padded (key_bytes l))
     (even laid.units) laid.tail) b.keys in
-    shaped_written q _ t fallback ks (subst (λ bytes. Shaped q bytes t fallback ks) (sym file)
-    (shaped q t ks made largest fallback gathered.largest_is))
+    subst (λ bytes. WrittenBy q bytes t fallback ks) (sym file)
+    (written q t ks made largest fallback gathered.largest_is)

@@ -1,6 +1,6 @@
 use Rattle.std.proofs.Common.{ℕ, ◌+◌, ◌*◌, ◌-◌, ◌≤◌, length}
 use Rattle.resb_icu_grammar.specs.Blanks.{Blanks}
-use Rattle.resb_icu_text.proofs.blanks.skip.Given as goal
+use Rattle.resb_icu_text.proofs.blanks.skip_all.Given as goal
 
 abbrev pub invariant-skip : goal.invariant-skip
 invariant-skip l = record {

@@ -3,9 +3,10 @@
 use crate::say::{complain, refuse_memory, say_at};
 use crate::shown::Shown;
 use crate::streams::{InputError, most_bytes, read_input};
-use memchr::memchr_iter;
 use resb_diagnostics::location_of;
-use resb_icu_files::{FileNamed, FilesError, TakenIn, TextFile, files_taken, with_files};
+use resb_icu_files::{
+    FileNamed, FilesError, TakenIn, TextFile, files_taken, may_take_files, with_files,
+};
 use std::alloc::{AllocError, Global};
 use std::fmt;
 use std::path::Path;
@@ -165,29 +166,6 @@ pub(crate) fn taken_in(
             Err(taking.refuse(rt, &file, cause))
         }
         Err(FilesError::OutOfMemory) => Err(refuse_memory(rt, name)),
-    }
-}
-
-/// Whether a text may have a group that takes a file in.
-fn may_take_files(text: &str) -> bool {
-    let text = text.as_bytes();
-    for colon in memchr_iter(b':', text) {
-        if may_begin_at(text, colon) {
-            return true;
-        }
-    }
-    false
-}
-
-/// Whether the colon at a place may begin the type of such a group.
-fn may_begin_at(text: &[u8], colon: usize) -> bool {
-    match text.get(colon..) {
-        Some(kind) => {
-            kind.starts_with(b":process(")
-                || kind.starts_with(b":include")
-                || kind.starts_with(b":import")
-        }
-        None => false,
     }
 }
 

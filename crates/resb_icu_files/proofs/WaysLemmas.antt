@@ -1,12 +1,12 @@
 -- Laws of types of groups that take a file in, and of those groups.
 use Rattle.std.proofs.Common.{◌≡◌, ◌≢◌, ℕ, ◌+◌, Bool, true, false, List, [], ◌∷◌, length}
 use Rattle.std.proofs.Common.{arith, sym, refl, ap, ◌∙◌, subst, Some, None, drop, get_or}
-use Rattle.std.proofs.Common.{◌⊎◌, ⊎_elim, inl, inr, if◌then◌else◌}
+use Rattle.std.proofs.Common.{◌⊎◌, ⊎_elim, inl, inr, if◌then◌else◌, Option, ◌<◌, ◌≤◌, ◌-◌, ◌==◌}
 use Rattle.std.specs.List.{starts_with}
 use Rattle.std.proofs.lemmas.Bool.{false≢true}
 use Rattle.std.proofs.lemmas.List.{get_or-drop}
 use Rattle.std.proofs.lemmas.Bool.Decides.{nat_tests}
-use Rattle.std.specs.Prelude.{slice_index, nat_eq}
+use Rattle.std.specs.Prelude.{slice_index, nat_eq, nat_lt, is_some}
 use Rattle.resb_grammar.specs.Ascii as ascii
 use Rattle.resb_icu_grammar.specs.Blanks.{Skip}
 use Rattle.resb_icu_grammar.specs.Stuck.{NoStringAt}
@@ -146,3 +146,63 @@ way_colon text at kind e =
     (stands_at text at (spelling way.Include)) (stands_at text at (spelling way.Import))
     (stands_at text at (spelling way.Rules)) (stands_at text at (spelling way.CollationRules))
     way.Dependency way.Include way.Import way.Rules way.CollationRules kind e)
+
+is_colon : (b : ℕ) → b ≡ ascii.colon → (b == ascii.colon) ≡ true
+is_colon b e = grind (arith, nat_tests, e)
+
+-- where no colon stands, no type is spelt
+no_colon : (text : List ℕ) (at : ℕ) → (slice_index text at ≡ ascii.colon → ⊥)
+    → way_at text at ≡ None
+no_colon text at never = by (way_at text at) refl
+  where
+    by : (spelt : Option Way) → way_at text at ≡ spelt → way_at text at ≡ None
+    by None e = e
+    by (Some kind) e = absurd (never (way_colon text at kind e))
+
+-- among bytes of what is left of a text none of which is a colon, no type is spelt
+pub none_spelt : (text : List ℕ) (from n : ℕ)
+    → ((k : ℕ) → k < n → (slice_index (drop from text) k == ascii.colon) ≡ true → ⊥)
+    → (at : ℕ) → from ≤ at → at < from + n → way_at text at ≡ None
+none_spelt text from n never at low high =
+    let i : from + (at - from) ≡ at = omega arith in
+    let same : slice_index (drop from text) (at - from) ≡ slice_index text at =
+    get_or-drop from text (at - from) 0 ∙ ap (λ k. slice_index text k) i in
+    no_colon text at (λ e. never (at - from) (omega (arith, high)) (is_colon _ (same ∙ e)))
+
+-- where a type is spelt nowhere, no group takes a file in there
+pub no_group : (text : List ℕ) (at : ℕ) → way_at text at ≡ None → NoFileGroup text at
+no_group text at none kind brace last name group = absurd (cc (none, group.spelt))
+
+-- no type is spelt before the place behind the first colon of what is left, if none is there
+pub none_on : (text : List ℕ) (from n : ℕ) → ((at : ℕ) → at < from → way_at text at ≡ None)
+    → ((k : ℕ) → k < n → (slice_index (drop from text) k == ascii.colon) ≡ true → ⊥)
+    → is_some (way_at text (from + n)) ≡ false
+    → (at : ℕ) → at < from + (n + 1) → way_at text at ≡ None
+none_on text from n before never here at high = by (nat_lt at from) refl (nat_lt at (from + n)) refl
+  where
+    unsaid : (spelt : Option Way) → is_some spelt ≡ false → spelt ≡ None
+    unsaid None e = refl
+    unsaid (Some kind) e = absurd (cc e)
+
+    by : (a : Bool) → nat_lt at from ≡ a → (b : Bool) → nat_lt at (from + n) ≡ b
+        → way_at text at ≡ None
+    by true e b f = before at (grind (arith, nat_tests, e))
+    by false e true f =
+        none_spelt text from n never at (grind (arith, nat_tests, e)) (grind (arith, nat_tests, f))
+    by false e false f =
+        let i : from + n ≡ at = grind (arith, nat_tests, f, high) in
+        subst (λ k. way_at text k ≡ None) i (unsaid (way_at text (from + n)) here)
+
+-- if none is left, no type is spelt anywhere
+pub none_at_all : (text : List ℕ) (from : ℕ) → ((at : ℕ) → at < from → way_at text at ≡ None)
+    → ((k : ℕ) → (slice_index (drop from text) k == ascii.colon) ≡ true → ⊥)
+    → (at : ℕ) → NoFileGroup text at
+none_at_all text from before never at =
+    no_group text at (none_on text from at before (λ k lt. never k)
+    (nothing (way_at text (from + at)) refl) at (omega arith))
+  where
+    nothing : (spelt : Option Way) → way_at text (from + at) ≡ spelt
+        → is_some (way_at text (from + at)) ≡ false
+    nothing None e = ap is_some e
+    nothing (Some kind) e = absurd (never at (is_colon _ (get_or-drop from text at 0
+        ∙ way_colon text (from + at) kind e)))

@@ -19,3 +19,4 @@ pub use error::FilesError;
 pub use file::{FileNamed, TextFile};
 pub use taken::{Change, TakenIn};
 pub use taking_in::{files_taken, with_files};
+pub use way::may_take_files;

@@ -1,7 +1,9 @@
 //! The types of groups that take a file in, and where one is spelt.
 //! What is written for each is said in `making`.
-ghost use Rattle.std.specs.Prelude.{◌≡◌, ◌+◌, ◌≤◌, length, IsTrue, IfSome};
+ghost use Rattle.std.specs.Prelude.{◌≡◌, ◌+◌, ◌≤◌, ℕ, false, Some, length, IsTrue, IfSome};
 ghost use Rattle.resb_icu_files.specs.Ways as spec;
+
+use memchr::memchr;
 
 /// How a group takes a file in.
 #[derive(Clone, Copy, Debug, PartialEq, Eq)]
@@ -66,4 +68,22 @@ pub(crate) fn way_at(text: &[u8], at: usize) -> Option<Way>
         return Some(Way::CollationRules);
     }
     None
+}
+
+/// Whether a text may take files in: the type of a group that does is spelt somewhere, be it in a
+/// string or a comment.
+pub fn may_take_files(text: &str) -> bool
+    ensures never { result ≡ false → (at : ℕ) → spec.NoFileGroup text.now at }
+    ensures spelt { IsTrue result → (at : ℕ) × (kind : Way)
+        × (spec.way_at text.now at ≡ Some kind) }
+{
+    let bytes = text.as_bytes();
+    let mut from = 0;
+    'colons: while let Some(skipped) = memchr(b':', &bytes[from..]) {
+        if way_at(bytes, from + skipped).is_some() {
+            return true;
+        }
+        from += skipped + 1;
+    }
+    false
 }

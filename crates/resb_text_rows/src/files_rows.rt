@@ -1,6 +1,6 @@
 //! Texts of ICU's form that name other files, and what they are taken in as beside some.
 //! What the program makes of such texts stands in `tests/sessions`.
-use resb_icu_files::{TakenIn, TextFile, files_taken, with_files};
+use resb_icu_files::{TakenIn, TextFile, files_taken, may_take_files, with_files};
 use std::alloc::{AllocError, Global};
 use std::test::Fail;
 
@@ -136,5 +136,7 @@ fn names_in(alloc: Global, text: &str) -> Result<String, Fail> {
 fn files_are_named(rt: HostRuntime) -> Result<(), Fail> {
     let text = "b{x:import{g}y:process(dependency){z}w:include{f}}";
     assert!(rt; names_in(rt.alloc(), text)?.as_str() == "gf");
+    assert!(rt; may_take_files(text));
+    assert!(rt; !may_take_files("b{x:int{1}y:bin{}z{\":imp\"}}"));
     Ok(())
 }

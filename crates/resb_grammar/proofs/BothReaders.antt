@@ -4,12 +4,13 @@ use Rattle.std.proofs.Common.{arith}
 use Rattle.std.proofs.Common.{◌∷◌, length, get_or, drop, refl, sym, ◌∙◌, ap, subst, Some}
 use Rattle.std.proofs.Common.{add-one, drop-cons}
 use Rattle.std.proofs.lemmas.Bool.{false≢true}
+use Rattle.std.proofs.lemmas.Bool.Decides.{nat_tests}
+use Rattle.std.specs.Char.{is_ascii_digit, digit_value}
 use Rattle.std.specs.Prelude.{◌↔◌, slice_get, slice_index, if◌then◌else◌}
 use Rattle.resb_grammar.specs.Ascii as ascii
 use Rattle.resb_grammar.specs.Lexical.{digits_value}
 use Rattle.resb_grammar.specs.GroupTypes.{table_kind, Stands}
 use Rattle.resb_grammar.specs.Items.{Item, is_pairs, shape_of, a_table, an_array}
-use Rattle.resb_grammar.specs.Kinds.{group_kind_of}
 use Rattle.resb_grammar.specs.declared.group_kind.Kind as code
 use Rattle.resb_grammar.specs.declared.group_kind.Kind.TheVariants as names
 
@@ -25,7 +26,7 @@ stands_next text xs here i b Q low is there h =
     (λ s. k.0 (there, s), λ q. (k.1 q).1)
 
 -- the code's names differ where the types do
-pub not_table : (k : code.Kind) → (k ≡ names.Table → ⊥) → group_kind_of k ≢ table_kind
+pub not_table : (k : code.Kind) → (k ≡ names.Table → ⊥) → k ≢ table_kind
 not_table names.Table h e = h refl
 not_table names.String h e = absurd cc
 not_table names.Array h e = absurd cc
@@ -33,14 +34,18 @@ not_table names.Binary h e = absurd cc
 not_table names.Integer h e = absurd cc
 not_table names.IntVector h e = absurd cc
 
+-- a decimal digit's value is how far behind `0` it stands
+pub decimal_value : (b : ℕ) → is_ascii_digit b ≡ true → digit_value b ≡ b - ascii.digit_0
+decimal_value b h = grind (arith, nat_tests, h)
+
 -- the number that one digit more says
 pub digits_value-suc : (text : List ℕ) (from at n m : ℕ) → at ≡ from + n → m ≡ suc n
-    → digits_value text from m ≡ digits_value text from n * 10 +
-    (slice_index text at - ascii.digit_0)
+    → digits_value 10 text from m ≡ digits_value 10 text from n * 10 +
+    digit_value (slice_index text at)
 digits_value-suc text from at n m e e' =
-    subst (λ k. digits_value text from k ≡ digits_value text from n * 10 +
-    (slice_index text at - ascii.digit_0)) (sym e')
-    (ap (λ k. digits_value text from n * 10 + (slice_index text k - ascii.digit_0)) (sym e))
+    subst (λ k. digits_value 10 text from k ≡ digits_value 10 text from n * 10 +
+    digit_value (slice_index text at)) (sym e')
+    (ap (λ k. digits_value 10 text from n * 10 + digit_value (slice_index text k)) (sym e))
 
 -- keys and groups in turn are a table
 pub pairs_are_table : (xs : List Item) → is_pairs xs ≡ true → shape_of xs ≡ a_table
@@ -50,12 +55,13 @@ pairs_are_table (x ∷ y ∷ xs) e = ap (λ b. if b then a_table else an_array) 
 
 -- one digit more, as far as a number of 32 bits goes
 pub decimal_more : (text : List ℕ) (from at value next : ℕ) → from ≤ at
-    → value ≡ min (digits_value text from (at - from)) 4294967296
+    → value ≡ min (digits_value 10 text from (at - from)) 4294967296
     → next ≡ min (value * 10 + (slice_index text at - ascii.digit_0)) 4294967296
-    → next ≡ min (digits_value text from (at + 1 - from)) 4294967296
-decimal_more text from at value next order is more =
-    let d : digits_value text from (at + 1 - from) ≡ digits_value text from (at - from) * 10 +
-    (slice_index text at - ascii.digit_0) = digits_value-suc text from at (at - from)
+    → is_ascii_digit (slice_index text at) ≡ true
+    → next ≡ min (digits_value 10 text from (at + 1 - from)) 4294967296
+decimal_more text from at value next order is more digit =
+    let d : digits_value 10 text from (at + 1 - from) ≡ digits_value 10 text from (at - from) * 10 +
+    digit_value (slice_index text at) = digits_value-suc text from at (at - from)
     (at + 1 - from)
     (omega arith) (omega arith) in
-    omega (arith, d, is, more)
+    omega (arith, d, is, more, decimal_value (slice_index text at) digit)

@@ -20,8 +20,8 @@ use Rattle.resb_grammar.specs.Machine.{a_text, a_number, opening, closing, a_com
 use Rattle.resb_grammar.specs.Machine.{table_body, array_body, untyped_body, Frame, Title, Open}
 use Rattle.resb_grammar.specs.Machine.{at_start, after_lone_comma, after_number, after_comma}
 use Rattle.resb_grammar.specs.Machine.{inside, typed, in_binary, filled, in_vector, finished}
-use Rattle.resb_grammar.specs.Machine.{is_key_place, when, unless, with_term, within, begun_as}
-use Rattle.resb_grammar.specs.Machine.{leave, next, At}
+use Rattle.resb_grammar.specs.Machine.{is_key_place, in_table, with_term, within, begun_as}
+use Rattle.resb_grammar.specs.Machine.{next, At}
 use Rattle.resb_grammar.proofs.Lex.{neither, text_class, number_class, open_class}
 use Rattle.resb_grammar.proofs.Lex.{close_class, comma_class, type_class}
 use Rattle.resb_grammar.specs.Inner.Half.{is_half}
@@ -56,7 +56,7 @@ pub opens_next : (title : Title) (body : Body) (xs : List Item) (around : List F
     → next (inside (open_at title body xs around)) opening ≡ Some
     (inside (within untyped_body (open_at title body xs around)))
 opens_next title table_body xs around h =
-    ap (λ b. unless b (inside (within untyped_body (open_at title table_body xs around)))) h
+    ap (in_table (open_at title table_body xs around) opening) h
 opens_next title array_body xs around h = refl
 opens_next title untyped_body xs around h = refl
 
@@ -66,7 +66,7 @@ pub type_next : (title : Title) (body : Body) (xs : List Item) (around : List Fr
     → next (inside (open_at title body xs around)) (a_type kind) ≡ Some
     (typed kind (open_at title body xs around))
 type_next title table_body xs around kind h =
-    ap (λ b. unless b (typed kind (open_at title table_body xs around))) h
+    ap (in_table (open_at title table_body xs around) (a_type kind)) h
 type_next title array_body xs around kind h = refl
 type_next title untyped_body xs around kind h = refl
 
@@ -199,8 +199,8 @@ module _ (text : List ℕ) where
           s,
           w,
           refl,
-        ) (ap (λ b. when b (inside (open_at title table_body
-        (items.plain (items.string_term s) ∷ ys) around))) (key_place-pairs ys h)) skip
+        ) (ap (in_table (open_at title table_body ys around) (a_text s))
+        (key_place-pairs ys h)) skip
     run_table from to xs (group_item _ i j _ ys t ks rest g skip) h title around at =
         run_group i j t ks g title table_body ys around (half-group ys h).1
         (run_table from i ys rest (half-group ys h).0 title around at) to skip
@@ -245,8 +245,8 @@ module _ (text : List ℕ) where
         (byte_class text neither k ascii.right_brace close_class h' refl) (
           refl,
           refl,
-        ) (ap (λ b. when b (leave title (record { body = table_body; items = xs })
-        (record { body = body; items = ys } ∷ around))) (key_place-pairs xs pairs)) after
+        ) (ap (in_table (open_at title table_body xs (record { body = body; items = ys } ∷ around))
+        closing) (key_place-pairs xs pairs)) after
     run_group from to t ks
         (typed_array _ i k xs head inner h') title body ys around may at last after =
         let opened : At text i (inside (within array_body (open_at title body ys around))) =
@@ -285,5 +285,5 @@ module _ (text : List ℕ) where
       (byte_class text neither b.last ascii.right_brace close_class b.closes refl) (
         refl,
         refl,
-      ) (ap (λ x. when x (finished (record { name = name; fallback = fallback }) b.items))
-      (key_place-pairs b.items b.pairs)) b.after
+      ) (ap (in_table (open_at (record { name = name; fallback = fallback }) table_body b.items [])
+      closing) (key_place-pairs b.items b.pairs)) b.after

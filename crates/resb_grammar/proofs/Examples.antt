@@ -4,8 +4,9 @@ use Rattle.std.proofs.Common.{◌∷◌, length, refl, sym, subst, ◌∙◌, ar
 use Rattle.std.specs.Prelude.{◌&&◌, ◌==◌, not, slice_index, slice_range, codes}
 use Rattle.std.proofs.lemmas.Bool.{false≢true, and_parts}
 use Rattle.std.proofs.lemmas.Bool.Decides.{nat_tests}
+use Rattle.std.specs.Char.{is_ascii_digit}
 use Rattle.resb_tree.specs.Tree.{Tree, string, array, table, binary, integer, trees_of, map_of}
-use Rattle.resb_grammar.specs.ByteRuns.{is_white, is_word, is_digit, Run}
+use Rattle.resb_grammar.specs.ByteRuns.{is_white, is_word, Run}
 use Rattle.resb_grammar.specs.Lexical.{Comment, line, block, none, comment, Skip, Text, quoted}
 use Rattle.resb_grammar.specs.Lexical.{unquoted, Number, unsigned, plus, minus}
 use Rattle.resb_grammar.specs.Items as items
@@ -88,7 +89,7 @@ word_at text from n h stop fits some =
 
 -- words, white characters
 white_examples : (is_white 32 ≡ true) × (is_white 10 ≡ true) × (is_white 11 ≡ false)
-    × (is_word 45 ≡ true) × (is_word 95 ≡ false) × (is_digit 57 ≡ true) × (is_digit 47 ≡ false)
+    × (is_word 45 ≡ true) × (is_word 95 ≡ false) × (is_ascii_digit 57 ≡ true) × (is_ascii_digit 47 ≡ false)
 white_examples = (refl, refl, refl, refl, refl, refl, refl)
 
 -- hex digits come in pairs, of either case
@@ -135,7 +136,7 @@ tree_examples = (refl, refl, refl, refl, refl)
 number_accepted : Number (codes "4294967295") 0 10 4294967295
 number_accepted =
     unsigned (record {
-      run = run_of is_digit (codes "4294967295") 0 10 refl refl (lit≤ tt);
+      run = run_of is_ascii_digit (codes "4294967295") 0 10 refl refl (lit≤ tt);
       some = omega arith;
       means = refl;
     }) (lit≤ tt)
@@ -143,7 +144,7 @@ number_accepted =
 number_minus : Number (codes "-1") 0 2 4294967295
 number_minus =
     minus 1 refl (record {
-      run = run_of is_digit (codes "-1") 1 1 refl refl (lit≤ tt);
+      run = run_of is_ascii_digit (codes "-1") 1 1 refl refl (lit≤ tt);
       some = omega arith;
       means = refl;
     }) (lit≤ tt) refl
@@ -152,8 +153,8 @@ number_refused : (to v : ℕ) → Number (codes "4294967296") 0 to v → ⊥
 number_refused to v (plus h d low) = absurd (omega arith)
 number_refused to v (minus n h d low is) = absurd (omega arith)
 number_refused to v (unsigned d low) =
-    let e : to ≡ 10 = Run-one is_digit (codes "4294967296") 0 to 10 d.run
-    (run_of is_digit (codes "4294967296") 0 10 refl refl (lit≤ tt)) in
+    let e : to ≡ 10 = Run-one is_ascii_digit (codes "4294967296") 0 to 10 d.run
+    (run_of is_ascii_digit (codes "4294967296") 0 10 refl refl (lit≤ tt)) in
     let is : v ≡ 4294967296 = rw e at d.means in
     omega arith
 
@@ -352,7 +353,7 @@ vector_accepted =
     one : Number (codes "1,}") 0 1 1
     one =
         unsigned (record {
-          run = run_of is_digit (codes "1,}") 0 1 refl refl (lit≤ tt);
+          run = run_of is_ascii_digit (codes "1,}") 0 1 refl refl (lit≤ tt);
           some = omega arith;
           means = refl;
         }) (lit≤ tt)

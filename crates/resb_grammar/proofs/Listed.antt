@@ -10,7 +10,7 @@ use Rattle.resb_tree.specs.Tree.{Tree, Entries, no_entries, entry, trees_of, put
 use Rattle.resb_tree.specs.Keys.{is_key, is_key_in, is_key_of, same_text}
 use Rattle.resb_grammar.specs.Items.{Term, string_term, group_term, Item, term_tree}
 use Rattle.resb_grammar.specs.Items.{term_text, term_keys, inner_keys, is_entry}
-use Rattle.resb_grammar.specs.Items.{is_pairs, pairs_in, item_trees, keys_by}
+use Rattle.resb_grammar.specs.Items.{is_pairs, pairs_in, item_trees, item_keys}
 use Rattle.resb_grammar.specs.Items.{a_table, an_array, shape_of_one, shape_of}
 use Rattle.resb_grammar.specs.Items.{tree_in, keys_in}
 use Rattle.resb_grammar.specs.Group.{Items, nothing, string_item, group_item, comma, Group, untyped}
@@ -143,12 +143,12 @@ first_entry false b e = absurd (false≢true e)
 
 -- an array's keys, from its terms
 trees_listed : (k : List ℕ) (xs : List Item) → AllList xs
-    → is_key_in k (trees_of (item_trees xs)) ≡ true → In k (keys_by inner_keys xs)
+    → is_key_in k (trees_of (item_trees xs)) ≡ true → In k (item_keys inner_keys xs)
 trees_listed k [] l e = absurd (false≢true e)
 trees_listed k (x ∷ xs) l e = ⊎_elim
-    (λ (w : is_key_in k (trees_of (item_trees xs)) ≡ true). in_left k (keys_by inner_keys xs) _
+    (λ (w : is_key_in k (trees_of (item_trees xs)) ≡ true). in_left k (item_keys inner_keys xs) _
     (trees_listed k xs l.1 w))
-    (λ (w : is_key k (term_tree x.term) ≡ true). in_right k (keys_by inner_keys xs) _
+    (λ (w : is_key k (term_tree x.term) ≡ true). in_right k (item_keys inner_keys xs) _
     (inner_lists k x.term l.0 w))
     (last_tree k (item_trees xs) (term_tree x.term) e)
   where
@@ -183,14 +183,14 @@ last_pair k x y before h l (inl (inr e)) =
 last_pair k x y before h l (inr e) = absurd e
 
 pairs_listed : (k : List ℕ) (xs : List Item) → is_pairs xs ≡ true → AllList xs
-    → KeyOf k (pairs_in xs) → In k (keys_by term_keys xs)
+    → KeyOf k (pairs_in xs) → In k (item_keys term_keys xs)
 pairs_listed k [] h l e = absurd e
 pairs_listed k (x ∷ []) h l e = absurd e
 pairs_listed k (x ∷ y ∷ xs) h l e = ⊎_elim
     (λ (w : KeyOf k (pairs_in xs)). in_left k _ (term_keys x.term)
     (in_left k _ (term_keys y.term) (pairs_listed k xs (rest_pairs _ _ h) (l.1).1 w)))
     (λ (w : KeyOf k ((term_text y.term, term_tree x.term) ∷ [])). last_pair k x y
-    (keys_by term_keys xs) (first_entry _ _ h) l.0 w)
+    (item_keys term_keys xs) (first_entry _ _ h) l.0 w)
     (KeyOf-append k (pairs_in xs) _ e)
 
 table_listed : (k : List ℕ) (xs : List Item) → is_pairs xs ≡ true → AllList xs

@@ -4,8 +4,9 @@ use Rattle.std.proofs.Common.{arith, Some, None}
 use Rattle.std.specs.Prelude.{◌==◌, cond, slice_index}
 use Rattle.std.proofs.lemmas.Bool.{false≢true, or_right}
 use Rattle.std.proofs.lemmas.Bool.Decides.{nat_tests}
+use Rattle.std.specs.Char.{is_ascii_digit}
 use Rattle.resb_grammar.specs.Ascii as ascii
-use Rattle.resb_grammar.specs.ByteRuns.{is_word, is_digit, is_number_start}
+use Rattle.resb_grammar.specs.ByteRuns.{is_word, is_number_start}
 use Rattle.resb_grammar.specs.Lexical.{Skip, Text, quoted, unquoted, Number, unsigned, plus, minus}
 use Rattle.resb_grammar.specs.GroupTypes.{RootType, table_type, no_fallback_type}
 use Rattle.resb_grammar.specs.Machine.{Token, Means, State, start, next, Move, begun, went, At}
@@ -47,7 +48,7 @@ class_text text from to s (unquoted r some is) =
     if_true _ _ _ (or_right (slice_index text from == ascii.quote) (is_word (slice_index text from))
     (r.each from (omega arith) some))
 
-digit_start : (b : ℕ) → is_digit b ≡ true → is_number_start b ≡ true
+digit_start : (b : ℕ) → is_ascii_digit b ≡ true → is_number_start b ≡ true
 digit_start b h = grind (arith, nat_tests)
 
 started : (b : ℕ) → is_number_start b ≡ true → class_in numbers b ≡ number_class

@@ -1,7 +1,7 @@
 -- What is read to its end is in the grammar.
 use Rattle.std.proofs.Common.{◌≡◌, ℕ, zero, suc, ◌+◌, Bool, true, false, List, [], ◌∷◌, ◌++◌}
 use Rattle.std.proofs.Common.{length, refl, sym, ◌∙◌, ap, subst, Option, Some, None}
-use Rattle.std.specs.Prelude.{slice_index, IfSome}
+use Rattle.std.specs.Prelude.{slice_index, IfSome, if◌then◌else◌}
 use Rattle.std.specs.Option.{option_map}
 use Rattle.resb_grammar.specs.Ascii as ascii
 use Rattle.resb_tree.specs.Tree.{Tree, binary, int_vector}
@@ -23,7 +23,7 @@ use Rattle.resb_grammar.specs.Machine.{a_root_type, Body, table_body, array_body
 use Rattle.resb_grammar.specs.Machine.{Frame, Title, Open, VectorStage, at_start, after_lone_comma}
 use Rattle.resb_grammar.specs.Machine.{after_number, after_comma, State, start, named, titled}
 use Rattle.resb_grammar.specs.Machine.{inside, typed, in_string, in_binary, in_integer, filled}
-use Rattle.resb_grammar.specs.Machine.{in_vector, finished, is_key_place, when, unless, leave}
+use Rattle.resb_grammar.specs.Machine.{in_vector, finished, is_key_place, leave}
 use Rattle.resb_grammar.specs.Machine.{with_term, within, begun_as, next_in_vector}
 use Rattle.resb_grammar.specs.Machine.{in_body, next, TokenStep, Path, begun, went, At}
 use Rattle.resb_grammar.specs.Inner.Half.{is_half}
@@ -100,14 +100,6 @@ module _ (text : List ℕ) where
 
   abbrev GoodNext : Option State → ℕ → Type 0
   GoodNext o at = IfSome o (λ s. Good s at)
-
-  when_good : (b : Bool) (s : State) (at : ℕ) → (b ≡ true → Good s at) → GoodNext (when b s) at
-  when_good true s at f = f refl
-  when_good false s at f = tt
-
-  unless_good : (b : Bool) (s : State) (at : ℕ) → (b ≡ false → Good s at) → GoodNext (unless b s) at
-  unless_good true s at f = tt
-  unless_good false s at f = f refl
 
   after_one : (from ends to : ℕ) → ends ≡ from + 1 → Skip text ends to → Skip text (from + 1) to
   after_one from ends to e skip = subst (λ n. Skip text n to) e skip
@@ -208,25 +200,24 @@ module _ (text : List ℕ) where
   untyped_no e = cc
 
   table_next : (title : Title) (xs : List Item) (around : List Frame) (from ends to : ℕ) (t : Token)
+      (key : Bool) → is_key_place xs ≡ key
       → Spelled title from table_body xs around → Means text from ends t → Skip text ends to
-      → GoodNext (machine.in_table (open_at title table_body xs around) t) to
-  table_next title xs around from ends to (a_text s) good m skip =
-      when_good (is_key_place xs)
-      (inside (open_at title table_body (items.plain (items.string_term s) ∷ xs) around)) to
-      (λ k. add_string title from ends to table_body xs around s good (λ _. k) m skip)
-  table_next title xs around from ends to closing good m skip =
-      when_good (is_key_place xs) (leave title (record { body = table_body; items = xs }) around) to
-      (λ k. left title from ends to table_body xs around good (λ _. k) m.0 m.1 skip)
-  table_next title xs around from ends to opening good m skip =
-      unless_good (is_key_place xs)
-      (inside (within untyped_body (open_at title table_body xs around))) to
-      (λ k. (from, to, good, k, (m.0, after_one from ends to m.1 skip), nothing to, tt))
-  table_next title xs around from ends to (a_type kind) good m skip =
-      unless_good (is_key_place xs) (typed kind (open_at title table_body xs around)) to
-      (λ k. (from, ends, good, k, m, skip))
-  table_next title xs around from ends to a_comma good m skip = tt
-  table_next title xs around from ends to (a_number v) good m skip = tt
-  table_next title xs around from ends to (a_root_type fallback) good m skip = tt
+      → GoodNext (machine.in_table (open_at title table_body xs around) t key) to
+  table_next title xs around from ends to (a_text s) true k good m skip =
+      add_string title from ends to table_body xs around s good (λ _. k) m skip
+  table_next title xs around from ends to (a_text s) false k good m skip = tt
+  table_next title xs around from ends to closing true k good m skip =
+      left title from ends to table_body xs around good (λ _. k) m.0 m.1 skip
+  table_next title xs around from ends to closing false k good m skip = tt
+  table_next title xs around from ends to opening true k good m skip = tt
+  table_next title xs around from ends to opening false k good m skip =
+      (from, to, good, k, (m.0, after_one from ends to m.1 skip), nothing to, tt)
+  table_next title xs around from ends to (a_type kind) true k good m skip = tt
+  table_next title xs around from ends to (a_type kind) false k good m skip =
+      (from, ends, good, k, m, skip)
+  table_next title xs around from ends to a_comma key k good m skip = tt
+  table_next title xs around from ends to (a_number v) key k good m skip = tt
+  table_next title xs around from ends to (a_root_type fallback) key k good m skip = tt
 
   list_may : (body : Body) (xs : List Item) → (body ≡ table_body → ⊥) → MayOpen body xs
   list_may table_body xs h = absurd (h refl)
@@ -260,7 +251,8 @@ module _ (text : List ℕ) where
       → (body ≡ table_body → ⊥)
       → Spelled title from body (record { term = m; comma = f } ∷ xs) around
       → slice_index text from ≡ ascii.comma → Skip text (from + 1) to
-      → GoodNext (unless f (inside (open_at title body (before_comma m ∷ xs) around))) to
+      → GoodNext (if f then None else Some (inside (open_at title body (before_comma m ∷ xs)
+      around))) to
   comma_good title body m true xs around from to other good b skip = tt
   comma_good title body m false xs around from to other good b skip =
       add_comma title body m xs around from to other good b skip
@@ -300,7 +292,7 @@ module _ (text : List ℕ) where
       → Spelled title from body xs around → Means text from ends t → Skip text ends to
       → GoodNext (in_body body (open_at title body xs around) t) to
   body_next table_body title xs around from ends to t good m skip =
-      table_next title xs around from ends to t good m skip
+      table_next title xs around from ends to t (is_key_place xs) refl good m skip
   body_next array_body title xs around from ends to t good m skip =
       list_next title array_body xs around from ends to t array_no good m skip
   body_next untyped_body title xs around from ends to t good m skip =

@@ -1,14 +1,15 @@
 -- A place has one reading: tokens, steps and paths are determined.
-use Rattle.std.proofs.Common.{◌≡◌, ℕ, zero, suc, ◌+◌, ◌-◌, ◌<◌, ◌≤◌, Bool, true, false, List}
+use Rattle.std.proofs.Common.{◌≡◌, ℕ, zero, suc, ◌+◌, ◌-◌, ◌<◌, ◌≤◌, Bool, true, false, List, ◌⊎◌}
 use Rattle.std.proofs.Common.{length, arith, subst, sym, refl, ◌∙◌, ap, ⊎_elim, Option, Some, None}
 use Rattle.std.proofs.Common.{cond}
 use Rattle.std.specs.Prelude.{◌||◌, ◌==◌, nat_eq, codes, slice_index, slice_range}
 use Rattle.std.specs.Cmp.Lexicographic.{pointwise}
 use Rattle.std.proofs.lemmas.Bool.{cases_lt, false≢true}
 use Rattle.std.proofs.lemmas.Bool.Decides.{nat_tests}
+use Rattle.std.specs.Char.{is_ascii_digit}
 use Rattle.resb_grammar.specs.Ascii as ascii
-use Rattle.resb_grammar.specs.ByteRuns.{is_word, is_white, is_digit, Run, FirstQuote}
-use Rattle.resb_grammar.specs.Lexical.{EndsLine, LineRest, FirstCloser, Comment, line, block}
+use Rattle.resb_grammar.specs.ByteRuns.{is_word, is_white, Run, FirstQuote}
+use Rattle.resb_grammar.specs.Lexical.{LineRest, FirstCloser, Comment, line, block}
 use Rattle.resb_grammar.specs.Lexical.{Blanks}
 use Rattle.resb_grammar.specs.Lexical.{none, white, comment, IsSolid, Skip, Text, quoted, unquoted}
 use Rattle.resb_grammar.specs.Lexical.{digits_value, Digits, negated, Number, unsigned, plus, minus}
@@ -37,7 +38,10 @@ pub FirstCloser-one : (text : List ℕ) (from a b : ℕ) → FirstCloser text fr
 FirstCloser-one text from a b p q =
     places_meet a b (λ w. q.first a p.order w p.closer) (λ w. p.first b q.order w q.closer)
 
-line_stops : (text : List ℕ) (at to : ℕ) → EndsLine text at → at < to → to ≤ length text
+line_stops : (text : List ℕ) (at to : ℕ) → (at ≡ length text)
+    ⊎ ((slice_index text at ≡ ascii.line_feed)
+    ⊎ ((slice_index text at ≡ ascii.carriage_return)
+    × (slice_index text (at + 1) ≡ ascii.line_feed))) → at < to → to ≤ length text
     → (slice_index text at == ascii.line_feed || slice_index text at == ascii.carriage_return) ≡
     false
     → ⊥
@@ -108,12 +112,12 @@ Text-one text from a b s t (unquoted r some is) (unquoted r' some' is') =
 pub Digits-one : (text : List ℕ) (from a b v w : ℕ) → Digits text from a v → Digits text from b w
     → (a ≡ b) × (v ≡ w)
 Digits-one text from a b v w d d' =
-    let k : a ≡ b = Run-one is_digit text from a b d.run d'.run in
-    (k, d.means ∙ ap (λ n. digits_value text from (n - from)) k ∙ sym d'.means)
+    let k : a ≡ b = Run-one is_ascii_digit text from a b d.run d'.run in
+    (k, d.means ∙ ap (λ n. digits_value 10 text from (n - from)) k ∙ sym d'.means)
 
 sign_digit : (text : List ℕ) (from to v : ℕ) → Digits text from to v → 48 ≤ slice_index text from
 sign_digit text from to v d =
-    let k : is_digit (slice_index text from) ≡ true = d.run.each from (omega arith) d.some in
+    let k : is_ascii_digit (slice_index text from) ≡ true = d.run.each from (omega arith) d.some in
     grind (arith, nat_tests)
 
 pub Number-one : (text : List ℕ) (from a b v w : ℕ) → Number text from a v → Number text from b w

@@ -45,29 +45,9 @@ slash = 47
 abbrev pub digit_0 : ℕ
 digit_0 = 48
 
--- the character 9
-abbrev pub digit_9 : ℕ
-digit_9 = 57
-
 -- the character :
 abbrev pub colon : ℕ
 colon = 58
-
--- the character A
-abbrev pub upper_a : ℕ
-upper_a = 65
-
--- the character F
-abbrev pub upper_f : ℕ
-upper_f = 70
-
--- the character a
-abbrev pub lower_a : ℕ
-lower_a = 97
-
--- the character f
-abbrev pub lower_f : ℕ
-lower_f = 102
 
 -- the character {
 abbrev pub left_brace : ℕ

@@ -17,13 +17,9 @@ is_line_end b = b == ascii.line_feed || b == ascii.carriage_return
 abbrev pub is_word : ℕ → Bool
 is_word b = is_ascii_alphanumeric b || b == ascii.dash
 
--- decimal digits
-abbrev pub is_digit : ℕ → Bool
-is_digit b = is_ascii_digit b
-
 -- a sign or a digit
 abbrev pub is_number_start : ℕ → Bool
-is_number_start b = (b == ascii.plus || b == ascii.dash) || is_digit b
+is_number_start b = (b == ascii.plus || b == ascii.dash) || is_ascii_digit b
 
 -- each byte from `from` on and before `to` passes
 abbrev pub Each : (ℕ → Bool) → List ℕ → ℕ → ℕ → Type 0

@@ -1,6 +1,7 @@
 -- Groups and their items, as least relations on a text and two places.
-use Rattle.std.specs.Prelude.{◌≡◌, ℕ, ◌+◌, ◌*◌, ◌-◌, ◌%◌, ◌^◌, Bool, true, false, ◌&&◌, ◌||◌, List}
-use Rattle.std.specs.Prelude.{[], ◌∷◌, ◌++◌, Option, Some, None, slice_index, nat_le, if◌then◌else◌}
+use Rattle.std.specs.Prelude.{◌≡◌, ℕ, ◌+◌, ◌*◌, ◌%◌, ◌^◌, Bool, true, false, ◌&&◌, List, []}
+use Rattle.std.specs.Prelude.{◌∷◌, ◌++◌, Option, Some, None, slice_index}
+use Rattle.std.specs.Char.{is_digit, digit_value}
 use Rattle.std.specs.Option.{option_map}
 use Rattle.resb_grammar.specs.Ascii as ascii
 use Rattle.resb_tree.specs.Tree.{Tree, string, binary, integer, int_vector}
@@ -10,21 +11,9 @@ use Rattle.resb_grammar.specs.Items.{is_pairs, a_table, an_array, shape_of, tree
 use Rattle.resb_grammar.specs.GroupTypes.{Kind, string_kind, array_kind, table_kind, binary_kind}
 use Rattle.resb_grammar.specs.GroupTypes.{integer_kind, vector_kind, TypedOpening}
 
--- the bytes from one byte to another
-abbrev pub is_between : ℕ → ℕ → ℕ → Bool
-is_between low high b = nat_le low b && nat_le b high
-
 -- hex digits, of either case
 abbrev pub is_hex : ℕ → Bool
-is_hex b =
-    is_between ascii.digit_0 ascii.digit_9 b ||
-    (is_between ascii.upper_a ascii.upper_f b || is_between ascii.lower_a ascii.lower_f b)
-
--- the value of a hex digit
-abbrev pub hex_value : ℕ → ℕ
-hex_value b =
-    if is_between ascii.digit_0 ascii.digit_9 b then b - ascii.digit_0 else if is_between
-    ascii.upper_a ascii.upper_f b then b - ascii.upper_a + 10 else b - ascii.lower_a + 10
+is_hex b = is_digit b 16
 
 -- a byte in front of others, where the byte was good and the others are some
 abbrev pub byte_before : Bool → ℕ → Option (List ℕ) → Option (List ℕ)
@@ -36,7 +25,7 @@ abbrev pub hex_bytes : List ℕ → Option (List ℕ)
 hex_bytes [] = Some []
 hex_bytes (h ∷ []) = None
 hex_bytes (h ∷ l ∷ rest) =
-    byte_before (is_hex h && is_hex l) (hex_value h * 16 + hex_value l) (hex_bytes rest)
+    byte_before (is_hex h && is_hex l) (digit_value h * 16 + digit_value l) (hex_bytes rest)
 
 -- numbers with one comma between two of them
 pub data Numbers (text : List ℕ) (from : ℕ) : ℕ → List ℕ → Type 0 where

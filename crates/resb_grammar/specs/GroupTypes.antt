@@ -1,18 +1,18 @@
--- Types of groups, as a text names them.
+-- Types of groups, as a text names them. The types themselves are those of the code.
+pub use Rattle.resb_grammar.specs.declared.group_kind.Kind.{Kind}
+pub use Rattle.resb_grammar.specs.declared.group_kind.Kind.TheVariants.{
+  String as string_kind,
+  Array as array_kind,
+  Table as table_kind,
+  Binary as binary_kind,
+  Integer as integer_kind,
+  IntVector as vector_kind,
+}
 use Rattle.std.specs.Prelude.{◌≡◌, ℕ, ◌+◌, ◌⊎◌, Bool, true, false, List, [], ◌∷◌, Some, slice_get}
 use Rattle.std.specs.Prelude.{slice_index, slice_range, codes}
 use Rattle.resb_grammar.specs.Ascii as ascii
 use Rattle.resb_grammar.specs.ByteRuns.{is_word, Run}
 use Rattle.resb_grammar.specs.Lexical.{Skip}
-
--- the types that a group may name
-pub data Kind : Type 0 where
-  string_kind : Kind
-  array_kind : Kind
-  table_kind : Kind
-  binary_kind : Kind
-  integer_kind : Kind
-  vector_kind : Kind
 
 -- this is a name of the type
 abbrev pub Names : List ℕ → Kind → Type 0

@@ -34,12 +34,16 @@ StuckInOneWay {X} IsStuck =
     (text : List ℕ) (at place : ℕ) (x y : X) → IsStuck text at x → IsStuck text place y
     → (at ≡ place) × (x ≡ y)
 
+-- a text is no bundle of a form, of any name, fallback, tree and keys
+abbrev pub IsNone : Texts → List ℕ → Type 0
+IsNone IsText text =
+    (name : List ℕ) (fallback : Bool) (tree : Tree) (keys : List (List ℕ))
+    → IsText text name fallback tree keys → ⊥
+
 -- a text whose reading gets stuck is no bundle
 abbrev pub StuckIsNoText : {X : Type 0} → Sticking X → Texts → Type 0
 StuckIsNoText {X} IsStuck IsText =
-    (text : List ℕ) (at : ℕ) (x : X) → IsStuck text at x
-    → (name : List ℕ) (fallback : Bool) (tree : Tree) (keys : List (List ℕ))
-    → IsText text name fallback tree keys → ⊥
+    (text : List ℕ) (at : ℕ) (x : X) → IsStuck text at x → IsNone IsText text
 
 -- a text whose reading goes on to its end is the bundle of the entries read
 abbrev pub ReadToTheEndIsABundle : Type 0

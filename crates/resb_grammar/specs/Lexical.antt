@@ -1,25 +1,19 @@
 -- What stands between tokens, and the tokens. All are relations on a text and two places.
-use Rattle.std.specs.Prelude.{◌≡◌, ℕ, zero, suc, ◌+◌, ◌-◌, ◌*◌, ◌<◌, ◌≤◌, ◌⊎◌, true, false, ◌||◌}
-use Rattle.std.specs.Prelude.{◌==◌, List, length, slice_index, slice_range}
+use Rattle.std.specs.Prelude.{◌≡◌, ℕ, zero, suc, ◌+◌, ◌-◌, ◌*◌, ◌%◌, ◌^◌, ◌<◌, ◌≤◌, ◌⊎◌, true}
+use Rattle.std.specs.Prelude.{false, List, length, slice_index, slice_range}
+use Rattle.std.specs.Char.{is_ascii_digit, digit_value}
 use Rattle.resb_grammar.specs.Ascii as ascii
-use Rattle.resb_grammar.specs.ByteRuns.{is_white, is_word, is_digit, Run, FirstQuote}
+use Rattle.resb_grammar.specs.ByteRuns.{is_white, is_line_end, is_word, Run, FirstQuote}
 
--- a line ends here: at the text's end, at LF, or at CR LF
-abbrev pub EndsLine : List ℕ → ℕ → Type 0
-EndsLine text to =
-    (to ≡ length text)
-    ⊎ ((slice_index text to ≡ ascii.line_feed)
-    ⊎ ((slice_index text to ≡ ascii.carriage_return)
-    × (slice_index text (to + 1) ≡ ascii.line_feed)))
-
--- what follows `//` up to the line's end
+-- what follows `//` up to the line's end: the text's end, LF, or CR LF
 pub record LineRest (text : List ℕ) (from to : ℕ) : Type 0 where
   pub order : from ≤ to
   pub fits : to ≤ length text
-  pub body : (k : ℕ) → from ≤ k → k < to
-      → (slice_index text k == ascii.line_feed || slice_index text k == ascii.carriage_return) ≡
-      false
-  pub ends : EndsLine text to
+  pub body : (k : ℕ) → from ≤ k → k < to → is_line_end (slice_index text k) ≡ false
+  pub ends : (to ≡ length text)
+      ⊎ ((slice_index text to ≡ ascii.line_feed)
+      ⊎ ((slice_index text to ≡ ascii.carriage_return)
+      × (slice_index text (to + 1) ≡ ascii.line_feed)))
 
 -- `*/` stands here
 pub record Closer (text : List ℕ) (at : ℕ) : Type 0 where
@@ -65,22 +59,21 @@ pub data Text (text : List ℕ) (from to : ℕ) (bytes : List ℕ) : Type 0 wher
   unquoted : Run is_word text from to → from < to → bytes ≡ slice_range text from to
       → Text text from to bytes
 
--- the number that the first n digits from a place say
-abbrev pub digits_value : List ℕ → ℕ → ℕ → ℕ
-digits_value text from zero = 0
-digits_value text from (suc n) =
-    digits_value text from n * 10 + (slice_index text (from + n) - ascii.digit_0)
+-- the number that the first n digits from a place say in a radix
+abbrev pub digits_value : ℕ → List ℕ → ℕ → ℕ → ℕ
+digits_value radix text from zero = 0
+digits_value radix text from (suc n) =
+    digits_value radix text from n * radix + digit_value (slice_index text (from + n))
 
 -- a longest run of at least one digit, with its value
 pub record Digits (text : List ℕ) (from to value : ℕ) : Type 0 where
-  pub run : Run is_digit text from to
+  pub run : Run is_ascii_digit text from to
   pub some : from < to
-  pub means : value ≡ digits_value text from (to - from)
+  pub means : value ≡ digits_value 10 text from (to - from)
 
 -- what is minus n, modulo 2 ^ 32
 abbrev pub negated : ℕ → ℕ
-negated zero = 0
-negated (suc n) = 4294967295 - n
+negated n = (2 ^ 32 - n) % 2 ^ 32
 
 -- a number, with its value: a longest run of digits of at most 2^32 - 1; or `+` and at most 2^31 -
 -- 1; or `-` and at most 2^31, taken modulo 2^32

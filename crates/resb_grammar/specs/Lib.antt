@@ -17,7 +17,6 @@ pub mod Machine
 pub mod Stuck
 pub mod Limit
 pub mod Expected
-pub mod Kinds
 pub mod KeyLists
 pub mod Laws
 pub mod Inner

@@ -7,7 +7,7 @@ pub use Rattle.resb_grammar.specs.State.{after_number, after_comma, State, start
 pub use Rattle.resb_grammar.specs.State.{inside, typed, in_string, in_binary, in_integer, filled}
 pub use Rattle.resb_grammar.specs.State.{in_vector, finished}
 pub use Rattle.resb_grammar.specs.Next.{shape_in, closed, with_item, with_term, new_frame}
-pub use Rattle.resb_grammar.specs.Next.{at_root, within, leave, is_group, is_key_place, when}
-pub use Rattle.resb_grammar.specs.Next.{unless, with_comma, in_table, in_list, in_body, begun_as}
+pub use Rattle.resb_grammar.specs.Next.{at_root, within, leave, is_group, is_key_place}
+pub use Rattle.resb_grammar.specs.Next.{with_comma, in_table, in_list, in_body, begun_as}
 pub use Rattle.resb_grammar.specs.Next.{with_leaf, next_in_vector, next}
 pub use Rattle.resb_grammar.specs.Paths.{Move, TokenStep, Path, begun, went, At}

@@ -1,6 +1,6 @@
 -- The state that a token leads to, if it may stand.
 use Rattle.std.specs.Prelude.{ℕ, ◌%◌, ◌^◌, Bool, true, false, List, [], ◌∷◌, ◌++◌, Option, Some}
-use Rattle.std.specs.Prelude.{None}
+use Rattle.std.specs.Prelude.{None, if◌then◌else◌}
 use Rattle.std.specs.Option.{option_map}
 use Rattle.resb_tree.specs.Tree.{Tree, string, binary, integer, int_vector}
 use Rattle.resb_grammar.specs.Items.{Term, string_term, group_term, Item, plain, before_comma}
@@ -63,35 +63,23 @@ abbrev pub is_key_place : List Item → Bool
 is_key_place [] = true
 is_key_place (x ∷ xs) = is_group x.term
 
--- this state, if the condition holds
-abbrev pub when : Bool → State → Option State
-when true s = Some s
-when false s = None
-
--- this state, if the condition doesn't hold
-abbrev pub unless : Bool → State → Option State
-unless true s = None
-unless false s = Some s
-
 -- a comma after the last item, if there is one without
 abbrev pub with_comma : Open → List Item → Option State
 with_comma o [] = None
 with_comma o (x ∷ xs) =
-    unless x.comma (inside (record {
+    if x.comma then None else Some (inside (record {
       title = o.title;
       frame = record { body = o.frame.body; items = before_comma x.term ∷ xs };
       around = o.around;
     }))
 
--- in a table body: a key or `}`, and after a key a type or `{`
-abbrev pub in_table : Open → Token → Option State
-in_table o (a_text s) = when (is_key_place o.frame.items) (inside (with_term (string_term s) o))
-in_table o closing = when (is_key_place o.frame.items) (leave o.title o.frame o.around)
-in_table o opening = unless (is_key_place o.frame.items) (inside (within untyped_body o))
-in_table o (a_type kind) = unless (is_key_place o.frame.items) (typed kind o)
-in_table o a_comma = None
-in_table o (a_number v) = None
-in_table o (a_root_type fallback) = None
+-- in a table body: a key or `}` where a key may stand, and else, behind a key, a type or `{`
+abbrev pub in_table : Open → Token → Bool → Option State
+in_table o (a_text s) true = Some (inside (with_term (string_term s) o))
+in_table o closing true = Some (leave o.title o.frame o.around)
+in_table o opening false = Some (inside (within untyped_body o))
+in_table o (a_type kind) false = Some (typed kind o)
+in_table o _ _ = None
 
 -- in an array's body or an untyped group: any item, `}`, and one comma after an item
 abbrev pub in_list : Open → Token → Option State
@@ -100,14 +88,12 @@ in_list o closing = Some (leave o.title o.frame o.around)
 in_list o opening = Some (inside (within untyped_body o))
 in_list o (a_type kind) = Some (typed kind o)
 in_list o a_comma = with_comma o o.frame.items
-in_list o (a_number v) = None
-in_list o (a_root_type fallback) = None
+in_list o _ = None
 
 -- what a token leads to among the items of a table, an array or a group without a type
 abbrev pub in_body : Body → Open → Token → Option State
-in_body table_body o t = in_table o t
-in_body array_body o t = in_list o t
-in_body untyped_body o t = in_list o t
+in_body table_body o t = in_table o t (is_key_place o.frame.items)
+in_body _ o t = in_list o t
 
 -- a typed group begins
 abbrev pub begun_as : Kind → Open → State
@@ -137,23 +123,15 @@ next_in_vector _ ns o _ = None
 -- the state after a token, if it may stand there
 abbrev pub next : State → Token → Option State
 next start (a_text s) = Some (named s)
-next start _ = None
 next (named name) opening = Some (inside (at_root (record { name = name; fallback = true })))
 next (named name) (a_root_type fallback) =
     Some (titled (record { name = name; fallback = fallback }))
-next (named name) _ = None
 next (titled title) opening = Some (inside (at_root title))
-next (titled title) _ = None
 next (inside o) t = in_body o.frame.body o t
 next (typed kind o) opening = Some (begun_as kind o)
-next (typed kind o) _ = None
 next (in_string o) (a_text s) = Some (filled (string s) o)
-next (in_string o) _ = None
 next (in_binary o) (a_text s) = option_map (λ bytes. filled (binary bytes) o) (hex_bytes s)
-next (in_binary o) _ = None
 next (in_integer o) (a_number v) = Some (filled (integer (v % 2 ^ 28)) o)
-next (in_integer o) _ = None
 next (filled t o) closing = Some (with_leaf t o)
-next (filled t o) _ = None
 next (in_vector place ns o) t = next_in_vector place ns o t
-next (finished title items) _ = None
+next _ _ = None

@@ -4,9 +4,9 @@ use Rattle.std.specs.Prelude.{if◌then◌else◌}
 use Rattle.resb_grammar.specs.Ascii as ascii
 use Rattle.resb_grammar.specs.Lexical.{Text}
 use Rattle.resb_grammar.specs.Group.{hex_bytes}
-use Rattle.resb_grammar.specs.Machine.{Body, table_body, array_body, untyped_body, Open}
-use Rattle.resb_grammar.specs.Machine.{VectorStage, at_start, after_comma, State, start, named}
-use Rattle.resb_grammar.specs.Machine.{titled, inside, typed, in_string, in_binary, in_integer}
+use Rattle.resb_grammar.specs.Machine.{Body, table_body, Open}
+use Rattle.resb_grammar.specs.Machine.{VectorStage, at_start, after_comma, State, named}
+use Rattle.resb_grammar.specs.Machine.{titled, inside, typed, in_binary, in_integer}
 use Rattle.resb_grammar.specs.Machine.{filled, in_vector, finished, is_key_place, Move, At}
 use Rattle.resb_grammar.specs.ByteRuns.{is_number_start}
 use Rattle.resb_grammar.specs.declared.expected.Expected.{Expected}
@@ -34,8 +34,7 @@ expected_number b = if is_number_start b then expect.Number else expect.RightBra
 abbrev pub expected_in : Body → Bool → ℕ → Expected
 expected_in table_body true b = expected_key b
 expected_in table_body false b = expected_brace b
-expected_in array_body key b = expected_item b
-expected_in untyped_body key b = expected_item b
+expected_in _ key b = expected_item b
 
 -- what was expected inside a vector, by what stands before the place and by the byte there
 abbrev pub expected_in_vector : VectorStage → ℕ → Expected
@@ -45,17 +44,15 @@ expected_in_vector _ b = expect.RightBrace
 
 -- what is expected where nothing that may stand in this state stands, by the byte there
 abbrev pub expectation : State → ℕ → Expected
-expectation start b = expect.Text
 expectation (named name) b = expected_brace b
 expectation (titled title) b = expect.LeftBrace
 expectation (inside o) b = expected_in o.frame.body (is_key_place o.frame.items) b
 expectation (typed kind o) b = expect.LeftBrace
-expectation (in_string o) b = expect.Text
-expectation (in_binary o) b = expect.Text
 expectation (in_integer o) b = expect.Number
 expectation (filled t o) b = expect.RightBrace
 expectation (in_vector place ns o) b = expected_in_vector place b
 expectation (finished title items) b = expect.EndOfText
+expectation _ b = expect.Text
 
 -- no token that may stand in this state stands there
 abbrev pub NoToken : List ℕ → ℕ → State → Type 0

@@ -3,7 +3,6 @@
 ghost use Rattle.std.specs.Prelude.{IfSome, IfNone};
 ghost use Rattle.resb_grammar.specs.GroupTypes as spec;
 ghost use Rattle.resb_grammar.specs.GroupTypes.{Names};
-ghost use Rattle.resb_grammar.specs.Kinds.{group_kind_of};
 
 /// The types that a group may name.
 #[derive(Clone, Copy, Debug, PartialEq, Eq)]
@@ -24,7 +23,7 @@ pub enum Kind {
 
 /// The type that the word names, if it names one.
 pub fn kind_named(word: &str) -> Option<Kind>
-    ensures found { IfSome result (λ kind. Names word.now (group_kind_of kind)) }
+    ensures found { IfSome result (λ kind. Names word.now kind) }
     ensures none { IfNone result ((kind : spec.Kind) → Names word.now kind → ⊥) }
 {
     match word {

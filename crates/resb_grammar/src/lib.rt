@@ -1,6 +1,7 @@
 //! The text form of resource bundles as definitions: its grammar, the readings of a text token by
-//! token, and the laws of both. What both text forms need beside stands here too: the bytes of hex
-//! digits, runs of blanks and of digits, lists of keys, and the limit of what a reading may make.
+//! token, and the laws of both. What both text forms need beside stands here too: what the laws of
+//! each form say, the bytes of hex digits, runs of blanks and of digits, a byte that is near, lists
+//! of keys, and the limit of what a reading may make.
 #![tactic(auto)]
 
 mod expected;

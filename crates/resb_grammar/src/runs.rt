@@ -3,8 +3,9 @@
 //! The readers of both text forms count their turns beside it. ICU's own form has words of other
 //! characters.
 ghost use Rattle.std.specs.Prelude.{◌≡◌, ℕ, ◌+◌, ◌-◌, ◌<◌, ◌≤◌, min, length, slice_index};
+ghost use Rattle.std.specs.Char.{is_ascii_digit};
 ghost use Rattle.resb_grammar.specs.ByteRuns as spec;
-ghost use Rattle.resb_grammar.specs.ByteRuns.{Each, Run, is_digit};
+ghost use Rattle.resb_grammar.specs.ByteRuns.{Each, Run};
 ghost use Rattle.resb_grammar.specs.Lexical as lexical;
 ghost use Rattle.resb_grammar.specs.Lexical.{digits_value};
 
@@ -90,8 +91,8 @@ pub fn bytes_before(bytes: &[u8], from: usize, byte: u8) -> usize
 /// Where the run of digits ends, and their value, or 2 ^ 32 where it is larger.
 pub fn digits_end(bytes: &[u8], from: usize) -> (usize, u64)
     requires { from ≤ length bytes.now }
-    ensures run { Run is_digit bytes.now from result.0 }
-    ensures value { result.1 ≡ min (digits_value bytes.now from (result.0 - from)) 4294967296 }
+    ensures run { Run is_ascii_digit bytes.now from result.0 }
+    ensures value { result.1 ≡ min (digits_value 10 bytes.now from (result.0 - from)) 4294967296 }
 {
     let mut value = 0u64;
     let end = bytes.len();

@@ -11,7 +11,6 @@ use Rattle.resb_icu_grammar.specs.Bytes.{is_word, is_key_byte, are_key_bytes}
 use Rattle.resb_icu_grammar.specs.Blanks.{Comment, line, block, none, white, Skip, without_a_mark}
 use Rattle.resb_icu_grammar.specs.Escapes.{Escape, itself, line_feed, carriage_return, tab}
 use Rattle.resb_icu_grammar.specs.Escapes.{four_digits, eight_digits, control, short_hex, octal}
-use Rattle.resb_icu_grammar.specs.Escapes.{two_digits, three_octal}
 use Rattle.resb_icu_grammar.specs.Pieces.{QuotedBytes, ends, byte, escape, Joined, last_piece}
 use Rattle.resb_icu_grammar.specs.Pieces.{one_more}
 use Rattle.resb_icu_grammar.specs.Faults.{NoEscapeAt, StringFault, this_piece, later_piece}
@@ -35,7 +34,7 @@ use Rattle.resb_icu_grammar.specs.Limit.{IcuMakes, IcuMadeWithin, IcuMakesMore, 
 use Rattle.resb_icu_grammar.specs.Stuck.{Stuck, in_root, inside, no_group, TypeStuck, no_tree}
 use Rattle.resb_icu_grammar.specs.declared.expected.IcuExpected.{IcuExpected}
 use Rattle.resb_icu_grammar.specs.declared.expected.IcuExpected.TheVariants as expect
-use Rattle.resb_icu_grammar.proofs.Lexical.{octal_first}
+use Rattle.resb_icu_grammar.proofs.FewDigitsLemmas.{said_none, said_more, few_said, few_first}
 use Rattle.resb_icu_grammar.proofs.Moves.{one_move}
 use Rattle.resb_icu_grammar.proofs.OneRefusal.{stuck_in_one_way}
 
@@ -99,17 +98,22 @@ escape_accepted = four_digits 0xe9 refl refl refl refl (λ h. absurd (omega arit
 
 -- `\U00000000` is U+0000, and `\c'` is U+0007
 zero_accepted : Escape (codes "U00000000") 0 9 (encode_utf8 0)
-zero_accepted = eight_digits 0 refl refl refl (lit≤ tt) refl
+zero_accepted = eight_digits 0 refl refl refl refl refl
 
 control_accepted : Escape (codes "c'") 0 2 (7 ∷ [])
 control_accepted = control refl (lit≤ tt) (lit≤ tt)
 
 -- `\x41` is A, and so is `\101`
 hex_accepted : Escape (codes "x41") 0 3 (encode_utf8 65)
-hex_accepted = short_hex 65 3 refl (two_digits refl refl) refl
+hex_accepted =
+    short_hex 65 3 refl (few_said (said_more (said_more said_none 1 52 4 refl refl refl refl)
+    2 49 1 refl refl refl refl) (lit≤ tt) (lit≤ tt) refl refl (inl refl)) refl
 
 octal_accepted : Escape (codes "101") 0 3 (encode_utf8 65)
-octal_accepted = octal 65 3 (three_octal refl refl refl) refl
+octal_accepted =
+    octal 65 3 (few_said (said_more (said_more (said_more said_none 0 49 1 refl refl refl refl)
+    1 48 0 refl refl refl refl) 2 49 1 refl refl refl refl) (lit≤ tt) (lit≤ tt) refl refl
+    (inl refl)) refl
 
 -- `\u005C` would be a backslash, and is none
 escape_refused : (to : ℕ) (s : List ℕ) → Escape (codes "u005C") 0 to s → ⊥
@@ -122,7 +126,7 @@ escape_refused to s (eight_digits c h x e y z) = absurd (omega arith)
 escape_refused to s (control h l m) = absurd (omega arith)
 escape_refused to s (short_hex c _ h p o) = absurd (omega arith)
 escape_refused to s (octal c _ p o) =
-    false≢true (octal_first (codes "u005C") 0 to c p)
+    false≢true (few_first p)
 
 -- `"a\q"` has a fault at the backslash, where a known escape is expected
 escape_told : StringFault (codes "\"a\\q\"") 0 2 expect.Escape
@@ -140,7 +144,7 @@ escape_told =
     never to s (eight_digits c h x e y z) = absurd (omega arith)
     never to s (control h l m) = absurd (omega arith)
     never to s (short_hex c _ h p o) = absurd (omega arith)
-    never to s (octal c _ p o) = false≢true (octal_first (codes "\"a\\q\"") 3 to c p)
+    never to s (octal c _ p o) = false≢true (few_first p)
 
 -- `"a" "b` has one at its second piece, which no quote closes
 open_quote_told : StringFault (codes "\"a\" \"b") 0 4 expect.ClosingQuote
@@ -212,8 +216,11 @@ a_key : (text : List ℕ) (from : ℕ) → may_begin (slice_index text from) ≡
     → are_key_bytes (slice_range text from (from + 1)) ≡ true
     → words.KeyText text from (from + 1) (slice_range text from (from + 1))
 a_key text from first h stop fits no_white other is =
-    words.a_word (row_of_one text from first h stop fits no_white other)
-    (word_of_one text from first h stop fits) is
+    record {
+      verbatim = words.a_word (row_of_one text from first h stop fits no_white other)
+          (word_of_one text from first h stop fits);
+      fits = is;
+    }
 
 -- the name `b` is a word
 b_is_word : Run is_word (codes "b") 0 1
@@ -250,7 +257,7 @@ bundle_accepted = record {
     ends = 1;
     place = 1;
     brace = 1;
-    begins = without_a_mark (λ m. let h = m.first in absurd (omega arith)) refl;
+    begins = without_a_mark refl refl;
     before = stays _ 0 refl (λ h. absurd (omega arith));
     named = record {
       key = a_key _ 0 refl refl refl (lit≤ tt) refl (λ h. absurd (omega arith)) refl;
@@ -286,7 +293,7 @@ stuck_there =
       ends = 1;
       place = 1;
       brace = 1;
-      begins = without_a_mark (λ m. let h = m.first in absurd (omega arith)) refl;
+      begins = without_a_mark refl refl;
       before = stays _ 0 refl (λ h. absurd (omega arith));
       named = record {
         key = a_key _ 0 refl refl refl (lit≤ tt) refl (λ h. absurd (omega arith)) refl;
@@ -419,7 +426,7 @@ header_before_a = record {
   ends = 1;
   place = 1;
   brace = 1;
-  begins = without_a_mark (λ m. let h = m.first in absurd (omega arith)) refl;
+  begins = without_a_mark refl refl;
   before = blanks_end 0 refl (λ h. absurd (omega arith));
   named = record {
     key = a_key _ 0 refl refl refl (lit≤ tt) refl (λ h. absurd (omega arith)) refl;

@@ -2,11 +2,11 @@
 use Rattle.std.proofs.Common.{◌≡◌, ◌≢◌, ℕ, ◌+◌, ◌<◌, ◌≤◌, Bool, true, false, List, ◌∷◌, ◌++◌}
 use Rattle.std.proofs.Common.{length, arith, subst, sym, refl, ◌∙◌, ap, ⊎_elim, encode_utf8}
 use Rattle.std.specs.Prelude.{◌==◌, ◌||◌, ◌&&◌, slice_index, slice_range}
-use Rattle.std.specs.Char.{is_ascii_alphanumeric}
+use Rattle.std.specs.Char.{is_ascii_alphanumeric, is_ascii_digit, is_digit}
 use Rattle.std.proofs.lemmas.Bool.{false≢true, and_parts, and_from}
 use Rattle.std.proofs.lemmas.Bool.Decides.{nat_tests}
 use Rattle.resb_grammar.specs.Ascii as ascii
-use Rattle.resb_grammar.specs.ByteRuns.{is_white, is_digit}
+use Rattle.resb_grammar.specs.ByteRuns.{is_white}
 use Rattle.resb_grammar.specs.Lexical as plain
 use Rattle.resb_grammar.specs.GroupTypes.{NoFallback}
 use Rattle.resb_icu_grammar.specs.Kinds.{Kind, Names}
@@ -21,8 +21,7 @@ use Rattle.resb_grammar.specs.ByteRuns.{is_line_end}
 use Rattle.resb_icu_grammar.specs.Blanks.{white, comment, IsSolid, Skip}
 use Rattle.resb_icu_grammar.specs.Escapes.{Escape, itself, line_feed, carriage_return, tab}
 use Rattle.resb_icu_grammar.specs.Escapes.{four_digits, eight_digits, control, short_hex, octal}
-use Rattle.resb_icu_grammar.specs.Escapes.{ShortHex, one_digit, two_digits, Octal, one_octal}
-use Rattle.resb_icu_grammar.specs.Escapes.{two_octal, three_octal, is_octal}
+use Rattle.resb_icu_grammar.proofs.FewDigitsLemmas.{FewDigits-one, few_first}
 use Rattle.resb_icu_grammar.specs.Pieces.{QuotedBytes, ends, byte, escape, QuotedPiece, Joined}
 use Rattle.resb_icu_grammar.specs.Pieces.{last_piece}
 use Rattle.resb_icu_grammar.specs.Pieces.{one_more}
@@ -37,8 +36,8 @@ use Rattle.resb_icu_grammar.specs.Words.{table_type, no_fallback_type}
 -- a text begins at one place
 pub Begins-one : (text : List ℕ) (a b : ℕ) → Begins text a → Begins text b → a ≡ b
 Begins-one text a b (behind_the_mark m e) (behind_the_mark n f) = e ∙ sym f
-Begins-one text a b (behind_the_mark m e) (without_a_mark n f) = absurd (n m)
-Begins-one text a b (without_a_mark m e) (behind_the_mark n f) = absurd (m n)
+Begins-one text a b (behind_the_mark m e) (without_a_mark n f) = absurd (false≢true (sym n ∙ m))
+Begins-one text a b (without_a_mark m e) (behind_the_mark n f) = absurd (false≢true (sym m ∙ n))
 Begins-one text a b (without_a_mark m e) (without_a_mark n f) = e ∙ sym f
 
 line_stops : (text : List ℕ) (from a b : ℕ) → LineRest text from a → LineRest text from b → a < b
@@ -87,43 +86,15 @@ no_letter : (b n : ℕ) → is_ascii_alphanumeric b ≡ false → b ≡ n → is
     → ⊥
 no_letter b n h e f = false≢true (sym h ∙ ap is_ascii_alphanumeric e ∙ f)
 
--- short hex digits have one end and say one number
-pub ShortHex-one : (text : List ℕ) (at a b c d : ℕ) → ShortHex text at a c → ShortHex text at b d
-    → (a ≡ b) × (c ≡ d)
-ShortHex-one text at a b c d (one_digit h k) (one_digit m n) = (refl, refl)
-ShortHex-one text at a b c d (one_digit h k) (two_digits m n) = absurd (false≢true (sym k ∙ n))
-ShortHex-one text at a b c d (two_digits h k) (one_digit m n) = absurd (false≢true (sym n ∙ k))
-ShortHex-one text at a b c d (two_digits h k) (two_digits m n) = (refl, refl)
-
--- so have octal digits
-pub Octal-one : (text : List ℕ) (at a b c d : ℕ) → Octal text at a c → Octal text at b d
-    → (a ≡ b) × (c ≡ d)
-Octal-one text at a b c d (one_octal h k) (one_octal m n) = (refl, refl)
-Octal-one text at a b c d (one_octal h k) (two_octal m n o) = absurd (false≢true (sym k ∙ n))
-Octal-one text at a b c d (one_octal h k) (three_octal m n o) = absurd (false≢true (sym k ∙ n))
-Octal-one text at a b c d (two_octal h k l) (one_octal m n) = absurd (false≢true (sym n ∙ k))
-Octal-one text at a b c d (two_octal h k l) (two_octal m n o) = (refl, refl)
-Octal-one text at a b c d (two_octal h k l) (three_octal m n o) = absurd (false≢true (sym l ∙ o))
-Octal-one text at a b c d (three_octal h k l) (one_octal m n) = absurd (false≢true (sym n ∙ k))
-Octal-one text at a b c d (three_octal h k l) (two_octal m n o) = absurd (false≢true (sym o ∙ l))
-Octal-one text at a b c d (three_octal h k l) (three_octal m n o) = (refl, refl)
-
--- they begin with an octal digit
-pub octal_first : (text : List ℕ) (at to c : ℕ) → Octal text at to c
-    → is_octal (slice_index text at) ≡ true
-octal_first text at to c (one_octal h k) = h
-octal_first text at to c (two_octal h k l) = h
-octal_first text at to c (three_octal h k l) = h
-
-octal_alphanumeric : (b : ℕ) → is_ascii_alphanumeric b ≡ false → is_octal b ≡ true → ⊥
+octal_alphanumeric : (b : ℕ) → is_ascii_alphanumeric b ≡ false → is_digit b 8 ≡ true → ⊥
 octal_alphanumeric b h k = false≢true (sym h ∙ alphanumeric)
   where
     alphanumeric : is_ascii_alphanumeric b ≡ true
     alphanumeric = grind (arith, nat_tests, k)
 
 -- which is no other byte
-pub no_octal : (b n : ℕ) → is_octal b ≡ true → b ≡ n → is_octal n ≡ false → ⊥
-no_octal b n h e f = false≢true (sym f ∙ ap is_octal (sym e) ∙ h)
+pub no_octal : (b n : ℕ) → is_digit b 8 ≡ true → b ≡ n → is_digit n 8 ≡ false → ⊥
+no_octal b n h e f = false≢true (sym f ∙ ap (λ c. is_digit c 8) (sym e) ∙ h)
 
 -- an escape has one end and stands for one thing
 pub Escape-one : (text : List ℕ) (at a b : ℕ) (s t : List ℕ) → Escape text at a s
@@ -188,25 +159,25 @@ Escape-one text at a b s t (control h l m) (eight_digits c k x e y z) = absurd (
 Escape-one text at a b s t (control h l m) (control k n o) = (refl, refl)
 Escape-one text at a b s t (itself f h) (short_hex d _ k q r) = absurd (no_letter _ 120 h k refl)
 Escape-one text at a b s t (itself f h) (octal d _ q r) =
-    absurd (octal_alphanumeric (slice_index text at) h (octal_first text at b d q))
+    absurd (octal_alphanumeric (slice_index text at) h (few_first q))
 Escape-one text at a b s t (line_feed h) (short_hex d _ k q r) = absurd (omega arith)
 Escape-one text at a b s t (line_feed h) (octal d _ q r) =
-    absurd (no_octal _ 110 (octal_first text at b d q) h refl)
+    absurd (no_octal _ 110 (few_first q) h refl)
 Escape-one text at a b s t (carriage_return h) (short_hex d _ k q r) = absurd (omega arith)
 Escape-one text at a b s t (carriage_return h) (octal d _ q r) =
-    absurd (no_octal _ 114 (octal_first text at b d q) h refl)
+    absurd (no_octal _ 114 (few_first q) h refl)
 Escape-one text at a b s t (tab h) (short_hex d _ k q r) = absurd (omega arith)
 Escape-one text at a b s t (tab h) (octal d _ q r) =
-    absurd (no_octal _ 116 (octal_first text at b d q) h refl)
+    absurd (no_octal _ 116 (few_first q) h refl)
 Escape-one text at a b s t (four_digits c h x e y z) (short_hex d _ k q r) = absurd (omega arith)
 Escape-one text at a b s t (four_digits c h x e y z) (octal d _ q r) =
-    absurd (no_octal _ 117 (octal_first text at b d q) h refl)
+    absurd (no_octal _ 117 (few_first q) h refl)
 Escape-one text at a b s t (eight_digits c h x e y z) (short_hex d _ k q r) = absurd (omega arith)
 Escape-one text at a b s t (eight_digits c h x e y z) (octal d _ q r) =
-    absurd (no_octal _ 85 (octal_first text at b d q) h refl)
+    absurd (no_octal _ 85 (few_first q) h refl)
 Escape-one text at a b s t (control h l m) (short_hex d _ k q r) = absurd (omega arith)
 Escape-one text at a b s t (control h l m) (octal d _ q r) =
-    absurd (no_octal _ 99 (octal_first text at b d q) h refl)
+    absurd (no_octal _ 99 (few_first q) h refl)
 Escape-one text at a b s t (short_hex c _ h p o) (itself f k) = absurd (no_letter _ 120 k h refl)
 Escape-one text at a b s t (short_hex c _ h p o) (line_feed k) = absurd (omega arith)
 Escape-one text at a b s t (short_hex c _ h p o) (carriage_return k) = absurd (omega arith)
@@ -215,27 +186,27 @@ Escape-one text at a b s t (short_hex c _ h p o) (four_digits d k x e y z) = abs
 Escape-one text at a b s t (short_hex c _ h p o) (eight_digits d k x e y z) = absurd (omega arith)
 Escape-one text at a b s t (short_hex c _ h p o) (control k l m) = absurd (omega arith)
 Escape-one text at a b s t (short_hex c _ h p o) (short_hex d _ k q r) =
-    let both = ShortHex-one text (at + 1) a b c d p q in (both.0, ap encode_utf8 both.1)
+    let both = FewDigits-one 16 2 text (at + 1) a b c d p q in (both.0, ap encode_utf8 both.1)
 Escape-one text at a b s t (short_hex c _ h p o) (octal d _ q r) =
-    absurd (no_octal _ 120 (octal_first text at b d q) h refl)
+    absurd (no_octal _ 120 (few_first q) h refl)
 Escape-one text at a b s t (octal c _ p o) (itself f k) =
-    absurd (octal_alphanumeric (slice_index text at) k (octal_first text at a c p))
+    absurd (octal_alphanumeric (slice_index text at) k (few_first p))
 Escape-one text at a b s t (octal c _ p o) (line_feed k) =
-    absurd (no_octal _ 110 (octal_first text at a c p) k refl)
+    absurd (no_octal _ 110 (few_first p) k refl)
 Escape-one text at a b s t (octal c _ p o) (carriage_return k) =
-    absurd (no_octal _ 114 (octal_first text at a c p) k refl)
+    absurd (no_octal _ 114 (few_first p) k refl)
 Escape-one text at a b s t (octal c _ p o) (tab k) =
-    absurd (no_octal _ 116 (octal_first text at a c p) k refl)
+    absurd (no_octal _ 116 (few_first p) k refl)
 Escape-one text at a b s t (octal c _ p o) (four_digits d k x e y z) =
-    absurd (no_octal _ 117 (octal_first text at a c p) k refl)
+    absurd (no_octal _ 117 (few_first p) k refl)
 Escape-one text at a b s t (octal c _ p o) (eight_digits d k x e y z) =
-    absurd (no_octal _ 85 (octal_first text at a c p) k refl)
+    absurd (no_octal _ 85 (few_first p) k refl)
 Escape-one text at a b s t (octal c _ p o) (control k l m) =
-    absurd (no_octal _ 99 (octal_first text at a c p) k refl)
+    absurd (no_octal _ 99 (few_first p) k refl)
 Escape-one text at a b s t (octal c _ p o) (short_hex d _ k q r) =
-    absurd (no_octal _ 120 (octal_first text at a c p) k refl)
+    absurd (no_octal _ 120 (few_first p) k refl)
 Escape-one text at a b s t (octal c _ p o) (octal d _ q r) =
-    let both = Octal-one text at a b c d p q in (both.0, ap encode_utf8 both.1)
+    let both = FewDigits-one 8 3 text at a b c d p q in (both.0, ap encode_utf8 both.1)
 
 -- what stands inside quotes has one end and says one thing
 pub Inside-one : (text : List ℕ) (at a b : ℕ) (s t : List ℕ) → QuotedBytes text at a s
@@ -397,8 +368,11 @@ string_first text from to s (quoted j) = ap starts_string (joined_first text fro
 -- a key is a string
 pub key_string : (text : List ℕ) (from to : ℕ) (s : List ℕ) → KeyText text from to s
     → Text text from to s
-key_string text from to s (words.a_word r w k) = a_row r
-key_string text from to s (words.quoted j p n k) = quoted j
+key_string text from to s k = whole k.verbatim
+  where
+    whole : words.Verbatim text from to s → Text text from to s
+    whole (words.a_word r w) = a_row r
+    whole (words.a_piece j p n) = quoted j
 
 digits_one : (text : List ℕ) (from a b v w : ℕ) → Digits text from a v → Digits text from b w
     → (a ≡ b) × (v ≡ w)
@@ -408,7 +382,7 @@ digits_one text from a b v w d e = Digits-one text from a b v w d.digits e.digit
 pub digit_first : (text : List ℕ) (from to v : ℕ) → Digits text from to v
     → 48 ≤ slice_index text from
 digit_first text from to v d =
-    let k : is_digit (slice_index text from) ≡ true =
+    let k : is_ascii_digit (slice_index text from) ≡ true =
     d.digits.run.each from (omega arith) d.digits.some in
     grind (arith, nat_tests, k)
 
@@ -436,9 +410,9 @@ Number-one text from a b v w (minus n r h d low) (minus n' r' h' d' low') =
 pub number_first : (text : List ℕ) (from to v : ℕ) → Number text from to v
     → slice_index text from ≢ ascii.right_brace
 number_first text from to v (unsigned _ r d low) e =
-    let k : is_digit (slice_index text from) ≡ true =
+    let k : is_ascii_digit (slice_index text from) ≡ true =
     d.digits.run.each from (omega arith) d.digits.some in
-    false≢true (ap is_digit (sym e) ∙ k)
+    false≢true (ap is_ascii_digit (sym e) ∙ k)
 number_first text from to v (plus _ r h d low) e = omega arith
 number_first text from to v (minus n r h d low) e = omega arith
 

@@ -1,5 +1,6 @@
 -- Each text of ICU's form is one bundle.
 pub mod KindNames
+pub mod FewDigitsLemmas
 pub mod Lexical
 pub mod Listed
 pub mod Groups

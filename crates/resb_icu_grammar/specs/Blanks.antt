@@ -1,35 +1,33 @@
 -- What stands between the tokens of ICU's text form: white characters and comments.
 -- A mark may stand at a text's start, before all else.
-use Rattle.std.specs.Prelude.{◌≡◌, ◌≤◌, ◌<◌, ◌+◌, ◌⊎◌, ℕ, true, false, List}
-use Rattle.std.specs.Prelude.{length, slice_index}
+use Rattle.std.specs.Prelude.{◌≡◌, ◌≤◌, ◌<◌, ◌+◌, ◌⊎◌, ◌&&◌, ◌==◌, ℕ, Bool, true}
+use Rattle.std.specs.Prelude.{false, List, length, slice_index}
 use Rattle.resb_grammar.specs.Ascii as ascii
 use Rattle.resb_grammar.specs.ByteRuns.{is_white}
 use Rattle.resb_grammar.specs.Lexical.{FirstCloser}
 use Rattle.resb_grammar.specs.ByteRuns.{is_line_end}
 
--- the byte order mark, EF BB BF
-pub record HasMark (text : List ℕ) : Type 0 where
-  pub first : slice_index text 0 ≡ 0xef
-  pub second : slice_index text 1 ≡ 0xbb
-  pub third : slice_index text 2 ≡ 0xbf
+-- these three bytes stand there
+abbrev pub are_there : ℕ → ℕ → ℕ → List ℕ → ℕ → Bool
+are_there a b c text at =
+    slice_index text at == a && (slice_index text (at + 1) == b && slice_index text (at + 2) == c)
+
+-- the text begins with the byte order mark, EF BB BF
+abbrev pub has_mark : List ℕ → Bool
+has_mark text = are_there 0xef 0xbb 0xbf text 0
 
 -- where a text begins: behind its mark, or with its first byte where it has none
 pub data Begins (text : List ℕ) (at : ℕ) : Type 0 where
-  behind_the_mark : HasMark text → at ≡ 3 → Begins text at
-  without_a_mark : (HasMark text → ⊥) → at ≡ 0 → Begins text at
+  behind_the_mark : has_mark text ≡ true → at ≡ 3 → Begins text at
+  without_a_mark : has_mark text ≡ false → at ≡ 0 → Begins text at
 
--- the character U+2029, E2 80 A9: genrb ends a line there, and this form refuses it behind `//`
-pub record IsParagraphEnd (text : List ℕ) (at : ℕ) : Type 0 where
-  pub first : slice_index text at ≡ 0xe2
-  pub second : slice_index text (at + 1) ≡ 0x80
-  pub third : slice_index text (at + 2) ≡ 0xa9
-
--- what follows `//` up to the first LF or CR, or to the text's end
+-- what follows `//` up to the first LF or CR, or to the text's end; no U+2029, which is E2 80 A9,
+-- since genrb ends a line there
 pub record LineRest (text : List ℕ) (from to : ℕ) : Type 0 where
   pub order : from ≤ to
   pub fits : to ≤ length text
   pub inner : (k : ℕ) → from ≤ k → k < to → is_line_end (slice_index text k) ≡ false
-  pub plain : (k : ℕ) → from ≤ k → k < to → IsParagraphEnd text k → ⊥
+  pub plain : (k : ℕ) → from ≤ k → k < to → are_there 0xe2 0x80 0xa9 text k ≡ false
   pub ends : (to ≡ length text) ⊎ (is_line_end (slice_index text to) ≡ true)
 
 -- a comment: `//` and the rest of the line; or `/*` and the first `*/` that begins at least one

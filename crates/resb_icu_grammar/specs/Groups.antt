@@ -5,8 +5,9 @@ use Rattle.std.specs.Prelude.{List, [], ◌∷◌, ◌++◌, Option, Some, None,
 use Rattle.std.specs.Prelude.{nat_eq, ◌*◌, ◌==◌, if◌then◌else◌}
 use Rattle.std.specs.List.{list_any}
 use Rattle.std.specs.Cmp.Lexicographic.{pointwise}
+use Rattle.std.specs.Char.{digit_value}
 use Rattle.resb_grammar.specs.Ascii as ascii
-use Rattle.resb_grammar.specs.Group.{is_hex, hex_value, byte_before, hex_bytes}
+use Rattle.resb_grammar.specs.Group.{is_hex, byte_before, hex_bytes}
 use Rattle.resb_tree.specs.Tree.{Tree, string, alias, array, table, binary, integer}
 use Rattle.resb_tree.specs.Tree.{int_vector, trees_of, map_of}
 use Rattle.resb_icu_grammar.specs.Blanks.{Skip}
@@ -39,7 +40,7 @@ spaced_bytes [] = Some []
 spaced_bytes (h ∷ []) = if h == ascii.space then Some [] else None
 spaced_bytes (h ∷ l ∷ rest) =
     if h == ascii.space then spaced_bytes (l ∷ rest)
-    else byte_before (is_hex h && is_hex l) (hex_value h * 16 + hex_value l) (spaced_bytes rest)
+    else byte_before (is_hex h && is_hex l) (digit_value h * 16 + digit_value l) (spaced_bytes rest)
 
 -- the bytes that a string at a place says as pairs of hex digits: unquoted strings in a row are
 -- joined by blanks, and none of these may stand in a pair; a quoted string has none
@@ -71,10 +72,9 @@ pub data Last : Type 0 where
 
 -- a member stands last, with no comma behind it
 abbrev pub is_member : Last → Bool
-is_member nothing = false
 is_member a_string = true
 is_member a_group = true
-is_member a_comma = false
+is_member _ = false
 
 -- a string stands last, with no comma behind it
 abbrev pub ends_in_string : Last → Bool

@@ -3,7 +3,7 @@ use Rattle.std.specs.Prelude.{◌≡◌, ◌≤◌, ◌<◌, ◌+◌, ◌&&◌, 
 use Rattle.std.specs.Prelude.{List, ◌∷◌, ◌++◌, length, slice_index, slice_range, nat_lt, nat_le}
 use Rattle.resb_grammar.specs.Ascii as ascii
 use Rattle.resb_grammar.specs.ByteRuns.{is_white}
-use Rattle.resb_icu_grammar.specs.Blanks.{Skip}
+use Rattle.resb_icu_grammar.specs.Blanks.{are_there, Skip}
 use Rattle.resb_icu_grammar.specs.Bytes.{is_unquoted}
 
 -- with a slash at this place a comment begins, or seems to
@@ -11,11 +11,6 @@ abbrev pub begins_comment : List ℕ → ℕ → Bool
 begins_comment text at =
     slice_index text at == ascii.slash
     && (slice_index text (at + 1) == ascii.slash || slice_index text (at + 1) == ascii.star)
-
--- these three bytes stand there
-abbrev pub are_there : ℕ → ℕ → ℕ → List ℕ → ℕ → Bool
-are_there a b c text at =
-    slice_index text at == a && (slice_index text (at + 1) == b && slice_index text (at + 2) == c)
 
 -- a character stands there that genrb takes for a blank, U+2029 or U+FEFF, or for none, U+FFFE
 abbrev pub is_no_letter : List ℕ → ℕ → Bool

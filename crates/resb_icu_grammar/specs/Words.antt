@@ -26,13 +26,19 @@ pub data Text (text : List ℕ) (from to : ℕ) (bytes : List ℕ) : Type 0 wher
 abbrev pub HasNoEscape : List ℕ → ℕ → ℕ → Type 0
 HasNoEscape text from to = (k : ℕ) → from ≤ k → k < to → slice_index text k ≢ backslash
 
--- a string that may be a key: an unquoted one, or one piece without a backslash, with no other
--- behind it; and each of its bytes may stand in a key
-pub data KeyText (text : List ℕ) (from to : ℕ) (bytes : List ℕ) : Type 0 where
-  a_word : UnquotedRow text from to bytes → Unquoted text from to bytes → are_key_bytes bytes ≡ true
-      → KeyText text from to bytes
-  quoted : Joined text from to bytes → QuotedPiece text from to bytes → HasNoEscape text from to
-      → are_key_bytes bytes ≡ true → KeyText text from to bytes
+-- a string that stands in the text as it is: an unquoted one, or one quoted piece without a
+-- backslash, with no other behind it
+pub data Verbatim (text : List ℕ) (from to : ℕ) (bytes : List ℕ) : Type 0 where
+  a_word : UnquotedRow text from to bytes → Unquoted text from to bytes
+      → Verbatim text from to bytes
+  a_piece : Joined text from to bytes → QuotedPiece text from to bytes → HasNoEscape text from to
+      → Verbatim text from to bytes
+
+-- a string that may be a key: it stands in the text as it is, and each of its bytes may stand in a
+-- key
+pub record KeyText (text : List ℕ) (from to : ℕ) (bytes : List ℕ) : Type 0 where
+  pub verbatim : Verbatim text from to bytes
+  pub fits : are_key_bytes bytes ≡ true
 
 -- the name of a bundle: a word, or one quoted piece of word characters, of which there are some
 pub record Name (text : List ℕ) (from to : ℕ) (bytes : List ℕ) : Type 0 where

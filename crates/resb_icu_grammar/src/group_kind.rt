@@ -2,7 +2,7 @@
 //! Where in a text such a name stands is found by the reader.
 ghost use Rattle.std.specs.Prelude.{IfSome, IfNone};
 ghost use Rattle.resb_icu_grammar.specs.Kinds as spec;
-ghost use Rattle.resb_icu_grammar.specs.Kinds.{Names, kind_of};
+ghost use Rattle.resb_icu_grammar.specs.Kinds.{Names};
 
 /// The types that a group of ICU's form may name.
 #[derive(Clone, Copy, Debug, PartialEq, Eq)]
@@ -25,7 +25,7 @@ pub enum IcuKind {
 
 /// The type of ICU's form that the word names, if it names one.
 pub fn icu_kind_named(word: &str) -> Option<IcuKind>
-    ensures found { IfSome result (λ kind. Names word.now (kind_of kind)) }
+    ensures found { IfSome result (λ kind. Names word.now kind) }
     ensures none { IfNone result ((kind : spec.Kind) → Names word.now kind → ⊥) }
 {
     match word {

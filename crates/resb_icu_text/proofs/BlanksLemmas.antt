@@ -7,16 +7,6 @@ use Rattle.resb_grammar.specs.Lexical.{FirstCloser}
 use Rattle.resb_icu_grammar.specs.Blanks.{LineRest, Comment, line, block, Blanks, none, white}
 use Rattle.resb_icu_grammar.specs.Blanks.{comment, Skip}
 
-three : (text : List ℕ) (from at : ℕ) → FirstCloser text (from + 2 + 1) at
-    → FirstCloser text (from + 3) at
-three text from at h =
-    let e : from + 2 + 1 ≡ from + 3 = omega arith in subst (λ n. FirstCloser text n at) e h
-
-two_and_one : (text : List ℕ) (from at : ℕ) → FirstCloser text (from + 3) at
-    → FirstCloser text (from + 2 + 1) at
-two_and_one text from at h =
-    let e : from + 3 ≡ from + 2 + 1 = omega arith in subst (λ n. FirstCloser text n at) e h
-
 pub no_line_comment : (text : List ℕ) (from : ℕ) → slice_index text (from + 1) ≡ ascii.slash
     → ((to : ℕ) → LineRest text (from + 2) to → ⊥) → (to : ℕ) → Comment text from to → ⊥
 no_line_comment text from e never to (line h h' rest) = never to rest
@@ -26,12 +16,13 @@ pub no_block_comment : (text : List ℕ) (from : ℕ) → slice_index text (from
     → ((at : ℕ) → FirstCloser text (from + 2 + 1) at → ⊥) → (to : ℕ) → Comment text from to → ⊥
 no_block_comment text from e never to (line h h' rest) = omega arith
 no_block_comment text from e never to (block at h h' first is) =
-    never at (two_and_one text from at first)
+    never at (subst (λ n. FirstCloser text n at) (omega arith) first)
 
 pub block_comment : (text : List ℕ) (from to : ℕ) → slice_index text from ≡ ascii.slash
     → slice_index text (from + 1) ≡ ascii.star
     → (at : ℕ) × FirstCloser text (from + 2 + 1) at × (to ≡ at + 2) → Comment text from to
-block_comment text from to h h' f = block f.0 h h' (three text from f.0 f.1) f.2
+block_comment text from to h h' f =
+    block f.0 h h' (subst (λ n. FirstCloser text n f.0) (omega arith) f.1) f.2
 
 pub no_comment_at : (text : List ℕ) (from : ℕ) → slice_index text from ≢ ascii.slash → (to : ℕ)
     → Comment text from to → ⊥

@@ -1,6 +1,6 @@
 -- A table that is made of entries has as many as these exactly where their keys are distinct.
 use Rattle.std.proofs.Common.{◌≡◌, ℕ, ◌+◌, ◌≤◌, Bool, true, false, List, [], ◌∷◌, length, ◌&&◌}
-use Rattle.std.proofs.Common.{BTreeMap, Bor, refl, sym, ap, ◌∙◌, subst, arith, cond, T}
+use Rattle.std.proofs.Common.{BTreeMap, Bor, refl, sym, ap, ◌∙◌, subst, arith, cond, T, ◌↔◌}
 use Rattle.std.proofs.lemmas.List.{length-map}
 use Rattle.std.specs.Prelude.{Option, Some, None, nat_eq, not, ◌||◌, map}
 use Rattle.std.specs.BTreeMap.{insert_entry, IsFromIterResult}
@@ -9,7 +9,6 @@ use Rattle.std.specs.FinMap.Entries as fin
 use Rattle.std.specs.List.{list_any}
 use Rattle.std.specs.Option.{is_some}
 use Rattle.std.specs.Ordering.{eq_by_cmp}
-use Rattle.std.proofs.lemmas.Bool.{false≢true}
 use Rattle.resb_tree.specs.Borrowing.{are_slice, each_entry}
 use Rattle.resb_tree.specs.LayingOrder.{entry_keys, own_keys}
 use Rattle.resb_tree.specs.Maps.{text_cmp}
@@ -26,7 +25,7 @@ use Rattle.resb_icu_text.specs.Borrowed.{passes}
 use Rattle.resb_icu_text.specs.Inner.Build.{pairs_by}
 use Rattle.resb_icu_text.specs.Inner.Kept.{Test, entries_pass}
 use Rattle.resb_icu_text.proofs.Lists.{not_or_parts, cond_at_most, none_from_not_some}
-use Rattle.resb_icu_text.proofs.Lists.{false_from_one_more}
+use Rattle.resb_icu_text.proofs.Lists.{false_from_one_more, some_not_none}
 
 -- entries by the texts of their keys
 abbrev pub keyed : {V : Type 0} → List (Bor (List ℕ) × V) → List (List ℕ × V)
@@ -51,127 +50,83 @@ module _ {V : Type 0} (tree : V → Tree) where
   AreNewTo es [] = Unit {0}
   AreNewTo es (p ∷ ps) = (fin.find text_cmp p.0 es ≡ None) × AreNewTo es ps
 
-  put_found : (b : Bool) (o v : Option V) → is_some v ≡ true → cond b v o ≡ None
-      → (b ≡ false) × (o ≡ None)
-  put_found true o v s h = absurd (false≢true (sym (ap is_some h) ∙ s))
-  put_found false o v s h = (refl, h)
-
-  -- where the key of an entry is new, each key of the later ones is another and stays new to a map
-  -- that has it
+  -- where a key is put into a map, the others stay new to it just where it is another and they were
   put_new : (es ps : List (List ℕ × V)) (k : List ℕ) (v : V)
-      → is_new k (seen_by tree ps) ≡ true → AreNewTo es ps → AreNewTo (fin.put text_cmp k v es) ps
-  put_new es [] k v h n = tt
-  put_new es (p ∷ ps) k v h n =
-      let two = not_or_parts _ _ (sym (is_new-cons k (p.0, tree p.1) (seen_by tree ps)) ∙ h) in (
-        fin.find-put text_cmp nat_list_cmp_total p.0 k v es
-            ∙ ap (λ b. cond b (Some v) (fin.find text_cmp p.0 es)) (turned p.0 k ∙ two.0) ∙ n.0,
-        put_new es ps k v two.1 n.1,
-      )
-
-  -- and the other way round
-  new_put : (es ps : List (List ℕ × V)) (k : List ℕ) (v : V)
       → AreNewTo (fin.put text_cmp k v es) ps
-      → (is_new k (seen_by tree ps) ≡ true) × AreNewTo es ps
-  new_put es [] k v n = (refl, tt)
-  new_put es (p ∷ ps) k v n =
-      let q = put_found (eq_by_cmp text_cmp p.0 k) (fin.find text_cmp p.0 es) (Some v) refl
-      (sym (fin.find-put text_cmp nat_list_cmp_total p.0 k v es) ∙ n.0) in
-      let more = new_put es ps k v n.1 in (
-        is_new-cons k (p.0, tree p.1) (seen_by tree ps)
-            ∙ ap (λ b. not (b || list_any (λ f. pointwise nat_eq k f.0) (seen_by tree ps)))
-            (turned k p.0 ∙ q.0) ∙ more.0,
-        (q.1, more.1),
+      ↔ ((is_new k (seen_by tree ps) ≡ true) × AreNewTo es ps)
+  put_new es [] k v = (λ n. (refl, tt), λ h. tt)
+  put_new es (p ∷ ps) k v =
+      let new = is_new-cons k (p.0, tree p.1) (seen_by tree ps) in
+      let found = fin.find-put text_cmp nat_list_cmp_total p.0 k v es in
+      let more = put_new es ps k v in (
+        λ n.
+            let q = put_found (eq_by_cmp text_cmp p.0 k) (fin.find text_cmp p.0 es) (sym found ∙ n.0) in
+            let rest = more.0 n.1 in (
+              new ∙ ap (λ b. not (b || list_any (λ f. pointwise nat_eq k f.0) (seen_by tree ps)))
+                  (turned k p.0 ∙ q.0) ∙ rest.0,
+              (q.1, rest.1),
+            ),
+        λ h.
+            let two = not_or_parts _ _ (sym new ∙ h.0) in (
+              found ∙ ap (λ b. cond b (Some v) (fin.find text_cmp p.0 es)) (turned p.0 k ∙ two.0)
+                  ∙ h.1.0,
+              more.1 (two.1, h.1.1),
+            ),
       )
+    where
+      put_found : (b : Bool) (o : Option V) → cond b (Some v) o ≡ None → (b ≡ false) × (o ≡ None)
+      put_found true o s = absurd (some_not_none _ v refl s)
+      put_found false o s = (refl, s)
 
-  length_put : (es : List (List ℕ × V)) (k : List ℕ) (v : V)
-      → T (fin.is_sorted text_cmp es)
-      → length (fin.put text_cmp k v es)
-      ≡ cond (is_some (fin.find text_cmp k es)) (length es) (length es + 1)
-  length_put es k v s = fin.length-put text_cmp nat_list_cmp_total k v es s
-
-  sorted_insert : (es : List (List ℕ × V)) (k : List ℕ) (v : V)
-      → T (fin.is_sorted text_cmp es) → T (fin.is_sorted text_cmp (insert_entry text_cmp es k v))
-  sorted_insert es k v s = subst (λ xs. T (fin.is_sorted text_cmp xs)) (sym (insert_is_put es k v))
-      (fin.is_sorted-put text_cmp nat_list_cmp_total k v es s)
-
-  -- pairs with distinct new keys are as many more entries
-  count_distinct : (es ps : List (List ℕ × V)) → T (fin.is_sorted text_cmp es)
-      → AreDistinct (seen_by tree ps) → AreNewTo es ps
-      → length (inserted es ps) ≡ length es + length ps
-  count_distinct es [] s d n = omega arith
-  count_distinct es (p ∷ ps) s d n =
-      let e = insert_is_put es p.0 p.1 in
-      let more = count_distinct (insert_entry text_cmp es p.0 p.1) ps
-      (sorted_insert es p.0 p.1 s) d.1
-      (subst (λ xs. AreNewTo xs ps) (sym e) (put_new es ps p.0 p.1 d.0 n.1)) in
-      let one : length (insert_entry text_cmp es p.0 p.1) ≡ length es + 1 =
-      ap length e ∙ length_put es p.0 p.1 s
-      ∙ ap (λ o. cond (is_some o) (length es) (length es + 1)) n.0 in
-      omega (arith, more, one)
-
-  -- pairs are at most as many more entries
-  count_most : (es ps : List (List ℕ × V)) → T (fin.is_sorted text_cmp es)
-      → length (inserted es ps) ≤ length es + length ps
-  count_most es [] s = omega arith
-  count_most es (p ∷ ps) s =
-      let more = count_most (insert_entry text_cmp es p.0 p.1) ps (sorted_insert es p.0 p.1 s) in
-      let one : length (insert_entry text_cmp es p.0 p.1)
-      ≡ cond (is_some (fin.find text_cmp p.0 es)) (length es) (length es + 1) =
-      ap length (insert_is_put es p.0 p.1) ∙ length_put es p.0 p.1 s in
-      let most = cond_at_most (is_some (fin.find text_cmp p.0 es)) (length es) in
-      omega (arith, more, one, most)
-
-  -- where pairs are as many more entries, their keys are distinct and new
-  distinct_count : (es ps : List (List ℕ × V)) → T (fin.is_sorted text_cmp es)
-      → length (inserted es ps) ≡ length es + length ps
-      → AreDistinct (seen_by tree ps) × AreNewTo es ps
-  distinct_count es [] s h = (tt, tt)
-  distinct_count es (p ∷ ps) s h =
+  -- pairs are at most as many more entries, and as many where their keys are distinct and new
+  counts : (es ps : List (List ℕ × V)) → T (fin.is_sorted text_cmp es)
+      → (length (inserted es ps) ≤ length es + length ps)
+      × ((length (inserted es ps) ≡ length es + length ps)
+      ↔ (AreDistinct (seen_by tree ps) × AreNewTo es ps))
+  counts es [] s = (omega arith, (λ h. (tt, tt), λ d. omega arith))
+  counts es (p ∷ ps) s =
       let e = insert_is_put es p.0 p.1 in
       let now = insert_entry text_cmp es p.0 p.1 in
-      let sorted = sorted_insert es p.0 p.1 s in
-      let one : length now
-      ≡ cond (is_some (fin.find text_cmp p.0 es)) (length es) (length es + 1) =
-      ap length e ∙ length_put es p.0 p.1 s in
-      let most = count_most now ps sorted in
-      let low = cond_at_most (is_some (fin.find text_cmp p.0 es)) (length es) in
-      let exact : length now ≡ length es + 1 = omega (arith, h, most, one, low) in
-      let found : fin.find text_cmp p.0 es ≡ None =
-      none_from_not_some _ (false_from_one_more _ (length es) (length now) one exact) in
-      let more = distinct_count now ps sorted (omega (arith, h, exact)) in
-      let behind = new_put es ps p.0 p.1 (subst (λ xs. AreNewTo xs ps) e more.1) in
-      ((behind.0, more.0), (found, behind.1))
+      let found = fin.find text_cmp p.0 es in
+      let one : length now ≡ cond (is_some found) (length es) (length es + 1) =
+      ap length e ∙ fin.length-put text_cmp nat_list_cmp_total p.0 p.1 es s in
+      let low = cond_at_most (is_some found) (length es) in
+      let more = counts now ps (subst (λ xs. T (fin.is_sorted text_cmp xs)) (sym e)
+      (fin.is_sorted-put text_cmp nat_list_cmp_total p.0 p.1 es s)) in
+      let put = put_new es ps p.0 p.1 in (
+        omega (arith, more.0, one, low),
+        (
+          λ h.
+              let exact : length now ≡ length es + 1 = omega (arith, h, more.0, one, low) in
+              let rest = more.1.0 (omega (arith, h, exact)) in
+              let behind = put.0 (subst (λ xs. AreNewTo xs ps) e rest.1) in
+              let none = false_from_one_more _ (length es) (length now) one exact in
+              ((behind.0, rest.0), (none_from_not_some _ none, behind.1)),
+          λ d.
+              let exact = one ∙ ap (λ o. cond (is_some o) (length es) (length es + 1)) d.1.0 in
+              let rest = subst (λ xs. AreNewTo xs ps) (sym e) (put.1 (d.0.0, d.1.1)) in
+              omega (arith, exact, more.1.1 (d.0.1, rest)),
+        ),
+      )
 
   all_new : (ps : List (List ℕ × V)) → AreNewTo [] ps
   all_new [] = tt
   all_new (p ∷ ps) = (refl, all_new ps)
 
-  -- pairs that are put into no entries are as many entries where their keys are distinct
-  pub all_kept : (ps : List (List ℕ × V)) → AreDistinct (seen_by tree ps)
-      → length (inserted [] ps) ≡ length ps
-  all_kept ps d = omega (arith, count_distinct [] ps tt d (all_new ps))
-
-  -- and the keys are distinct where they are as many
-  pub kept_distinct : (ps : List (List ℕ × V)) → length (inserted [] ps) ≡ length ps
-      → AreDistinct (seen_by tree ps)
-  kept_distinct ps e =
-      let count : length (inserted [] ps) ≡ 0 + length ps = omega (arith, e) in
-      (distinct_count [] ps tt count).0
-
-  keyed_length : (es : List (Bor (List ℕ) × V)) → length (keyed es) ≡ length es
-  keyed_length es = length-map es (λ (e : Bor (List ℕ) × V). (e.0.now, e.1))
-
-  -- so it is with entries by borrowed keys
-  pub entries_kept : (es : List (Bor (List ℕ) × V)) → AreDistinct (pairs_by tree es)
-      → length (inserted [] (keyed es)) ≡ length es
-  entries_kept es d =
-      all_kept (keyed es) (subst AreDistinct (pairs_keyed tree es) d) ∙ keyed_length es
-
-  pub entries_distinct : (es : List (Bor (List ℕ) × V))
-      → length (inserted [] (keyed es)) ≡ length es → AreDistinct (pairs_by tree es)
-  entries_distinct es e =
-      subst AreDistinct (sym (pairs_keyed tree es))
-      (kept_distinct (keyed es) (e ∙ sym (keyed_length es)))
+  -- entries by borrowed keys become as many where their keys are distinct
+  pub as_many_entries : (es : List (Bor (List ℕ) × V))
+      → AreDistinct (pairs_by tree es) ↔ (length (inserted [] (keyed es)) ≡ length es)
+  as_many_entries es =
+      let many : length (keyed es) ≡ length es =
+      length-map es (λ (e : Bor (List ℕ) × V). (e.0.now, e.1)) in
+      let both = (counts [] (keyed es) tt).1 in (
+        λ d. omega (
+          arith,
+          many,
+          both.1 (subst AreDistinct (pairs_keyed tree es) d, all_new (keyed es)),
+        ),
+        λ h. subst AreDistinct (sym (pairs_keyed tree es)) (both.0 (omega (arith, h, many))).0,
+      )
 
   keys_counted : (es : List (List ℕ × V))
       → length (entry_keys (entries_of (seen_by tree es))) ≡ length es

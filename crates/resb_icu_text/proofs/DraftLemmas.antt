@@ -1,10 +1,8 @@
 -- Pieces of a draft that is read into: which of them are tables, and what is put behind them.
-use Rattle.std.proofs.Common.{◌≡◌, ℕ, Bool, List, [], Bor, length, sym, ◌∙◌, ap}
-use Rattle.std.proofs.Common.{◌++◌, map}
+use Rattle.std.proofs.Common.{◌≡◌, ℕ, Bool, List, [], Bor, length, sym, ◌∙◌, ap, ◌++◌, map}
 use Rattle.std.proofs.lemmas.List.{length-map}
 use Rattle.resb_tree.specs.LayingOrder.{own_keys}
-use Rattle.resb_tree.specs.Tree.{table}
-use Rattle.resb_tree.specs.Tree.{map_of}
+use Rattle.resb_tree.specs.Tree.{table, map_of}
 use Rattle.resb_tree.proofs.AtOnce.{inserted}
 use Rattle.resb_draft.specs.Drafts.{tree_at, is_whole, Keeps, IsMade, texts, EndsInEntries}
 use Rattle.resb_draft.specs.declared.draft.Draft.{Draft}

@@ -1,18 +1,17 @@
 -- What passes the tests of strings, part by part.
 use Rattle.std.proofs.Common.{◌≡◌, ℕ, Bool, true, false, not, List, [], ◌∷◌, ◌++◌, Global, Bor}
-use Rattle.std.proofs.Common.{refl, sym, ◌∙◌, ap, subst}
+use Rattle.std.proofs.Common.{refl, sym, ◌∙◌, ap, subst, map}
 use Rattle.std.proofs.lemmas.Bool.{false≢true}
 use Rattle.std.proofs.lemmas.List.{map-append}
 use Rattle.std.specs.Cow.{cow_str_bytes}
-use Rattle.std.specs.Prelude.{map}
 use Rattle.std.specs.declared.borrow.CowStr.{CowStr}
 use Rattle.std.specs.declared.borrow.CowSlice.{CowSlice}
 use Rattle.std.specs.declared.vec.Vec.{Vec}
 use Rattle.resb_tree.specs.Borrowing as borrowing
 use Rattle.resb_tree.specs.Borrowing.{all_true, are_slice}
 use Rattle.resb_tree.specs.declared.resource.Resource.{String, Alias, Binary, Integer, IntVector}
-use Rattle.resb_tree.proofs.BorrowingLemmas.{all_snoc, string_passes, alias_passes}
-use Rattle.resb_tree.proofs.BorrowingLemmas.{binary_passes, integer_passes, vector_passes}
+use Rattle.resb_tree.proofs.BorrowingLemmas.{all_snoc, string_passes, alias_passes, binary_passes}
+use Rattle.resb_tree.proofs.BorrowingLemmas.{integer_passes, vector_passes}
 use Rattle.resb_icu_grammar.specs.Words.{Text}
 use Rattle.resb_icu_text.specs.Lexemes.{Verbatim}
 use Rattle.resb_icu_text.specs.Inner.Found.{IsFound, is_whole}

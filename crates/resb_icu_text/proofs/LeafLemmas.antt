@@ -1,11 +1,12 @@
 -- The content of groups without items: what stands there, and where it is stuck.
 use Rattle.std.proofs.Common.{◌≡◌, ◌≢◌, ℕ, ◌%◌, ◌^◌, List, [], ◌∷◌, ◌++◌, Some, inl, refl, sym, ◌∙◌}
 use Rattle.std.proofs.Common.{ap, subst, append_assoc, suc, ◌+◌, ◌*◌, ◌≤◌, ◌<◌, false, length}
-use Rattle.std.proofs.Common.{arith, length-append}
+use Rattle.std.proofs.Common.{arith, length-append, slice_index}
 use Rattle.std.proofs.lemmas.Bool.{false≢true}
-use Rattle.std.specs.Prelude.{slice_index}
 use Rattle.resb_grammar.specs.Ascii as ascii
-use Rattle.resb_icu_grammar.specs.Groups.{digit_bytes}
+use Rattle.resb_icu_grammar.specs.Groups.{digit_bytes, last_number, last_comma, one_more}
+use Rattle.resb_icu_grammar.specs.Groups.{string_content, alias_content, binary_content}
+use Rattle.resb_icu_grammar.specs.Groups.{integer_content, no_numbers, numbers}
 use Rattle.resb_icu_grammar.specs.Kinds.{Kind, string_kind, alias_kind, binary_kind, integer_kind}
 use Rattle.resb_icu_grammar.specs.Kinds.{vector_kind}
 use Rattle.resb_grammar.specs.Limit.{number_bytes}
@@ -14,9 +15,6 @@ use Rattle.resb_tree.specs.declared.resource.Resource.{Resource}
 use Rattle.resb_tree.specs.Tree.{Tree, string, alias, binary, integer, int_vector}
 use Rattle.resb_icu_grammar.specs.Blanks.{Skip}
 use Rattle.resb_icu_grammar.specs.Words.{Text, Number}
-use Rattle.resb_icu_grammar.specs.Groups.{last_number, last_comma, one_more, string_content}
-use Rattle.resb_icu_grammar.specs.Groups.{alias_content, binary_content, integer_content}
-use Rattle.resb_icu_grammar.specs.Groups.{no_numbers, numbers}
 use Rattle.resb_icu_grammar.specs.Faults.{Told}
 use Rattle.resb_icu_grammar.specs.Limit.{leaf_bytes, count_so_far, by_a_number}
 use Rattle.resb_icu_grammar.specs.Machine.{reading_at, in_typed, leaf_follows}

@@ -1,11 +1,9 @@
 -- What a string stands for isn't longer than its text.
 use Rattle.std.proofs.Common.{◌≡◌, ℕ, ◌+◌, ◌-◌, ◌<◌, ◌≤◌, true, List, ◌∷◌, length, arith, ap, sym}
-use Rattle.std.proofs.Common.{◌∙◌, encode_utf8}
+use Rattle.std.proofs.Common.{◌∙◌, encode_utf8, lit≤, length-drop}
 use Rattle.std.specs.Prelude.{slice_index, nat_lt, Bool, false, cond}
-use Rattle.std.proofs.Common.{lit≤}
 use Rattle.std.proofs.lemmas.Bool.{false≢true}
 use Rattle.resb_grammar.specs.ByteRuns.{is_white}
-use Rattle.std.proofs.Common.{length-drop}
 use Rattle.std.proofs.lemmas.List.{length-append, length-take-le}
 use Rattle.std.proofs.lemmas.Str.{length-encode, len_utf8_bounds, len_utf8_ascii}
 use Rattle.std.proofs.lemmas.Bool.Decides.{nat_tests}
@@ -18,8 +16,7 @@ use Rattle.std.specs.Char.{len_utf8}
 use Rattle.resb_icu_grammar.specs.Pieces.{QuotedBytes, ends, byte, escape, Joined, last_piece}
 use Rattle.resb_icu_grammar.specs.Pieces.{one_more}
 use Rattle.resb_icu_grammar.specs.Blanks.{Comment, line, block, Blanks, none, white, comment}
-use Rattle.resb_icu_grammar.specs.Blanks.{IsSolid}
-use Rattle.resb_icu_grammar.specs.Blanks.{Skip}
+use Rattle.resb_icu_grammar.specs.Blanks.{IsSolid, Skip}
 use Rattle.resb_icu_grammar.specs.Unquoted.{Unquoted, UnquotedRow, last_one}
 use Rattle.resb_icu_grammar.specs.Unquoted as rows
 use Rattle.resb_icu_grammar.specs.Words.{Text, a_row, quoted}

@@ -1,9 +1,8 @@
 -- Numbers, bytes of a list, Booleans, options and results: what names no word of this project.
-use Rattle.std.proofs.Common.{◌≡◌, ◌≢◌, ℕ, ◌+◌, ◌≤◌, Bool, true, false, refl, sym, ap, ◌∙◌}
-use Rattle.std.proofs.Common.{arith, cond, ◌<◌, ◌-◌, List, [], length, get_or, take, drop}
-use Rattle.std.specs.Prelude.{slice_get, slice_index, slice_range}
+use Rattle.std.proofs.Common.{◌≡◌, ◌≢◌, ℕ, ◌+◌, ◌≤◌, Bool, true, false, refl, sym, ap, ◌∙◌, arith}
+use Rattle.std.proofs.Common.{cond, ◌<◌, ◌-◌, List, [], length, get_or, take, drop, slice_get}
+use Rattle.std.proofs.Common.{slice_index, slice_range, Option, Some, None, IfNone, not, ◌||◌}
 use Rattle.std.proofs.lemmas.Option.{slice_get_within, slice_get-get_or, same_Some}
-use Rattle.std.specs.Prelude.{Option, Some, None, IfNone, not, ◌||◌}
 use Rattle.std.specs.Option.{is_some}
 use Rattle.std.proofs.lemmas.Bool.{false≢true}
 

@@ -1,9 +1,8 @@
 -- What was made stays while more is made, and where a reading stands once something is made.
 use Rattle.std.proofs.Common.{◌≡◌, ◌&&◌, ◌⊎◌, ℕ, ◌+◌, Bool, true, List, [], ◌∷◌, ◌++◌, Vec, Global}
-use Rattle.std.proofs.Common.{Bor, inl, inr, refl, sym, ◌∙◌, ap, subst}
+use Rattle.std.proofs.Common.{Bor, inl, inr, refl, sym, ◌∙◌, ap, subst, map, slice_index}
 use Rattle.std.proofs.lemmas.Bool.{and_from, and_parts, false≢true}
 use Rattle.std.proofs.lemmas.List.{map-append}
-use Rattle.std.specs.Prelude.{map, slice_index}
 use Rattle.resb_grammar.specs.Ascii as ascii
 use Rattle.resb_tree.specs.Borrowing.{all_true}
 use Rattle.resb_tree.specs.Tree.{Tree, table, map_of}
@@ -11,8 +10,8 @@ use Rattle.resb_tree.specs.View.{tree_of}
 use Rattle.resb_tree.specs.declared.resource.Resource.{Resource}
 use Rattle.resb_icu_grammar.specs.Groups.{a_string}
 use Rattle.resb_icu_grammar.specs.Machine.{Waiting, in_array, in_table, Reading, reading_at}
-use Rattle.resb_icu_grammar.specs.Machine.{AreDistinct, among_members, among_entries}
-use Rattle.resb_icu_grammar.specs.Machine.{behind_group, table_ends}
+use Rattle.resb_icu_grammar.specs.Machine.{AreDistinct, among_members, among_entries, behind_group}
+use Rattle.resb_icu_grammar.specs.Machine.{table_ends}
 use Rattle.resb_icu_grammar.specs.Stuck.{ReadStuck, inside, key_twice}
 use Rattle.resb_icu_grammar.specs.declared.expected.IcuExpected.TheVariants as expect
 use Rattle.resb_icu_text.specs.Borrowed.{PassesWhatIsSaid, passes}

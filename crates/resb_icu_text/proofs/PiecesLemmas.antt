@@ -2,8 +2,7 @@
 use Rattle.std.proofs.Common.{◌≡◌, ◌≢◌, ℕ, zero, suc, ◌+◌, ◌-◌, ◌<◌, ◌≤◌, Bool, true, false, List}
 use Rattle.std.proofs.Common.{[], ◌∷◌, ◌++◌, length, arith, subst, sym, refl, ap, ◌∙◌, take, drop}
 use Rattle.std.proofs.Common.{append_assoc, append-nil, length-drop, Result, Ok, Err, OnOk, is_ok}
-use Rattle.std.proofs.Common.{if◌then◌else◌}
-use Rattle.std.specs.Prelude.{slice_range, slice_index, nat_lt}
+use Rattle.std.proofs.Common.{if◌then◌else◌, slice_range, slice_index, nat_lt}
 use Rattle.std.specs.Str.{IsUtf8, IsCharBoundary}
 use Rattle.std.proofs.lemmas.Str.{IsCharBoundary-after_ascii}
 use Rattle.std.proofs.lemmas.List.{take_more, get_or-drop, length-append}
@@ -32,63 +31,41 @@ SomeInside text from to n = (s : List ℕ) × QuotedBytes text from to s × (len
 abbrev pub GoesOn : List ℕ → ℕ → ℕ → ℕ → Type 0
 GoesOn text at from n = (to m : ℕ) → SomeInside text at to m → SomeInside text from to (n + m)
 
-goes_byte : (text : List ℕ) (from at n : ℕ) → at < length text → slice_index text at ≢ ascii.quote
-    → slice_index text at ≢ backslash → GoesOn text at from n → GoesOn text (at + 1) from (n + 1)
-goes_byte text from at n l q s f to m h =
-    let more = f to (suc m) (_, byte at to h.0 l q s h.1, ap suc h.2) in
-    subst (λ k. SomeInside text from to k) (omega arith) more
-
 -- a fault that stands from one place on stands from the other on
 abbrev pub FaultOn : List ℕ → ℕ → ℕ → ℕ → Type 0
 FaultOn text opening at from =
     (to : ℕ) (x : IcuExpected) → PieceFault text opening at to x → PieceFault text opening from to x
 
-fault_byte : (text : List ℕ) (opening from at : ℕ) → at < length text
-    → slice_index text at ≢ ascii.quote → slice_index text at ≢ backslash
-    → FaultOn text opening at from → FaultOn text opening (at + 1) from
-fault_byte text o from at l q s f to x h = f to x (faults.byte at to x l q s h)
-
 -- what each byte that stands for itself keeps, bytes up to the first quote or backslash keep
-kept_run : (text : List ℕ) (P : ℕ → Type 0)
-    → ((i : ℕ) → i < length text → slice_index text i ≢ ascii.quote
-    → slice_index text i ≢ backslash → P i → P (i + 1))
-    → (at n : ℕ) → at + n ≤ length text → HasNoStop text at (at + n) → P at → P (at + n)
-kept_run text P keeps at zero l h p = let e : at ≡ at + 0 = omega arith in subst P e p
-kept_run text P keeps at (suc n) l h p =
-    let e : at + 1 + n ≡ at + suc n = omega arith in
-    let b = h at (omega arith) (omega arith) in
-    subst P e
-    (kept_run text P keeps (at + 1) n (omega (arith, l))
-    (λ k low high. h k (omega (arith, low)) (omega (arith, high)))
-    (keeps at (omega (arith, l)) b.0 b.1 p))
-
 kept_bytes : (text : List ℕ) (P : ℕ → Type 0)
     → ((i : ℕ) → i < length text → slice_index text i ≢ ascii.quote
     → slice_index text i ≢ backslash → P i → P (i + 1))
-    → (at stop : ℕ) → at ≤ stop → stop ≤ length text → HasNoStop text at stop → P at → P stop
-kept_bytes text P keeps at stop o l h p =
-    let e : at + (stop - at) ≡ stop = omega arith in
-    subst P e
-    (kept_run text P keeps at (stop - at) (omega (arith, e))
-    (subst (λ i. HasNoStop text at i) (sym e) h) p)
+    → (n at stop : ℕ) → stop ≡ at + n → stop ≤ length text → HasNoStop text at stop → P at → P stop
+kept_bytes text P keeps zero at stop e l h p = let same : at ≡ stop = omega (arith, e) in subst P same p
+kept_bytes text P keeps (suc n) at stop e l h p =
+    let b = h at (omega arith) (omega (arith, e)) in
+    kept_bytes text P keeps n (at + 1) stop (omega (arith, e)) l
+    (λ k low high. h k (omega (arith, low)) high) (keeps at (omega (arith, e, l)) b.0 b.1 p)
 
 -- bytes that stand for themselves, up to the first quote or backslash
 pub goes_bytes : (text : List ℕ) (from at stop n : ℕ) → at ≤ stop → stop ≤ length text
     → HasNoStop text at stop → GoesOn text at from n → GoesOn text stop from (n + (stop - at))
 goes_bytes text from at stop n o l h f =
     (kept_bytes text (λ i. (at ≤ i) × GoesOn text i from (n + (i - at)))
-    (λ i l q s g. (omega (arith, g.0), by i g.0 (goes_byte text from i _ l q s g.1)))
-    at stop o l h (omega arith, subst (λ j. GoesOn text at from j) (omega arith) f)).1
-  where
-    by : (i : ℕ) → at ≤ i → GoesOn text (i + 1) from (n + (i - at) + 1)
-        → GoesOn text (i + 1) from (n + (i + 1 - at))
-    by i low g = subst (λ j. GoesOn text (i + 1) from j) (omega (arith, low)) g
+    (λ i l q s g. (
+      omega (arith, g.0),
+      λ to m r. subst (λ k. SomeInside text from to k)
+          (omega (arith, g.0)) (g.1 to (suc m) (_, byte i to r.0 l q s r.1, ap suc r.2)),
+    ))
+    (stop - at) at stop (omega (arith, o)) l h
+    (omega arith, subst (λ j. GoesOn text at from j) (omega arith) f)).1
 
 -- and a fault behind them
 pub fault_bytes : (text : List ℕ) (opening from at stop : ℕ) → at ≤ stop → stop ≤ length text
     → HasNoStop text at stop → FaultOn text opening at from → FaultOn text opening stop from
-fault_bytes text o from =
-    kept_bytes text (λ i. FaultOn text o i from) (λ i l q s f. fault_byte text o from i l q s f)
+fault_bytes text o from at stop low =
+    kept_bytes text (λ i. FaultOn text o i from)
+    (λ i l q s f to x r. f to x (faults.byte i to x l q s r)) (stop - at) at stop (omega (arith, low))
 
 pub goes_escape : (text : List ℕ) (from at next b n k : ℕ) (xs : List ℕ) → b ≡ slice_index text at
     → b ≡ backslash → Escape text (at + 1) next xs → k ≡ length xs → GoesOn text at from n
@@ -249,11 +226,6 @@ adds_itself text from last start at next old value bytes value1 s n l x e a =
           ∙ a.whole;
     }
 
-nothing_rests : (text : List ℕ) (last : ℕ) (rest : List ℕ) → slice_index text last ≡ ascii.quote
-    → QuotedBytes text last last rest → rest ≡ []
-nothing_rests text last rest q h =
-    (Inside-one text last last last rest [] h (ends last q)).1
-
 -- the last that was read is added
 pub adds_all : (text : List ℕ) (from last start at : ℕ) (old value bytes value1 : List ℕ)
     → slice_index text last ≡ ascii.quote → at ≡ last
@@ -265,7 +237,7 @@ adds_all text from last start at old value bytes value1 q e f a =
     f ∙ sym (append-nil (value ++ slice_range text start last))
     ∙ append_assoc value (slice_range text start last) []
     ∙ ap (λ k. value ++ (slice_range text start last ++ k))
-    (sym (nothing_rests text last a.rest q h))
+    (sym (Inside-one text last last last a.rest [] h (ends last q)).1)
     ∙ ap (λ k. value ++ (slice_range text start k ++ a.rest)) (sym e) ∙ a.whole
 
 -- an escape has some byte behind its backslash

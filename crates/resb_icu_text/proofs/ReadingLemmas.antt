@@ -2,9 +2,8 @@
 use Rattle.resb_grammar.proofs.ReachLemmas.{reach_low, reach_high}
 use Rattle.std.proofs.Common.{◌≡◌, ◌≢◌, ◌&&◌, ℕ, ◌+◌, ◌*◌, ◌≤◌, ◌<◌, Bool, true, false, List, []}
 use Rattle.std.proofs.Common.{◌∷◌, ◌++◌, refl, sym, ◌∙◌, ap, subst, arith, length, get_or, Bor, ◌⊎◌}
-use Rattle.std.proofs.Common.{inl, inr, ⊎_elim}
-use Rattle.std.specs.Prelude.{slice_index, map, take, nat_eq, ◌==◌, Result, Ok, Err, IfErr}
-use Rattle.std.specs.Prelude.{MatchResult}
+use Rattle.std.proofs.Common.{inl, inr, ⊎_elim, slice_index, map, take, nat_eq, ◌==◌, Result, Ok}
+use Rattle.std.proofs.Common.{Err, IfErr, MatchResult}
 use Rattle.std.specs.Cmp.Lexicographic.{pointwise}
 use Rattle.std.proofs.lemmas.Bool.Decides.{nat_tests}
 use Rattle.indexmap.specs.IndexSet.{insert_key}
@@ -40,8 +39,8 @@ use Rattle.resb_icu_text.specs.Inner.Steps.{shown, with_key, now, Resumes, Place
 use Rattle.resb_icu_text.specs.Inner.Steps.{group_place, read_now}
 use Rattle.resb_icu_text.specs.declared.steps.Waiting.{Waiting as Open}
 use Rattle.resb_icu_text.specs.declared.steps.Waiting.TheVariants as waiting
-use Rattle.resb_icu_text.specs.Inner.Reading.{IsWhole, groups, keys, stands, IsRead}
-use Rattle.resb_icu_text.specs.Inner.Reading.{around, NameFails, TypingThere, no_colon, a_type}
+use Rattle.resb_icu_text.specs.Inner.Reading.{IsWhole, groups, keys, stands, IsRead, around}
+use Rattle.resb_icu_text.specs.Inner.Reading.{NameFails, TypingThere, no_colon, a_type}
 use Rattle.resb_icu_text.specs.Inner.Reading.{OpeningFails, no_type, no_brace, HeaderFails}
 use Rattle.resb_icu_text.specs.Inner.Reading.{RootThere}
 use Rattle.resb_icu_text.specs.Inner.Quota.{TakesBytes, RunsOver, IsAt, GoesOn, IsStuck, Stops}
@@ -336,29 +335,21 @@ whole_root text name f first limit q tree places h w =
     whole_text text w.stands.bytes places tree w.end name f first h w.stands.made w.after
 
 -- what a stop says of the text
-pub stop_fails : (text : List ℕ) (limit : Limit) (q : Quota) (e : IcuTextError)
-    → Stops text limit q e → IcuFails text e
-stop_fails text limit q e s = ⊎_elim (λ (m : e ≡ want_of_memory). inl m)
-    (λ (n : IsStuck text limit e). inr n.stuck) s.fails
+stop_says : {text : List ℕ} {limit : Limit} {q : Quota} {e : IcuTextError} (P : Type 0)
+    → (IsStuck text limit e → P) → Stops text limit q e → (e ≡ want_of_memory) ⊎ P
+stop_says {e = e} P f s = ⊎_elim (λ (m : e ≡ want_of_memory). inl m) (λ n. inr (f n)) s.fails
 
 -- a text that is refused is no bundle
 pub stop_is_no_text : (text : List ℕ) (limit : Limit) (q : Quota) (e : IcuTextError)
     → Stops text limit q e → (e ≡ want_of_memory) ⊎ IsNoIcuText text
-stop_is_no_text text limit q e s = ⊎_elim (λ (m : e ≡ want_of_memory). inl m)
-    (λ (n : IsStuck text limit e).
-    inr (stuck_is_no_text text e.position e.expected n.stuck)) s.fails
-
--- and none of its readings makes more before
-pub stop_never_more : (text : List ℕ) (limit : Limit) (q : Quota) (e : IcuTextError)
-    → Stops text limit q e → IcuNeverMore text limit e
-stop_never_more text limit q e s = ⊎_elim (λ (m : e ≡ want_of_memory). inl m)
-    (λ (n : IsStuck text limit e). inr n.first) s.fails
+stop_is_no_text text limit q e s =
+    stop_says _ (λ n. stuck_is_no_text text e.position e.expected n.stuck) s
 
 -- what an answer says that is a stop
 pub answer_fails : {T : Type 0} (text : List ℕ) (limit : Limit) (q : Quota) (P : T → Type 0)
     (r : Result T IcuTextError) → MatchResult r P (Stops text limit q) → IfErr r (IcuFails text)
 answer_fails text limit q P (Ok x) h = tt
-answer_fails text limit q P (Err e) h = stop_fails text limit q e h
+answer_fails text limit q P (Err e) h = stop_says _ (λ n. n.stuck) h
 
 pub answer_no_text : {T : Type 0} (text : List ℕ) (limit : Limit) (q : Quota) (P : T → Type 0)
     (r : Result T IcuTextError) → MatchResult r P (Stops text limit q)
@@ -375,8 +366,8 @@ larger_makes text limit n q e same s o = subst (λ l. IcuMakesMore text l) same 
 pub text_within : (text : List ℕ) (limit n : Limit) (q : Quota) (e : IcuTextError) → limit ≡ n
     → Stops text limit q e → IcuFails text e × IcuNeverMore text n e
 text_within text limit n q e same s = (
-  stop_fails text limit q e s,
-  subst (λ l. IcuNeverMore text l e) same (stop_never_more text limit q e s),
+  stop_says _ (λ n. n.stuck) s,
+  subst (λ l. IcuNeverMore text l e) same (stop_says _ (λ n. n.first) s),
 )
 
 -- where a name stands, and where none does

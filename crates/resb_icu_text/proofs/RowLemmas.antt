@@ -1,13 +1,11 @@
 -- Laws of unquoted strings in a row, and of the pairs of hex digits that these say.
 use Rattle.std.proofs.Common.{◌≡◌, ◌≢◌, ℕ, zero, suc, ◌+◌, ◌-◌, ◌<◌, ◌≤◌, Bool, true, false, List}
 use Rattle.std.proofs.Common.{[], ◌∷◌, ◌++◌, length, arith, subst, sym, refl, ap, ◌∙◌, ◌*◌}
-use Rattle.std.proofs.Common.{append_assoc}
-use Rattle.std.specs.Prelude.{slice_index, slice_range, not, ◌==◌, ◌||◌, Result, Ok}
-use Rattle.std.specs.Prelude.{Err, IfOk, MatchOption, Option, Some, None, ◌&&◌}
+use Rattle.std.proofs.Common.{append_assoc, slice_index, slice_range, not, ◌==◌, ◌||◌, Result, Ok}
+use Rattle.std.proofs.Common.{Err, IfOk, MatchOption, Option, Some, None, ◌&&◌}
 use Rattle.std.specs.List.{list_any}
 use Rattle.std.proofs.lemmas.Bool.{false≢true, and_parts}
 use Rattle.std.proofs.lemmas.Bool.Decides.{nat_tests}
-use Rattle.resb_grammar.specs.ByteRuns.{is_white}
 use Rattle.resb_grammar.proofs.ReachLemmas.{reach_here}
 use Rattle.resb_grammar.specs.Inner.Reach.{reach}
 use Rattle.resb_icu_grammar.specs.Blanks.{Skip}
@@ -18,7 +16,7 @@ use Rattle.resb_icu_grammar.specs.Limit.{is_put_together}
 use Rattle.resb_icu_grammar.proofs.Lexical.{Unquoted-one, joined_first, no_quote_row}
 use Rattle.resb_icu_text.specs.Lexemes.{Verbatim, a_word, a_piece}
 use Rattle.resb_icu_text.specs.Inner.Found.{IsFound, Shows, is_whole}
-use Rattle.resb_icu_text.specs.Inner.Unquoted.{row_goes_on, StringOfRow}
+use Rattle.resb_icu_text.specs.Inner.Unquoted.{StringOfRow}
 use Rattle.resb_icu_text.specs.declared.strings.Found.{Found}
 use Rattle.resb_icu_text.specs.declared.strings.Stands.{Stands}
 use Rattle.resb_icu_text.proofs.ReachLemmas.{slash_begins_none}
@@ -33,15 +31,6 @@ use Rattle.resb_icu_grammar.specs.Pieces.{Joined}
 use Rattle.resb_icu_text.specs.Inner.Digits.{SaysPairs, SaysNone, RowSaysPairs, RowSaysNone}
 use Rattle.resb_grammar.specs.Ascii as ascii
 use Rattle.resb_icu_text.specs.declared.strings.Stands.TheVariants as found
-
--- where another string follows, one begins and a white character stands before
-pub follows_white : (text : List ℕ) (end next : ℕ) → row_goes_on text end next ≡ true
-    → is_white (slice_index text end) ≡ true
-follows_white text end next h = (and_parts _ _ h).0
-
-pub follows_begins : (text : List ℕ) (end next : ℕ) → row_goes_on text end next ≡ true
-    → begins_unquoted text next ≡ true
-follows_begins text end next h = (and_parts _ _ h).1
 
 -- where one begins, a reading has looked up to there
 pub reach_begun : (text : List ℕ) (at : ℕ) → begins_unquoted text at ≡ true
@@ -72,10 +61,6 @@ row_no_quote text from to s r =
     let none : slice_index text from ≢ ascii.quote = λ e. no_quote_row text from to s e r in
     grind (arith, nat_tests, none)
 
--- a blank ends one
-blank_ends : (b : ℕ) → is_unquoted b ≡ true → (b == ascii.space) ≡ false
-blank_ends b h = grind (arith, nat_tests, h)
-
 any_append : (p : ℕ → Bool) (s t : List ℕ) → list_any p t ≡ true → list_any p (s ++ t) ≡ true
 any_append p [] t h = h
 any_append p (b ∷ s) t h = ap (λ c. p b || c) (any_append p s t h) ∙ either (p b)
@@ -93,11 +78,16 @@ no_blank text zero at to e each fits =
 no_blank text (suc n) at to e each fits =
     ap (λ s. list_any (λ b. b == ascii.space) s)
     (slice_cons text at to (omega (arith, e)) (omega (arith, e, fits)))
-    ∙ ap (λ c. c || list_any (λ b. b == ascii.space) (slice_range text (at + 1) to))
-    (blank_ends _ (and_parts _ _ (each at (omega arith) (omega (arith, e)))).0)
+    ∙ ap (λ c. c || list_any (λ b. b == ascii.space) (slice_range text (at + 1) to)) other
     ∙ no_blank text n (at + 1) to (omega (arith, e))
     (λ k low high. each k (omega (arith, low)) high)
     fits
+  where
+    unquoted : is_unquoted (slice_index text at) ≡ true
+    unquoted = (and_parts _ _ (each at (omega arith) (omega (arith, e)))).0
+
+    other : (slice_index text at == ascii.space) ≡ false
+    other = grind (arith, nat_tests, unquoted)
 
 -- no blank is in an unquoted string
 pub unquoted_no_blank : (text : List ℕ) (from to : ℕ) (s : List ℕ) → Unquoted text from to s
@@ -150,9 +140,6 @@ blank_parts b s h = by (b == ascii.space) refl h
     by true e g = absurd (false≢true (sym g))
     by false e g = (e, g)
 
-hex_no_space : (b : ℕ) → is_hex b ≡ true → (b == ascii.space) ≡ false
-hex_no_space b h = grind (arith, nat_tests, h)
-
 -- without blanks pairs are just those
 pub spaced_without : (s : List ℕ) → NoBlank s → spaced_bytes s ≡ hex_bytes s
 spaced_without [] h = refl
@@ -187,11 +174,11 @@ spaced_pairs (a ∷ b ∷ w) bs rest o e f =
         → (q : Option (List ℕ)) → o ≡ q
         → spaced_bytes (a ∷ b ∷ (w ++ rest)) ≡ option_map (λ (l : List ℕ). bs ++ l) o
     by true true (Some l) h k g f None n =
-        let other = hex_no_space a h in
+        let other : (a == ascii.space) ≡ false = grind (arith, nat_tests, h) in
         let deeper = f l refl in
         rw (other, h, k, deeper, n) refl
     by true true (Some l) h k g f (Some m) n =
-        let other = hex_no_space a h in
+        let other : (a == ascii.space) ≡ false = grind (arith, nat_tests, h) in
         let same : (hex_value a * 16 + hex_value b) ∷ l ≡ bs = cc in
         let deeper = f l refl in
         rw (other, h, k, deeper, n) (ap (λ (j : List ℕ). Some (j ++ m)) same)

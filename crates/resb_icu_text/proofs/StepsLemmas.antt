@@ -1,5 +1,5 @@
 -- How each step of a reading goes on, and where a reading stops.
-use Rattle.std.proofs.Common.{◌≡◌, ◌≢◌, ℕ, ◌+◌, ◌*◌, ◌<◌, ◌≤◌, true, false, List, [], ◌∷◌, ◌++◌}
+use Rattle.std.proofs.Common.{◌≡◌, ℕ, ◌+◌, ◌*◌, ◌<◌, ◌≤◌, true, false, List, [], ◌∷◌, ◌++◌}
 use Rattle.std.proofs.Common.{Vec, length, arith, Bor, Global, refl, sym, ◌∙◌, ap, subst}
 use Rattle.std.proofs.lemmas.Bool.{false≢true, and_from}
 use Rattle.std.proofs.lemmas.List.{map-append}
@@ -20,15 +20,13 @@ use Rattle.resb_draft.specs.Drafts.{is_leaf}
 use Rattle.resb_icu_grammar.specs.Blanks.{Skip}
 use Rattle.resb_icu_grammar.specs.Limit.{key_bytes, next_key_bytes, joining_bytes}
 use Rattle.resb_icu_grammar.specs.Words.{Text, KeyText, GroupType}
-use Rattle.resb_icu_grammar.specs.Groups.{a_string, a_group, ends_in_string}
-use Rattle.resb_icu_grammar.specs.Groups.{TypedOpening, LeafContent, string_content, alias_content}
+use Rattle.resb_icu_grammar.specs.Groups.{a_string, a_group, ends_in_string, TypedOpening}
+use Rattle.resb_icu_grammar.specs.Groups.{LeafContent, string_content, alias_content}
 use Rattle.resb_icu_grammar.specs.Groups.{binary_content, integer_content, no_numbers, numbers}
-use Rattle.resb_icu_grammar.specs.Machine.{Waiting, Standing, reading_at}
-use Rattle.resb_icu_grammar.specs.Machine.{among_members, among_entries}
-use Rattle.resb_icu_grammar.specs.Machine.{behind_group, in_untyped, before_group}
+use Rattle.resb_icu_grammar.specs.Machine.{Waiting, Standing, reading_at, among_members}
+use Rattle.resb_icu_grammar.specs.Machine.{among_entries, behind_group, in_untyped, before_group}
 use Rattle.resb_icu_grammar.specs.Machine as move
-use Rattle.resb_icu_grammar.specs.Stuck.{StepStuck, inside}
-use Rattle.resb_icu_grammar.specs.Stuck.{TypeStuck}
+use Rattle.resb_icu_grammar.specs.Stuck.{StepStuck, inside, TypeStuck}
 use Rattle.resb_icu_grammar.specs.Faults.{Told}
 use Rattle.resb_icu_grammar.specs.Stuck as stuck
 use Rattle.resb_icu_grammar.specs.declared.expected.IcuExpected.{IcuExpected}
@@ -46,15 +44,14 @@ use Rattle.resb_icu_text.specs.declared.steps.Waiting.TheVariants as waiting
 use Rattle.resb_icu_text.specs.declared.steps.Step.TheVariants as step
 use Rattle.resb_icu_text.specs.declared.steps.Read.{Read}
 use Rattle.resb_icu_text.specs.declared.steps.Read.TheVariants as read
-use Rattle.resb_icu_text.specs.Inner.Ahead.{StringFails, KeyFails}
+use Rattle.resb_icu_text.specs.Inner.Ahead.{KeyFails}
 use Rattle.resb_icu_text.specs.Inner.Found.{IsFound, Shows, fits_key, is_whole}
 use Rattle.resb_icu_text.specs.Inner.Build.{pairs_by}
 use Rattle.resb_icu_text.specs.Inner.Kept.{members_pass, read_passes, Keeps}
 use Rattle.resb_icu_text.specs.Inner.Quota.{TakesBytes, GoesOn, StopsAt}
 use Rattle.resb_icu_text.specs.Inner.Steps.{last_of, read_now, Place, StepsTo, StepFails, has_leaf}
-use Rattle.resb_icu_text.specs.Inner.Steps.{Ends, Goes}
-use Rattle.resb_icu_text.specs.Inner.Steps.{members_place, group_place}
-use Rattle.resb_icu_text.specs.Inner.Steps.{untyped_place, KeyAhead, Resumes}
+use Rattle.resb_icu_text.specs.Inner.Steps.{Ends, Goes, members_place, group_place, untyped_place}
+use Rattle.resb_icu_text.specs.Inner.Steps.{KeyAhead, Resumes}
 use Rattle.resb_icu_text.proofs.KeptLemmas.{said_kept, members_with, entries_with}
 use Rattle.resb_icu_text.proofs.QuotaLemmas.{by_move, by_step_out, memory_stops, stuck_stops}
 
@@ -90,11 +87,7 @@ no_key text at f is n to k p =
     false≢true (sym n ∙ is.key.1 (subst (λ i. KeyText text at i is.said) same.0
     (subst (λ s. KeyText text at to s) same.1 p)))
 
--- where no string stands no key does, and where a string may be no key, what was expected is told
-pub string_no_key : (text : List ℕ) (at : ℕ) (x : IcuExpected) (e : IcuTextError)
-    → StringFails text at x e → KeyFails text at x e
-string_no_key text at x e n = (λ to k p. n.0 to k (key_string text at to k p), n.1)
-
+-- where a string may be no key, what was expected is told
 pub unfit_key : (text : List ℕ) (at : ℕ) (x : IcuExpected) (f : Found) (e : IcuTextError)
     → e ≡ record { position = at; expected = x } → IsFound text at f
     → fits_key f.stands ≡ false → KeyFails text at x e
@@ -107,18 +100,6 @@ unfit_key text at x f e h is n = (
 -- an error at this place, where this was expected
 abbrev pub Says : ℕ → IcuExpected → IcuTextError → Type 0
 Says at x e = e ≡ record { position = at; expected = x }
-
--- the trees of members with one more
-trees_with : {X : Type 0} (tree : X → Tree) (v old : List X) (x : X) → v ≡ old ++ x ∷ []
-    → map tree v ≡ map tree old ++ tree x ∷ []
-trees_with tree v old x e = ap (λ l. map tree l) e ∙ map-append tree old (x ∷ [])
-
--- the pairs of entries with one more
-pairs_with : {X : Type 0} (tree : X → Tree) (v old : List (Bor (List ℕ) × X)) (k : Bor (List ℕ))
-    (x : X) → v ≡ old ++ (k, x) ∷ []
-    → pairs_by tree v ≡ pairs_by tree old ++ (k.now, tree x) ∷ []
-pairs_with tree v old k x e =
-    ap (pairs_by tree) e ∙ map-append (λ p. (p.0.now, tree p.1)) old ((k, x) ∷ [])
 
 -- the content of a group without items has nothing inside
 pub content_leaf : (text : List ℕ) (from to : ℕ) (kind : Kind) (t : Tree)
@@ -288,7 +269,7 @@ behind_member text old v x at next k order fits e = record {
   comes = λ tree ws ks q. subst (λ ts. GoesOn text q q
       (reading_at (move.in_array (map tree old.items) ∷ ws) ks (behind_group (tree x)) at)
       (reading_at ws ks (among_members a_group ts) next))
-      (sym (trees_with tree v.items old.items x e))
+      (sym (ap (map tree) e ∙ map-append tree old.items (x ∷ [])))
       (by_step_out text q _ ks (tree x) at _
       (move.was_member ws (map tree old.items) next k));
   keeps = λ pass test h j. members_with pass test v.items old.items x e h j;
@@ -306,7 +287,8 @@ behind_value text old v key x at next k order fits e = record {
       (reading_at (move.in_table (pairs_by tree old.items) key.now ∷ ws) ks
       (behind_group (tree x)) at)
       (reading_at ws ks (among_entries es) next))
-      (sym (pairs_with tree v.items old.items key x e))
+      (sym (ap (pairs_by tree) e
+      ∙ map-append (λ p. (p.0.now, tree p.1)) old.items ((key, x) ∷ [])))
       (by_step_out text q _ ks (tree x) at _
       (move.was_value ws (pairs_by tree old.items) key.now next k));
   keeps = λ pass test h j. entries_with pass test v.items old.items key x e h j;

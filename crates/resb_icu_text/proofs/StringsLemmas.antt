@@ -1,23 +1,19 @@
 -- Laws of strings and keys, as the reader's functions use them.
-use Rattle.std.proofs.Common.{◌≡◌, ◌≢◌, ℕ, suc, ◌+◌, ◌-◌, ◌<◌, ◌≤◌, true, false, List, []}
-use Rattle.std.proofs.Common.{◌∷◌}
-use Rattle.std.proofs.Common.{◌++◌, length, arith, subst, sym, refl, ap, ◌∙◌, take, drop}
-use Rattle.std.proofs.Common.{drop-cons, ◌⊎◌, inl, inr}
-use Rattle.std.specs.Prelude.{slice_index, slice_range, IsTrue, ◌↔◌}
+use Rattle.std.proofs.Common.{◌≡◌, ◌≢◌, ℕ, suc, ◌+◌, ◌-◌, ◌<◌, ◌≤◌, true, false, List, [], ◌∷◌}
+use Rattle.std.proofs.Common.{◌++◌, length, arith, subst, sym, refl, ap, ◌∙◌, take, drop, drop-cons}
+use Rattle.std.proofs.Common.{◌⊎◌, inl, inr, slice_index, slice_range, IsTrue, ◌↔◌}
 use Rattle.std.specs.Borrow.{Bor}
 use Rattle.std.proofs.lemmas.Bool.{false≢true}
 use Rattle.resb_grammar.specs.Ascii as ascii
-use Rattle.resb_icu_grammar.specs.Bytes.{backslash, are_key_bytes}
+use Rattle.resb_icu_grammar.specs.Bytes.{are_key_bytes}
 use Rattle.resb_icu_grammar.specs.Blanks.{Skip}
 use Rattle.resb_icu_grammar.specs.Pieces.{QuotedBytes, ends, byte, escape, QuotedPiece, Joined}
 use Rattle.resb_icu_grammar.specs.Pieces.{last_piece, one_more}
-use Rattle.resb_icu_grammar.specs.Faults.{PieceFault, StringFault, this_piece, Told}
-use Rattle.resb_icu_grammar.specs.Faults.{a_fault}
+use Rattle.resb_icu_grammar.specs.Faults.{PieceFault, StringFault, this_piece, Told, a_fault}
 use Rattle.resb_icu_grammar.specs.declared.expected.IcuExpected.{IcuExpected}
 use Rattle.resb_icu_grammar.proofs.Faults.{fault_no_string, unquoted_told}
-use Rattle.resb_icu_grammar.specs.Unquoted.{Unquoted}
+use Rattle.resb_icu_grammar.specs.Unquoted.{Unquoted, last_one, UnquotedRow}
 use Rattle.resb_icu_grammar.specs.Words.{Text, KeyText, HasNoEscape}
-use Rattle.resb_icu_grammar.specs.Unquoted.{last_one, UnquotedRow}
 use Rattle.resb_icu_grammar.specs.Unquoted as rows
 use Rattle.resb_icu_grammar.specs.Words as words
 use Rattle.resb_icu_grammar.proofs.Lexical.{Piece-one, no_quote_word, joined_first, Inside-one}
@@ -31,8 +27,7 @@ use Rattle.resb_icu_text.specs.declared.strings.Said.{Said}
 use Rattle.resb_icu_grammar.specs.Stuck.{NoStringAt}
 use Rattle.resb_icu_text.specs.Lexemes.{IsLexeme, Verbatim, a_word, a_piece}
 use Rattle.resb_icu_text.specs.Inner.Ahead.{StringFails}
-use Rattle.resb_icu_text.specs.Inner.Found.{IsFound, IsSaid, Shows, length_of, fits_key}
-use Rattle.resb_icu_text.specs.Inner.Found.{is_whole}
+use Rattle.resb_icu_text.specs.Inner.Found.{IsFound, IsSaid, Shows, length_of, fits_key, is_whole}
 use Rattle.resb_icu_text.specs.Inner.Unquoted.{row_goes_on}
 use Rattle.resb_icu_text.specs.declared.strings.Found.{Found}
 use Rattle.resb_icu_text.specs.declared.strings.Stands.{Stands}
@@ -110,18 +105,10 @@ no_escape_quoted : (text : List ℕ) (from last : ℕ) → slice_index text from
     → slice_index text last ≡ ascii.quote → HasNoEscape text (from + 1) last
     → HasNoEscape text from (last + 1)
 no_escape_quoted text from last q r n k low high b =
-    n k (between k low high b).0 (between k low high b).1 b
+    n k (omega (arith, low, other from q)) (omega (arith, high, other last r)) b
   where
-    at : (i : ℕ) → slice_index text i ≡ ascii.quote → (k : ℕ) → slice_index text k ≡ backslash
-        → k ≢ i
-    at i e k b s = absurd (omega (arith, e, b, ap (λ n. slice_index text n) s))
-
-    between : (k : ℕ) → from ≤ k → k < last + 1 → slice_index text k ≡ backslash
-        → (from + 1 ≤ k) × (k < last)
-    between k low high b =
-        let u = at from q k b in
-        let v = at last r k b in
-        (omega (arith, low, u), omega (arith, high, v))
+    other : (i : ℕ) → slice_index text i ≡ ascii.quote → k ≢ i
+    other i e s = absurd (omega (arith, e, b, ap (λ n. slice_index text n) s))
 
 -- what may be a key is what stands in the text as it is, with bytes that a key may have
 pub key_plain : (text : List ℕ) (from to : ℕ) (s : List ℕ) → KeyText text from to s

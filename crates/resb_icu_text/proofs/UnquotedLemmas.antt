@@ -1,7 +1,6 @@
 -- Laws of unquoted strings, as the reader's functions use them.
-use Rattle.std.proofs.Common.{◌≡◌, ◌≢◌, ℕ, ◌+◌, ◌<◌, ◌≤◌, true, false, Bool, List, length}
-use Rattle.std.proofs.Common.{arith, subst, sym, refl, ap, ◌∙◌}
-use Rattle.std.specs.Prelude.{slice_index, slice_range, nat_lt, ◌&&◌}
+use Rattle.std.proofs.Common.{◌≡◌, ◌≢◌, ℕ, ◌+◌, ◌<◌, ◌≤◌, true, false, Bool, List, length, arith}
+use Rattle.std.proofs.Common.{subst, sym, refl, ap, ◌∙◌, slice_index, slice_range, nat_lt, ◌&&◌}
 use Rattle.std.proofs.lemmas.Bool.{false≢true}
 use Rattle.std.proofs.lemmas.Bool.Decides.{nat_tests}
 use Rattle.std.specs.Str.{IsCharBoundary}

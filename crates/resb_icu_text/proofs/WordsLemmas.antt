@@ -1,8 +1,7 @@
 -- Laws of words and numbers, as the reader's functions use them.
 use Rattle.resb_icu_text.proofs.ReachLemmas.{reach_word}
-use Rattle.std.proofs.Common.{◌≡◌, ◌≢◌, ℕ, ◌+◌, ◌-◌, ◌<◌, ◌≤◌, true, List}
-use Rattle.std.proofs.Common.{arith, subst, sym, ◌∙◌, get_or}
-use Rattle.std.specs.Prelude.{slice_index}
+use Rattle.std.proofs.Common.{◌≡◌, ◌≢◌, ℕ, ◌+◌, ◌-◌, ◌<◌, ◌≤◌, true, List, arith, subst, sym, ◌∙◌}
+use Rattle.std.proofs.Common.{get_or, slice_index}
 use Rattle.std.proofs.lemmas.Bool.Decides.{nat_tests}
 use Rattle.std.proofs.lemmas.Str.{IsCharBoundary-after_ascii}
 use Rattle.std.specs.Str.{IsUtf8, IsCharBoundary}
@@ -94,21 +93,17 @@ no_whole_number text from to end v r s ne k w n =
     let both = number_signed text from k w n in
     ne (signed_ends text from to k v w s both.1 ∙ Run-one is_word text from k end both.0 r)
 
-word_ascii : (b : ℕ) → is_word b ≡ true → b < 128
-word_ascii b h = grind (arith, nat_tests, h)
-
-word_some : (b : ℕ) → is_word b ≡ true → 0 < b
-word_some b h = grind (arith, nat_tests, h)
-
 -- a character begins behind a word
 pub behind_word : (text : List ℕ) (from to : ℕ) → IsUtf8 text → Run is_word text from to
     → from < to → IsCharBoundary text to
 behind_word text from to u r w =
-    let h : is_word (get_or text (to - 1) 0) ≡ true = r.each (to - 1) (omega arith) (omega arith) in
+    let b = get_or text (to - 1) 0 in
+    let h : is_word b ≡ true = r.each (to - 1) (omega arith) (omega arith) in
+    let some : 0 < b = grind (arith, nat_tests, h) in
+    let low : b < 128 = grind (arith, nat_tests, h) in
     let e : to - 1 + 1 ≡ to = omega arith in
     subst (λ i. IsCharBoundary text i) e
-    (IsCharBoundary-after_ascii text (to - 1) u (nonzero_inside text (to - 1) (word_some _ h))
-    (word_ascii _ h))
+    (IsCharBoundary-after_ascii text (to - 1) u (nonzero_inside text (to - 1) some) low)
 
 -- which digits with a sign stand there, and which don't
 pub ruleset signs = (no_plus, no_minus, no_digits, is_minus)

@@ -16,7 +16,7 @@ ghost use Rattle.resb_icu_text.specs.Inner.Quota.{StopsAt};
 use crate::build::Build;
 use crate::error::IcuTextError;
 use crate::quota::Meter;
-use crate::steps::{Last, Read, Step, Waiting, entry, group, member, resume};
+use crate::steps::{Last, Read, Step, Waiting, entry, group, member, push_item, resume};
 use resb_icu_grammar::IcuExpected;
 use resb_tree::NoMemory;
 use std::alloc::Global;
@@ -168,7 +168,7 @@ fn make<'a, B: Build<'a>>(
         Read::Member(members, string, at) => {
             let mut members = members;
             let made = build.leaf(string)?;
-            members.push(made)?;
+            push_item(&mut members, made)?;
             Ok(Next::Step(Step::Members(members, Last::String, at)))
         }
         Read::Array(members, at) => {

@@ -1,8 +1,8 @@
 //! One step of a reading: from where it stands to behind the next member, entry, brace or group.
 //! What is open around that place is kept in `open`, and what a step has read is made there. Groups
 //! without items are read in `leaf`.
-ghost use Rattle.std.specs.Prelude.{◌≡◌, ◌≢◌, ◌+◌, ◌*◌, ◌<◌, ◌≤◌, true, length};
-ghost use Rattle.std.specs.Prelude.{slice_index, IfOk, MatchResult, IsTrue, false};
+ghost use Rattle.std.specs.Prelude.{◌≡◌, ◌≢◌, ◌+◌, ◌*◌, ◌<◌, ◌≤◌, true, length, [], ◌∷◌, ◌++◌};
+ghost use Rattle.std.specs.Prelude.{slice_index, IfOk, OnOk, MatchResult, IsTrue, false};
 ghost use Rattle.resb_grammar.specs.Ascii as ascii;
 ghost use Rattle.resb_grammar.specs.Inner.Reach.{reach};
 ghost use Rattle.resb_icu_grammar.specs.Groups as spec;
@@ -438,6 +438,18 @@ fn untyped_string<'a, X: Drop>(
     Ok(Read::Step(Step::Group(Waiting::Table(Vec::new(alloc), key), next)))
 }
 
+/// Puts an item behind those of an open group. The first one takes room for itself alone: a text
+/// may open groups inside each other that all have one item before the next.
+pub(crate) fn push_item<T: Drop>(items: &mut Vec<T>, item: T) -> Result<(), NoMemory>
+    ensures items { OnOk result (items.new.items ≡ items.old.items ++ item ∷ []) }
+{
+    if items.is_empty() {
+        items.reserve_exact(1)?;
+    }
+    items.push(item)?;
+    Ok(())
+}
+
 /// From behind a group of which this was made to behind the blanks there, among what it stands in.
 #[tactic(auto, using(crate::proofs::ReachLemmas::reached))]
 pub(crate) fn resume<'a, X: Drop>(
@@ -456,12 +468,12 @@ pub(crate) fn resume<'a, X: Drop>(
     match waiting {
         Waiting::Array(members) => {
             let mut members = members;
-            members.push(made)?;
+            push_item(&mut members, made)?;
             Ok(Step::Members(members, Last::Group, skip(text, at, turns)))
         }
         Waiting::Table(entries, key) => {
             let mut entries = entries;
-            entries.push((key, made))?;
+            push_item(&mut entries, (key, made))?;
             Ok(Step::Entries(entries, skip(text, at, turns)))
         }
     }

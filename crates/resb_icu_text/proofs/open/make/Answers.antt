@@ -17,12 +17,12 @@ returns-in-Member g c =
     let adds = c.in_ok-made-in-Member.ensures in
     rw c.in-Member.is (record {
       comes = λ text ws ks q ends. member_made g.B.Build.tree g.B.Build.held c.args.build.now
-          c.leaf.new.self text ws ks q c.push.new.self c.in-Member.members
+          c.leaf.new.self text ws ks q c.push_item.new.items c.in-Member.members
           c.in_ok-made-in-Member.made c.in-Member.string c.in-Member.at adds
-          c.in_ok-push-in-Member.ensures.items (rw c.in-Member.is at c.requires.held);
+          c.in_ok-push_item-in-Member.ensures.items (rw c.in-Member.is at c.requires.held);
       grows = adds.2;
       kept = λ t h. member_passes g.B.Build.tree g.B.Build.held c.args.build.now c.leaf.new.self
-          _ _ _ _ _ t adds c.in_ok-push-in-Member.ensures.items h;
+          _ _ _ _ _ t adds c.in_ok-push_item-in-Member.ensures.items h;
       goes = λ text before h. h;
       spent = λ text. refl;
     })

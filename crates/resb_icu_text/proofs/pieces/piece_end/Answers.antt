@@ -1,9 +1,8 @@
-use Rattle.std.proofs.Common.{◌≡◌, ◌+◌, ◌-◌, arith, rules, refl, sym, ◌∙◌}
-use Rattle.std.specs.Prelude.{slice_index}
+use Rattle.std.proofs.Common.{◌≡◌, ◌+◌, ◌-◌, arith, rules, refl, sym, ◌∙◌, slice_index}
 use Rattle.resb_icu_grammar.specs.Bytes.{backslash}
-use Rattle.resb_icu_text.proofs.PiecesLemmas.{goes_bytes, fault_bytes, goes_escape}
-use Rattle.resb_icu_text.proofs.PiecesLemmas.{fault_escape, no_escape_fault, no_end_fault}
-use Rattle.resb_icu_text.proofs.PiecesLemmas.{says_fault, piece_closes, no_escape_more}
+use Rattle.resb_icu_text.proofs.PiecesLemmas.{goes_bytes, fault_bytes, goes_escape, fault_escape}
+use Rattle.resb_icu_text.proofs.PiecesLemmas.{no_escape_fault, no_end_fault, says_fault}
+use Rattle.resb_icu_text.proofs.PiecesLemmas.{piece_closes, no_escape_more}
 use Rattle.resb_icu_text.proofs.StopsLemmas.{is_backslash}
 use Rattle.resb_icu_text.proofs.LengthLemmas.{escape_short}
 use Rattle.resb_icu_text.proofs.pieces.piece_end.Goals as goal

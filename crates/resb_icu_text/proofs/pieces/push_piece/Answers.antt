@@ -1,6 +1,5 @@
-use Rattle.std.proofs.Common.{◌≡◌, ◌<◌, ◌≤◌, ◌+◌, length, arith, rules, sym, ◌∙◌, ◌++◌}
-use Rattle.std.proofs.Common.{[], ◌∷◌, encode_utf8, subst, ap}
-use Rattle.std.specs.Prelude.{slice_index, slice_range}
+use Rattle.std.proofs.Common.{◌≡◌, ◌<◌, ◌≤◌, ◌+◌, length, arith, rules, sym, ◌∙◌, ◌++◌, [], ◌∷◌}
+use Rattle.std.proofs.Common.{encode_utf8, subst, ap, slice_index, slice_range}
 use Rattle.std.specs.String.{string_bytes}
 use Rattle.std.proofs.lemmas.Str.{IsCharBoundary-before_ascii, IsCharBoundary-after_ascii}
 use Rattle.resb_icu_grammar.specs.Bytes.{backslash}

@@ -1,5 +1,4 @@
-use Rattle.std.proofs.Common.{◌≡◌}
-use Rattle.std.specs.Prelude.{map, take}
+use Rattle.std.proofs.Common.{◌≡◌, map, take}
 use Rattle.resb_grammar.specs.BundleText.{first_places}
 use Rattle.resb_grammar.specs.KeyLists.{listed_keys}
 use Rattle.resb_icu_text.proofs.reader.each_once.Given as goal

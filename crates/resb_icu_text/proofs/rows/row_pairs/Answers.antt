@@ -1,5 +1,4 @@
-use Rattle.std.proofs.Common.{◌++◌, [], arith, sym, ap, length, ◌∙◌, refl}
-use Rattle.std.proofs.Common.{length-append}
+use Rattle.std.proofs.Common.{◌++◌, [], arith, sym, ap, length, ◌∙◌, refl, length-append}
 use Rattle.resb_grammar.specs.Group.{hex_bytes}
 use Rattle.resb_icu_text.proofs.LengthLemmas.{row_order}
 use Rattle.resb_icu_text.proofs.RowLemmas.{pairs_first, pairs_none, pairs_over, pairs_more}

@@ -3,9 +3,8 @@ use Rattle.resb_icu_grammar.specs.Kinds.{kind_of}
 use Rattle.resb_icu_text.proofs.QuotaLemmas.{none_taken, by_move, match_fails, over_stops}
 use Rattle.resb_icu_grammar.specs.Machine.{type_opens, before_group}
 use Rattle.resb_icu_grammar.specs.Stuck.{no_brace}
-use Rattle.resb_icu_text.proofs.StepsLemmas.{entered, no_type, fails_at}
+use Rattle.resb_icu_text.proofs.StepsLemmas.{entered, no_type, fails_at, opening_there}
 use Rattle.resb_icu_text.specs.Inner.Steps.{group_place, typed_place}
-use Rattle.resb_icu_text.proofs.StepsLemmas.{opening_there}
 use Rattle.resb_icu_text.proofs.steps.typed.Goals as goal
 
 pub returns-in_err-end-clause-reads : goal.returns-in_err-end-clause-reads

@@ -2,9 +2,8 @@ use Rattle.std.proofs.Common.{ap, arith, refl, sym, ◌∙◌}
 use Rattle.resb_icu_text.specs.Inner.Kept.{entries_pass}
 use Rattle.resb_icu_text.specs.Inner.Steps.{untyped_place}
 use Rattle.resb_icu_text.proofs.QuotaLemmas.{none_taken, by_move, match_fails, over_stops}
-use Rattle.resb_icu_text.proofs.StepsLemmas.{untyped_one, untyped_comma, step_to, told_at}
-use Rattle.resb_icu_text.proofs.StepsLemmas.{no_key, lacks, text_made, key_ahead, is_a_key}
-use Rattle.resb_icu_text.proofs.StepsLemmas.{fails_at}
+use Rattle.resb_icu_text.proofs.StepsLemmas.{untyped_one, untyped_comma, step_to, told_at, no_key}
+use Rattle.resb_icu_text.proofs.StepsLemmas.{lacks, text_made, key_ahead, is_a_key, fails_at}
 use Rattle.resb_icu_grammar.specs.Machine.{in_untyped, begins_with_string, begins_with_key}
 use Rattle.resb_icu_grammar.specs.Machine as move
 use Rattle.resb_icu_grammar.specs.Stuck.{no_further}

@@ -1,5 +1,4 @@
-use Rattle.std.proofs.Common.{◌≡◌, ◌+◌, ◌-◌, arith, ap, sym, ◌∙◌, refl, [], append-nil}
-use Rattle.std.specs.Prelude.{slice_index}
+use Rattle.std.proofs.Common.{◌≡◌, ◌+◌, ◌-◌, arith, ap, sym, ◌∙◌, refl, [], append-nil, slice_index}
 use Rattle.resb_grammar.proofs.ReachLemmas.{reach_quote}
 use Rattle.resb_icu_grammar.specs.Words as words
 use Rattle.resb_icu_grammar.proofs.Faults.{fault_no_string}

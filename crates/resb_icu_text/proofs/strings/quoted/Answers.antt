@@ -1,6 +1,4 @@
-use Rattle.std.proofs.Common.{◌≡◌, ◌≢◌, ◌+◌, ◌⊎◌, inl, inr, arith, sym, ◌∙◌, subst}
-use Rattle.std.proofs.Common.{[]}
-use Rattle.std.specs.Prelude.{slice_index}
+use Rattle.std.proofs.Common.{◌≡◌, ◌≢◌, ◌+◌, ◌⊎◌, inl, inr, arith, sym, ◌∙◌, subst, [], slice_index}
 use Rattle.std.proofs.lemmas.Str.{IsCharBoundary-before_ascii, IsCharBoundary-after_ascii}
 use Rattle.resb_grammar.specs.Ascii as ascii
 use Rattle.resb_grammar.proofs.ReachLemmas.{reach_quote}

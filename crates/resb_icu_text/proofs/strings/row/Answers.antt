@@ -1,11 +1,10 @@
-use Rattle.std.proofs.Common.{◌≡◌, ◌+◌, ◌≤◌, ⊎_elim, inl, inr, arith, refl, subst, sym}
-use Rattle.std.proofs.Common.{◌∙◌, ◌∷◌, [], true}
-use Rattle.std.proofs.lemmas.Bool.{false≢true}
+use Rattle.std.proofs.Common.{◌+◌, ◌≤◌, ⊎_elim, inl, inr, arith, refl, subst, sym}
+use Rattle.std.proofs.Common.{◌∙◌, ◌∷◌, []}
+use Rattle.std.proofs.lemmas.Bool.{false≢true, and_parts}
 use Rattle.resb_icu_grammar.specs.Unquoted.{Unquoted, one_more}
-use Rattle.resb_icu_text.specs.Inner.Unquoted.{row_goes_on}
 use Rattle.resb_icu_text.proofs.LengthLemmas.{word_short, white_moves}
 use Rattle.resb_icu_text.proofs.PartsLemmas.{walked_none, walked_more}
-use Rattle.resb_icu_text.proofs.RowLemmas.{follows_white, follows_begins, reach_begun}
+use Rattle.resb_icu_text.proofs.RowLemmas.{reach_begun}
 use Rattle.resb_icu_text.proofs.StringsLemmas.{word_found, row_found}
 use Rattle.resb_icu_text.proofs.strings.row.Goals as goal
 
@@ -32,10 +31,9 @@ returns-in_default-clause-cost c =
 pub row-preserved : goal.row-preserved
 row-preserved c =
     let text = c.args.text.now in
-    let q : row_goes_on text c.in-Some.end c.skip-next.result ≡ true =
-    sym c.row_goes_on.ensures ∙ c.if-row_goes_on.true in
-    let white = follows_white text c.in-Some.end c.skip-next.result q in
-    let begins = follows_begins text c.in-Some.end c.skip-next.result q in
+    let both = and_parts _ _ (sym c.row_goes_on.ensures ∙ c.if-row_goes_on.true) in
+    let white = both.0 in
+    let begins = both.1 in
     let low = white_moves text c.in-Some.end c.skip-next.result white c.skip-next.ensures.skip in
     let word = c.in-Some.ensures.found in
     record {

@@ -1,6 +1,5 @@
-use Rattle.std.proofs.Common.{◌≡◌, ◌<◌, ◌≤◌, length, arith, refl, get_or, slice_index, sym, ◌∙◌}
-use Rattle.std.proofs.Common.{ap, Some}
-use Rattle.std.specs.Prelude.{slice_get}
+use Rattle.std.proofs.Common.{◌≡◌, ◌<◌, ◌≤◌, length, arith, refl, get_or, slice_index, sym, ◌∙◌, ap}
+use Rattle.std.proofs.Common.{Some, slice_get}
 use Rattle.std.proofs.lemmas.Bool.{false≢true}
 use Rattle.resb_icu_text.proofs.TypesLemmas.{not_there}
 use Rattle.resb_icu_text.proofs.Lists.{past_end, other_byte, byte_there}

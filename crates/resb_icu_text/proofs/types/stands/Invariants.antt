@@ -1,5 +1,4 @@
-use Rattle.std.proofs.Common.{◌≡◌, ◌+◌, ◌≤◌, length, drop}
-use Rattle.std.specs.Prelude.{◌↔◌}
+use Rattle.std.proofs.Common.{◌≡◌, ◌+◌, ◌≤◌, length, drop, ◌↔◌}
 use Rattle.resb_grammar.specs.GroupTypes.{Stands}
 use Rattle.resb_icu_text.proofs.types.stands.Given as goal
 

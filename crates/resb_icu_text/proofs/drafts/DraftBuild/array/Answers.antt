@@ -1,5 +1,4 @@
-use Rattle.std.proofs.Common.{◌≡◌, true, ap, ◌∙◌, ◌++◌, map, subst}
-use Rattle.std.specs.Prelude.{IfOk}
+use Rattle.std.proofs.Common.{◌≡◌, true, ap, ◌∙◌, ◌++◌, map, subst, IfOk}
 use Rattle.std.proofs.lemmas.Result.{IfOk-weaker}
 use Rattle.resb_tree.specs.Borrowing.{all_true}
 use Rattle.resb_tree.specs.Tree.{array, trees_of}

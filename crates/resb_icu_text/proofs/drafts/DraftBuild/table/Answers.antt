@@ -1,8 +1,6 @@
 use Rattle.std.proofs.Common.{sym, ◌∙◌}
-use Rattle.resb_tree.specs.Tree.{table, map_of}
-use Rattle.resb_draft.specs.Drafts.{tree_at, IsMade}
-use Rattle.resb_icu_text.specs.Inner.Build.{pairs_by}
-use Rattle.resb_icu_text.proofs.DistinctLemmas.{entries_kept, entries_distinct}
+use Rattle.resb_draft.specs.Drafts.{tree_at}
+use Rattle.resb_icu_text.proofs.DistinctLemmas.{as_many_entries}
 use Rattle.resb_icu_text.proofs.DraftLemmas.{keeps_grow, keys_made, ends_at}
 use Rattle.resb_icu_text.proofs.drafts.DraftBuild.table.Goals as goal
 
@@ -13,12 +11,10 @@ returns-then-own_keys-len-clause-distinct c =
     let ends = ends_at d c.push_entries.new.draft _ _ _ es c.in_ok-push_entries.ensures
     (c.len-first_member.ensures ∙ d.members.ok.0) (c.len-first_key.ensures ∙ d.keys.ok.0)
     c.deref.ensures.value in
-    let made : IsMade c.end_table.new.self c.in_ok-number.number
-    (table (map_of (pairs_by (tree_at d) es))) =
-    c.in_ok-number.ensures.made d es ends c.requires.held in
+    let made = c.in_ok-number.ensures.made d es ends c.requires.held in
     let count = keys_made d c.end_table.new.self c.in_ok-number.number es c.own_keys.result.now made
     c.own_keys.ensures in
-    entries_distinct (tree_at d) es
+    (as_many_entries (tree_at d) es).1
     (sym count ∙ c.if-own_keys-len.true ∙ c.len.ensures ∙ c.args.entries.now.ok.0)
 
 pub returns-then-own_keys-len-clause-made : goal.returns-then-own_keys-len-clause-made
@@ -28,9 +24,7 @@ returns-then-own_keys-len-clause-made c =
     let ends = ends_at d c.push_entries.new.draft _ _ _ es c.in_ok-push_entries.ensures
     (c.len-first_member.ensures ∙ d.members.ok.0) (c.len-first_key.ensures ∙ d.keys.ok.0)
     c.deref.ensures.value in
-    let made : IsMade c.end_table.new.self c.in_ok-number.number
-    (table (map_of (pairs_by (tree_at d) es))) =
-    c.in_ok-number.ensures.made d es ends c.requires.held in (
+    let made = c.in_ok-number.ensures.made d es ends c.requires.held in (
       made.0,
       λ t h. made.1,
       keeps_grow d c.end_table.new.self (c.in_ok-number.ensures.keeps d es ends),
@@ -43,10 +37,8 @@ returns-else-own_keys-len-clause-none c = λ distinct.
     let ends = ends_at d c.push_entries.new.draft _ _ _ es c.in_ok-push_entries.ensures
     (c.len-first_member.ensures ∙ d.members.ok.0) (c.len-first_key.ensures ∙ d.keys.ok.0)
     c.deref.ensures.value in
-    let made : IsMade c.end_table.new.self c.in_ok-number.number
-    (table (map_of (pairs_by (tree_at d) es))) =
-    c.in_ok-number.ensures.made d es ends c.requires.held in
+    let made = c.in_ok-number.ensures.made d es ends c.requires.held in
     let count = keys_made d c.end_table.new.self c.in_ok-number.number es c.own_keys.result.now made
     c.own_keys.ensures in
-    c.if-own_keys-len.false (count ∙ entries_kept (tree_at d) es distinct
+    c.if-own_keys-len.false (count ∙ (as_many_entries (tree_at d) es).0 distinct
     ∙ sym (c.len.ensures ∙ c.args.entries.now.ok.0))

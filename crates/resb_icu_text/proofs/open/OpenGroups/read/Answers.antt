@@ -2,8 +2,7 @@ use Rattle.std.proofs.Common.{arith, sym, ◌∙◌, refl, rules}
 use Rattle.std.proofs.lemmas.Bool.{and_from, and_parts}
 use Rattle.resb_icu_text.proofs.QuotaLemmas.{none_taken, memory_stops, match_by, match_fails}
 use Rattle.resb_icu_text.proofs.ReadingLemmas.{pushed, nothing_open, behind_ended, is_read}
-use Rattle.resb_icu_text.proofs.ReadingLemmas.{root_ended, in_opened, opened_read}
-use Rattle.resb_icu_text.proofs.ReadingLemmas.{waiting_parts}
+use Rattle.resb_icu_text.proofs.ReadingLemmas.{root_ended, in_opened, opened_read, waiting_parts}
 use Rattle.resb_icu_text.specs.Inner.Quota.{StopsAt}
 use Rattle.resb_icu_text.specs.Inner.Steps.{StepsTo, StepFails, members_place, entries_place}
 use Rattle.resb_icu_text.specs.Inner.Steps.{group_place}

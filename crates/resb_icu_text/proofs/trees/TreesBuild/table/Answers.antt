@@ -1,6 +1,6 @@
 use Rattle.std.proofs.Common.{ap, sym, ◌∙◌, length, refl}
 use Rattle.resb_tree.specs.View.{tree_of}
-use Rattle.resb_icu_text.proofs.DistinctLemmas.{keyed, entries_kept, entries_distinct, made_table}
+use Rattle.resb_icu_text.proofs.DistinctLemmas.{keyed, as_many_entries, made_table}
 use Rattle.resb_icu_text.proofs.DistinctLemmas.{made_count, made_kept}
 use Rattle.resb_icu_text.proofs.trees.TreesBuild.table.Goals as goal
 
@@ -11,7 +11,7 @@ returns-then-len-count-clause-distinct c =
     ∙ ap (λ v. keyed v.items) c.replace-entries.ensures.value in
     let m = c.in_ok-table.table in
     let is = c.in_ok-table.ensures in
-    entries_distinct tree_of es (sym (made_count es c.in_ok-with_keys.field-0.items m keys is)
+    (as_many_entries tree_of es).1 (sym (made_count es c.in_ok-with_keys.field-0.items m keys is)
     ∙ sym c.len.ensures.len ∙ c.if-len-count.true ∙ c.len-count.ensures
     ∙ c.replace-entries.result.ok.0 ∙ ap (λ v. length v.items) c.replace-entries.ensures.value)
 
@@ -35,6 +35,6 @@ returns-clause-none c = λ distinct.
     let m = c.in_ok-table.table in
     let is = c.in_ok-table.ensures in
     c.if-len-count.false (c.len.ensures.len
-    ∙ made_count es c.in_ok-with_keys.field-0.items m keys is ∙ entries_kept tree_of es distinct
+    ∙ made_count es c.in_ok-with_keys.field-0.items m keys is ∙ (as_many_entries tree_of es).0 distinct
     ∙ sym (c.len-count.ensures ∙ c.replace-entries.result.ok.0
     ∙ ap (λ v. length v.items) c.replace-entries.ensures.value))

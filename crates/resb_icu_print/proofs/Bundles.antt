@@ -3,8 +3,10 @@ use Rattle.std.proofs.Common.{◌≡◌, ℕ, ◌+◌, ◌<◌, Bool, true, fals
 use Rattle.std.proofs.Common.{length, refl, sym, ◌∙◌, ap, subst, arith, Some, None, inl, inr}
 use Rattle.std.proofs.lemmas.List.{get_or_past}
 use Rattle.std.proofs.lemmas.Bool.{false≢true}
-use Rattle.std.specs.Prelude.{slice_index, codes, ◌⊎◌}
+use Rattle.std.specs.Prelude.{slice_index, codes, ◌⊎◌, ◌==◌, ◌&&◌}
 use Rattle.std.specs.List.Sorted.{IsStrictlySortedBy}
+use Rattle.std.proofs.lemmas.Bool.Decides.{nat_tests}
+use Rattle.resb_icu_print.proofs.TakenTrees.{TakenIn}
 use Rattle.resb_tree.specs.Tree.{Tree, table}
 use Rattle.resb_tree.specs.Tree.{Entries}
 use Rattle.resb_tree.specs.Maps.{text_cmp, keyed_trees}
@@ -13,7 +15,7 @@ use Rattle.resb_grammar.specs.Ascii as ascii
 use Rattle.resb_grammar.specs.ByteRuns.{Run}
 use Rattle.resb_grammar.specs.BundleText.{first_places}
 use Rattle.resb_icu_grammar.specs.Bytes.{is_word}
-use Rattle.resb_icu_grammar.specs.Blanks.{Blanks, none, Skip, without_a_mark}
+use Rattle.resb_icu_grammar.specs.Blanks.{Blanks, none, Skip, without_a_mark, has_mark}
 use Rattle.resb_icu_grammar.specs.Words.{a_word, no_fallback_type}
 use Rattle.resb_icu_grammar.specs.Bundle.{Typing, without, with, IcuText}
 use Rattle.resb_print.specs.Printed.{root_type_on, entries_on, printed_bundle}
@@ -25,7 +27,7 @@ use Rattle.resb_print.proofs.Bundles.{stands}
 use Rattle.resb_print.proofs.Tracing.{nothing_found}
 use Rattle.resb_tree.proofs.MapsLemmas.{map_of-keyed_trees}
 use Rattle.resb_icu_print.specs.Printed.{is_bare, icu_spelling}
-use Rattle.resb_icu_print.specs.Causes.{TakenIn, icu_tests, SaysIcuCause}
+use Rattle.resb_icu_print.specs.Causes.{icu_tests, SaysIcuCause}
 use Rattle.resb_icu_print.specs.declared.cause.IcuCause.{IcuCause}
 use Rattle.resb_icu_print.specs.declared.error.IcuPrintError.{IcuPrintError}
 use Rattle.resb_icu_print.specs.declared.error.IcuPrintError.TheVariants.{OutOfMemory}
@@ -35,8 +37,18 @@ use Rattle.resb_icu_print.proofs.Strings.{word_read, bare_read, word_each, bare_
 use Rattle.resb_icu_print.proofs.Strings.{words_key}
 use Rattle.resb_icu_print.proofs.Groups.{root_starts, entries_at, close_line}
 
-no_mark : (b : ℕ) → is_word b ≡ true → b ≡ 0xef → ⊥
-no_mark b h e = false≢true (sym (ap is_word e) ∙ h)
+-- a text that begins with a word character has no mark
+no_mark : (text : List ℕ) → is_word (slice_index text 0) ≡ true → has_mark text ≡ false
+no_mark text h = by (slice_index text 0 == 0xef) refl
+  where
+    rest : Bool
+    rest = slice_index text 1 == 0xbb && slice_index text 2 == 0xbf
+
+    by : (t : Bool) → (slice_index text 0 == 0xef) ≡ t → has_mark text ≡ false
+    by true e =
+        let f : slice_index text 0 ≡ 0xef = grind (arith, nat_tests) in
+        absurd (false≢true (sym (ap is_word f) ∙ h))
+    by false e = ap (λ t. t && rest) e
 
 bare_first : (name : List ℕ) → is_bare name ≡ true → is_word (slice_index name 0) ≡ true
 bare_first name h = word_each name (bare_words name h) 0 (bare_some name h)
@@ -124,11 +136,14 @@ module _ (text : List ℕ) where
             place = 0 + length name;
             brace = t.brace;
             begins = without_a_mark
-                (λ m. no_mark (slice_index name 0) (bare_first name bare) (sym first ∙ m.first))
+                (no_mark text (ap is_word first ∙ bare_first name bare))
                 refl;
             before = no_skip text solid;
             named = record {
-              key = a_word row word (words_key name (bare_words name bare));
+              key = record {
+                verbatim = a_word row word;
+                fits = words_key name (bare_words name bare);
+              };
               some = bare_some name bare;
               word = name_run name bare;
             };

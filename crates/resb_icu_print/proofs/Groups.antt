@@ -3,6 +3,15 @@ use Rattle.std.proofs.Common.{◌≡◌, ℕ, ◌+◌, Bool, true, false, List, 
 use Rattle.std.proofs.Common.{◌∷◌, refl, sym, ◌∙◌, ap, subst, arith, inl, inr, ⊎_elim}
 use Rattle.std.specs.Prelude.{slice_index, codes, ◌==◌, ◌||◌, not, nat_eq, ◌⊎◌, Some}
 use Rattle.resb_grammar.specs.Group.{hex_bytes}
+use Rattle.resb_icu_grammar.specs.declared.group_kind.IcuKind.{IcuKind as Kind}
+use Rattle.resb_icu_grammar.specs.declared.group_kind.IcuKind.TheVariants.{
+  Alias as alias_kind,
+  Array as array_kind,
+  Table as table_kind,
+  Binary as binary_kind,
+  Integer as integer_kind,
+  IntVector as vector_kind,
+}
 use Rattle.resb_icu_grammar.specs.Pieces.{Joined}
 use Rattle.resb_icu_grammar.proofs.Lexical.{joined_first}
 use Rattle.std.proofs.Common.{Less}
@@ -13,13 +22,12 @@ use Rattle.std.specs.Ordering.{is_eq}
 use Rattle.hex.specs.Hex.{encode_lower}
 use Rattle.std.proofs.lemmas.Bool.{and_parts}
 use Rattle.std.proofs.lemmas.Bool.Decides.{nat_tests}
+use Rattle.resb_icu_print.proofs.TakenTrees.{IsTaken, AreTaken, TakenIn}
 use Rattle.resb_tree.specs.Tree.{Tree, string, alias, array, table, binary, integer, int_vector}
 use Rattle.resb_tree.specs.Tree.{Trees, no_trees, more_trees, Entries, no_entries, entry}
 use Rattle.resb_tree.specs.Maps.{text_cmp, keyed_trees}
 use Rattle.resb_tree.specs.LayingOrder.{array_members as members_in, entry_keys}
 use Rattle.resb_grammar.specs.Ascii as ascii
-use Rattle.resb_icu_grammar.specs.Kinds.{Kind, alias_kind, array_kind, table_kind, binary_kind}
-use Rattle.resb_icu_grammar.specs.Kinds.{integer_kind, vector_kind}
 use Rattle.resb_icu_grammar.specs.Blanks.{Blanks, Skip, IsSolid}
 use Rattle.resb_icu_grammar.specs.Words as words
 use Rattle.resb_icu_grammar.specs.Groups.{TypedOpening, LeafContent, alias_content, binary_content}
@@ -40,7 +48,7 @@ use Rattle.resb_tree.proofs.LayingOrderLemmas.{trees_of-array_members}
 use Rattle.resb_tree.proofs.Numbers.{low_bits_kept}
 use Rattle.resb_print.specs.Printed.{tree_on, trees_on, entries_on}
 use Rattle.resb_icu_print.specs.Printed.{piece_on, key_on, icu_spelling}
-use Rattle.resb_icu_print.specs.Causes.{IsTaken, AreTaken, TakenIn, is_icu_key}
+use Rattle.resb_icu_print.specs.Causes.{is_icu_key}
 use Rattle.resb_icu_grammar.specs.Bytes.{are_key_bytes}
 use Rattle.resb_print.specs.Quotes.{has_quote}
 use Rattle.resb_icu_print.proofs.Places.{solid_at, no_skip, line_blanks}

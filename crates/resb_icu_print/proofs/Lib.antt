@@ -4,6 +4,7 @@ pub mod Strings
 pub mod Numbers
 pub mod Groups
 pub mod Bundles
+mod TakenTrees
 pub mod Taken
 pub mod Sizes
 mod Examples

@@ -5,16 +5,18 @@ use Rattle.std.specs.Prelude.{slice_index, ◌==◌, decimal}
 use Rattle.std.proofs.lemmas.List.{get_or_append_left, length_push}
 use Rattle.std.proofs.lemmas.Bool.Decides.{nat_tests}
 use Rattle.std.proofs.lemmas.Fmt.{decimal_by_steps}
+use Rattle.std.specs.Char.{is_ascii_digit}
 use Rattle.resb_grammar.specs.Ascii as ascii
-use Rattle.resb_grammar.specs.ByteRuns.{is_white, is_digit}
+use Rattle.resb_grammar.specs.ByteRuns.{is_white}
 use Rattle.resb_grammar.specs.Lexical.{digits_value}
-use Rattle.resb_icu_grammar.specs.Kinds.{Kind, Names}
+use Rattle.resb_icu_grammar.specs.declared.group_kind.IcuKind.{IcuKind as Kind}
+use Rattle.resb_icu_grammar.specs.declared.group_kind.IcuKind.TheVariants.{IntVector as vector_kind}
+use Rattle.resb_icu_grammar.specs.Kinds.{Names}
 use Rattle.resb_icu_grammar.specs.Bytes.{is_word}
 use Rattle.resb_icu_grammar.specs.Blanks.{IsSolid, Skip}
 use Rattle.resb_icu_grammar.specs.Words.{Number, unsigned}
 use Rattle.resb_icu_grammar.specs.Groups.{TypedOpening, Numbers, last_number, one_more, LeafContent}
 use Rattle.resb_icu_grammar.specs.Groups.{no_numbers, numbers}
-use Rattle.resb_icu_grammar.specs.Kinds.{vector_kind}
 use Rattle.resb_tree.specs.Tree.{int_vector}
 use Rattle.resb_print.specs.Printed.{numbers_on, more_numbers_on}
 use Rattle.resb_print.specs.Held.{AreBelow}
@@ -49,16 +51,16 @@ more_digits n ds l h = record {
 no_zero : (n : ℕ) → n < 2 ^ 64 → HasNoZero n (decimal n)
 no_zero = decimal_by_steps HasNoZero one_digit more_digits
 
-digit_solid : (b : ℕ) → is_digit b ≡ true → (is_white b ≡ false) × ((b == ascii.slash) ≡ false)
+digit_solid : (b : ℕ) → is_ascii_digit b ≡ true → (is_white b ≡ false) × ((b == ascii.slash) ≡ false)
 digit_solid b h = (grind (arith, nat_tests), grind (arith, nat_tests))
 
-digit_word : (b : ℕ) → is_digit b ≡ true → is_word b ≡ true
+digit_word : (b : ℕ) → is_ascii_digit b ≡ true → is_word b ≡ true
 digit_word b h = grind (arith, nat_tests)
 
-no_digit : (b : ℕ) → is_word b ≡ false → is_digit b ≡ false
-no_digit b h = by (is_digit b) refl
+no_digit : (b : ℕ) → is_word b ≡ false → is_ascii_digit b ≡ false
+no_digit b h = by (is_ascii_digit b) refl
   where
-    by : (t : Bool) → is_digit b ≡ t → is_digit b ≡ false
+    by : (t : Bool) → is_ascii_digit b ≡ t → is_ascii_digit b ≡ false
     by false e = e
     by true e = absurd (grind (arith, nat_tests))
 
@@ -85,9 +87,9 @@ module _ (text : List ℕ) where
               (λ k i. digit_word (slice_index (decimal n) k) (d.each k i)) other)
               (record {
                 digits = record {
-                  run = run_at text is_digit (decimal n) b rest h d.each (no_digit b other);
+                  run = run_at text is_ascii_digit (decimal n) b rest h d.each (no_digit b other);
                   some = omega arith;
-                  means = sym (d.value text at (b ∷ rest) h) ∙ ap (digits_value text at) (sym e);
+                  means = sym (d.value text at (b ∷ rest) h) ∙ ap (digits_value 10 text at) (sym e);
                 };
                 no_zero = λ w. ap (λ k. at + k) (only n z (sym first ∙ w));
               }) (omega arith),

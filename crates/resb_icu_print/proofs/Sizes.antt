@@ -3,6 +3,7 @@ use Rattle.std.proofs.Common.{◌≡◌, ℕ, ◌+◌, ◌*◌, ◌≤◌, Bool,
 use Rattle.std.proofs.Common.{◌++◌, length, sym, subst, arith}
 use Rattle.std.specs.Prelude.{cond, codes}
 use Rattle.std.proofs.lemmas.List.{length-append}
+use Rattle.std.specs.Char.{is_ascii_control}
 use Rattle.hex.specs.Hex.{encode_lower, lower_digits}
 use Rattle.hex.proofs.HexLemmas.{length-encode_with}
 use Rattle.resb_tree.specs.Tree.{Tree, string, alias, array, table, binary, integer, int_vector}
@@ -21,11 +22,11 @@ use Rattle.resb_print.proofs.Lists.{number_length}
 use Rattle.resb_print.proofs.Sizes.{numbers_length, end_length, trees_end_length}
 use Rattle.resb_print.proofs.Sizes.{entries_end_length, table_length, root_type_length}
 use Rattle.resb_icu_grammar.specs.Bytes.{backslash}
-use Rattle.resb_icu_print.specs.Printed.{is_marked, is_control, escaped_on, inside_on}
+use Rattle.resb_icu_print.specs.Printed.{is_marked, escaped_on, inside_on}
 use Rattle.resb_icu_print.specs.Printed.{is_bare, key_on, piece_on, icu_spelling}
 
 escaped_length : (b : ℕ) (rest : List ℕ) → length (escaped_on b rest) ≤ 6 + length rest
-escaped_length b rest = by (is_marked b) (is_control b)
+escaped_length b rest = by (is_marked b) (is_ascii_control b)
   where
     by : (m c : Bool)
         → length (cond m (backslash ∷ b ∷ rest) (cond c (codes "\\u00" ++ (encode_lower (b ∷ [])
@@ -120,7 +121,7 @@ mutual
       )
 
 escaped_least : (b : ℕ) (rest : List ℕ) → 1 + length rest ≤ length (escaped_on b rest)
-escaped_least b rest = by (is_marked b) (is_control b)
+escaped_least b rest = by (is_marked b) (is_ascii_control b)
   where
     by : (m c : Bool)
         → 1 + length rest ≤ length (cond m (backslash ∷ b ∷ rest) (cond c (codes "\\u00"

@@ -3,35 +3,37 @@ use Rattle.std.proofs.Common.{◌≡◌, ◌≢◌, ℕ, zero, suc, ◌+◌, ◌
 use Rattle.std.proofs.Common.{false, List, [], ◌∷◌, ◌++◌, length, refl, sym, ◌∙◌, ap, arith, subst}
 use Rattle.std.proofs.Common.{append_assoc, append-nil, encode_utf8, inl, inr}
 use Rattle.std.specs.Prelude.{slice_index, ◌==◌, cond, codes, not, ◌&&◌, ◌||◌, nat_le, nat_lt}
-use Rattle.std.specs.Char.{is_ascii_alphanumeric}
-use Rattle.std.specs.List.{list_any}
+use Rattle.std.specs.Char.{is_ascii_alphanumeric, digit_value, is_ascii_control}
+use Rattle.std.specs.List.{list_any, list_all}
 use Rattle.std.proofs.lemmas.Bool.{false≢true, and_parts, and_from, or_from, cases_lt, or_parts}
 use Rattle.std.proofs.lemmas.Bool.Decides.{nat_tests}
 use Rattle.std.proofs.lemmas.Str.{encode_ascii, inside_one}
+use Rattle.resb_print.proofs.FreeTrees.{NoQuote}
+use Rattle.resb_grammar.specs.Lexical.{digits_value}
 use Rattle.hex.specs.Hex.{encode_lower, encode_with}
 use Rattle.resb_grammar.specs.Ascii as ascii
 use Rattle.resb_grammar.specs.ByteRuns.{is_white}
-use Rattle.resb_grammar.specs.Group.{is_hex, hex_value}
+use Rattle.resb_grammar.specs.Group.{is_hex}
 use Rattle.resb_icu_grammar.specs.Bytes.{backslash, is_word, is_unquoted, is_key_byte}
 use Rattle.resb_icu_grammar.specs.Bytes.{are_key_bytes}
 use Rattle.resb_icu_grammar.specs.Blanks.{IsSolid}
-use Rattle.resb_icu_grammar.specs.Escapes.{Escape, itself, four_digits, are_hex, hex_number}
+use Rattle.resb_icu_grammar.specs.Escapes.{Escape, itself, four_digits, are_hex}
 use Rattle.resb_icu_grammar.specs.Pieces.{QuotedBytes, ends, byte, escape, QuotedPiece, Joined}
 use Rattle.resb_icu_grammar.specs.Pieces.{last_piece}
 use Rattle.resb_icu_grammar.specs.Unquoted.{Unquoted, UnquotedRow, last_one, goes_on, may_begin}
 use Rattle.resb_icu_grammar.specs.Unquoted.{begins_unquoted}
-use Rattle.resb_icu_grammar.specs.Words.{Word, HasNoEscape, KeyText, a_word, quoted}
+use Rattle.resb_icu_grammar.specs.Words.{Word, HasNoEscape, KeyText, a_word, a_piece}
 use Rattle.resb_print.specs.Printed.{quoted_on}
 use Rattle.resb_print.specs.Held.{AreBelow}
-use Rattle.resb_print.specs.Quotes.{has_quote, NoQuote}
+use Rattle.resb_print.specs.Quotes.{has_quote}
 use Rattle.resb_print.proofs.Places.{From, byte_at, from_next, from_behind, from_inside, from_among}
 use Rattle.resb_print.proofs.Places.{range_is, run_at}
 use Rattle.resb_print.proofs.Groups.{digit_of, reads_back, all_below, below_passes}
-use Rattle.resb_icu_print.specs.Printed.{is_control, is_marked, escaped_on, inside_on, piece_on}
-use Rattle.resb_icu_print.specs.Printed.{are_words, is_bare, key_on}
+use Rattle.resb_icu_print.specs.Printed.{is_marked, escaped_on, inside_on, piece_on}
+use Rattle.resb_icu_print.specs.Printed.{is_bare, key_on}
 use Rattle.resb_icu_print.specs.Inner.Escapes.{is_escaped, has_escape}
 use Rattle.resb_icu_print.proofs.Places.{byte_near, same_place, solid_at, no_skip}
-use Rattle.resb_icu_print.proofs.Lists.{and_not_parts, false_from_not, unequal_to}
+use Rattle.resb_icu_print.proofs.Lists.{and_not_parts, false_from_not}
 
 -- a byte behind which a string or key ends
 pub record IsStop (b : ℕ) : Type 0 where
@@ -91,18 +93,18 @@ pub key_bytes_more : (b : ℕ) (k : List ℕ) → is_key_byte b ≡ true → are
     → are_key_bytes (b ∷ k) ≡ true
 key_bytes_more b k h t = ap (λ a. not (not a || list_any (λ b. not (is_key_byte b)) k)) h ∙ t
 
-pub words_key : (w : List ℕ) → are_words w ≡ true → are_key_bytes w ≡ true
+pub words_key : (w : List ℕ) → list_all is_word w ≡ true → are_key_bytes w ≡ true
 words_key [] h = refl
 words_key (b ∷ w) h =
-    let p = and_parts (is_word b) (are_words w) h in
+    let p = and_parts (is_word b) (list_all is_word w) h in
     key_bytes_more b w (word_key b p.0) (words_key w p.1)
 
-pub word_each : (s : List ℕ) → are_words s ≡ true → (k : ℕ) → k < length s
+pub word_each : (s : List ℕ) → list_all is_word s ≡ true → (k : ℕ) → k < length s
     → is_word (slice_index s k) ≡ true
 word_each [] h k l = absurd (omega arith)
-word_each (b ∷ s) h zero l = (and_parts (is_word b) (are_words s) h).0
+word_each (b ∷ s) h zero l = (and_parts (is_word b) (list_all is_word s) h).0
 word_each (b ∷ s) h (suc k) l =
-    word_each s (and_parts (is_word b) (are_words s) h).1 k (omega arith)
+    word_each s (and_parts (is_word b) (list_all is_word s) h).1 k (omega arith)
 
 and_false : (a b : Bool) → a ≡ false → (a && b) ≡ false
 and_false a b h = ap (λ t. t && b) h
@@ -110,7 +112,7 @@ and_false a b h = ap (λ t. t && b) h
 word_solid : (b : ℕ) → is_word b ≡ true → (is_white b ≡ false) × ((b == ascii.slash) ≡ false)
 word_solid b h = (grind (arith, nat_tests), grind (arith, nat_tests))
 
-pub bare_words : (s : List ℕ) → is_bare s ≡ true → are_words s ≡ true
+pub bare_words : (s : List ℕ) → is_bare s ≡ true → list_all is_word s ≡ true
 bare_words [] h = refl
 bare_words (b ∷ s) h = h
 
@@ -138,7 +140,7 @@ hex_key (b ∷ bs) low =
 -- what may stand in a key needs no escape
 key_is_plain : ℕ → Bool
 key_is_plain b =
-    not (is_key_byte b) || ((b == ascii.quote) || (not (is_marked b) && not (is_control b)))
+    not (is_key_byte b) || ((b == ascii.quote) || (not (is_marked b) && not (is_ascii_control b)))
 
 keys_are_plain : all_below key_is_plain 128 ≡ true
 unfolding all_below key_is_plain
@@ -151,15 +153,15 @@ key_byte_low b h =
     grind (arith, nat_tests)
 
 key_byte_plain : (b : ℕ) → is_key_byte b ≡ true → (b == ascii.quote) ≡ false
-    → (is_marked b ≡ false) × (is_control b ≡ false)
+    → (is_marked b ≡ false) × (is_ascii_control b ≡ false)
 unfolding key_is_plain
 key_byte_plain b h q =
     let e = below_passes key_is_plain 128 b keys_are_plain (key_byte_low b h) in
-    let f : not (is_marked b) && not (is_control b) ≡ true =
-    sym (ap (λ t. not t || ((b == ascii.quote) || (not (is_marked b) && not (is_control b)))) h
-    ∙ ap (λ t. t || (not (is_marked b) && not (is_control b))) q) ∙ e in
-    let p = and_parts (not (is_marked b)) (not (is_control b)) f in
-    (false_from_not (is_marked b) p.0, false_from_not (is_control b) p.1)
+    let f : not (is_marked b) && not (is_ascii_control b) ≡ true =
+    sym (ap (λ t. not t || ((b == ascii.quote) || (not (is_marked b) && not (is_ascii_control b)))) h
+    ∙ ap (λ t. t || (not (is_marked b) && not (is_ascii_control b))) q) ∙ e in
+    let p = and_parts (not (is_marked b)) (not (is_ascii_control b)) f in
+    (false_from_not (is_marked b) p.0, false_from_not (is_ascii_control b) p.1)
 
 pub plain_key_inside : (k rest : List ℕ) → are_key_bytes k ≡ true → NoQuote k
     → inside_on k rest ≡ k ++ rest
@@ -180,7 +182,7 @@ key_no_escape (b ∷ k) h (suc i) e = key_no_escape k (and_not_parts (is_key_byt
 
 module _ (text : List ℕ) where
   -- a control character by its number
-  control_read : (b : ℕ) {at : ℕ} (rest : List ℕ) → is_control b ≡ true
+  control_read : (b : ℕ) {at : ℕ} (rest : List ℕ) → is_ascii_control b ≡ true
       → From text at (codes "\\u00" ++ (encode_lower (b ∷ []) ++ rest))
       → Escape text (at + 1) (at + 1 + 5) (b ∷ []) × From text (at + 1 + 5) rest
   unfolding encode_with
@@ -195,17 +197,17 @@ module _ (text : List ℕ) where
       let e1 : slice_index text (p + 1 + 1) ≡ 48 = byte_near text 1 g in
       let e2 = byte_near text 2 g in
       let e3 = byte_near text 3 g in
-      let v0 : hex_value (slice_index text (p + 1 + 0)) ≡ 0 = ap hex_value e0 in
-      let v1 : hex_value (slice_index text (p + 1 + 1)) ≡ 0 = ap hex_value e1 in
-      let v2 : hex_value (slice_index text (p + 1 + 2)) ≡ b / 16 = ap hex_value e2 ∙ x.value in
-      let v3 : hex_value (slice_index text (p + 1 + 3)) ≡ b % 16 = ap hex_value e3 ∙ y.value in
+      let v0 : digit_value (slice_index text (p + 1 + 0)) ≡ 0 = ap digit_value e0 in
+      let v1 : digit_value (slice_index text (p + 1 + 1)) ≡ 0 = ap digit_value e1 in
+      let v2 : digit_value (slice_index text (p + 1 + 2)) ≡ b / 16 = ap digit_value e2 ∙ x.value in
+      let v3 : digit_value (slice_index text (p + 1 + 3)) ≡ b % 16 = ap digit_value e3 ∙ y.value in
       let hex : are_hex text (p + 1) 4 ≡ true =
       and_from _ _ (and_from _ _ (and_from _ _ (ap is_hex e0) (ap is_hex e1))
       (ap is_hex e2 ∙ x.hex)) (ap is_hex e3 ∙ y.hex) in
-      let n : b ≡ hex_number text (p + 1) 4 = omega (arith, v0, v1, v2, v3) in (
+      let n : b ≡ digits_value 16 text (p + 1) 4 = omega (arith, v0, v1, v2, v3) in (
         subst (Escape text p (p + 5)) (encode_ascii b low)
             (four_digits b (byte_at text f) hex n (grind (arith, nat_tests))
-            (λ e. false≢true (sym (ap is_control e) ∙ c))),
+            (λ e. false≢true (sym (ap is_ascii_control e) ∙ c))),
         from_behind text (117 ∷ 48 ∷ 48 ∷ slice_index (encode_lower (b ∷ [])) 0
             ∷ slice_index (encode_lower (b ∷ [])) 1 ∷ []) rest f,
       )
@@ -216,9 +218,9 @@ module _ (text : List ℕ) where
       → (last : ℕ) × QuotedBytes text at last s × From text last (ascii.quote ∷ rest)
   inside_read [] {at} {rest} h = (at, ends at (byte_at text h), h)
   inside_read (b ∷ s) {at} {rest} h =
-      by (is_marked b) (is_control b) refl refl (λ p f. inside_read s f) h
+      by (is_marked b) (is_ascii_control b) refl refl (λ p f. inside_read s f) h
     where
-      by : (m c : Bool) → is_marked b ≡ m → is_control b ≡ c
+      by : (m c : Bool) → is_marked b ≡ m → is_ascii_control b ≡ c
           → ((p : ℕ) → From text p (inside_on s (ascii.quote ∷ rest))
           → (last : ℕ) × QuotedBytes text p last s × From text last (ascii.quote ∷ rest))
           → From text at (cond m (backslash ∷ b ∷ inside_on s (ascii.quote ∷ rest))
@@ -314,7 +316,7 @@ module _ (text : List ℕ) where
       → From text at (w ++ rest) → IsSolid text at
   bare_solid [] rest e f = absurd (false≢true e)
   bare_solid (c ∷ w) rest e f =
-      let g = word_solid c (and_parts (is_word c) (are_words w) e).0 in
+      let g = word_solid c (and_parts (is_word c) (list_all is_word w) e).0 in
       solid_at text f g.0 g.1
 
   -- word characters where none follows
@@ -366,10 +368,10 @@ module _ (text : List ℕ) where
           → IsSolid text at × ((to : ℕ) × KeyText text at to k × From text to (b ∷ rest))
       go true e f =
           let (solid, row, word, g) = bare_read k b rest e stop f in
-          (solid, (at + length k, a_word row word key, g))
+          (solid, (at + length k, record { verbatim = a_word row word; fits = key }, g))
       go false e f =
           let (to, joined, piece, no_escape, g) = quoted_read k b rest stop key free f in
-          (solid_at text f refl refl, (to, quoted joined piece no_escape key, g))
+          (solid_at text f refl refl, (to, record { verbatim = a_piece joined piece no_escape; fits = key }, g))
 
 -- what is written of a text in two parts
 pub inside_append : (s t rest : List ℕ) → inside_on (s ++ t) rest ≡ inside_on s (inside_on t rest)
@@ -377,7 +379,7 @@ inside_append [] t rest = refl
 inside_append (b ∷ s) t rest = ap (escaped_on b) (inside_append s t rest)
 
 -- a byte that is neither marked nor a control character is written as it is
-pub escaped_plain : (b : ℕ) (rest : List ℕ) → is_marked b ≡ false → is_control b ≡ false
+pub escaped_plain : (b : ℕ) (rest : List ℕ) → is_marked b ≡ false → is_ascii_control b ≡ false
     → escaped_on b rest ≡ b ∷ rest
 escaped_plain b rest m c = rw (m, c) refl
 
@@ -386,7 +388,7 @@ pub plain_inside : (s rest : List ℕ) → has_escape s ≡ false → inside_on 
 plain_inside [] rest h = refl
 plain_inside (b ∷ s) rest h =
     let p = or_parts (is_escaped b) (has_escape s) h in
-    let q = or_parts (is_marked b) (is_control b) p.0 in
+    let q = or_parts (is_marked b) (is_ascii_control b) p.0 in
     escaped_plain b (inside_on s rest) q.0 q.1 ∙ ap (λ l. b ∷ l) (plain_inside s rest p.1)
 
 -- bytes that are no ASCII need no escape
@@ -408,7 +410,7 @@ all_high (b ∷ w) rest h =
     ∙ ap (λ l. b ∷ l) (all_high w rest (λ k l. h (suc k) (omega arith)))
 
 -- a character that needs no escape
-pub plain_character : (c : ℕ) (rest : List ℕ) → is_marked c ≡ false → is_control c ≡ false
+pub plain_character : (c : ℕ) (rest : List ℕ) → is_marked c ≡ false → is_ascii_control c ≡ false
     → inside_on (encode_utf8 c) rest ≡ encode_utf8 c ++ rest
 plain_character c rest m k = elim (cases_lt c 128) [
   | inl small ↦
@@ -426,5 +428,5 @@ plain_character c rest m k = elim (cases_lt c 128) [
     ]
 
 -- what tests of a character told
-pub no_control : (b : ℕ) → 32 ≤ b → (b ≡ 127 → ⊥) → is_control b ≡ false
-no_control b l h = or_from (nat_lt b 32) (b == 127) (grind (arith, nat_tests)) (unequal_to b 127 h)
+pub no_control : (b : ℕ) → 32 ≤ b → (b ≡ 127 → ⊥) → is_ascii_control b ≡ false
+no_control b l h = grind (arith, nat_tests, l, h)

@@ -8,20 +8,22 @@ use Rattle.std.proofs.lemmas.Bool.{false≢true, and_from, and_parts, or_from}
 use Rattle.std.proofs.lemmas.Bool.Decides.{nat_tests}
 use Rattle.std.proofs.lemmas.Option.{none-some}
 use Rattle.std.proofs.lemmas.List.{length-take, get_or-take, get_or-drop}
+use Rattle.std.specs.List.{list_all}
+use Rattle.resb_icu_print.proofs.TakenTrees.{IsTaken, AreTaken, TakenIn}
+use Rattle.resb_print.proofs.FreeTrees.{NoQuote}
 use Rattle.resb_tree.specs.Tree.{Tree, string, alias, array, table, binary, integer, int_vector}
 use Rattle.resb_tree.specs.Tree.{Trees, no_trees, more_trees, Entries, no_entries, entry, trees_of}
 use Rattle.resb_tree.specs.Tree.{put}
 use Rattle.resb_tree.specs.Tree.{put_all, map_of}
 use Rattle.resb_tree.specs.Maps.{text_cmp}
 use Rattle.resb_grammar.specs.Ascii as ascii
-use Rattle.resb_icu_grammar.specs.Kinds.{Kind}
+use Rattle.resb_icu_grammar.specs.declared.group_kind.IcuKind.{IcuKind as Kind}
 use Rattle.resb_icu_grammar.specs.Bytes.{is_word, is_unquoted, are_key_bytes, backslash}
 use Rattle.resb_icu_grammar.specs.Escapes.{Escape, itself, line_feed, carriage_return, tab}
 use Rattle.resb_icu_grammar.specs.Escapes.{four_digits, eight_digits, control, short_hex, octal}
-use Rattle.resb_icu_grammar.specs.Escapes.{one_digit, two_digits, one_octal, two_octal, three_octal}
 use Rattle.resb_icu_grammar.specs.Pieces.{QuotedBytes, ends, byte, escape}
 use Rattle.resb_icu_grammar.specs.Unquoted.{Unquoted}
-use Rattle.resb_icu_grammar.specs.Words.{KeyText, a_word, quoted}
+use Rattle.resb_icu_grammar.specs.Words.{KeyText, Verbatim, a_word, a_piece}
 use Rattle.resb_icu_grammar.specs.Groups as groups
 use Rattle.resb_icu_grammar.specs.Groups.{LeafContent, string_content, alias_content}
 use Rattle.resb_icu_grammar.specs.Groups.{binary_content}
@@ -31,15 +33,15 @@ use Rattle.resb_icu_grammar.specs.Groups.{no_entry, one_entry, Untyped, an_empty
 use Rattle.resb_icu_grammar.specs.Groups.{an_array, a_table, Typed, members, entries, leaf, Group}
 use Rattle.resb_icu_grammar.specs.Groups.{untyped, typed}
 use Rattle.resb_icu_grammar.specs.Bundle.{IcuText}
-use Rattle.resb_print.specs.Quotes.{has_quote, NoQuote}
+use Rattle.resb_print.specs.Quotes.{has_quote}
 use Rattle.resb_print.specs.Paths.{Step, by_key, by_number, found_else, found_at, found_among}
 use Rattle.resb_print.specs.Paths.{found_in, first_cause}
 use Rattle.resb_print.proofs.Tracing.{cause_in}
 use Rattle.resb_icu_print.specs.declared.cause.IcuCause.{IcuCause}
 use Rattle.resb_icu_print.specs.declared.cause.IcuCause.TheVariants.{NameIsNoWord}
 use Rattle.resb_icu_print.specs.declared.cause.IcuCause.TheVariants.{KeyHasOtherBytes}
-use Rattle.resb_icu_print.specs.Printed.{are_words, is_bare}
-use Rattle.resb_icu_print.specs.Causes.{is_icu_key, IsTaken, AreTaken, TakenIn}
+use Rattle.resb_icu_print.specs.Printed.{is_bare}
+use Rattle.resb_icu_print.specs.Causes.{is_icu_key}
 use Rattle.resb_icu_print.specs.Causes.{icu_tests}
 use Rattle.resb_icu_print.proofs.Lists.{true_from_not}
 
@@ -92,11 +94,8 @@ escape_order text at to s (tab _) = omega arith
 escape_order text at to s (four_digits _ _ _ _ _ _) = omega arith
 escape_order text at to s (eight_digits _ _ _ _ _ _) = omega arith
 escape_order text at to s (control _ _ _) = omega arith
-escape_order text at to s (short_hex _ _ _ (one_digit _ _) _) = omega arith
-escape_order text at to s (short_hex _ _ _ (two_digits _ _) _) = omega arith
-escape_order text at to s (octal _ _ (one_octal _ _) _) = omega arith
-escape_order text at to s (octal _ _ (two_octal _ _ _) _) = omega arith
-escape_order text at to s (octal _ _ (three_octal _ _ _) _) = omega arith
+escape_order text at to s (short_hex _ _ _ p _) = omega (arith, p.some)
+escape_order text at to s (octal _ _ p _) = omega (arith, p.some)
 
 inside_order : (text : List ℕ) (at to : ℕ) (s : List ℕ) → QuotedBytes text at to s → at ≤ to
 inside_order text at to s (ends _ h) = omega arith
@@ -121,12 +120,14 @@ inside_free text at to s (escape _ next _ first bytes e x r) none =
 
 key_taken : (text : List ℕ) (from to : ℕ) (k : List ℕ) → KeyText text from to k
     → is_icu_key k ≡ true
-key_taken text from to k (a_word r w e) =
-    and_from (are_key_bytes k) (not (has_quote k)) e (ap not (word_free text from to k w))
-key_taken text from to k (quoted j p n e) =
-    and_from (are_key_bytes k) (not (has_quote k)) e
-    (ap not (inside_free text (from + 1) p.last k p.inside
-    (λ i low high. n i (omega arith) (omega (arith, p.ends, high)))))
+key_taken text from to k key =
+    and_from (are_key_bytes k) (not (has_quote k)) key.fits (ap not (free key.verbatim))
+  where
+    free : Verbatim text from to k → has_quote k ≡ false
+    free (a_word r w) = word_free text from to k w
+    free (a_piece j p n) =
+        inside_free text (from + 1) p.last k p.inside
+        (λ i low high. n i (omega arith) (omega (arith, p.ends, high)))
 
 -- what may stand under a key
 record IsTakenPair (k : List ℕ) (t : Tree) : Type 0 where
@@ -285,13 +286,13 @@ none_named name path later h =
 
 -- a name of word characters
 run_words : (name : List ℕ) → ((k : ℕ) → k < length name → is_word (slice_index name k) ≡ true)
-    → are_words name ≡ true
+    → list_all is_word name ≡ true
 run_words [] h = refl
 run_words (b ∷ name) h =
-    and_from (is_word b) (are_words name) (h 0 (omega arith))
+    and_from (is_word b) (list_all is_word name) (h 0 (omega arith))
     (run_words name (λ k l. h (suc k) (omega arith)))
 
-bare_from : (name : List ℕ) → 0 < length name → are_words name ≡ true → is_bare name ≡ true
+bare_from : (name : List ℕ) → 0 < length name → list_all is_word name ≡ true → is_bare name ≡ true
 bare_from [] l h = absurd (omega (arith, l))
 bare_from (b ∷ name) l h = h
 

@@ -1,9 +1,7 @@
 -- What keeps a bundle from having a text of ICU's form: its root, its name, or a key. No string
 -- does, and no alias.
-use Rattle.std.specs.Prelude.{◌≡◌, ◌⊎◌, ◌&&◌, not, ℕ, Bool, true, List, Option, Some}
+use Rattle.std.specs.Prelude.{◌≡◌, ◌⊎◌, ◌&&◌, not, ℕ, Bool, List, Option, Some}
 use Rattle.std.specs.Prelude.{None, if◌then◌else◌}
-use Rattle.resb_tree.specs.Tree.{Tree, string, alias, array, table, binary, integer, int_vector}
-use Rattle.resb_tree.specs.Tree.{Trees, no_trees, more_trees, Entries, no_entries, entry}
 use Rattle.resb_icu_grammar.specs.Bytes.{are_key_bytes}
 use Rattle.resb_print.specs.Paths.{Tests}
 use Rattle.resb_print.specs.Quotes.{has_quote}
@@ -17,28 +15,6 @@ use Rattle.resb_icu_print.specs.declared.cause.IcuCause.TheVariants as cause
 -- each byte may stand in a key, and none is a quote, which would end it
 abbrev pub is_icu_key : List ℕ → Bool
 is_icu_key k = are_key_bytes k && not (has_quote k)
-
--- each key may be one
-abbrev mutual
-  -- so in a tree
-  pub IsTaken : Tree → Type 0
-  IsTaken (string s) = Unit {0}
-  IsTaken (alias s) = Unit {0}
-  IsTaken (array ts) = AreTaken ts
-  IsTaken (table es) = TakenIn es
-  IsTaken (binary bs) = Unit {0}
-  IsTaken (integer n) = Unit {0}
-  IsTaken (int_vector ns) = Unit {0}
-
-  -- so in each of some trees
-  pub AreTaken : Trees → Type 0
-  AreTaken no_trees = Unit {0}
-  AreTaken (more_trees t ts) = IsTaken t × AreTaken ts
-
-  -- so for the keys and the trees of entries
-  pub TakenIn : Entries → Type 0
-  TakenIn no_entries = Unit {0}
-  TakenIn (entry k t es) = (is_icu_key k ≡ true) × IsTaken t × TakenIn es
 
 -- what keeps a bundle from having a text of ICU's form: a root that is no table, a name that is no
 -- word, or a key that may not be one; no string does, and no alias

@@ -1,6 +1,8 @@
 //! What may be a name or a key of ICU's form.
 //! How a key is printed stands in `quoting`.
 ghost use Rattle.std.specs.Prelude.{◌≡◌};
+ghost use Rattle.std.specs.List.{list_all};
+ghost use Rattle.resb_icu_grammar.specs.Bytes as grammar;
 ghost use Rattle.resb_icu_print.specs.Printed as printed;
 ghost use Rattle.resb_icu_print.specs.Causes as causes;
 
@@ -9,7 +11,7 @@ use resb_print::has_quote;
 
 /// Whether the bytes are word characters.
 fn are_words(bytes: &[u8]) -> bool
-    ensures { result ≡ printed.are_words bytes.now }
+    ensures { result ≡ list_all grammar.is_word bytes.now }
 {
     for byte in bytes {
         if !is_word(*byte) {

@@ -5,6 +5,7 @@ use Rattle.std.proofs.lemmas.List.{get_or_past}
 use Rattle.std.specs.Prelude.{slice_index, slice_get, codes, ◌⊎◌}
 use Rattle.std.proofs.Common.{None, inl, inr}
 use Rattle.std.specs.List.Sorted.{IsStrictlySortedBy}
+use Rattle.resb_print.proofs.FreeTrees.{NoQuote, FreeIn}
 use Rattle.resb_tree.specs.Tree.{Tree, table}
 use Rattle.resb_tree.specs.Tree.{Entries, map_of}
 use Rattle.resb_tree.specs.Maps.{text_cmp}
@@ -23,7 +24,7 @@ use Rattle.resb_print.specs.declared.error.PrintError.{PrintError}
 use Rattle.resb_print.specs.declared.error.PrintError.TheVariants.{OutOfMemory}
 use Rattle.resb_print.specs.Laws.{HasNoText, PrintedIsABundle}
 use Rattle.resb_print.specs.Paths.{plain_tests, first_found, first_cause}
-use Rattle.resb_print.specs.Quotes.{NoQuote, FreeIn, SaysCause}
+use Rattle.resb_print.specs.Quotes.{SaysCause}
 use Rattle.resb_print.proofs.Free.{no_quote_from_none, none_in_free, no_cause}
 use Rattle.resb_print.proofs.Tracing.{nothing_found}
 use Rattle.resb_print.proofs.Places.{From, byte_at, from_behind, from_next, solid_at, no_skip}

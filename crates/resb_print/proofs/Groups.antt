@@ -9,20 +9,29 @@ use Rattle.std.specs.List.Sorted.{IsStrictlySortedBy}
 use Rattle.hex.specs.Hex.{encode_lower, encode_with, lower_digits}
 use Rattle.std.proofs.lemmas.Bool.{false≢true, and_parts, and_from, or_from}
 use Rattle.std.proofs.lemmas.Bool.Decides.{nat_tests}
+use Rattle.std.specs.Char.{digit_value}
+use Rattle.resb_print.proofs.FreeTrees.{NoQuote, IsFree, AreFree, FreeIn}
 use Rattle.resb_tree.specs.Tree.{Tree, string, alias, array, table, binary, integer, int_vector}
 use Rattle.resb_tree.specs.Tree.{Trees, no_trees, more_trees, Entries, no_entries, entry, trees_of}
 use Rattle.resb_tree.specs.Tree.{map_of}
 use Rattle.resb_tree.specs.Maps.{text_cmp, keyed_trees}
 use Rattle.resb_tree.specs.LayingOrder.{array_members, entry_keys}
+use Rattle.resb_grammar.specs.declared.group_kind.Kind.{Kind}
+use Rattle.resb_grammar.specs.declared.group_kind.Kind.TheVariants.{
+  Array as array_kind,
+  Table as table_kind,
+  Binary as binary_kind,
+  Integer as integer_kind,
+  IntVector as vector_kind,
+}
 use Rattle.resb_grammar.specs.Ascii as ascii
 use Rattle.resb_grammar.specs.ByteRuns.{is_white, is_word}
 use Rattle.resb_grammar.specs.Lexical.{Blanks, Skip, IsSolid, Number}
 use Rattle.resb_grammar.specs.Items.{Item, Term, string_term, group_term, plain, before_comma}
 use Rattle.resb_grammar.specs.Items.{is_pairs, pairs_in, item_trees, term_tree, keys_in}
 use Rattle.resb_grammar.specs.Items.{an_array, Shape, shape_of, tree_in}
-use Rattle.resb_grammar.specs.GroupTypes.{Kind, array_kind, table_kind, binary_kind}
-use Rattle.resb_grammar.specs.GroupTypes.{integer_kind, vector_kind, TypedOpening}
-use Rattle.resb_grammar.specs.Group.{is_hex, hex_value, byte_before}
+use Rattle.resb_grammar.specs.GroupTypes.{TypedOpening}
+use Rattle.resb_grammar.specs.Group.{is_hex, byte_before}
 use Rattle.resb_grammar.specs.Group.{hex_bytes, Numbers, first_number, next_number, Vector, empty}
 use Rattle.resb_grammar.specs.Group.{numbers, LeafContent, binary_content, integer_content}
 use Rattle.resb_grammar.specs.Group.{vector_content, Items, nothing, string_item, group_item, comma}
@@ -32,7 +41,6 @@ use Rattle.resb_print.specs.Printed.{deeper, line_on, quoted_on, name_on, number
 use Rattle.resb_print.specs.Printed.{more_numbers_on, trees_end, entries_end, tree_on, trees_on}
 use Rattle.resb_print.specs.Printed.{entries_on, plain_spelling}
 use Rattle.resb_print.specs.Held.{IsHeld, AreHeld, HeldIn, AreBelow}
-use Rattle.resb_print.specs.Quotes.{NoQuote, IsFree, AreFree, FreeIn}
 use Rattle.resb_print.proofs.Places.{From, byte_at, from_next, solid_at, no_skip, line_blanks}
 use Rattle.resb_print.proofs.Places.{quoted_text_at}
 use Rattle.resb_print.proofs.Words.{name_text, opening_at, number_at}
@@ -139,7 +147,7 @@ digit_of d = slice_index lower_digits d
 is_read_back : ℕ → Bool
 is_read_back d =
     is_hex (digit_of d)
-    && (nat_eq (hex_value (digit_of d)) d && not (digit_of d == ascii.quote))
+    && (nat_eq (digit_value (digit_of d)) d && not (digit_of d == ascii.quote))
 
 all_read_back : all_below is_read_back 16 ≡ true
 unfolding all_below is_read_back
@@ -147,7 +155,7 @@ all_read_back = refl
 
 pub record ReadsBack (d : ℕ) : Type 0 where
   pub hex : is_hex (digit_of d) ≡ true
-  pub value : hex_value (digit_of d) ≡ d
+  pub value : digit_value (digit_of d) ≡ d
   pub no_quote : (digit_of d == ascii.quote) ≡ false
 
 -- the hex digit of a number below 16 is read back as this number, and is no quote
@@ -156,10 +164,10 @@ unfolding is_read_back
 reads_back d l =
     let h = below_passes is_read_back 16 d all_read_back l in
     let (a, h2) = and_parts (is_hex (digit_of d)) _ h in
-    let (b, c) = and_parts (nat_eq (hex_value (digit_of d)) d) _ h2 in
+    let (b, c) = and_parts (nat_eq (digit_value (digit_of d)) d) _ h2 in
     record {
       hex = a;
-      value = eqb-true (hex_value (digit_of d)) d b;
+      value = eqb-true (digit_value (digit_of d)) d b;
       no_quote = flip (digit_of d == ascii.quote) c;
     }
   where
@@ -187,10 +195,10 @@ hex_read (b ∷ bs) low =
     let l : b < 256 = low 0 (omega arith) in
     let x = reads_back (b / 16) (omega arith) in
     let y = reads_back (b % 16) (omega arith) in
-    let e : hex_value (digit_of (b / 16)) * 16 + hex_value (digit_of (b % 16)) ≡ b =
+    let e : digit_value (digit_of (b / 16)) * 16 + digit_value (digit_of (b % 16)) ≡ b =
     omega (arith, x.value, y.value) in
     let r = hex_read bs (λ k i. low (suc k) (omega arith)) in
-    ap (λ t. byte_before t (hex_value (digit_of (b / 16)) * 16 + hex_value (digit_of (b % 16)))
+    ap (λ t. byte_before t (digit_value (digit_of (b / 16)) * 16 + digit_value (digit_of (b % 16)))
     (hex_bytes (encode_lower bs)))
     (and_from (is_hex (digit_of (b / 16))) (is_hex (digit_of (b % 16))) x.hex y.hex)
     ∙ (λ i. byte_before true (e i) (r i))

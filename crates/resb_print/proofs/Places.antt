@@ -6,13 +6,14 @@ use Rattle.std.specs.Prelude.{slice_index, slice_range, ◌==◌, ◌||◌}
 use Rattle.std.proofs.lemmas.List.{drop-drop, drop_at, take_at, get_or-drop, get_or_append_left}
 use Rattle.std.proofs.lemmas.List.{length-drop}
 use Rattle.std.proofs.lemmas.Bool.{false≢true}
+use Rattle.resb_print.proofs.FreeTrees.{NoQuote}
 use Rattle.resb_grammar.specs.Ascii as ascii
 use Rattle.resb_grammar.specs.ByteRuns.{is_white, Run}
 use Rattle.resb_grammar.specs.Lexical.{Comment, line, block, Blanks, none, white}
 use Rattle.resb_grammar.specs.Lexical.{IsSolid, Skip, Text}
 use Rattle.resb_grammar.specs.Lexical.{quoted}
 use Rattle.resb_print.specs.Printed.{indent_on, line_on, quoted_on}
-use Rattle.resb_print.specs.Quotes.{has_quote, NoQuote}
+use Rattle.resb_print.specs.Quotes.{has_quote}
 
 -- these bytes are the text from this place on
 pub record From (text : List ℕ) (at : ℕ) (rest : List ℕ) : Type 0 where

@@ -4,7 +4,7 @@ use Rattle.std.specs.Prelude.{ℕ, suc, List, [], ◌∷◌, ◌++◌, Option, S
 use Rattle.std.specs.Prelude.{if◌then◌else◌, map, option_map}
 use Rattle.std.specs.declared.alloc.Global.{Global}
 use Rattle.std.specs.declared.vec.Vec.{Vec}
-use Rattle.resb_tree.specs.Tree.{Tree, string, alias, array, table, binary, integer, int_vector}
+use Rattle.resb_tree.specs.Tree.{Tree, string, alias, array, table}
 use Rattle.resb_tree.specs.Tree.{Trees, no_trees, more_trees, Entries, no_entries, entry}
 use Rattle.resb_print.specs.Quotes.{has_quote}
 use Rattle.resb_print.specs.declared.cause.Cause.{Cause}
@@ -70,9 +70,7 @@ abbrev mutual
   found_at c path (alias s) later = found_else c.of_alias path later
   found_at c path (array ts) later = found_among c path 0 ts later
   found_at c path (table es) later = found_in c path es later
-  found_at c path (binary bs) later = later
-  found_at c path (integer n) later = later
-  found_at c path (int_vector ns) later = later
+  found_at c path _ later = later
 
   -- the same in the members of an array that stands at a path, the first of which has this number
   pub found_among : {C : Type 0} → Tests C → List Step → ℕ → Trees → Option (List Step × C)

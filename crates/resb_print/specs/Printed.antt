@@ -6,9 +6,10 @@
 --     IsLongBundle f limit name fallback t
 --                                     the bundle is printed as more bytes than this
 --     plain_spelling                  how the plain form spells names, keys and strings
-use Rattle.std.specs.Prelude.{◌≡◌, ◌<◌, ℕ, zero, suc, ◌+◌, nat_lt, Bool, true, false, ◌&&◌}
+use Rattle.std.specs.Prelude.{◌≡◌, ◌<◌, ℕ, zero, suc, ◌+◌, nat_lt, Bool, true, false}
 use Rattle.std.specs.Prelude.{List, [], ◌∷◌, length}
 use Rattle.std.specs.Prelude.{◌++◌, codes, decimal, if◌then◌else◌}
+use Rattle.std.specs.List.{list_all}
 use Rattle.hex.specs.Hex.{encode_lower}
 use Rattle.resb_tree.specs.Tree.{Tree, string, alias, array, table, binary, integer, int_vector}
 use Rattle.resb_tree.specs.Tree.{Trees, no_trees, more_trees, Entries, no_entries, entry}
@@ -35,15 +36,10 @@ line_on n rest = ascii.line_feed ∷ indent_on n rest
 abbrev pub quoted_on : List ℕ → List ℕ → List ℕ
 quoted_on s rest = ascii.quote ∷ (s ++ (ascii.quote ∷ rest))
 
--- all bytes are letters, digits or dashes
-abbrev pub are_words : List ℕ → Bool
-are_words [] = true
-are_words (b ∷ bs) = is_word b && are_words bs
-
--- whether a string may stand without quotes
+-- a string may stand without quotes: it has only letters, digits and dashes, and one at least
 abbrev pub is_bare : List ℕ → Bool
 is_bare [] = false
-is_bare (b ∷ bs) = are_words (b ∷ bs)
+is_bare (b ∷ bs) = list_all is_word (b ∷ bs)
 
 -- a name or key, quoted where it has to be
 abbrev pub name_on : List ℕ → List ℕ → List ℕ

@@ -1,7 +1,5 @@
 -- Where a bundle holds a `"`, which no text can give to a string.
 use Rattle.std.specs.Prelude.{◌≡◌, ◌⊎◌, ℕ, Bool, false, ◌||◌, ◌==◌, List, [], ◌∷◌, Option, Some}
-use Rattle.resb_tree.specs.Tree.{Tree, string, alias, array, table, binary, integer, int_vector}
-use Rattle.resb_tree.specs.Tree.{Trees, no_trees, more_trees, Entries, no_entries, entry}
 use Rattle.resb_grammar.specs.Ascii as ascii
 use Rattle.resb_print.specs.declared.cause.Cause.{Cause}
 use Rattle.resb_print.specs.declared.error.PrintError.{PrintError}
@@ -11,32 +9,6 @@ use Rattle.resb_print.specs.declared.error.PrintError.TheVariants.{OutOfMemory, 
 abbrev pub has_quote : List ℕ → Bool
 has_quote [] = false
 has_quote (b ∷ bs) = b == ascii.quote || has_quote bs
-
--- no quote is among the bytes
-abbrev pub NoQuote : List ℕ → Type 0
-NoQuote s = has_quote s ≡ false
-
--- no string and no key holds one, and there is no alias
-abbrev mutual
-  -- no string and no key of a tree holds a quote, and no resource of it is an alias
-  pub IsFree : Tree → Type 0
-  IsFree (string s) = NoQuote s
-  IsFree (alias s) = ⊥
-  IsFree (array ts) = AreFree ts
-  IsFree (table es) = FreeIn es
-  IsFree (binary bs) = Unit {0}
-  IsFree (integer n) = Unit {0}
-  IsFree (int_vector ns) = Unit {0}
-
-  -- so for each of some trees
-  pub AreFree : Trees → Type 0
-  AreFree no_trees = Unit {0}
-  AreFree (more_trees t ts) = IsFree t × AreFree ts
-
-  -- so for the keys and the trees of entries
-  pub FreeIn : Entries → Type 0
-  FreeIn no_entries = Unit {0}
-  FreeIn (entry k t es) = NoQuote k × IsFree t × FreeIn es
 
 -- the answer is want of memory, or the cause that was found
 abbrev pub SaysCause : PrintError → Option Cause → Type 0

@@ -2,13 +2,14 @@
 //! In which order they make a text is said in `resb_lines`.
 ghost use Rattle.std.specs.Prelude.{◌≡◌, ◌++◌, ◌∷◌, ℕ, List, OnOk, codes, decimal, refl, IsTrue};
 ghost use Rattle.std.specs.String.{string_bytes};
+ghost use Rattle.std.specs.List.{list_all};
 ghost use Rattle.resb_tree.specs.Tree.{integer};
 ghost use Rattle.resb_print.specs.Quotes as quotes;
 ghost use Rattle.resb_print.specs.Printed as printed;
 ghost use Rattle.resb_print.specs.Printed.{indent_on, line_on, quoted_on, name_on, tree_on};
 ghost use Rattle.resb_print.specs.Printed.{end_on, root_type_on, plain_spelling};
 ghost use Rattle.resb_print.specs.Inner.Appends.{Appends};
-ghost use Rattle.resb_grammar.specs.ByteRuns as bytes;
+ghost use Rattle.resb_grammar.specs.ByteRuns as grammar;
 
 use crate::place::Place;
 use resb_grammar::is_word;
@@ -28,7 +29,7 @@ pub fn has_quote(text: &str) -> bool
 
 /// Whether the bytes are word characters.
 fn are_words(bytes: &[u8]) -> bool
-    ensures { result ≡ printed.are_words bytes.now }
+    ensures { result ≡ list_all grammar.is_word bytes.now }
 {
     for byte in bytes {
         if !is_word(*byte) {

@@ -1,10 +1,11 @@
 -- Which bytes of a string are escaped.
 use Rattle.std.specs.Prelude.{ℕ, Bool, false, ◌||◌, List, [], ◌∷◌}
-use Rattle.resb_icu_print.specs.Printed.{is_marked, is_control}
+use Rattle.std.specs.Char.{is_ascii_control}
+use Rattle.resb_icu_print.specs.Printed.{is_marked}
 
 -- a quote, a backslash or a control character
 abbrev pub is_escaped : ℕ → Bool
-is_escaped b = is_marked b || is_control b
+is_escaped b = is_marked b || is_ascii_control b
 
 -- one of the bytes is escaped
 abbrev pub has_escape : List ℕ → Bool

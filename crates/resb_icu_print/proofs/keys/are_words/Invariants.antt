@@ -1,6 +1,7 @@
 use Rattle.std.proofs.Common.{◌≡◌, drop}
-use Rattle.resb_icu_print.specs.Printed.{are_words}
+use Rattle.std.specs.List.{list_all}
+use Rattle.resb_icu_grammar.specs.Bytes.{is_word}
 use Rattle.resb_icu_print.proofs.keys.are_words.Given as goal
 
 abbrev pub invariant-loop-byte : goal.invariant-loop-byte
-invariant-loop-byte l = are_words (drop l.byte-index l.bytes) ≡ are_words l.bytes
+invariant-loop-byte l = list_all is_word (drop l.byte-index l.bytes) ≡ list_all is_word l.bytes

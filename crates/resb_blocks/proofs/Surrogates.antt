@@ -1,5 +1,5 @@
 -- Units of UTF-16 and their characters, as the standard library has them.
-use Rattle.std.proofs.Common.{ℕ, ◌≡◌, ◌-◌, false, arith, Some, true, None, List, [], ◌∷◌, refl}
+use Rattle.std.proofs.Common.{ℕ, ◌≡◌, false, arith, Some, true, None, List, [], ◌∷◌, refl}
 use Rattle.std.proofs.lemmas.Bool.Decides.{nat_tests}
 use Rattle.std.specs.Char.Utf16.{is_high_surrogate, is_low_surrogate, lone_unit_char, utf16_chars}
 use Rattle.std.specs.Char.Utf16.{has_unpaired_surrogate, utf16_lossy_chars, surrogate_pair_char}

@@ -10,6 +10,8 @@ use Rattle.resb_format.specs.Lookups.{index_by}
 use Rattle.resb_format.specs.Parts.{Parts, Lent, no_pool, beside_no_pool}
 use Rattle.resb_format.specs.Strings.{key_at, text_at}
 use Rattle.resb_format.specs.Types as types
+use Rattle.resb_format.specs.Descriptor.{type_number}
+use Rattle.resb_format.specs.declared.repr_type.ResourceReprType.TheVariants as kind
 use Rattle.resb_format.specs.Content.{Member, Content, leaf, list, entry_list, content_at}
 use Rattle.resb_format.specs.Content.{placed, empty}
 use Rattle.resb_format.specs.Denotes.{Den, den_leaf, den_list, den_entries, DenMember, den_word}
@@ -76,28 +78,28 @@ module _ (body keys block : List ℕ) where
 
   keeps_empty : (type : ℕ) → Keeps (empty own type) (empty wide type)
   keeps_empty type =
-      keeps_if (type == types.binary) _ _ _ _ (keeps_same _)
+      keeps_if (type == type_number kind.Binary) _ _ _ _ (keeps_same _)
       (keeps_if (types.is_table type) _ _ _ _ (keeps_same _)
-      (keeps_if (type == types.string) _ _ _ _ (keeps_same _)
+      (keeps_if (type == type_number kind.StringV2) _ _ _ _ (keeps_same _)
       (keeps_if (types.is_array type) _ _ _ _ (keeps_same _)
-      (keeps_if (type == types.int_vector) _ _ _ _ (keeps_same _) (keeps_none _)))))
+      (keeps_if (type == type_number kind.IntVector) _ _ _ _ (keeps_same _) (keeps_none _)))))
 
   keeps_placed : (type v : ℕ) → Keeps (placed own type v) (placed wide type v)
   keeps_placed type v =
-      keeps_if (type == types.binary) _ _ _ _ (keeps_same _)
-      (keeps_if (type == types.table) _ _ _ _ (keeps_same _)
-      (keeps_if (type == types.table32) _ _ _ _ (keeps_same _)
-      (keeps_if (type == types.table16) _ _ _ _ (keeps_same _)
-      (keeps_if (type == types.string) _ _ _ _
+      keeps_if (type == type_number kind.Binary) _ _ _ _ (keeps_same _)
+      (keeps_if (type == type_number kind.Table) _ _ _ _ (keeps_same _)
+      (keeps_if (type == type_number kind._Table32) _ _ _ _ (keeps_same _)
+      (keeps_if (type == type_number kind.Table16) _ _ _ _ (keeps_same _)
+      (keeps_if (type == type_number kind.StringV2) _ _ _ _
       (keeps_equal _ _ (ap (option_map (λ s. leaf (string s))) (text_is v)))
-      (keeps_if (type == types.array) _ _ _ _ (keeps_same _)
-      (keeps_if (type == types.array16) _ _ _ _ (keeps_same _)
-      (keeps_if (type == types.int_vector) _ _ _ _ (keeps_same _) (keeps_none _))))))))
+      (keeps_if (type == type_number kind.Array) _ _ _ _ (keeps_same _)
+      (keeps_if (type == type_number kind.Array16) _ _ _ _ (keeps_same _)
+      (keeps_if (type == type_number kind.IntVector) _ _ _ _ (keeps_same _) (keeps_none _))))))))
 
   content_is : (w : ℕ) → Keeps (content_at own w) (content_at wide w)
   unfolding content_at
   content_is w =
-      keeps_if (w / 2 ^ 28 == types.integer) _ _ _ _ (keeps_same _)
+      keeps_if (w / 2 ^ 28 == type_number kind.Int) _ _ _ _ (keeps_same _)
       (keeps_if (w % 2 ^ 28 == 0) _ _ _ _ (keeps_empty (w / 2 ^ 28))
       (keeps_placed (w / 2 ^ 28) (w % 2 ^ 28)))
 

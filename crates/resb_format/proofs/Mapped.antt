@@ -1,5 +1,5 @@
 -- The tables of a tree that a file denotes are maps, and what has no members by its type is a leaf.
-use Rattle.std.proofs.Common.{ℕ, List, Bool, true, false, Option, Some, None, subst, ◌==◌}
+use Rattle.std.proofs.Common.{ℕ, List, [], Bool, true, false, Option, Some, None, subst, ◌==◌}
 use Rattle.std.specs.Prelude.{◌/◌, ◌%◌, ◌^◌, ◌+◌, ◌*◌, option_map, option_and_then, ◌≡◌}
 use Rattle.std.specs.Prelude.{slice_get, if◌then◌else◌}
 use Rattle.resb_tree.specs.Tree.{Tree, string, alias, binary, int_vector}
@@ -11,10 +11,11 @@ use Rattle.resb_format.specs.Bytes.{units_of, words_of, part}
 use Rattle.resb_format.specs.Lookups.{text_in}
 use Rattle.resb_format.specs.Parts.{Parts, reads_older}
 use Rattle.resb_format.specs.Types as types
+use Rattle.resb_format.specs.Descriptor.{type_number}
+use Rattle.resb_format.specs.declared.repr_type.ResourceReprType.TheVariants as kind
 use Rattle.resb_format.specs.Content.{Member, Content, leaf, list, entry_list, content_at}
 use Rattle.resb_format.specs.Content.{behind_count, paired}
-use Rattle.resb_format.specs.Content.{words_at, offsets_at, placed, empty, counted_text, older_at}
-use Rattle.resb_format.specs.Content.{older_empty}
+use Rattle.resb_format.specs.Content.{words_at, offsets_at, placed, empty, counted_text, older_leaf}
 use Rattle.resb_format.specs.Denotes.{Den, den_leaf, den_list, den_entries, DenMember, den_word}
 use Rattle.resb_format.specs.Denotes.{den_unit, DenEach, each_none, each_more, DenEntries}
 use Rattle.resb_format.specs.Denotes.{entries_none}
@@ -50,51 +51,46 @@ plain_paired (Some ks) (Some ms) = tt
 plain_paired (Some ks) None = tt
 plain_paired None ms = tt
 
-plain_older_empty : (type : ℕ) → IsPlain (older_empty type)
-plain_older_empty type =
-    plain_if (type == types.old_string) _ _ (tt, tt)
-    (plain_if (type == types.alias) _ _ (tt, tt) tt)
+plain_older : (type : ℕ) (text : Option (List ℕ)) → IsPlain (older_leaf type text)
+plain_older type text =
+    plain_if (type == type_number kind._String) _ _
+    (plain_map (λ x. leaf (string x)) text (λ s. (tt, tt)))
+    (plain_if (type == type_number kind._Alias) _ _
+    (plain_map (λ x. leaf (alias x)) text (λ s. (tt, tt))) tt)
 
 plain_empty : (p : Parts) (type : ℕ) → IsPlain (empty p type)
 plain_empty p type =
-    plain_if (type == types.binary) _ _ (tt, tt)
+    plain_if (type == type_number kind.Binary) _ _ (tt, tt)
     (plain_if (types.is_table type) _ _ tt
-    (plain_if (type == types.string) _ _ (tt, tt)
+    (plain_if (type == type_number kind.StringV2) _ _ (tt, tt)
     (plain_if (types.is_array type) _ _ tt
-    (plain_if (type == types.int_vector) _ _ (tt, tt)
-    (plain_if (reads_older p) _ _ (plain_older_empty type) tt)))))
-
-plain_older : (p : Parts) (type v : ℕ) → IsPlain (older_at p type v)
-plain_older p type v =
-    plain_if (type == types.old_string) _ _
-    (plain_map (λ x. leaf (string x)) (counted_text p v) (λ s. (tt, tt)))
-    (plain_if (type == types.alias) _ _
-    (plain_map (λ x. leaf (alias x)) (counted_text p v) (λ s. (tt, tt))) tt)
+    (plain_if (type == type_number kind.IntVector) _ _ (tt, tt)
+    (plain_if (reads_older p) _ _ (plain_older type (Some [])) tt)))))
 
 plain_placed : (p : Parts) (type v : ℕ) → IsPlain (placed p type v)
 plain_placed p type v =
-    plain_if (type == types.binary) _ _ (plain_counted (words_of p.body) v _
+    plain_if (type == type_number kind.Binary) _ _ (plain_counted (words_of p.body) v _
     (λ n. plain_map (λ x. leaf (binary x)) (part p.body (4 * v + 4) n) (λ bytes. (tt, tt))))
-    (plain_if (type == types.table) _ _ (plain_counted (units_of p.body) (2 * v) _
+    (plain_if (type == type_number kind.Table) _ _ (plain_counted (units_of p.body) (2 * v) _
     (λ n. plain_paired (part (units_of p.body) (2 * v + 1) n) (words_at p (v + n / 2 + 1) n)))
-    (plain_if (type == types.table32) _ _ (plain_counted (words_of p.body) v _
+    (plain_if (type == type_number kind._Table32) _ _ (plain_counted (words_of p.body) v _
     (λ n. plain_paired (part (words_of p.body) (v + 1) n) (words_at p (v + 1 + n) n)))
-    (plain_if (type == types.table16) _ _ (plain_counted p.block v _
+    (plain_if (type == type_number kind.Table16) _ _ (plain_counted p.block v _
     (λ n. plain_paired (part p.block (v + 1) n) (offsets_at p (v + 1 + n) n)))
-    (plain_if (type == types.string) _ _
+    (plain_if (type == type_number kind.StringV2) _ _
     (plain_map (λ x. leaf (string x)) (text_in p v) (λ s. (tt, tt)))
-    (plain_if (type == types.array) _ _ (plain_counted (words_of p.body) v _
+    (plain_if (type == type_number kind.Array) _ _ (plain_counted (words_of p.body) v _
     (λ n. plain_map list (words_at p (v + 1) n) (λ ms. tt)))
-    (plain_if (type == types.array16) _ _ (plain_counted p.block v _
+    (plain_if (type == type_number kind.Array16) _ _ (plain_counted p.block v _
     (λ n. plain_map list (offsets_at p (v + 1) n) (λ ms. tt)))
-    (plain_if (type == types.int_vector) _ _ (plain_counted (words_of p.body) v _
+    (plain_if (type == type_number kind.IntVector) _ _ (plain_counted (words_of p.body) v _
     (λ n. plain_map (λ x. leaf (int_vector x)) (part (words_of p.body) (v + 1) n) (λ ns. (tt, tt))))
-    (plain_if (reads_older p) _ _ (plain_older p type v) tt))))))))
+    (plain_if (reads_older p) _ _ (plain_older type (counted_text p v)) tt))))))))
 
 plain_content : (p : Parts) (w : ℕ) → IsPlain (content_at p w)
 unfolding content_at
 plain_content p w =
-    plain_if (w / 2 ^ 28 == types.integer) _ _ (tt, tt)
+    plain_if (w / 2 ^ 28 == type_number kind.Int) _ _ (tt, tt)
     (plain_if (w % 2 ^ 28 == 0) _ _ (plain_empty p (w / 2 ^ 28))
     (plain_placed p (w / 2 ^ 28) (w % 2 ^ 28)))
 

@@ -2,6 +2,7 @@
 --     units_of bytes          the 16-bit units that the bytes spell
 --     words_of bytes          the 32-bit words that they spell
 --     unit_in big bytes n     the nth unit, its higher byte first where `big` says so
+--     header_size bytes       how many bytes the header of an ICU file has
 --     part xs i n             n members of xs from place i on, if they lie inside
 use Rattle.std.specs.Prelude.{ℕ, ◌+◌, ◌*◌, List, [], ◌∷◌, length, take, drop, Option, Some, None}
 use Rattle.std.specs.Prelude.{Bool, nat_le, slice_index, if◌then◌else◌}
@@ -21,6 +22,10 @@ words_of (a ∷ b ∷ c ∷ []) = []
 words_of (a ∷ b ∷ []) = []
 words_of (a ∷ []) = []
 words_of [] = []
+
+-- how many bytes the header has: the first number of 16 bits of the file
+abbrev pub header_size : List ℕ → ℕ
+header_size bytes = slice_index (units_of bytes) 0
 
 -- n items of a list from place i on, where all of them are inside it
 abbrev pub part : List ℕ → ℕ → ℕ → Option (List ℕ)

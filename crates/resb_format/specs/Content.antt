@@ -12,6 +12,8 @@ use Rattle.resb_format.specs.Lookups.{text_in}
 use Rattle.resb_format.specs.Parts.{Parts, reads_older}
 use Rattle.resb_format.specs.Strings.{text_of_units}
 use Rattle.resb_format.specs.Types as types
+use Rattle.resb_format.specs.Descriptor.{type_number}
+use Rattle.resb_format.specs.declared.repr_type.ResourceReprType.TheVariants as kind
 
 -- a member of a collection: a resource's word, or a string's unit
 pub data Member : Type 0 where
@@ -92,43 +94,36 @@ counted_text p v =
     behind_count (words_of p.body) v
     (λ n. option_and_then text_of_units (part (units_of p.body) (2 * v + 2) n))
 
--- a string of the older form, or an alias by its path: each is a text in the body
-abbrev pub older_at : Parts → ℕ → ℕ → Option Content
-older_at p type v =
-    if type == types.old_string then option_map (λ s. leaf (string s)) (counted_text p v)
-    else if type == types.alias then option_map (λ s. leaf (alias s)) (counted_text p v)
+-- a string of the older form, or an alias by its path, of this text
+abbrev pub older_leaf : ℕ → Option (List ℕ) → Option Content
+older_leaf type text =
+    if type == type_number kind._String then option_map (λ s. leaf (string s)) text
+    else if type == type_number kind._Alias then option_map (λ s. leaf (alias s)) text
     else None
 
 -- what a type with a value other than 0 leads to
 abbrev pub placed : Parts → ℕ → ℕ → Option Content
 placed p type v =
-    if type == types.binary then binary_at p v
-    else if type == types.table then table_at p v
-    else if type == types.table32 then table32_at p v
-    else if type == types.table16 then table16_at p v
-    else if type == types.string then text_leaf p v
-    else if type == types.array then array_at p v
-    else if type == types.array16 then array16_at p v
-    else if type == types.int_vector then int_vector_at p v
-    else if reads_older p then older_at p type v
-    else None
-
--- the empty string of the older form, or the alias with an empty path
-abbrev pub older_empty : ℕ → Option Content
-older_empty type =
-    if type == types.old_string then Some (leaf (string []))
-    else if type == types.alias then Some (leaf (alias []))
+    if type == type_number kind.Binary then binary_at p v
+    else if type == type_number kind.Table then table_at p v
+    else if type == type_number kind._Table32 then table32_at p v
+    else if type == type_number kind.Table16 then table16_at p v
+    else if type == type_number kind.StringV2 then text_leaf p v
+    else if type == type_number kind.Array then array_at p v
+    else if type == type_number kind.Array16 then array16_at p v
+    else if type == type_number kind.IntVector then int_vector_at p v
+    else if reads_older p then older_leaf type (counted_text p v)
     else None
 
 -- the empty resource of a type
 abbrev pub empty : Parts → ℕ → Option Content
 empty p type =
-    if type == types.binary then Some (leaf (binary []))
+    if type == type_number kind.Binary then Some (leaf (binary []))
     else if types.is_table type then Some (entry_list [])
-    else if type == types.string then Some (leaf (string []))
+    else if type == type_number kind.StringV2 then Some (leaf (string []))
     else if types.is_array type then Some (list [])
-    else if type == types.int_vector then Some (leaf (int_vector []))
-    else if reads_older p then older_empty type
+    else if type == type_number kind.IntVector then Some (leaf (int_vector []))
+    else if reads_older p then older_leaf type (Some [])
     else None
 
 -- what a word leads to, by the type in its upper 4 bits and the value in its lower 28: a finished
@@ -137,6 +132,6 @@ unfoldable pub content_at : Parts → ℕ → Option Content
 content_at p w =
     let type = w / 2 ^ 28 in
     let value = w % 2 ^ 28 in
-    if type == types.integer then Some (leaf (integer value))
+    if type == type_number kind.Int then Some (leaf (integer value))
     else if value == 0 then empty p type
     else placed p type value

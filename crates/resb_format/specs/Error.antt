@@ -2,7 +2,10 @@
 --     IsRefusal e kind m      the refusal e is of this kind and has the message m
 --     refusal_of e            its kind and its message
 --     end_message             what is said where a part of the file lies past its end
-use Rattle.std.specs.Prelude.{◌≡◌, ℕ, List, codes}
+--     first_refusal checks    the refusal of the first check that fails
+--     ReadsUnless f Holds r   the answer r: the refusal f, if there is one, else a value
+use Rattle.std.specs.Prelude.{◌≡◌, ℕ, List, [], ◌∷◌, codes, Bool, if◌then◌else◌, Option, Some, None}
+use Rattle.std.specs.Prelude.{Result, MatchResult}
 use Rattle.resb_format.specs.declared.error.ErrorKind.{ErrorKind}
 use Rattle.resb_format.specs.declared.error.ErrorKind.TheVariants.{InvalidData}
 use Rattle.resb_format.specs.declared.error.ErrorKind.TheVariants.{ResourceTypeMismatch}
@@ -62,6 +65,18 @@ end_of_input = invalid end_message
 -- what an error tells
 abbrev pub refusal_of : ReadingError → Refusal
 refusal_of e = (kind_of e, message_of e)
+
+-- the refusal of the first check that fails; a check is a test and the refusal where it fails
+abbrev pub first_refusal : {E : Type 0} → List (Bool × E) → Option E
+first_refusal [] = None
+first_refusal ((holds, refusal) ∷ checks) =
+    if holds then first_refusal checks else Some refusal
+
+-- where no check is refused, a value of which this holds; else the refusal
+abbrev pub ReadsUnless : {A : Type 0} → Option Refusal → (A → Type 0) → Result A ReadingError
+    → Type 0
+ReadsUnless refusal Holds r =
+    MatchResult r (λ x. (refusal ≡ None) × Holds x) (λ e. refusal ≡ Some (refusal_of e))
 
 -- what a kind prints
 abbrev pub description_of : ErrorKind → List ℕ

@@ -5,12 +5,12 @@ use Rattle.std.proofs.Common.{nat_eq, Some, None, refl, sym, ap, subst, ◌∙�
 use Rattle.std.proofs.Common.{codes, slice_range, length-drop}
 use Rattle.std.proofs.lemmas.List.{get_or-drop}
 use Rattle.std.proofs.lemmas.Slice.Eq.{bytes_eq-Decides}
-use Rattle.resb_format.specs.Bytes.{words_of, unit_in}
-use Rattle.resb_format.specs.Error.{IsInvalid, IsEndOfInput, Refusal, refusal_of}
-use Rattle.resb_head.specs.File.{IsBundleFile, body_of, header_size}
+use Rattle.resb_format.specs.Bytes.{words_of, unit_in, header_size}
+use Rattle.resb_format.specs.Error.{IsInvalid, IsEndOfInput, Refusal, refusal_of, first_refusal}
+use Rattle.resb_head.specs.File.{IsBundleFile, body_of}
 use Rattle.resb_format.specs.declared.error.ReadingError.{ReadingError}
 use Rattle.resb_head.specs.Laws.{IsHeader, BundleFilePasses}
-use Rattle.resb_head.specs.HeadChecks.{first_refusal, header_checks, header_refusal, index_checks}
+use Rattle.resb_head.specs.HeadChecks.{header_checks, header_refusal, index_checks}
 use Rattle.resb_head.specs.HeadChecks.{index_refusal, support_checks, block_checks, body_checks}
 use Rattle.resb_head.specs.HeadChecks.{file_checks, file_refusal}
 use Rattle.resb_head.proofs.HeaderSteps.{later_refusal, earlier_refusal}

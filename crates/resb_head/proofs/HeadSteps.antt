@@ -4,11 +4,11 @@ use Rattle.std.proofs.Common.{◌||◌, nat_le, nat_eq, Some, None, refl, arith,
 use Rattle.std.proofs.Common.{slice_range}
 use Rattle.std.specs.Str.{bytes_eq}
 use Rattle.std.proofs.lemmas.Bool.{or_right, lt-leb, le-leb}
-use Rattle.resb_format.specs.Error.{IsRefusal, IsInvalid, refusal_of}
+use Rattle.resb_format.specs.Error.{IsRefusal, IsInvalid, refusal_of, first_refusal}
 use Rattle.resb_format.specs.declared.error.ReadingError.{ReadingError}
 use Rattle.resb_format.specs.declared.error.ErrorKind.TheVariants.{UnsupportedFormat}
 use Rattle.resb_head.specs.Codes.{version_bytes, endianness_number, charset_number}
-use Rattle.resb_head.specs.HeadChecks.{first_refusal, info_checks, is_version}
+use Rattle.resb_head.specs.HeadChecks.{info_checks, is_version}
 use Rattle.resb_head.specs.declared.charset.CharsetFamily.{CharsetFamily}
 use Rattle.resb_head.specs.declared.charset.CharsetFamily.TheVariants.{Ascii, Ebcdic}
 use Rattle.resb_head.specs.declared.endianness.Endianness.{Endianness}

@@ -2,10 +2,10 @@
 use Rattle.std.proofs.Common.{ℕ, List, [], ◌∷◌, ◌++◌, ◌≡◌, ◌<◌, ◌≤◌, length, drop, Bool, true}
 use Rattle.std.proofs.Common.{false, nat_eq, Some, None, refl, ◌∙◌, get_or, codes, slice_range}
 use Rattle.std.specs.Str.{bytes_eq}
-use Rattle.resb_format.specs.Error.{IsInvalid, Refusal, refusal_of}
+use Rattle.resb_format.specs.Error.{IsInvalid, Refusal, refusal_of, first_refusal}
 use Rattle.resb_format.specs.Bytes.{unit_in}
 use Rattle.resb_format.specs.declared.error.ReadingError.{ReadingError}
-use Rattle.resb_head.specs.HeadChecks.{first_refusal, info_checks, info_refusal, header_checks}
+use Rattle.resb_head.specs.HeadChecks.{info_checks, info_refusal, header_checks}
 use Rattle.resb_head.specs.HeadChecks.{header_refusal}
 use Rattle.std.proofs.lemmas.Bool.{lt-leb, le-leb}
 

@@ -5,10 +5,10 @@ use Rattle.std.proofs.Common.{◌∙◌, get_or, codes, slice_range}
 use Rattle.std.specs.Str.{bytes_eq}
 use Rattle.std.proofs.lemmas.List.{get_or-drop}
 use Rattle.std.proofs.lemmas.Slice.Eq.{bytes_eq-Decides}
-use Rattle.resb_format.specs.Error.{Refusal}
+use Rattle.resb_format.specs.Error.{Refusal, first_refusal}
 use Rattle.resb_format.specs.Bytes.{unit_in}
 use Rattle.resb_head.specs.Laws.{IsHeader, HeaderPasses}
-use Rattle.resb_head.specs.HeadChecks.{first_refusal, info_checks, header_checks, header_refusal}
+use Rattle.resb_head.specs.HeadChecks.{info_checks, header_checks, header_refusal}
 use Rattle.resb_head.specs.HeadChecks.{is_version}
 use Rattle.resb_head.proofs.HeaderSteps.{header_holds}
 use Rattle.resb_head.proofs.Lists.{bytes_eq_holds}

@@ -1,10 +1,10 @@
 -- Which check of what is supported is the first that fails.
 use Rattle.std.proofs.Common.{ℕ, List, [], ◌∷◌, ◌≡◌, ◌≢◌, Some, None}
 use Rattle.std.proofs.Common.{refl, get_or, codes, slice_range}
-use Rattle.resb_format.specs.Error.{IsRefusal, refusal_of}
+use Rattle.resb_format.specs.Error.{IsRefusal, refusal_of, first_refusal}
 use Rattle.resb_format.specs.declared.error.ReadingError.{ReadingError}
 use Rattle.resb_format.specs.declared.error.ErrorKind.TheVariants.{UnsupportedFormat}
-use Rattle.resb_head.specs.HeadChecks.{first_refusal, support_checks}
+use Rattle.resb_head.specs.HeadChecks.{support_checks}
 use Rattle.resb_head.proofs.Lists.{bytes_eq_fails}
 use Rattle.std.proofs.lemmas.Bool.{ne_eqb}
 

@@ -9,49 +9,37 @@
 use Rattle.std.specs.Prelude.{◌≡◌, ℕ, ◌+◌, ◌-◌, ◌*◌, ◌/◌, ◌≤◌, min, List, [], ◌∷◌, length, take}
 use Rattle.std.specs.Prelude.{drop, slice_index, slice_range, codes, None}
 use Rattle.resb_tree.specs.Tree.{Tree}
-use Rattle.resb_format.specs.Bytes.{units_of, words_of}
+use Rattle.resb_format.specs.Bytes.{units_of, words_of, header_size}
 use Rattle.resb_format.specs.Parts.{Parts, beside_no_pool}
 use Rattle.resb_format.specs.Denotes.{Den}
-
--- how many bytes the header has: the first number of 16 bits of the file
-abbrev pub header_size : List ℕ → ℕ
-header_size bytes = slice_index (units_of bytes) 0
 
 -- the bytes behind the header
 abbrev pub body_of : List ℕ → List ℕ
 body_of bytes = drop (header_size bytes) bytes
 
+-- word i of the body: word 0 is the root's descriptor, and behind it stands the index
+abbrev pub body_word : List ℕ → ℕ → ℕ
+body_word bytes i = slice_index (words_of (body_of bytes)) i
+
 -- the body's first word: the root's descriptor
 abbrev pub root_word : List ℕ → ℕ
-root_word bytes = slice_index (words_of (body_of bytes)) 0
+root_word bytes = body_word bytes 0
 
 -- the index's first word: how many words the index has
 abbrev pub field_count : List ℕ → ℕ
-field_count bytes = slice_index (words_of (body_of bytes)) 1
+field_count bytes = body_word bytes 1
 
 -- the index's second word: where the key block ends, in words of the body
 abbrev pub keys_end : List ℕ → ℕ
-keys_end bytes = slice_index (words_of (body_of bytes)) 2
-
--- the index's third word: where the resources end, in words of the body
-abbrev pub resources_end : List ℕ → ℕ
-resources_end bytes = slice_index (words_of (body_of bytes)) 3
-
--- the index's fourth word: where the bundle ends, in words of the body
-abbrev pub bundle_end : List ℕ → ℕ
-bundle_end bytes = slice_index (words_of (body_of bytes)) 4
-
--- the index's fifth word: the number of entries of the largest table
-abbrev pub largest_table_field : List ℕ → ℕ
-largest_table_field bytes = slice_index (words_of (body_of bytes)) 5
+keys_end bytes = body_word bytes 2
 
 -- the index's sixth word: the attributes, whose lowest bit turns fallback off
 abbrev pub attributes : List ℕ → ℕ
-attributes bytes = slice_index (words_of (body_of bytes)) 6
+attributes bytes = body_word bytes 6
 
 -- the index's seventh word: where the 16-bit block ends, in words of the body
 abbrev pub block_end : List ℕ → ℕ
-block_end bytes = slice_index (words_of (body_of bytes)) 7
+block_end bytes = body_word bytes 7
 
 -- the parts of a body; ends in its index are in words
 abbrev pub parts_in_body : List ℕ → Parts

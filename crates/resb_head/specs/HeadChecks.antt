@@ -6,22 +6,16 @@
 --     index_refusal bytes         for an index, the words behind the root's descriptor
 --     file_refusal bytes          for a whole file: header, what is supported, index and blocks
 use Rattle.std.specs.Prelude.{ℕ, ◌*◌, min, List, [], ◌∷◌, ◌++◌, length, drop, Bool, false}
-use Rattle.std.specs.Prelude.{◌||◌, ◌&&◌, nat_le, nat_eq, Option, Some, None, slice_index}
-use Rattle.std.specs.Prelude.{slice_range, codes, if◌then◌else◌}
+use Rattle.std.specs.Prelude.{◌||◌, ◌&&◌, nat_le, nat_eq, Option, slice_index}
+use Rattle.std.specs.Prelude.{slice_range, codes}
 use Rattle.std.specs.List.{list_any}
 use Rattle.std.specs.Str.{bytes_eq}
 use Rattle.resb_format.specs.Bytes.{words_of, unit_in}
 use Rattle.resb_head.specs.File.{body_of}
-use Rattle.resb_format.specs.Error.{Refusal, invalid, unsupported, end_of_input}
+use Rattle.resb_format.specs.Error.{Refusal, invalid, unsupported, end_of_input, first_refusal}
 use Rattle.resb_head.specs.Codes.{version_bytes}
 use Rattle.resb_head.specs.declared.version.FormatVersion.TheVariants.{V1_0, V1_1, V1_2, V1_3}
 use Rattle.resb_head.specs.declared.version.FormatVersion.TheVariants.{V2_0, V3_0}
-
--- the refusal of the first check that fails; a check is a test and the refusal where it fails
-abbrev pub first_refusal : List (Bool × Refusal) → Option Refusal
-first_refusal [] = None
-first_refusal ((holds, refusal) ∷ checks) =
-    if holds then first_refusal checks else Some refusal
 
 -- the bytes spell one of the six versions
 abbrev pub is_version : List ℕ → Bool
@@ -86,9 +80,9 @@ index_checks bytes =
 unfoldable pub index_refusal : List ℕ → Option Refusal
 index_refusal bytes = first_refusal (index_checks bytes)
 
--- the checks of what is supported, in their order: what the info of a file that is read may say
-unfoldable pub support_checks : List ℕ → List (Bool × Refusal)
-support_checks info = (
+-- the checks of a file's characters, in their order, in its representation info
+abbrev pub character_checks : List ℕ → List (Bool × Refusal)
+character_checks info = (
   nat_eq (slice_index info 5) 0,
   unsupported (codes "bundle and system character set families do not match"),
 )
@@ -96,7 +90,13 @@ support_checks info = (
       nat_eq (slice_index info 6) 2,
       unsupported (codes "characters of size other than 2 are not supported"),
     )
-    ∷ (
+    ∷ []
+
+-- the checks of what is supported, in their order: what the info of a file that is read may say
+unfoldable pub support_checks : List ℕ → List (Bool × Refusal)
+support_checks info =
+    character_checks info
+    ++ (
       bytes_eq (slice_range info 12 16) (2 ∷ 0 ∷ 0 ∷ 0 ∷ []),
       unsupported (codes "format versions other than 2.0 are not supported at this time"),
     )

@@ -2,9 +2,9 @@
 //! The checks here decide which of them are read; what follows the header is read elsewhere.
 ghost use Rattle.std.specs.Prelude.{◌≡◌, ◌≤◌, ◌++◌, length, false, Some, None, MatchResult, OnOk};
 ghost use Rattle.std.specs.Prelude.{IfOk};
-ghost use Rattle.resb_format.specs.Error.{refusal_of};
+ghost use Rattle.resb_format.specs.Error.{refusal_of, first_refusal};
 ghost use Rattle.resb_head.specs.Head.{InfoAt, info_bytes};
-ghost use Rattle.resb_head.specs.HeadChecks.{info_checks, first_refusal};
+ghost use Rattle.resb_head.specs.HeadChecks.{info_checks};
 ghost use Rattle.resb_head.specs.HeadReading.{ReadsInfo};
 
 use crate::charset::CharsetFamily;

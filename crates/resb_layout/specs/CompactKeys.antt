@@ -3,7 +3,10 @@
 --     container js k          in which of the keys js the key k lies
 --     kept js                 the keys of js that lie in themselves
 --     end_position js k       where k stands, if it is one of the keys js
---     keys_by q js, position_by q js k        the same of a file that is packed like this
+--     keys_by q js, position_by q js k    which of the keys js stand in the key block of a file
+--                             that is packed like this, and where k stands in it
+--     key_block_by q t ks     the key block of a tree with the keys of a list
+--     key_position_by q t ks k    where k stands in such a file
 use Rattle.std.specs.Prelude.{ℕ, ◌+◌, ◌-◌, List, [], ◌∷◌, length, filter, reverse, nat_eq}
 use Rattle.std.specs.Prelude.{Option, None, option_map, if◌then◌else◌}
 use Rattle.std.specs.List.{ends_with}

@@ -3,9 +3,9 @@
 --                             like this
 --     WrittenBy q bytes t f ks    the file of a bundle of t that is packed like this, with locale
 --                             fallback or not
---     Written bytes t f ks    the same of a file in which each key stands by itself
---     WrittenCompact bytes t f ks     .. and of a compact file: what ICU's `genrb` writes without a
---                             pool bundle, byte by byte
+--     Written bytes t f ks    the plain file, in which each key stands by itself
+--     WrittenCompact bytes t f ks     the compact file: what ICU's `genrb` writes without a pool
+--                             bundle, byte by byte
 use Rattle.std.specs.Prelude.{◌≡◌, ℕ, ◌+◌, ◌*◌, ◌%◌, ◌≤◌, ◌==◌, List, [], ◌∷◌, ◌++◌, length, drop}
 use Rattle.std.specs.Prelude.{Bool, false, Option, None, if◌then◌else◌, Contains}
 use Rattle.resb_tree.specs.Tree.{Tree, tree_count}
@@ -79,10 +79,10 @@ pub record WrittenBy (q : Packing) (bytes : List ℕ) (t : Tree) (fallback : Boo
   pub block_end : 4 * block_end bytes ≡ tail_start (key_block_by q t ks) blocks.laid
   pub body : drop keys_start (body_of bytes) ≡ block_bytes blocks
 
--- the same of a file in which each key stands by itself
+-- the bytes are the plain file of a bundle of the tree, in which each key stands by itself
 abbrev pub Written : List ℕ → Tree → Bool → List (List ℕ) → Type 0
 Written = WrittenBy Plain
 
--- the same of a compact file
+-- the bytes are the compact file of a bundle of the tree, in which a key may lie in another one
 abbrev pub WrittenCompact : List ℕ → Tree → Bool → List (List ℕ) → Type 0
 WrittenCompact = WrittenBy Compact

@@ -4,8 +4,7 @@
 --                             not
 use Rattle.std.specs.Prelude.{◌≡◌, ℕ, ◌*◌, List, [], ◌∷◌, length, take, Bool, if◌then◌else◌}
 use Rattle.resb_tree.specs.Tree.{Tree, largest_table}
-use Rattle.resb_head.specs.File.{body_of, field_count, resources_end, bundle_end}
-use Rattle.resb_head.specs.File.{largest_table_field, attributes}
+use Rattle.resb_head.specs.File.{body_of, body_word, field_count, attributes}
 
 -- 32 bytes of header, of which 20 are the info: little-endian, ASCII, two bytes a unit, `ResB`,
 -- format version 2.0, data version 1.4
@@ -19,7 +18,9 @@ written_header =
 pub record IndexOf (bytes : List ℕ) (t : Tree) (fallback : Bool) : Type 0 where
   pub header : take 32 bytes ≡ written_header
   pub fields : field_count bytes ≡ 7
-  pub resources : 4 * resources_end bytes ≡ length (body_of bytes)
-  pub bundle : 4 * bundle_end bytes ≡ length (body_of bytes)
-  pub largest : largest_table_field bytes ≡ largest_table t
+  -- the index's third and fourth word: where the resources and the bundle end, in words
+  pub resources : 4 * body_word bytes 3 ≡ length (body_of bytes)
+  pub bundle : 4 * body_word bytes 4 ≡ length (body_of bytes)
+  -- its fifth word: how many entries the largest table has
+  pub largest : body_word bytes 5 ≡ largest_table t
   pub no_fallback : attributes bytes ≡ (if fallback then 0 else 1)

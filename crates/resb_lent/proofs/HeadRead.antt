@@ -9,12 +9,12 @@ use Rattle.std.specs.List.{All}
 use Rattle.std.proofs.lemmas.Bool.{le-leb, lt-leb, eqb-true, eqb-false}
 use Rattle.std.proofs.lemmas.List.{take_at, drop_at}
 use Rattle.std.proofs.lemmas.List.Elements.{All-head, All-tail}
-use Rattle.resb_format.specs.Bytes.{units_of, words_of, units_as_bytes}
-use Rattle.resb_format.specs.Error.{Refusal, invalid}
+use Rattle.resb_format.specs.Bytes.{units_of, words_of, units_as_bytes, header_size}
+use Rattle.resb_format.specs.Error.{Refusal, invalid, first_refusal}
 use Rattle.resb_format.proofs.WordsBack.{written_length}
-use Rattle.resb_head.specs.File.{header_size, body_of, root_word, field_count, keys_end, attributes}
+use Rattle.resb_head.specs.File.{body_of, root_word, field_count, keys_end, attributes}
 use Rattle.resb_head.specs.File.{block_end}
-use Rattle.resb_head.specs.HeadChecks.{first_refusal, header_checks, info_checks}
+use Rattle.resb_head.specs.HeadChecks.{header_checks, info_checks}
 use Rattle.resb_layout.specs.Laid.{words}
 use Rattle.resb_layout.proofs.BytesLemmas.{EachBelow, words_read, halves_len, halves_read}
 use Rattle.resb_pool_bundle.specs.Checks.{version_checks, size_checks, lending_checks, head_checks}

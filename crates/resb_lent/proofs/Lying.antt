@@ -1,7 +1,7 @@
 -- In which record a text lies: the last one that doesn't come after it, if one holds it.
 use Rattle.std.proofs.Common.{ℕ, List, [], ◌∷◌, ◌≡◌, ◌+◌, ◌<◌, ◌≤◌, inl, inr, length}
 use Rattle.std.proofs.Common.{get_or, refl, sym, ap, subst, ◌∙◌, arith, true≢false}
-use Rattle.std.proofs.Common.{append-nil, Option, Some, None, MatchOption, Bool, true, false}
+use Rattle.std.proofs.Common.{Option, Some, None, MatchOption, Bool, true, false}
 use Rattle.std.specs.Bool.{MatchBool}
 use Rattle.std.specs.Cmp.{IsTotalOrder, IsStrictWeakOrder, nat_cmp_is}
 use Rattle.std.specs.Ordering.{is_lt, nat_cmp, ordering_then, ordering_reverse}

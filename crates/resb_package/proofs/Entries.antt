@@ -6,7 +6,8 @@ use Rattle.std.specs.Str.{IsAscii, IsNotAscii}
 use Rattle.std.proofs.lemmas.Bool.{lt-leb, le-leb, lt-ltb}
 use Rattle.std.proofs.lemmas.Bool.Decides.{nat_tests}
 use Rattle.resb_package.specs.Table.{name_from, item_from, item_to, name_at}
-use Rattle.resb_package.specs.Checks.{first_refusal, item_checks, refusal_from}
+use Rattle.resb_package.specs.Checks.{item_checks, refusal_from}
+use Rattle.resb_format.specs.Error.{first_refusal}
 use Rattle.resb_package.specs.declared.error.PackageError.{PackageError}
 use Rattle.resb_package.specs.declared.error.PackageError.TheVariants.{NameOutside, NameWithoutEnd}
 use Rattle.resb_package.specs.declared.error.PackageError.TheVariants.{NameNotAscii, ItemOutside}

@@ -3,8 +3,9 @@ use Rattle.std.proofs.Common.{ℕ, List, [], ◌∷◌, ◌≡◌, ◌<◌, ◌�
 use Rattle.std.proofs.Common.{Some, None, refl, codes, slice_range}
 use Rattle.std.specs.Str.{bytes_eq}
 use Rattle.std.proofs.lemmas.Bool.{lt-leb, le-leb}
-use Rattle.resb_package.specs.Table.{header_size}
-use Rattle.resb_package.specs.Checks.{first_refusal, head_checks}
+use Rattle.resb_format.specs.Bytes.{header_size}
+use Rattle.resb_package.specs.Checks.{head_checks}
+use Rattle.resb_format.specs.Error.{first_refusal}
 use Rattle.resb_package.specs.declared.error.PackageError.TheVariants.{TooShort, NotData}
 use Rattle.resb_package.specs.declared.error.PackageError.TheVariants.{NotLittleEndian}
 use Rattle.resb_package.specs.declared.error.PackageError.TheVariants.{NotAsciiFamily, NotPackage}

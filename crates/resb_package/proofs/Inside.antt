@@ -4,7 +4,7 @@ use Rattle.std.proofs.Common.{arith, refl}
 use Rattle.std.proofs.Common.{length-drop}
 use Rattle.std.specs.Prelude.{nat_le, get_or}
 use Rattle.std.proofs.lemmas.Bool.{lt-leb}
-use Rattle.resb_package.specs.Checks.{HasHead, head_checks, first_refusal}
+use Rattle.resb_package.specs.Checks.{HasHead, head_checks}
 
 -- none stands where fewer than 24 bytes are left
 pub no_head_behind : (bytes : List ℕ) (k : ℕ) → length bytes / 16 ≤ k → HasHead bytes (16 * k) → ⊥

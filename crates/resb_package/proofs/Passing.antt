@@ -17,10 +17,12 @@ use Rattle.std.proofs.lemmas.Bool.{lt-leb, le-leb, leb-true, eqb-true}
 use Rattle.std.proofs.lemmas.Slice.Eq.{bytes_eq-Decides}
 use Rattle.resb_tree.proofs.Numbers.{is_lt_tells}
 use Rattle.resb_format.specs.Strings.{before_zero}
-use Rattle.resb_package.specs.Table.{header_size, table_of, count_in, name_from, item_from, item_to}
+use Rattle.resb_package.specs.Table.{table_of, count_in, name_from, item_from, item_to}
+use Rattle.resb_format.specs.Bytes.{header_size}
 use Rattle.resb_package.specs.Table.{name_to, name_at, name_in, item_at, items_in}
 use Rattle.resb_package.specs.Package.{IsItem, IsPackage}
-use Rattle.resb_package.specs.Checks.{first_refusal, head_checks, item_checks, order_check}
+use Rattle.resb_package.specs.Checks.{head_checks, item_checks, order_check}
+use Rattle.resb_format.specs.Error.{first_refusal}
 use Rattle.resb_package.specs.Checks.{refusal_from, table_refusal, package_refusal}
 use Rattle.resb_package.specs.Laws.{OnePackage, NamesDiffer, PackagePasses}
 use Rattle.resb_package.specs.declared.error.PackageError.{PackageError}

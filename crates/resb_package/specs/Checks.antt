@@ -13,7 +13,9 @@ use Rattle.std.specs.Option.{option_or}
 use Rattle.std.specs.Str.{bytes_eq}
 use Rattle.std.specs.Ordering.{nat_cmp, is_lt}
 use Rattle.std.specs.Cmp.Lexicographic.{slice_cmp}
-use Rattle.resb_package.specs.Table.{header_size, table_of, count_in, name_from, item_from}
+use Rattle.resb_format.specs.Bytes.{header_size}
+use Rattle.resb_format.specs.Error.{first_refusal}
+use Rattle.resb_package.specs.Table.{table_of, count_in, name_from, item_from}
 use Rattle.resb_package.specs.Table.{item_to, name_at, name_in}
 use Rattle.resb_package.specs.declared.error.PackageError.{PackageError}
 use Rattle.resb_package.specs.declared.error.PackageError.TheVariants.{TooShort, NotData}
@@ -24,12 +26,6 @@ use Rattle.resb_package.specs.declared.error.PackageError.TheVariants.{TableOuts
 use Rattle.resb_package.specs.declared.error.PackageError.TheVariants.{NameWithoutEnd, NameNotAscii}
 use Rattle.resb_package.specs.declared.error.PackageError.TheVariants.{ItemOutside, ItemsOutOfOrder}
 use Rattle.resb_package.specs.declared.error.PackageError.TheVariants.{NamesOutOfOrder}
-
--- the refusal of the first check that fails; a check is a test and the refusal where it fails
-abbrev pub first_refusal : List (Bool × PackageError) → Option PackageError
-first_refusal [] = None
-first_refusal ((holds, refusal) ∷ checks) =
-    if holds then first_refusal checks else Some refusal
 
 -- the checks of the header, in their order, each with its refusal
 unfoldable pub head_checks : List ℕ → List (Bool × PackageError)

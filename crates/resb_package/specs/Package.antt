@@ -7,7 +7,8 @@ use Rattle.std.specs.Str.{IsAscii}
 use Rattle.std.specs.Ordering.{nat_cmp}
 use Rattle.std.specs.Cmp.Lexicographic.{slice_cmp}
 use Rattle.std.specs.declared.cmp.Ordering.TheVariants.{Less}
-use Rattle.resb_package.specs.Table.{header_size, table_of, count_in, item_from, item_to}
+use Rattle.resb_package.specs.Table.{table_of, count_in, item_from, item_to}
+use Rattle.resb_format.specs.Bytes.{header_size}
 use Rattle.resb_package.specs.Table.{name_at, item_at}
 
 -- the pair is the name and the bytes of the item with this number: the name has an end and is

@@ -8,12 +8,8 @@
 use Rattle.std.specs.Prelude.{ℕ, ◌+◌, ◌*◌, List, length, drop, map, Option, nat_lt, slice_index}
 use Rattle.std.specs.Prelude.{slice_range, unwrap_or, [], if◌then◌else◌}
 use Rattle.std.specs.List.{range_with_len}
-use Rattle.resb_format.specs.Bytes.{units_of, words_of}
+use Rattle.resb_format.specs.Bytes.{words_of, header_size}
 use Rattle.resb_format.specs.Strings.{before_zero}
-
--- how many bytes the header has: the first number of 16 bits of the file
-abbrev pub header_size : List ℕ → ℕ
-header_size bytes = slice_index (units_of bytes) 0
 
 -- the bytes behind the header: the table of items, their names and the items
 abbrev pub table_of : List ℕ → List ℕ

@@ -1,7 +1,8 @@
 //! A package whose names and items are checked, and the look-up of an item.
 //! Where they stand is the business of `table`.
 ghost use Rattle.std.specs.Prelude.{◌≡◌, Some, None, MatchResult};
-ghost use Rattle.resb_package.specs.Checks.{table_refusal, head_checks, first_refusal};
+ghost use Rattle.resb_package.specs.Checks.{table_refusal, head_checks};
+ghost use Rattle.resb_format.specs.Error.{first_refusal};
 
 use crate::error::PackageError;
 use crate::table::Table;

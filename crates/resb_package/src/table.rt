@@ -38,7 +38,8 @@ impl<'a> Table<'a> {
     ghost use Rattle.std.specs.Prelude.{MatchResult};
     ghost use Rattle.resb_package.specs.Table.{count_in, name_at, name_in, item_at};
     ghost use Rattle.resb_package.specs.Table as place;
-    ghost use Rattle.resb_package.specs.Checks.{first_refusal, item_checks, order_check};
+    ghost use Rattle.resb_package.specs.Checks.{item_checks, order_check};
+    ghost use Rattle.resb_format.specs.Error.{first_refusal};
 
     /// The table at the front of these bytes, if it lies inside.
     pub(crate) fn read(bytes: &'a [u8]) -> Option<Table<'a>>

@@ -1,7 +1,7 @@
 -- A step of a path in a file goes where the one in the tree goes.
-use Rattle.std.proofs.Common.{◌≡◌, ℕ, zero, suc, Bool, true, false, List, ◌∷◌, Option, Some}
+use Rattle.std.proofs.Common.{◌≡◌, ℕ, Bool, true, false, List, ◌∷◌, Option, Some}
 use Rattle.std.proofs.Common.{None, refl, sym, ap, subst, ◌∙◌, ◌⊎◌, inl, inr, map, slice_get}
-use Rattle.std.specs.Prelude.{◌==◌, ◌||◌, option_map, cond, Result, MatchResult, MatchOption}
+use Rattle.std.specs.Prelude.{◌==◌, ◌||◌, option_map, Result, MatchResult, MatchOption}
 use Rattle.std.specs.Prelude.{is_some}
 use Rattle.std.proofs.Common.{Ok, Err}
 use Rattle.std.specs.Option.{option_and_then}
@@ -14,6 +14,8 @@ use Rattle.resb_format.specs.Parts.{Parts}
 use Rattle.resb_format.specs.declared.error.ReadingError.{ReadingError}
 use Rattle.resb_walk.specs.BlockRefusals.{Says}
 use Rattle.resb_format.specs.Types as types
+use Rattle.resb_format.specs.Descriptor.{type_number}
+use Rattle.resb_format.specs.declared.repr_type.ResourceReprType.TheVariants as kind
 use Rattle.resb_read.specs.Inside.{StandsAs, IsTypeOf, HasNoMembers}
 use Rattle.resb_read.specs.Places.{Place, place_of}
 use Rattle.resb_read.specs.PlaceRefusals.{entries_refusal, members_refusal}
@@ -56,33 +58,37 @@ no_number p m type h told = none_some (ap (type_from p.parts) h) told
 
 -- the types of tables, and those of arrays and vectors, are apart
 abbrev IsApart : ℕ → Type 0
-IsApart type = (types.is_array type ≡ false) × ((type == types.int_vector) ≡ false)
+IsApart type = (types.is_array type ≡ false) × ((type == type_number kind.IntVector) ≡ false)
 
 apart_at : (type number : ℕ) → (type == number) ≡ true → IsApart number → IsApart type
 apart_at type number h is = subst IsApart (sym (eqb-true type number h)) is
 
 table_apart : (type : ℕ) → types.is_table type ≡ true → IsApart type
-table_apart type h = by (or_cases (type == types.table || type == types.table32) _ h)
+table_apart type h =
+    by (or_cases (type == type_number kind.Table || type == type_number kind._Table32) _ h)
   where
-    first : ((type == types.table) ≡ true) ⊎ ((type == types.table32) ≡ true) → IsApart type
-    first (inl k) = apart_at type types.table k (refl, refl)
-    first (inr k) = apart_at type types.table32 k (refl, refl)
-
-    by : ((type == types.table || type == types.table32) ≡ true) ⊎ ((type == types.table16) ≡ true)
+    first : ((type == type_number kind.Table) ≡ true) ⊎ ((type == type_number kind._Table32) ≡ true)
         → IsApart type
-    by (inl k) = first (or_cases (type == types.table) _ k)
-    by (inr k) = apart_at type types.table16 k (refl, refl)
+    first (inl k) = apart_at type (type_number kind.Table) k (refl, refl)
+    first (inr k) = apart_at type (type_number kind._Table32) k (refl, refl)
+
+    by : ((type == type_number kind.Table || type == type_number kind._Table32) ≡ true)
+        ⊎ ((type == type_number kind.Table16) ≡ true)
+        → IsApart type
+    by (inl k) = first (or_cases (type == type_number kind.Table) _ k)
+    by (inr k) = apart_at type (type_number kind.Table16) k (refl, refl)
 
 -- a type of none of them has no members
 neither : (type : ℕ) (a v : Bool) → types.is_table type ≡ false → (a || v) ≡ false
-    → types.is_array type ≡ a → (type == types.int_vector) ≡ v → HasNoMembers type
+    → types.is_array type ≡ a → (type == type_number kind.IntVector) ≡ v → HasNoMembers type
 neither type false false t h a v = (t, a, v)
 neither type false true t h a v = absurd (false≢true (sym h))
 neither type true v t h a w = absurd (false≢true (sym h))
 
 pub has_none : (type : ℕ) → types.is_table type ≡ false
-    → (types.is_array type || type == types.int_vector) ≡ false → HasNoMembers type
-has_none type t h = neither type (types.is_array type) (type == types.int_vector) t h refl refl
+    → (types.is_array type || type == type_number kind.IntVector) ≡ false → HasNoMembers type
+has_none type t h =
+    neither type (types.is_array type) (type == type_number kind.IntVector) t h refl refl
 
 module _ (p : Place) (type : ℕ) (told : type_at p ≡ Some type) where
   of_type : (t : Tree) (n : ℕ) → DenPlace p t n → IsTypeOf t type
@@ -94,7 +100,7 @@ module _ (p : Place) (type : ℕ) (told : type_at p ≡ Some type) where
     no_array : types.is_array type ≡ false
     no_array = (table_apart type is_table).0
 
-    no_vector : (type == types.int_vector) ≡ false
+    no_vector : (type == type_number kind.IntVector) ≡ false
     no_vector = (table_apart type is_table).1
 
     in_table : (c : Option Place) → option_map (last_named name) (entries_at p) ≡ Some c
@@ -136,11 +142,12 @@ module _ (p : Place) (type : ℕ) (told : type_at p ≡ Some type) where
     entry_answers (Err e) h (tree_spot t) (n, d) = no_table h.0 n t d (of_type t n d)
     entry_answers (Err e) h (number_spot m) is = no_number p m type is told
 
-  module _ (has_members : (types.is_array type || type == types.int_vector) ≡ true)
+  module _ (has_members : (types.is_array type || type == type_number kind.IntVector) ≡ true)
       (no_table_type : types.is_table type ≡ false) (name : List ℕ) where
     -- a type that has members is none without
     apart : HasNoMembers type → ⊥
-    apart k = false≢true (sym (ap (λ b. b || type == types.int_vector) k.1 ∙ k.2) ∙ has_members)
+    apart k =
+        false≢true (sym (ap (λ b. b || type == type_number kind.IntVector) k.1 ∙ k.2) ∙ has_members)
 
     in_list : (k : ℕ) → number_said name ≡ Some k → (c : Option Place)
         → option_map (λ (ps : List Place). slice_get ps k) (members_at p) ≡ Some c

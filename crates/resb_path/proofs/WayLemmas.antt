@@ -7,6 +7,8 @@ use Rattle.std.specs.Option.{option_and_then}
 use Rattle.std.proofs.lemmas.Bool.{false≢true}
 use Rattle.std.proofs.lemmas.Option.{same_Some}
 use Rattle.resb_format.specs.Types as types
+use Rattle.resb_format.specs.Descriptor.{type_number}
+use Rattle.resb_format.specs.declared.repr_type.ResourceReprType.TheVariants as kind
 use Rattle.resb_format.specs.declared.error.ReadingError.{ReadingError}
 use Rattle.resb_walk.specs.BlockRefusals.{Says}
 use Rattle.resb_read.specs.Places.{Place, place_of}
@@ -71,7 +73,7 @@ module _ (p : Place) (type : ℕ) (told : type_at p ≡ Some type) (name : List 
 
   -- a member does, or the list fails
   pub member_leads : types.is_table type ≡ false
-      → (types.is_array type || type == types.int_vector) ≡ true → (k : ℕ)
+      → (types.is_array type || type == type_number kind.IntVector) ≡ true → (k : ℕ)
       → number_said name ≡ Some k → (r : Result (Option Cursor) ReadingError)
       → MatchResult r (λ c. option_map (λ (ps : List Place). slice_get ps k) (members_at p)
       ≡ Some (option_map place_of c))
@@ -87,7 +89,7 @@ module _ (p : Place) (type : ℕ) (told : type_at p ≡ Some type) (name : List 
 
   -- a name that says no number leads to no member
   pub no_number_leads : types.is_table type ≡ false
-      → (types.is_array type || type == types.int_vector) ≡ true → number_said name ≡ None
+      → (types.is_array type || type == type_number kind.IntVector) ≡ true → number_said name ≡ None
       → None ≡ place_inside p name
   no_number_leads no_table is said =
       let by : ℕ → Option Place = λ n. option_and_then (λ (ps : List Place). slice_get ps n)
@@ -97,7 +99,8 @@ module _ (p : Place) (type : ℕ) (told : type_at p ≡ Some type) (name : List 
 
   -- nothing leads into what has no members
   pub nothing_leads : types.is_table type ≡ false
-      → (types.is_array type || type == types.int_vector) ≡ false → None ≡ place_inside p name
+      → (types.is_array type || type == type_number kind.IntVector) ≡ false
+      → None ≡ place_inside p name
   nothing_leads no_table none =
       sym (of_type ∙ if_not (types.is_table type) _ _ no_table ∙ if_not _ _ None none)
 

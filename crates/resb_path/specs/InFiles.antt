@@ -12,6 +12,8 @@ use Rattle.std.specs.Option.{option_and_then}
 use Rattle.resb_tree.specs.Tree.{Tree}
 use Rattle.resb_format.specs.Error.{refusal_of}
 use Rattle.resb_format.specs.Types as types
+use Rattle.resb_format.specs.Descriptor.{type_number}
+use Rattle.resb_format.specs.declared.repr_type.ResourceReprType.TheVariants as kind
 use Rattle.resb_format.specs.declared.error.ReadingError.{ReadingError}
 use Rattle.resb_walk.specs.BlockRefusals.{Says}
 use Rattle.resb_read.specs.Places.{Place, place_of}
@@ -30,7 +32,7 @@ use Rattle.resb_path.specs.Finding.{Spot, tree_spot, number_spot, number_said, f
 abbrev pub inside_type : ℕ → Place → List ℕ → Option Place
 inside_type type p name =
     if types.is_table type then option_and_then (last_named name) (entries_at p)
-    else if types.is_array type || type == types.int_vector
+    else if types.is_array type || type == type_number kind.IntVector
     then option_and_then (λ k. option_and_then (λ ps. slice_get ps k) (members_at p))
     (number_said name)
     else None
@@ -48,7 +50,7 @@ place_at p (name ∷ names) = option_and_then (λ q. place_at q names) (place_in
 abbrev pub FailsInside : ℕ → Place → ReadingError → Type 0
 FailsInside type p e =
     ((types.is_table type ≡ true) × (entries_at p ≡ None) × Says (entries_refusal p 1) e)
-    ⊎ (((types.is_array type || type == types.int_vector) ≡ true) × (members_at p ≡ None)
+    ⊎ (((types.is_array type || type == type_number kind.IntVector) ≡ true) × (members_at p ≡ None)
     × Says (members_refusal p 1) e)
 
 -- a resource stands at a place whose type isn't read, or what is inside it lies outside the file

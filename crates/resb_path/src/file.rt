@@ -3,6 +3,7 @@
 ghost use Rattle.std.specs.Prelude.{◌≡◌, ◌==◌, ◌||◌, map, option_map, MatchResult};
 ghost use Rattle.resb_format.specs.Descriptor.{type_number};
 ghost use Rattle.resb_format.specs.Types as types;
+ghost use Rattle.resb_format.specs.declared.repr_type.ResourceReprType.TheVariants as kinds;
 ghost use Rattle.resb_read.specs.Places.{place_of};
 ghost use Rattle.resb_read.specs.Resources.{DenPlace};
 ghost use Rattle.resb_path.specs.Finding.{Spot, found_inside};
@@ -91,7 +92,8 @@ fn has_entries(kind: ResourceReprType) -> bool
 
 /// Whether a type is that of an array or of a vector.
 fn has_members(kind: ResourceReprType) -> bool
-    ensures { result ≡ types.is_array (type_number kind) || type_number kind == types.int_vector }
+    ensures { result
+        ≡ types.is_array (type_number kind) || type_number kind == type_number kinds.IntVector }
 {
     matches!(
         kind,

@@ -3,9 +3,9 @@ use Rattle.std.proofs.Common.{ℕ, List, ◌++◌, ◌≡◌, ◌≤◌, inl, in
 use Rattle.std.proofs.Common.{None, ◌∙◌, refl}
 use Rattle.std.specs.Prelude.{Result, Ok, Err, MatchResult, codes}
 use Rattle.std.proofs.lemmas.Bool.{cases_lt, lt-leb}
-use Rattle.resb_format.specs.Error.{Refusal, refusal_of, invalid}
+use Rattle.resb_format.specs.Error.{Refusal, refusal_of, invalid, first_refusal}
 use Rattle.resb_format.specs.declared.error.ReadingError.{ReadingError}
-use Rattle.resb_head.specs.HeadChecks.{first_refusal, header_checks, header_refusal}
+use Rattle.resb_head.specs.HeadChecks.{header_checks, header_refusal}
 use Rattle.resb_pool_bundle.specs.Checks.{version_checks, size_checks, lending_checks}
 use Rattle.resb_pool_bundle.specs.Checks.{head_checks, head_refusal}
 use Rattle.resb_pool_bundle.specs.declared.index.Index.{Index}

@@ -9,7 +9,7 @@ use Rattle.std.proofs.lemmas.Bool.{cases_lt, lt-ltb, le-ltb}
 use Rattle.std.proofs.lemmas.List.{drop_all}
 use Rattle.resb_tree.specs.Tree.{Tree, string}
 use Rattle.resb_format.specs.Content.{Member, Content, leaf, list, entry_list, content_at, word}
-use Rattle.resb_format.specs.Content.{placed, empty, older_at, older_empty}
+use Rattle.resb_format.specs.Content.{placed, empty, older_leaf, counted_text}
 use Rattle.resb_format.specs.Denotes.{Den, den_leaf, den_list, den_entries, DenMember, den_word}
 use Rattle.resb_format.specs.Denotes.{den_unit, DenEach, each_none, each_more, DenEntries}
 use Rattle.resb_format.specs.Denotes.{entries_none, entries_more}
@@ -18,6 +18,8 @@ use Rattle.resb_format.specs.Lookups.{index_by, lent_position}
 use Rattle.resb_format.specs.Parts.{Parts, Lent, no_pool, beside_no_pool}
 use Rattle.resb_format.specs.Strings.{key_at, text_at}
 use Rattle.resb_format.specs.Types as types
+use Rattle.resb_format.specs.Descriptor.{type_number}
+use Rattle.resb_format.specs.declared.repr_type.ResourceReprType.TheVariants as kind
 use Rattle.resb_format.proofs.Beside.{denoted_beside}
 use Rattle.resb_head.specs.File.{parts_of, root_word, Denotes}
 use Rattle.resb_head.proofs.FileSteps.{bundle_file_passes}
@@ -82,7 +84,7 @@ older_cases : (type : ℕ) → (types.is_older_type type ≡ true) ⊎ (types.is
 older_cases type = either_truth (types.is_older_type type)
 
 not_older : (type : ℕ) → types.is_older_type type ≡ false
-    → ((type == types.old_string) ≡ false) × ((type == types.alias) ≡ false)
+    → ((type == type_number kind._String) ≡ false) × ((type == type_number kind._Alias) ≡ false)
 not_older type h = search rules
 
 module _ (body keys block : List ℕ) where
@@ -105,34 +107,35 @@ module _ (body keys block : List ℕ) where
 
   same_empty : (type : ℕ) → types.is_older_type type ≡ false → empty own type ≡ empty wide type
   same_empty type h =
-      let none : None ≡ older_empty type = rw ((not_older type h).0, (not_older type h).1) refl in
-      same_if (type == types.binary) _ _ _ _ refl
+      let none : None ≡ older_leaf type (Some []) =
+      rw ((not_older type h).0, (not_older type h).1) refl in
+      same_if (type == type_number kind.Binary) _ _ _ _ refl
       (same_if (types.is_table type) _ _ _ _ refl
-      (same_if (type == types.string) _ _ _ _ refl
+      (same_if (type == type_number kind.StringV2) _ _ _ _ refl
       (same_if (types.is_array type) _ _ _ _ refl
-      (same_if (type == types.int_vector) _ _ _ _ refl none))))
+      (same_if (type == type_number kind.IntVector) _ _ _ _ refl none))))
 
   same_placed : (type v : ℕ) → types.is_older_type type ≡ false
       → placed own type v ≡ placed wide type v
   same_placed type v h =
-      let none : None ≡ older_at wide type v =
+      let none : None ≡ older_leaf type (counted_text wide v) =
       rw ((not_older type h).0, (not_older type h).1) refl in
-      same_if (type == types.binary) _ _ _ _ refl
-      (same_if (type == types.table) _ _ _ _ refl
-      (same_if (type == types.table32) _ _ _ _ refl
-      (same_if (type == types.table16) _ _ _ _ refl
-      (same_if (type == types.string) _ _ _ _
+      same_if (type == type_number kind.Binary) _ _ _ _ refl
+      (same_if (type == type_number kind.Table) _ _ _ _ refl
+      (same_if (type == type_number kind._Table32) _ _ _ _ refl
+      (same_if (type == type_number kind.Table16) _ _ _ _ refl
+      (same_if (type == type_number kind.StringV2) _ _ _ _
       (ap (option_map (λ s. leaf (string s))) (text_is v))
-      (same_if (type == types.array) _ _ _ _ refl
-      (same_if (type == types.array16) _ _ _ _ refl
-      (same_if (type == types.int_vector) _ _ _ _ refl none)))))))
+      (same_if (type == type_number kind.Array) _ _ _ _ refl
+      (same_if (type == type_number kind.Array16) _ _ _ _ refl
+      (same_if (type == type_number kind.IntVector) _ _ _ _ refl none)))))))
 
   -- what stands at a word of another type stands there without a pool too
   same_content : (w : ℕ) → types.is_older_type (w / 2 ^ 28) ≡ false
       → content_at own w ≡ content_at wide w
   unfolding content_at
   same_content w h =
-      same_if (w / 2 ^ 28 == types.integer) _ _ _ _ refl
+      same_if (w / 2 ^ 28 == type_number kind.Int) _ _ _ _ refl
       (same_if (w % 2 ^ 28 == 0) _ _ _ _ (same_empty (w / 2 ^ 28) h)
       (same_placed (w / 2 ^ 28) (w % 2 ^ 28) h))
 

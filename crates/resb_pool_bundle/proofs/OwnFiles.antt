@@ -10,10 +10,10 @@ use Rattle.std.proofs.lemmas.Bool.{cases_lt, lt-leb, le-leb}
 use Rattle.std.proofs.lemmas.List.{get_or-take, get_or-drop}
 use Rattle.resb_format.specs.Bytes.{words_of, units_of}
 use Rattle.resb_format.specs.Denotes.{Den}
-use Rattle.resb_format.specs.Error.{Refusal, end_of_input}
+use Rattle.resb_format.specs.Error.{Refusal, end_of_input, first_refusal}
 use Rattle.resb_format.specs.Parts.{Parts, beside_no_pool}
 use Rattle.resb_head.specs.File.{body_of, field_count, keys_end, block_end, parts_of}
-use Rattle.resb_head.specs.HeadChecks.{first_refusal, header_checks, support_checks, index_checks}
+use Rattle.resb_head.specs.HeadChecks.{header_checks, support_checks, index_checks}
 use Rattle.resb_head.specs.HeadChecks.{block_checks, body_checks, file_checks, file_refusal}
 use Rattle.resb_head.specs.File.{root_word}
 use Rattle.resb_head.proofs.FileSteps.{field_behind, bundle_file_passes}

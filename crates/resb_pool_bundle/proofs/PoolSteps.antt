@@ -6,12 +6,11 @@ use Rattle.std.specs.Prelude.{is_some, unwrap_or}
 use Rattle.std.proofs.lemmas.Bool.{le-leb, lt-leb, ne_eqb, eq-eqb}
 use Rattle.resb_format.specs.Error.{IsRefusal, IsInvalid, IsEndOfInput, Refusal, refusal_of}
 use Rattle.resb_format.specs.Error.{invalid}
-use Rattle.resb_format.specs.Error.{end_of_input}
+use Rattle.resb_format.specs.Error.{end_of_input, first_refusal}
 use Rattle.resb_format.specs.Parts.{no_pool as nothing}
 use Rattle.resb_format.specs.declared.error.ReadingError.{ReadingError}
 use Rattle.resb_format.specs.declared.error.ErrorKind.TheVariants.{UnsupportedFormat}
 use Rattle.resb_head.specs.File.{keys_end}
-use Rattle.resb_head.specs.HeadChecks.{first_refusal}
 use Rattle.resb_pool_bundle.specs.Checks.{head_checks, head_refusal, lending_checks, pool_checks}
 use Rattle.resb_pool_bundle.specs.Checks.{pool_refusal, pool_given_checks, refusal_with}
 use Rattle.resb_pool_bundle.specs.Fields.{is_pool, uses_pool, checksum_in, limit_in, short_limit_in}

@@ -5,10 +5,9 @@ use Rattle.std.proofs.Common.{None}
 use Rattle.std.proofs.Common.{refl, arith, codes}
 use Rattle.std.proofs.lemmas.Bool.{lt-leb, le-leb, lt-ltb, le-ltb, or_right}
 use Rattle.std.proofs.lemmas.Bool.Decides.{nat_tests}
-use Rattle.resb_format.specs.Error.{IsInvalid, IsEndOfInput, refusal_of}
+use Rattle.resb_format.specs.Error.{IsInvalid, IsEndOfInput, refusal_of, first_refusal}
 use Rattle.resb_format.specs.declared.error.ReadingError.{ReadingError}
 use Rattle.resb_head.specs.File.{body_of, keys_end, block_end}
-use Rattle.resb_head.specs.HeadChecks.{first_refusal}
 use Rattle.resb_pool_bundle.specs.Checks.{size_checks}
 use Rattle.resb_pool_bundle.specs.Fields.{major, index_length, block_end_in}
 use Rattle.resb_pool_bundle.specs.Inner.Sized.{field_checks, end_checks}

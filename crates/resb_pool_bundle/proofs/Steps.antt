@@ -1,7 +1,6 @@
 -- Lists of checks, of which the first ones hold or not.
 use Rattle.std.proofs.Common.{List, [], ◌∷◌, ◌++◌, ◌≡◌, Bool, true, false, Some, None, refl}
-use Rattle.resb_format.specs.Error.{Refusal}
-use Rattle.resb_head.specs.HeadChecks.{first_refusal}
+use Rattle.resb_format.specs.Error.{Refusal, first_refusal}
 
 -- checks of which the first ones hold, or not
 pub later_refusal : (xs ys : List (Bool × Refusal)) → first_refusal xs ≡ None

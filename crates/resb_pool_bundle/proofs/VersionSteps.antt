@@ -4,11 +4,10 @@ use Rattle.std.proofs.Common.{refl, ap, ◌∙◌, arith, get_or, codes, slice_r
 use Rattle.std.proofs.Common.{◌+◌, ◌-◌, ◌<◌}
 use Rattle.std.proofs.lemmas.Bool.{ne_eqb}
 use Rattle.std.proofs.lemmas.List.{get_or-take, get_or-drop}
-use Rattle.resb_format.specs.Error.{IsRefusal, refusal_of}
+use Rattle.resb_format.specs.Error.{IsRefusal, refusal_of, first_refusal}
 use Rattle.resb_format.specs.declared.error.ReadingError.{ReadingError}
 use Rattle.resb_format.specs.declared.error.ErrorKind.TheVariants.{UnsupportedFormat}
 use Rattle.resb_head.specs.Codes.{charset_number, version_bytes}
-use Rattle.resb_head.specs.HeadChecks.{first_refusal}
 use Rattle.resb_head.specs.declared.charset.CharsetFamily.{CharsetFamily}
 use Rattle.resb_head.specs.declared.charset.CharsetFamily.TheVariants.{Ascii, Ebcdic}
 use Rattle.resb_head.specs.declared.version.FormatVersion.{FormatVersion}

@@ -6,9 +6,9 @@
 use Rattle.std.specs.Prelude.{ℕ, ◌+◌, ◌*◌, ◌==◌, ◌&&◌, ◌||◌, min, List, [], ◌∷◌, ◌++◌, length, drop}
 use Rattle.std.specs.Prelude.{Bool, not, false, nat_le, nat_lt, nat_eq, Option, Some, None, is_some}
 use Rattle.std.specs.Prelude.{slice_index, codes, unwrap_or}
-use Rattle.resb_format.specs.Error.{Refusal, invalid, unsupported, end_of_input}
+use Rattle.resb_format.specs.Error.{Refusal, invalid, unsupported, end_of_input, first_refusal}
 use Rattle.resb_head.specs.File.{body_of, keys_end}
-use Rattle.resb_head.specs.HeadChecks.{first_refusal, header_checks}
+use Rattle.resb_head.specs.HeadChecks.{header_checks, character_checks}
 use Rattle.resb_pool_bundle.specs.Fields.{major, index_length, is_pool, uses_pool, checksum_in}
 use Rattle.resb_pool_bundle.specs.Fields.{block_end_in, limit_in, short_limit_in}
 use Rattle.resb_pool_bundle.specs.Pool.{Pool}
@@ -16,15 +16,9 @@ use Rattle.resb_pool_bundle.specs.Pool.{Pool}
 -- the checks of what is supported, in their order, in the representation info: every version is,
 -- but 1.0
 unfoldable pub version_checks : List ℕ → List (Bool × Refusal)
-version_checks info = (
-  nat_eq (slice_index info 5) 0,
-  unsupported (codes "bundle and system character set families do not match"),
-)
-    ∷ (
-      nat_eq (slice_index info 6) 2,
-      unsupported (codes "characters of size other than 2 are not supported"),
-    )
-    ∷ (
+version_checks info =
+    character_checks info
+    ++ (
       nat_le 2 (slice_index info 12) || nat_le 1 (slice_index info 13),
       unsupported (codes "format version 1.0 is not supported"),
     )

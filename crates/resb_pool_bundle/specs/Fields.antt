@@ -8,8 +8,7 @@
 --                             as a unit tell it
 use Rattle.std.specs.Prelude.{ℕ, ◌+◌, ◌*◌, ◌/◌, ◌%◌, ◌^◌, ◌==◌, ◌&&◌, ◌||◌, List, Bool, nat_le}
 use Rattle.std.specs.Prelude.{Option, Some, None, slice_index, if◌then◌else◌}
-use Rattle.resb_format.specs.Bytes.{words_of}
-use Rattle.resb_head.specs.File.{body_of, field_count, keys_end, block_end, attributes}
+use Rattle.resb_head.specs.File.{body_word, field_count, keys_end, block_end, attributes}
 
 -- the version's first number
 abbrev pub major : List ℕ → ℕ
@@ -42,7 +41,7 @@ uses_pool bytes = attributes_in bytes / 4 % 2 == 1
 -- the checksum of the pool that the file is or uses: the eighth word of the index, if it has one
 abbrev pub checksum_in : List ℕ → Option ℕ
 checksum_in bytes =
-    if nat_le 8 (index_length bytes) then Some (slice_index (words_of (body_of bytes)) 8) else None
+    if nat_le 8 (index_length bytes) then Some (body_word bytes 8) else None
 
 -- where the 16-bit block ends, in words of the body: versions before 2.0 have no such block
 abbrev pub block_end_in : List ℕ → ℕ

@@ -5,7 +5,7 @@
 use Rattle.std.specs.Prelude.{◌≡◌, ℕ, List, Option, Some, None, Result, MatchResult}
 use Rattle.resb_tree.specs.Tree.{Tree}
 use Rattle.resb_format.specs.Denotes.{Den}
-use Rattle.resb_format.specs.Error.{refusal_of}
+use Rattle.resb_format.specs.Error.{ReadsUnless, refusal_of}
 use Rattle.resb_format.specs.Parts.{parts_in}
 use Rattle.resb_format.specs.declared.error.ReadingError.{ReadingError}
 use Rattle.resb_head.specs.File.{root_word}
@@ -30,9 +30,7 @@ pub record DenotesWith (pool : Option Pool) (bytes : List ℕ) (t : Tree) (n : �
 
 -- what reading a pool bundle answers: what it lends, or the first check that fails
 abbrev pub ReadsPool : List ℕ → Result PoolBundle ReadingError → Type 0
-ReadsPool bytes r =
-    MatchResult r (λ p. IsPoolFile bytes × (pool_in p ≡ pool_of bytes))
-    (λ e. pool_refusal bytes ≡ Some (refusal_of e))
+ReadsPool bytes = ReadsUnless (pool_refusal bytes) (λ p. pool_in p ≡ pool_of bytes)
 
 -- the file's parts and its root's word where no check fails, else the refusal of the first that
 -- does

@@ -1,8 +1,8 @@
 -- What reading the head of a file of any version answers.
 --     head_bytes h            the file that a value of the code is the head of
 --     ReadsHead bytes r       what reading a head answers
-use Rattle.std.specs.Prelude.{◌≡◌, ℕ, List, Some, None, Result, MatchResult}
-use Rattle.resb_format.specs.Error.{refusal_of}
+use Rattle.std.specs.Prelude.{◌≡◌, ℕ, List, Result}
+use Rattle.resb_format.specs.Error.{ReadsUnless}
 use Rattle.resb_format.specs.declared.error.ReadingError.{ReadingError}
 use Rattle.resb_pool_bundle.specs.Checks.{head_refusal}
 use Rattle.resb_pool_bundle.specs.declared.head.FileHead.{FileHead}
@@ -13,6 +13,4 @@ head_bytes h = h.index.bytes.now
 
 -- the head of the file where no check fails, else the refusal of the first that does
 abbrev pub ReadsHead : List ℕ → Result FileHead ReadingError → Type 0
-ReadsHead bytes r =
-    MatchResult r (λ h. (head_refusal bytes ≡ None) × (head_bytes h ≡ bytes))
-    (λ e. head_refusal bytes ≡ Some (refusal_of e))
+ReadsHead bytes = ReadsUnless (head_refusal bytes) (λ h. head_bytes h ≡ bytes)

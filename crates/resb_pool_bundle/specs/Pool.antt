@@ -36,11 +36,7 @@ pool_of bytes = record {
 
 -- what a value of the code shows
 abbrev pub pool_in : PoolBundle → Pool
-pool_in p = record {
-  keys = p.keys.now;
-  block = units_of p.block.now;
-  checksum = p.checksum;
-}
+pool_in p = record { keys = p.keys.now; block = units_of p.block.now; checksum = p.checksum }
 
 -- the file's own keys: the body up to the keys' end, from whose start their positions count. A file
 -- over a pool that has no key behind its index has none at all.

@@ -36,7 +36,7 @@ fn check_lending(index: Index<'_>) -> Result<(), BinaryDeserializerError>
 impl<'a> FileHead<'a> {
     ghost use Rattle.std.specs.Prelude.{◌≡◌, ◌==◌, ◌%◌, slice_range, option_map};
     ghost use Rattle.resb_head.specs.Codes.{version_bytes};
-    ghost use Rattle.resb_head.specs.File.{largest_table_field};
+    ghost use Rattle.resb_head.specs.File.{body_word};
     ghost use Rattle.resb_pool_bundle.specs.Fields as said;
     ghost use Rattle.resb_pool_bundle.specs.FileWith.{ReadsPool, ReadsFileWith};
     ghost use Rattle.resb_pool_bundle.specs.Heads.{ReadsHead, head_bytes};
@@ -83,7 +83,7 @@ impl<'a> FileHead<'a> {
 
     /// The most entries of any table, as the file says.
     pub fn largest_table(&self) -> u32
-        ensures { result ≡ largest_table_field (head_bytes self.now) }
+        ensures { result ≡ body_word (head_bytes self.now) 5 }
     {
         word_at(self.index.body, 5)
     }

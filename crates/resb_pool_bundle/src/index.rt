@@ -108,8 +108,7 @@ fn find_ends(
 impl<'a> Index<'a> {
     ghost use Rattle.std.specs.Prelude.{◌==◌, ◌&&◌, ◌||◌, not, is_some, Some, None};
     ghost use Rattle.std.specs.Prelude.{MatchResult};
-    ghost use Rattle.resb_format.specs.Error.{refusal_of};
-    ghost use Rattle.resb_head.specs.HeadChecks.{first_refusal};
+    ghost use Rattle.resb_format.specs.Error.{refusal_of, first_refusal};
     ghost use Rattle.resb_pool_bundle.specs.Checks.{head_refusal, size_checks, lending_checks};
 
     /// The index of a file. Header, version and sizes are checked in this order, and the first

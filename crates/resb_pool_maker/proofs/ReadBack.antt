@@ -6,11 +6,11 @@ use Rattle.std.proofs.Common.{length-append, arith, min, codes}
 use Rattle.std.specs.Prelude.{is_some, unwrap_or}
 use Rattle.std.proofs.lemmas.Bool.{le-leb}
 use Rattle.std.proofs.lemmas.List.{take_at, drop_at, take_all}
-use Rattle.resb_format.specs.Bytes.{units_of, words_of, units_as_bytes}
-use Rattle.resb_format.specs.Error.{Refusal, invalid}
+use Rattle.resb_format.specs.Bytes.{units_of, words_of, units_as_bytes, header_size}
+use Rattle.resb_format.specs.Error.{Refusal, invalid, first_refusal}
 use Rattle.resb_format.proofs.WordsBack.{written_length}
-use Rattle.resb_head.specs.File.{header_size, body_of, field_count, keys_end, attributes, block_end}
-use Rattle.resb_head.specs.HeadChecks.{first_refusal, header_checks, info_checks}
+use Rattle.resb_head.specs.File.{body_of, field_count, keys_end, attributes, block_end}
+use Rattle.resb_head.specs.HeadChecks.{header_checks, info_checks}
 use Rattle.resb_layout.specs.Laid.{words}
 use Rattle.resb_layout.proofs.BytesLemmas.{EachBelow, words_read, halves_len}
 use Rattle.resb_pool_bundle.specs.Checks.{version_checks, size_checks, lending_checks, head_checks}

@@ -19,10 +19,12 @@ use Rattle.resb_format.specs.Bytes.{units_of, words_of, part}
 use Rattle.resb_format.specs.Lookups.{key_in, text_in}
 use Rattle.resb_format.specs.Parts.{Parts, reads_older}
 use Rattle.resb_format.specs.Types as types
+use Rattle.resb_format.specs.Descriptor.{type_number}
+use Rattle.resb_format.specs.declared.repr_type.ResourceReprType.TheVariants as kind
 use Rattle.resb_format.specs.Content.{Member, word, unit, Content, leaf, list, entry_list}
 use Rattle.resb_format.specs.Content.{content_at}
 use Rattle.resb_format.specs.Content.{behind_count, paired, words_at, offsets_at, placed, empty}
-use Rattle.resb_format.specs.Content.{counted_text, older_at, older_empty}
+use Rattle.resb_format.specs.Content.{counted_text, older_leaf}
 use Rattle.resb_format.specs.Denotes.{Den, den_leaf, den_list, den_entries, DenMember, den_word}
 use Rattle.resb_format.specs.Denotes.{den_unit, DenEach, each_none, each_more, DenEntries}
 use Rattle.resb_format.specs.Denotes.{entries_none, entries_more}
@@ -99,25 +101,27 @@ leaf_of : (p : Parts) (type number : ℕ) → (type == number) ≡ true → HasN
 leaf_of p type number h is = of_number HasNoMembers type number h is
 
 read_table : (p : Parts) (type : ℕ) → types.is_table type ≡ true → reads_type p type ≡ true
-read_table p type h = by (or_cases (type == types.table || type == types.table32) _ h)
+read_table p type h =
+    by (or_cases (type == type_number kind.Table || type == type_number kind._Table32) _ h)
   where
-    first : ((type == types.table) ≡ true) ⊎ ((type == types.table32) ≡ true)
+    first : ((type == type_number kind.Table) ≡ true) ⊎ ((type == type_number kind._Table32) ≡ true)
         → reads_type p type ≡ true
-    first (inl k) = read_number p type types.table k refl
-    first (inr k) = read_number p type types.table32 k refl
+    first (inl k) = read_number p type (type_number kind.Table) k refl
+    first (inr k) = read_number p type (type_number kind._Table32) k refl
 
-    by : ((type == types.table || type == types.table32) ≡ true) ⊎ ((type == types.table16) ≡ true)
+    by : ((type == type_number kind.Table || type == type_number kind._Table32) ≡ true)
+        ⊎ ((type == type_number kind.Table16) ≡ true)
         → reads_type p type ≡ true
-    by (inl k) = first (or_cases (type == types.table) _ k)
-    by (inr k) = read_number p type types.table16 k refl
+    by (inl k) = first (or_cases (type == type_number kind.Table) _ k)
+    by (inr k) = read_number p type (type_number kind.Table16) k refl
 
 read_array : (p : Parts) (type : ℕ) → types.is_array type ≡ true → reads_type p type ≡ true
-read_array p type h = by (or_cases (type == types.array) _ h)
+read_array p type h = by (or_cases (type == type_number kind.Array) _ h)
   where
-    by : ((type == types.array) ≡ true) ⊎ ((type == types.array16) ≡ true)
+    by : ((type == type_number kind.Array) ≡ true) ⊎ ((type == type_number kind.Array16) ≡ true)
         → reads_type p type ≡ true
-    by (inl k) = read_number p type types.array k refl
-    by (inr k) = read_number p type types.array16 k refl
+    by (inl k) = read_number p type (type_number kind.Array) k refl
+    by (inr k) = read_number p type (type_number kind.Array16) k refl
 
 typed_if : (p : Parts) (type : ℕ) (b : Bool) (x y : Option Content)
     → (b ≡ true → IsTyped p type x) → IsTyped p type y → IsTyped p type (if b then x else y)
@@ -144,60 +148,62 @@ typed_paired p type h (Some ks) None = tt
 typed_paired p type h None ms = tt
 
 typed_older_empty : (p : Parts) (type : ℕ) → reads_older p ≡ true
-    → IsTyped p type (older_empty type)
+    → IsTyped p type (older_leaf type (Some []))
 typed_older_empty p type older =
-    let old = types.old_string in
+    let old = type_number kind._String in
     typed_if p type (type == old) _ _
     (λ h. (older_number p type old h older refl, leaf_of p type old h (refl, refl, refl)))
-    (typed_if p type (type == types.alias) _ _
+    (typed_if p type (type == type_number kind._Alias) _ _
     (λ h. (
-      older_number p type types.alias h older refl,
-      leaf_of p type types.alias h (refl, refl, refl),
+      older_number p type (type_number kind._Alias) h older refl,
+      leaf_of p type (type_number kind._Alias) h (refl, refl, refl),
     )) tt)
 
 typed_empty : (p : Parts) (type : ℕ) → IsTyped p type (empty p type)
 typed_empty p type =
-    typed_if p type (type == types.binary) _ _
+    typed_if p type (type == type_number kind.Binary) _ _
     (λ h. (
-      read_number p type types.binary h refl,
-      leaf_of p type types.binary h (refl, refl, refl),
+      read_number p type (type_number kind.Binary) h refl,
+      leaf_of p type (type_number kind.Binary) h (refl, refl, refl),
     ))
     (typed_if p type (types.is_table type) _ _ (λ h. (read_table p type h, h))
-    (typed_if p type (type == types.string) _ _
+    (typed_if p type (type == type_number kind.StringV2) _ _
     (λ h. (
-      read_number p type types.string h refl,
-      leaf_of p type types.string h (refl, refl, refl),
+      read_number p type (type_number kind.StringV2) h refl,
+      leaf_of p type (type_number kind.StringV2) h (refl, refl, refl),
     ))
     (typed_if p type (types.is_array type) _ _ (λ h. (read_array p type h, h))
-    (typed_if p type (type == types.int_vector) _ _
-    (λ h. (read_number p type types.int_vector h refl, h))
+    (typed_if p type (type == type_number kind.IntVector) _ _
+    (λ h. (read_number p type (type_number kind.IntVector) h refl, h))
     (typed_if p type (reads_older p) _ _ (typed_older_empty p type) tt)))))
 
-typed_older : (p : Parts) (type v : ℕ) → reads_older p ≡ true → IsTyped p type (older_at p type v)
+typed_older : (p : Parts) (type v : ℕ) → reads_older p ≡ true
+    → IsTyped p type (older_leaf type (counted_text p v))
 typed_older p type v older =
-    let old = types.old_string in
+    let old = type_number kind._String in
     typed_if p type (type == old) _ _
     (λ h. typed_map p type (λ x. leaf (string x)) (counted_text p v)
     (λ s. (older_number p type old h older refl, leaf_of p type old h (refl, refl, refl))))
-    (typed_if p type (type == types.alias) _ _
+    (typed_if p type (type == type_number kind._Alias) _ _
     (λ h. typed_map p type (λ x. leaf (alias x)) (counted_text p v)
     (λ s. (
-      older_number p type types.alias h older refl,
-      leaf_of p type types.alias h (refl, refl, refl),
+      older_number p type (type_number kind._Alias) h older refl,
+      leaf_of p type (type_number kind._Alias) h (refl, refl, refl),
     ))) tt)
 
 typed_placed : (p : Parts) (type v : ℕ) → IsTyped p type (placed p type v)
 typed_placed p type v =
-    let a = type == types.table in
-    let b = type == types.table32 in
-    let c = type == types.table16 in
-    let long = type == types.array in
-    let short = type == types.array16 in
-    typed_if p type (type == types.binary) _ _ (λ h. typed_counted p type (words_of p.body) v _
+    let a = type == type_number kind.Table in
+    let b = type == type_number kind._Table32 in
+    let c = type == type_number kind.Table16 in
+    let long = type == type_number kind.Array in
+    let short = type == type_number kind.Array16 in
+    typed_if p type (type == type_number kind.Binary) _ _
+    (λ h. typed_counted p type (words_of p.body) v _
     (λ n. typed_map p type (λ x. leaf (binary x)) (part p.body (4 * v + 4) n)
     (λ bytes. (
-      read_number p type types.binary h refl,
-      leaf_of p type types.binary h (refl, refl, refl),
+      read_number p type (type_number kind.Binary) h refl,
+      leaf_of p type (type_number kind.Binary) h (refl, refl, refl),
     ))))
     (typed_if p type a _ _ (λ h. typed_counted p type (units_of p.body) (2 * v) _
     (λ n. typed_paired p type (first_so a b c h) (part (units_of p.body) (2 * v + 1) n)
@@ -208,32 +214,32 @@ typed_placed p type v =
     (typed_if p type c _ _ (λ h. typed_counted p type p.block v _
     (λ n. typed_paired p type (third_so a b c h) (part p.block (v + 1) n)
     (offsets_at p (v + 1 + n) n)))
-    (typed_if p type (type == types.string) _ _
+    (typed_if p type (type == type_number kind.StringV2) _ _
     (λ h. typed_map p type (λ x. leaf (string x)) (text_in p v)
     (λ s. (
-      read_number p type types.string h refl,
-      leaf_of p type types.string h (refl, refl, refl),
+      read_number p type (type_number kind.StringV2) h refl,
+      leaf_of p type (type_number kind.StringV2) h (refl, refl, refl),
     )))
     (typed_if p type long _ _ (λ h. typed_counted p type (words_of p.body) v _
     (λ n. typed_map p type list (words_at p (v + 1) n)
-    (λ ms. (read_number p type types.array h refl, left_so long short h))))
+    (λ ms. (read_number p type (type_number kind.Array) h refl, left_so long short h))))
     (typed_if p type short _ _ (λ h. typed_counted p type p.block v _
     (λ n. typed_map p type list (offsets_at p (v + 1) n)
-    (λ ms. (read_number p type types.array16 h refl, right_so long short h))))
-    (typed_if p type (type == types.int_vector) _ _
+    (λ ms. (read_number p type (type_number kind.Array16) h refl, right_so long short h))))
+    (typed_if p type (type == type_number kind.IntVector) _ _
     (λ h. typed_counted p type (words_of p.body) v _
     (λ n. typed_map p type (λ x. leaf (int_vector x)) (part (words_of p.body) (v + 1) n)
-    (λ ns. (read_number p type types.int_vector h refl, h))))
+    (λ ns. (read_number p type (type_number kind.IntVector) h refl, h))))
     (typed_if p type (reads_older p) _ _ (typed_older p type v) tt))))))))
 
 typed_content : (p : Parts) (w : ℕ) → IsTyped p (w / 2 ^ 28) (content_at p w)
 unfolding content_at
 typed_content p w =
     let type = w / 2 ^ 28 in
-    typed_if p type (type == types.integer) _ _
+    typed_if p type (type == type_number kind.Int) _ _
     (λ h. (
-      read_number p type types.integer h refl,
-      leaf_of p type types.integer h (refl, refl, refl),
+      read_number p type (type_number kind.Int) h refl,
+      leaf_of p type (type_number kind.Int) h (refl, refl, refl),
     ))
     (typed_if p type (w % 2 ^ 28 == 0) _ _ (λ _. typed_empty p type)
     (typed_placed p type (w % 2 ^ 28)))
@@ -323,7 +329,7 @@ IsInside p s (integer n) = Unit {0}
 
 -- the members at a word whose type is that of an array or a vector
 members_so : (p : Parts) (w : ℕ) (c : Content) (spots : List Spot)
-    → (types.is_array (type_in w) || type_in w == types.int_vector) ≡ true
+    → (types.is_array (type_in w) || type_in w == type_number kind.IntVector) ≡ true
     → content_at p w ≡ Some c → member_spots (Some c) ≡ Some spots
     → members_from p (spot.Descriptor w) ≡ Some (map (at_spot p) spots)
 members_so p w c spots typed is are =
@@ -402,7 +408,7 @@ TellsUnit p (unit u) t = TellsType p (spot.Unit u) t
 
 tells_unit : {p : Parts} {m : Member} {n : ℕ} {t : Tree} → DenMember p m t n → TellsUnit p m t
 tells_unit (den_word d) = tt
-tells_unit (den_unit e) = (types.string, refl, (refl, refl, refl))
+tells_unit (den_unit e) = ((type_number kind.StringV2), refl, (refl, refl, refl))
 
 tells_spot : (p : Parts) (s : Spot) (t : Tree) (n : ℕ) → DenSpot p s t n → TellsType p s t
 tells_spot p (spot.Descriptor w) t n d = tells_word d

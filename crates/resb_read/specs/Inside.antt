@@ -9,6 +9,8 @@ use Rattle.resb_tree.specs.LayingOrder.{array_members}
 use Rattle.resb_tree.specs.Maps.{get}
 use Rattle.resb_tree.specs.Tree.{Tree, array, table, int_vector, Trees, Entries}
 use Rattle.resb_format.specs.Types as types
+use Rattle.resb_format.specs.Descriptor.{type_number}
+use Rattle.resb_format.specs.declared.repr_type.ResourceReprType.TheVariants as kind
 use Rattle.resb_read.specs.Places.{Place}
 use Rattle.resb_read.specs.Resources.{DenPlace}
 use Rattle.resb_read.specs.Sequences.{entries_at, members_at, at_spot}
@@ -45,14 +47,14 @@ NumbersStand = (p : Place) (ns : List ℕ) (n : ℕ) → DenPlace p (int_vector 
 abbrev pub HasNoMembers : ℕ → Type 0
 HasNoMembers type =
     (types.is_table type ≡ false) × (types.is_array type ≡ false)
-    × ((type == types.int_vector) ≡ false)
+    × ((type == type_number kind.IntVector) ≡ false)
 
 -- the type is that of a table where the tree is one, and so for arrays and vectors; else it is none
 -- of theirs
 abbrev pub IsTypeOf : Tree → ℕ → Type 0
 IsTypeOf (table es) type = types.is_table type ≡ true
 IsTypeOf (array ts) type = types.is_array type ≡ true
-IsTypeOf (int_vector ns) type = (type == types.int_vector) ≡ true
+IsTypeOf (int_vector ns) type = (type == type_number kind.IntVector) ≡ true
 IsTypeOf _ type = HasNoMembers type
 
 -- where a place denotes a tree, the type that stands there is told, and is that of the tree

@@ -1,6 +1,6 @@
 -- What the laws of reading say.
 --     OneValue                at a place stands one value of each type without parts, and one tree
-use Rattle.std.specs.Prelude.{◌≡◌, ℕ, ℤ, List}
+use Rattle.std.specs.Prelude.{◌≡◌, ℕ, ℤ}
 use Rattle.resb_read.specs.Leaves.{ReadsSigned, ReadsUnsigned, ReadsBool, ReadsBits, ReadsText}
 use Rattle.resb_read.specs.Leaves.{ReadsKey, ReadsBytes}
 use Rattle.resb_read.specs.Leaves.{ReadsView}

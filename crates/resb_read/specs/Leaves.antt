@@ -10,7 +10,8 @@ use Rattle.resb_format.specs.Bytes.{words_of, part}
 use Rattle.resb_format.specs.Lookups.{string_in, text_in, key_in, index_in}
 use Rattle.resb_format.specs.Parts.{Parts, reads_older}
 use Rattle.resb_format.specs.Content.{behind_count, counted_text}
-use Rattle.resb_format.specs.Types as types
+use Rattle.resb_format.specs.Descriptor.{type_number}
+use Rattle.resb_format.specs.declared.repr_type.ResourceReprType.TheVariants as kind
 use Rattle.resb_read.specs.Places.{Place}
 use Rattle.resb_read.specs.Reading.{IsThere, any}
 use Rattle.resb_read.specs.declared.cursor.Spot.{Spot}
@@ -25,16 +26,19 @@ type_in w = w / 2 ^ 28
 abbrev pub value_in : ℕ → ℕ
 value_in w = w % 2 ^ 28
 
+-- a word is the descriptor of an Int
+abbrev pub is_integer : ℕ → Bool
+is_integer w = type_in w == type_number kind.Int
+
 -- a number: the 28 bits of an Int with bit 27 as the sign, or a vector's word
 abbrev pub signed_at : Spot → Option (ℤ × ℕ)
-signed_at (spot.Descriptor w) =
-    if type_in w == types.integer then Some (signed (value_in w), 1) else None
+signed_at (spot.Descriptor w) = if is_integer w then Some (signed (value_in w), 1) else None
 signed_at (spot.Word w) = Some (cast_signed w32 w, 0)
 signed_at s = None
 
 -- a number without a sign: the 28 bits of an Int, or a vector's word
 abbrev pub unsigned_at : Spot → Option (ℕ × ℕ)
-unsigned_at (spot.Descriptor w) = if type_in w == types.integer then Some (value_in w, 1) else None
+unsigned_at (spot.Descriptor w) = if is_integer w then Some (value_in w, 1) else None
 unsigned_at (spot.Word w) = Some (w, 0)
 unsigned_at s = None
 
@@ -44,7 +48,7 @@ bool_of n = if n == 0 then Some (false, 1) else if n == 1 then Some (true, 1) el
 
 -- a bool stands at the descriptor of an integer, and nowhere else
 abbrev pub bool_at : Spot → Option (Bool × ℕ)
-bool_at (spot.Descriptor w) = if type_in w == types.integer then bool_of (value_in w) else None
+bool_at (spot.Descriptor w) = if is_integer w then bool_of (value_in w) else None
 bool_at s = None
 
 -- some value is read at the place, with this count
@@ -69,7 +73,7 @@ ReadsBool p x n = IsThere any (bool_at p.at) x n
 
 -- the 28 bits of an Int
 abbrev pub bits_at : Spot → Option (ℕ × ℕ)
-bits_at (spot.Descriptor w) = if type_in w == types.integer then Some (value_in w, 1) else None
+bits_at (spot.Descriptor w) = if is_integer w then Some (value_in w, 1) else None
 bits_at s = None
 
 -- these 28 bits stand there
@@ -79,9 +83,9 @@ ReadsBits p x n = IsThere any (bits_at p.at) x n
 -- the text of the string that a descriptor leads to; a descriptor of another type has none
 abbrev pub described_text : Parts → ℕ → Option (List ℕ)
 described_text p w =
-    if type_in w == types.string then
+    if type_in w == type_number kind.StringV2 then
     (if value_in w == 0 then Some [] else text_in p (value_in w))
-    else if reads_older p && type_in w == types.old_string then
+    else if reads_older p && type_in w == type_number kind._String then
     (if value_in w == 0 then Some [] else counted_text p (value_in w))
     else None
 
@@ -113,11 +117,12 @@ counted_bytes p each v = behind_count (words_of p.body) v (λ n. part p.body (4 
 -- none at value 0
 abbrev pub bytes_of_type : Parts → ℕ → ℕ → Option (List ℕ)
 bytes_of_type p type v =
-    if type == types.binary then (if v == 0 then Some [] else counted_bytes p 1 v)
-    else if type == types.string then
+    if type == type_number kind.Binary then (if v == 0 then Some [] else counted_bytes p 1 v)
+    else if type == type_number kind.StringV2 then
     (if v == 0 then Some [] else option_map units_as_bytes (string_in p v))
-    else if type == types.int_vector then (if v == 0 then Some [] else counted_bytes p 4 v)
-    else if reads_older p && type == types.old_string then
+    else if type == type_number kind.IntVector then
+    (if v == 0 then Some [] else counted_bytes p 4 v)
+    else if reads_older p && type == type_number kind._String then
     (if v == 0 then Some [] else counted_bytes p 2 v)
     else None
 

@@ -14,6 +14,8 @@ use Rattle.resb_format.specs.Parts.{Parts, reads_older}
 use Rattle.resb_format.specs.Lookups.{index_in, text_place}
 use Rattle.resb_format.specs.StringMessage.{string_message}
 use Rattle.resb_format.specs.Types as types
+use Rattle.resb_format.specs.Descriptor.{type_number}
+use Rattle.resb_format.specs.declared.repr_type.ResourceReprType.TheVariants as kind
 use Rattle.resb_format.specs.declared.error.ErrorKind.TheVariants.{ResourceTypeMismatch, Unknown}
 use Rattle.resb_walk.specs.BlockRefusals.{text_refusal_in, key_refusal_in, counted_refusal}
 use Rattle.resb_walk.specs.BlockRefusals.{reads_type, unread_type_refusal}
@@ -45,24 +47,8 @@ paid left later = if left == 0 then invalid (codes "resource budget spent") else
 -- an Int that doesn't fit, or another type
 abbrev pub integer_refusal : Parts → ℕ → Refusal → Refusal
 integer_refusal p type unfit =
-    if type == types.integer then unfit
+    if type == type_number kind.Int then unfit
     else type_refusal p type (mismatch (codes "expected integer resource"))
-
--- why no number is read at a spot with so much left
-abbrev pub number_refusal_from : Parts → Spot → ℕ → Refusal
-number_refusal_from p (spot.Descriptor w) left =
-    paid left (integer_refusal p (type_in w) out_of_range)
-number_refusal_from p (spot.Unit u) left = paid left elsewhere
-number_refusal_from p (spot.Word w) left = out_of_range
-number_refusal_from p (spot.Key k) left = elsewhere
-
--- why no bool is read at a spot with so much left
-abbrev pub bool_refusal_from : Parts → Spot → ℕ → Refusal
-bool_refusal_from p (spot.Descriptor w) left =
-    paid left (integer_refusal p (type_in w)
-    (mismatch (codes "expected integer resource representable as boolean")))
-bool_refusal_from p (spot.Unit u) left = paid left elsewhere
-bool_refusal_from p s left = elsewhere
 
 -- why nothing is read where no value of a type can stand: at a resource of another type, at a
 -- word, or at a key
@@ -71,12 +57,25 @@ no_value_from p (spot.Descriptor w) left = paid left (type_refusal p (type_in w)
 no_value_from p (spot.Unit u) left = paid left elsewhere
 no_value_from p s left = elsewhere
 
+-- why no number is read at a spot with so much left
+abbrev pub number_refusal_from : Parts → Spot → ℕ → Refusal
+number_refusal_from p (spot.Descriptor w) left =
+    paid left (integer_refusal p (type_in w) out_of_range)
+number_refusal_from p (spot.Word w) left = out_of_range
+number_refusal_from p s left = no_value_from p s left
+
+-- why no bool is read at a spot with so much left
+abbrev pub bool_refusal_from : Parts → Spot → ℕ → Refusal
+bool_refusal_from p (spot.Descriptor w) left =
+    paid left (integer_refusal p (type_in w)
+    (mismatch (codes "expected integer resource representable as boolean")))
+bool_refusal_from p s left = no_value_from p s left
+
 -- why no 28 bits are read at a spot with so much left; each Int has them
 abbrev pub bits_refusal_from : Parts → Spot → ℕ → Refusal
 bits_refusal_from p (spot.Descriptor w) left =
     paid left (type_refusal p (type_in w) (mismatch (codes "expected integer resource")))
-bits_refusal_from p (spot.Unit u) left = paid left elsewhere
-bits_refusal_from p s left = elsewhere
+bits_refusal_from p s left = no_value_from p s left
 
 -- why no string stands at an index
 abbrev pub string_message_in : Parts → ℕ → List ℕ
@@ -90,32 +89,32 @@ key_refusal_from p s left = no_value_from p s left
 -- why no text stands at a descriptor: no string, or one that is no text; or another type
 abbrev pub word_text_refusal : Parts → ℕ → Refusal
 word_text_refusal p w =
-    if type_in w == types.string then text_refusal_in p (value_in w)
-    else if reads_older p && type_in w == types.old_string then counted_refusal p (value_in w)
+    if type_in w == type_number kind.StringV2 then text_refusal_in p (value_in w)
+    else if reads_older p && type_in w == type_number kind._String then
+    counted_refusal p (value_in w)
     else type_refusal p (type_in w) (mismatch (codes "expected string resource"))
 
 -- why no text is read at a spot with so much left
 abbrev pub text_refusal_from : Parts → Spot → ℕ → Refusal
 text_refusal_from p (spot.Descriptor w) left = paid left (word_text_refusal p w)
 text_refusal_from p (spot.Unit u) left = paid left (text_refusal_in p (index_in p u))
-text_refusal_from p (spot.Word w) left = elsewhere
-text_refusal_from p (spot.Key k) left = key_refusal_in p k
+text_refusal_from p s left = key_refusal_from p s left
 
 -- why no bytes stand at a descriptor: the string's own fault, a count or what is counted outside
 -- the body, or another type
 abbrev pub word_bytes_refusal : Parts → ℕ → Refusal
 word_bytes_refusal p w =
-    if type_in w == types.string then invalid (string_message_in p (value_in w))
-    else if type_in w == types.binary || type_in w == types.int_vector then end_of_input
-    else if reads_older p && type_in w == types.old_string then end_of_input
+    if type_in w == type_number kind.StringV2 then invalid (string_message_in p (value_in w))
+    else if type_in w == type_number kind.Binary || type_in w == type_number kind.IntVector then
+    end_of_input
+    else if reads_older p && type_in w == type_number kind._String then end_of_input
     else type_refusal p (type_in w) (mismatch (codes "expected binary data resource"))
 
 -- why no bytes are read at a spot with so much left
 abbrev pub bytes_refusal_from : Parts → Spot → ℕ → Refusal
 bytes_refusal_from p (spot.Descriptor w) left = paid left (word_bytes_refusal p w)
 bytes_refusal_from p (spot.Unit u) left = paid left (invalid (string_message_in p (index_in p u)))
-bytes_refusal_from p (spot.Word w) left = elsewhere
-bytes_refusal_from p (spot.Key k) left = key_refusal_in p k
+bytes_refusal_from p s left = key_refusal_from p s left
 
 -- bytes stand there, and what is left pays for them
 abbrev pub are_paid : Option (List ℕ × ℕ) → ℕ → Bool
@@ -132,7 +131,7 @@ view_refusal_from p s left =
 -- another type
 abbrev pub word_members_refusal : Parts → ℕ → Refusal
 word_members_refusal p w =
-    if types.is_array (type_in w) || type_in w == types.int_vector then end_of_input
+    if types.is_array (type_in w) || type_in w == type_number kind.IntVector then end_of_input
     else type_refusal p (type_in w) (mismatch (codes "expected array resource"))
 
 -- why no entries stand at a descriptor: a table's entries reach outside the body, or another type
@@ -160,11 +159,7 @@ entries_refusal_from p s left = no_value_from p s left
 abbrev pub entries_refusal : Place → ℕ → Refusal
 entries_refusal p left = entries_refusal_from p.parts p.at left
 
--- the type of what stands at a spot isn't told
-abbrev pub untold_from : Parts → Spot → Refusal
-untold_from p (spot.Descriptor w) = type_refusal p (type_in w) elsewhere
-untold_from p s = elsewhere
-
--- the type of what stands at a place isn't told
+-- why the type of what stands at a place isn't told: as where no value of a type can stand, and one
+-- is left to pay
 abbrev pub untold : Place → Refusal
-untold p = untold_from p.parts p.at
+untold p = no_value_from p.parts p.at 1

@@ -8,6 +8,8 @@ use Rattle.std.specs.declared.cmp.Ordering.{Ordering}
 use Rattle.resb_tree.specs.Tree.{Tree, int_vector}
 use Rattle.resb_format.specs.Parts.{Parts}
 use Rattle.resb_format.specs.Types as types
+use Rattle.resb_format.specs.Descriptor.{type_number}
+use Rattle.resb_format.specs.declared.repr_type.ResourceReprType.TheVariants as kind
 use Rattle.resb_format.specs.Content.{Content, Member, leaf, list, entry_list, content_at}
 use Rattle.resb_read.specs.Places.{Place, spot_of}
 use Rattle.resb_read.specs.Leaves.{type_in}
@@ -32,7 +34,7 @@ member_spots _ = None
 -- the spots of the members of an Array, an Array16 or an IntVector
 abbrev pub members_in : Parts → ℕ → Option (List Spot)
 members_in p w =
-    if types.is_array (type_in w) || type_in w == types.int_vector then member_spots
+    if types.is_array (type_in w) || type_in w == type_number kind.IntVector then member_spots
     (content_at p w)
     else None
 

@@ -3,7 +3,8 @@ use Rattle.std.specs.Prelude.{◌≡◌, ◌+◌, ◌<◌, ℕ, Option, Some, No
 use Rattle.std.specs.Prelude.{if◌then◌else◌}
 use Rattle.resb_format.specs.declared.error.ReadingError.{ReadingError}
 use Rattle.resb_format.specs.Parts.{Parts}
-use Rattle.resb_format.specs.Types as types
+use Rattle.resb_format.specs.Descriptor.{type_number}
+use Rattle.resb_format.specs.declared.repr_type.ResourceReprType.TheVariants as kind
 use Rattle.resb_walk.specs.BlockRefusals.{reads_type}
 use Rattle.resb_walk.specs.Refusals.{IsSpent}
 use Rattle.resb_read.specs.Leaves.{type_in}
@@ -26,7 +27,7 @@ Skips s left left' r =
 -- the type of the resource that stands at a spot, where it is one that is read
 abbrev pub type_from : Parts → Spot → Option ℕ
 type_from p (spot.Descriptor w) = if reads_type p (type_in w) then Some (type_in w) else None
-type_from p (spot.Unit u) = Some types.string
+type_from p (spot.Unit u) = Some (type_number kind.StringV2)
 type_from p s = None
 
 -- the same of a place

@@ -8,7 +8,7 @@ ghost use Rattle.resb_walk.specs.Refusals.{Refuses};
 ghost use Rattle.resb_read.specs.Places.{place_of};
 ghost use Rattle.resb_read.specs.Resources.{DenPlace, ReachesPlace, MeetsPlace};
 ghost use Rattle.resb_read.specs.Leaves.{CountsOf};
-ghost use Rattle.resb_read.specs.Resources.{ReadsTree, DenPlace};
+ghost use Rattle.resb_read.specs.Resources.{ReadsTree};
 ghost use Rattle.resb_read.specs.RefusedReadings.{RefusesTree, TakesSome};
 ghost use Rattle.resb_read.specs.TypeLaws.{tree_counted, tree_one};
 

@@ -13,6 +13,8 @@ use Rattle.resb_format.specs.Error.{Refusal, invalid, unsupported, end_of_input,
 use Rattle.resb_format.specs.Parts.{Parts, reads_older}
 use Rattle.resb_format.specs.Lookups.{key_place, text_place}
 use Rattle.resb_format.specs.Types as types
+use Rattle.resb_format.specs.Descriptor.{type_number}
+use Rattle.resb_format.specs.declared.repr_type.ResourceReprType.TheVariants as kind
 use Rattle.resb_format.specs.StringMessage.{string_message}
 use Rattle.resb_format.specs.Strings.{string_at, before_zero}
 use Rattle.resb_format.specs.declared.error.ReadingError.{ReadingError}
@@ -63,20 +65,20 @@ reads_type p n = types.is_read_type n || (reads_older p && types.is_older_type n
 -- types whose value leads to a count and what is counted
 abbrev pub is_counted_type : ℕ → Bool
 is_counted_type n =
-    ((n == types.binary || types.is_table n) || types.is_array n) || n == types.int_vector
+    ((n == type_number kind.Binary || types.is_table n) || types.is_array n)
+    || n == type_number kind.IntVector
 
 -- strings of the older form and aliases, where they aren't read; or a number that names no type
 abbrev pub unread_type_refusal : ℕ → Refusal
 unread_type_refusal type =
-    if type == types.old_string || type == types.alias then
-    unsupported (codes "resource type is not supported")
+    if types.is_older_type type then unsupported (codes "resource type is not supported")
     else invalid (codes "unrecognized value for ResourceReprType")
 
 -- what is said where nothing stands at a value of a type: of a string or an alias the fault of its
 -- text, of others that the input ends
 abbrev pub value_refusal : Parts → ℕ → ℕ → Refusal
 value_refusal p type v =
-    if type == types.string then text_refusal_in p v
+    if type == type_number kind.StringV2 then text_refusal_in p v
     else if is_counted_type type then end_of_input
     else if reads_older p && types.is_older_type type then counted_refusal p v
     else unread_type_refusal type

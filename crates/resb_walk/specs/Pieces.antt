@@ -3,7 +3,7 @@
 --                             are replaced later included
 --     pieces t                the pieces of a tree
 use Rattle.std.specs.Prelude.{◌≡◌, ℕ, List, [], ◌∷◌, ◌++◌, Some}
-use Rattle.resb_tree.specs.Tree.{Tree, string, alias, array, table, binary, integer, int_vector}
+use Rattle.resb_tree.specs.Tree.{Tree, string, array, table}
 use Rattle.resb_tree.specs.Tree.{Trees, no_trees, more_trees, Entries, no_entries, entry}
 use Rattle.resb_format.specs.Lookups.{text_in, key_in, index_in}
 use Rattle.resb_format.specs.Parts.{Parts}
@@ -64,13 +64,9 @@ entries_piece (entry k t es) = filled_table
 abbrev mutual
   -- the pieces of a tree: those of a table in the order of its keys
   pub pieces : Tree → List Piece
-  pieces (string s) = leaf_piece (string s) ∷ []
-  pieces (alias s) = leaf_piece (alias s) ∷ []
   pieces (array ts) = array_piece ∷ pieces_of_each ts
   pieces (table es) = entries_piece es ∷ pieces_of_entries es
-  pieces (binary s) = leaf_piece (binary s) ∷ []
-  pieces (integer n) = leaf_piece (integer n) ∷ []
-  pieces (int_vector ns) = leaf_piece (int_vector ns) ∷ []
+  pieces t = leaf_piece t ∷ []
 
   -- the pieces of trees, one after another
   pub pieces_of_each : Trees → List Piece

@@ -1,20 +1,16 @@
 -- The tail of a written file is the bodies of its tree, one right behind another.
-use Rattle.std.proofs.Common.{ℕ, List, ◌++◌}
-use Rattle.resb_tree.specs.Tree.{Tree}
 use Rattle.std.proofs.Common.{◌≡◌, ◌+◌, ◌*◌, ◌%◌, [], length, drop, sym, ap, ◌∙◌}
 use Rattle.std.proofs.Common.{subst, arith, None}
 use Rattle.resb_tree.specs.LayingOrder.{laying_order}
 use Rattle.resb_head.specs.File.{body_of, block_end}
-use Rattle.resb_pool.specs.declared.packing.Packing.{Packing}
-use Rattle.resb_pool.specs.declared.packing.Packing.TheVariants.{Plain, Compact}
 use Rattle.resb_layout.specs.Laid.{Laid, Given, here}
 use Rattle.resb_format.specs.Bytes.{units_as_bytes}
-use Rattle.resb_layout.specs.InOrder.{FillsTail, FillsBlock}
+use Rattle.resb_layout.specs.InOrder.{FillsTail}
 use Rattle.resb_layout.proofs.BytesLemmas.{halves_len}
 use Rattle.resb_layout.proofs.InOrderLemmas.{laid_in_order}
 use Rattle.resb_layout.specs.KeyBlock.{keys_start}
 use Rattle.resb_layout.specs.CompactKeys.{key_block_by, key_position_by}
-use Rattle.resb_layout.specs.Written.{even, tail_start, BlocksBy, block_bytes}
+use Rattle.resb_layout.specs.Written.{even, tail_start}
 use Rattle.resb_write.specs.Laws.{WrittenInOrder}
 use Rattle.resb_write.proofs.Lists.{drop_two}
 

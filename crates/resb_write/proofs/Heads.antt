@@ -6,11 +6,10 @@ use Rattle.std.proofs.Common.{append-nil, length-append, arith}
 use Rattle.std.proofs.lemmas.List.{take_at, drop_at}
 use Rattle.resb_format.specs.Bytes.{units_of, words_of}
 use Rattle.resb_format.specs.Parts.{Parts}
-use Rattle.resb_head.specs.File.{header_size, body_of, root_word, field_count, keys_end}
-use Rattle.resb_head.specs.File.{resources_end, bundle_end, largest_table_field, attributes}
-use Rattle.resb_head.specs.File.{block_end, parts_of, IsBundleFile}
+use Rattle.resb_head.specs.File.{body_of, root_word, field_count, keys_end}
+use Rattle.resb_head.specs.File.{body_word, attributes, block_end, parts_of, IsBundleFile}
 use Rattle.resb_layout.specs.Laid.{words}
-use Rattle.resb_format.specs.Bytes.{units_as_bytes}
+use Rattle.resb_format.specs.Bytes.{units_as_bytes, header_size}
 use Rattle.resb_layout.proofs.BytesLemmas.{EachBelow, words_read, halves_read, halves_len}
 use Rattle.resb_format.proofs.WordsBack.{written_length}
 use Rattle.resb_layout.specs.WrittenHead.{written_header}
@@ -85,13 +84,13 @@ module _ (x : Whole) where
   pub keys_end_is : keys_end file ≡ 8 + key_words
   keys_end_is = word_is 2
 
-  pub resources_end_is : resources_end file ≡ 8 + key_words + block_words + tail_words
+  pub resources_end_is : body_word file 3 ≡ 8 + key_words + block_words + tail_words
   resources_end_is = word_is 3
 
-  pub bundle_end_is : bundle_end file ≡ 8 + key_words + block_words + tail_words
+  pub bundle_end_is : body_word file 4 ≡ 8 + key_words + block_words + tail_words
   bundle_end_is = word_is 4
 
-  pub largest_is : largest_table_field file ≡ x.largest
+  pub largest_is : body_word file 5 ≡ x.largest
   largest_is = word_is 5
 
   pub flag_is : attributes file ≡ cond x.fallback 0 1

@@ -59,7 +59,8 @@ OneFile =
     → EachFits 8 a → EachFits 8 b
     → WrittenBy q a t fallback ks → WrittenBy q b t fallback ks → a ≡ b
 
--- so are two that are written over one pool
+-- two files of a bundle and a list of keys that are written over one pool and packed alike are the
+-- same bytes
 abbrev pub OneFileWithPool : Type 0
 OneFileWithPool =
     (q : Packing) (pool : Pool) (a b : List ℕ) (t : Tree) (fallback : Bool) (ks : List (List ℕ))

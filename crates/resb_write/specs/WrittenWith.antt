@@ -3,8 +3,10 @@
 --     own_keys_of q place t ks    the keys that stand in the file
 --     position_beside q place js own k    the position of a key
 --     BlocksWithBy q pool t ks    what a file of the tree t and the keys ks is made of
---     WrittenWith pool bytes t f ks   the file of a bundle of t, with locale fallback or not
---     WrittenCompactWith pool bytes t f ks    the compact file of it
+--     WrittenWithBy q pool bytes t f ks   the file of a bundle of t that is packed like this, with
+--                             locale fallback or not
+--     WrittenWith pool bytes t f ks, WrittenCompactWith pool bytes t f ks     the plain file, and
+--                             the compact one
 --     RefusesWritingWith pool t ks e  e may be the answer
 use Rattle.std.specs.Prelude.{◌≡◌, ℕ, ◌+◌, ◌-◌, ◌*◌, ◌/◌, ◌^◌, ◌≤◌, List, [], ◌++◌, length, map}
 use Rattle.std.specs.Prelude.{filter, Bool, Option, Some, None, option_map, codes}
@@ -128,11 +130,11 @@ pub record WrittenWithBy (q : Packing) (pool : Pool) (bytes : List ℕ) (t : Tre
   pub file : bytes ≡ head_bytes (head_of fallback blocks) ++ (key_block_beside q blocks.place t ks
       ++ (units_as_bytes (even blocks.laid.units) ++ blocks.laid.tail))
 
--- the same of a file in which each key stands by itself
+-- the bytes are the plain file over the pool, in which each key stands by itself
 abbrev pub WrittenWith : Pool → List ℕ → Tree → Bool → List (List ℕ) → Type 0
 WrittenWith = WrittenWithBy Plain
 
--- the same of a compact file
+-- the bytes are the compact file over the pool
 abbrev pub WrittenCompactWith : Pool → List ℕ → Tree → Bool → List (List ℕ) → Type 0
 WrittenCompactWith = WrittenWithBy Compact
 

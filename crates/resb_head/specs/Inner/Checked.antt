@@ -3,9 +3,9 @@ use Rattle.std.specs.Prelude.{◌≡◌, ℕ, List, Some, None, Result, MatchRes
 use Rattle.resb_format.specs.Bytes.{words_of}
 use Rattle.resb_format.specs.Parts.{parts_in}
 use Rattle.resb_head.specs.File.{parts_in_body}
-use Rattle.resb_format.specs.Error.{refusal_of}
+use Rattle.resb_format.specs.Error.{refusal_of, first_refusal}
 use Rattle.resb_format.specs.declared.error.ReadingError.{ReadingError}
-use Rattle.resb_head.specs.HeadChecks.{first_refusal, support_checks, block_checks, body_checks}
+use Rattle.resb_head.specs.HeadChecks.{support_checks, block_checks, body_checks}
 use Rattle.resb_head.specs.Head.{InfoAt}
 use Rattle.resb_head.specs.declared.repr_info.BinReprInfo.{BinReprInfo}
 use Rattle.resb_head.specs.declared.checked_file.CheckedFile.{CheckedFile}

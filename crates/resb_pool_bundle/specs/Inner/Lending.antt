@@ -1,10 +1,9 @@
 -- What the checks of what a head says of pools answer, and those of the pool that is given.
 use Rattle.std.specs.Prelude.{◌≡◌, ℕ, List, Option, Some, None, Result, MatchResult}
-use Rattle.resb_format.specs.Error.{refusal_of}
+use Rattle.resb_format.specs.Error.{refusal_of, first_refusal}
 use Rattle.resb_format.specs.Parts.{lent_in}
 use Rattle.resb_format.specs.declared.error.ReadingError.{ReadingError}
 use Rattle.resb_format.specs.declared.file_blocks.PoolBlocks.{PoolBlocks}
-use Rattle.resb_head.specs.HeadChecks.{first_refusal}
 use Rattle.resb_pool_bundle.specs.Checks.{lending_checks, pool_given_checks}
 use Rattle.resb_pool_bundle.specs.Pool.{Pool, lent_to}
 

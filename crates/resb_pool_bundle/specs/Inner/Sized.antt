@@ -1,11 +1,10 @@
 -- What some of a head's checks answer, each a step of reading its index.
 use Rattle.std.specs.Prelude.{◌≡◌, ℕ, ◌+◌, ◌*◌, ◌≤◌, ◌&&◌, ◌||◌, List, [], ◌∷◌, min, length}
 use Rattle.std.specs.Prelude.{Bool, nat_le, nat_lt, Some, None, Result, MatchResult, codes}
-use Rattle.resb_format.specs.Error.{Refusal, invalid, end_of_input, refusal_of}
+use Rattle.resb_format.specs.Error.{Refusal, invalid, end_of_input, refusal_of, first_refusal}
 use Rattle.resb_format.specs.declared.error.ReadingError.{ReadingError}
 use Rattle.resb_head.specs.File.{body_of, keys_end}
 use Rattle.resb_head.specs.Head.{InfoAt}
-use Rattle.resb_head.specs.HeadChecks.{first_refusal}
 use Rattle.resb_head.specs.declared.repr_info.BinReprInfo.{BinReprInfo}
 use Rattle.resb_pool_bundle.specs.Checks.{version_checks}
 use Rattle.resb_pool_bundle.specs.Fields.{major, index_length, block_end_in}

@@ -21,7 +21,6 @@ use Rattle.resb_layout.specs.WritingFault.{WritingFault}
 use Rattle.resb_layout.specs.Written.{WrittenBy}
 use Rattle.resb_layout.specs.CompactKeys.{keys_by}
 use Rattle.resb_pool.specs.declared.packing.Packing.{Packing}
-use Rattle.resb_pool.specs.declared.packing.Packing.TheVariants.{Plain, Compact}
 use Rattle.resb_tree.specs.Tree.{Tree}
 use Rattle.resb_pool_bundle.specs.Pool.{pool_in}
 use Rattle.resb_lent.specs.PlanWithPool.{NotPlannedWithBy}

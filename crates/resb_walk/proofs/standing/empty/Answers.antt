@@ -4,11 +4,13 @@ use Rattle.std.proofs.lemmas.Bool.{and_parts}
 use Rattle.resb_tree.specs.Tree.{alias}
 use Rattle.resb_format.specs.Content.{leaf, empty}
 use Rattle.resb_format.specs.Parts.{Parts, parts_in, reads_older}
-use Rattle.resb_format.specs.Types as types
+use Rattle.resb_format.specs.Descriptor.{type_number}
+use Rattle.resb_format.specs.declared.repr_type.ResourceReprType.TheVariants as kind
 use Rattle.resb_walk.proofs.Counted.{no_units_no_text}
 use Rattle.resb_walk.proofs.standing.empty.Goals as goal
 
-empty_alias : (p : Parts) → reads_older p ≡ true → empty p types.alias ≡ Some (leaf (alias []))
+empty_alias : (p : Parts) → reads_older p ≡ true
+    → empty p (type_number kind._Alias) ≡ Some (leaf (alias []))
 empty_alias p h = rw h refl
 
 pub returns-in-_Alias : goal.returns-in-_Alias

@@ -1,10 +1,11 @@
 -- The header, what is supported, and then the body.
 use Rattle.std.proofs.Common.{ℕ, List, ◌≡◌, min, length, drop, Some, None, MatchResult, sym}
 use Rattle.std.proofs.Common.{ap, subst, ◌∙◌, rules, false}
-use Rattle.resb_format.specs.Error.{refusal_of}
+use Rattle.resb_format.specs.Error.{refusal_of, first_refusal}
 use Rattle.resb_format.specs.Parts.{parts_in}
-use Rattle.resb_head.specs.File.{parts_of, parts_in_body, body_of, root_word, header_size}
-use Rattle.resb_head.specs.HeadChecks.{header_refusal, first_refusal, support_checks}
+use Rattle.resb_head.specs.File.{parts_of, parts_in_body, body_of, root_word}
+use Rattle.resb_format.specs.Bytes.{header_size}
+use Rattle.resb_head.specs.HeadChecks.{header_refusal, support_checks}
 use Rattle.resb_head.specs.Inner.Checked.{ReadsBody}
 use Rattle.resb_head.proofs.FileSteps.{header_answers, support_answers, body_answers}
 use Rattle.resb_head.proofs.FileSteps.{header_size_is}

@@ -6,9 +6,9 @@ use Rattle.std.proofs.lemmas.Bool.{not-true, not-false}
 use Rattle.std.proofs.lemmas.List.{get_or-drop}
 use Rattle.std.proofs.lemmas.Slice.Eq.{bytes_eq-Decides}
 use Rattle.resb_format.specs.Bytes.{unit_in}
-use Rattle.resb_format.specs.Error.{refusal_of}
+use Rattle.resb_format.specs.Error.{refusal_of, first_refusal}
 use Rattle.resb_head.specs.Codes.{endianness_number}
-use Rattle.resb_head.specs.HeadChecks.{first_refusal, info_checks}
+use Rattle.resb_head.specs.HeadChecks.{info_checks}
 use Rattle.resb_head.specs.Head.{InfoAt}
 use Rattle.resb_head.proofs.HeaderSteps.{Begun, short_header, magic_fails, info_fails, size_fails}
 use Rattle.resb_head.proofs.HeaderSteps.{header_holds}

@@ -3,10 +3,12 @@ use Rattle.std.proofs.Common.{ℕ, List, ◌≡◌, length, min, drop, Some, Non
 use Rattle.std.proofs.Common.{sym, ap, subst, ◌∙◌, arith, rules, Ok, Err}
 use Rattle.std.specs.Prelude.{Result}
 use Rattle.std.proofs.lemmas.List.{drop_min}
-use Rattle.resb_package.specs.Table.{header_size, table_of, items_in}
+use Rattle.resb_package.specs.Table.{table_of, items_in}
+use Rattle.resb_format.specs.Bytes.{header_size}
 use Rattle.resb_package.specs.Package.{IsPackage}
 use Rattle.resb_package.specs.Items.{package_items}
-use Rattle.resb_package.specs.Checks.{first_refusal, head_checks, table_refusal, package_refusal}
+use Rattle.resb_package.specs.Checks.{head_checks, table_refusal, package_refusal}
+use Rattle.resb_format.specs.Error.{first_refusal}
 use Rattle.resb_package.specs.declared.error.PackageError.{PackageError}
 use Rattle.resb_package.specs.declared.package.Package.{Package}
 use Rattle.resb_package.proofs.Passing.{head_refused, rest_refused, head_long, package_told}

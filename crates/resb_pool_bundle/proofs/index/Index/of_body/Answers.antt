@@ -1,7 +1,6 @@
 -- The number of fields, and then the ends.
 use Rattle.std.proofs.Common.{ℕ, List, ◌≡◌, Some, None, ap, ◌∙◌, rules}
-use Rattle.resb_format.specs.Error.{refusal_of}
-use Rattle.resb_head.specs.HeadChecks.{first_refusal}
+use Rattle.resb_format.specs.Error.{refusal_of, first_refusal}
 use Rattle.resb_pool_bundle.specs.Checks.{size_checks}
 use Rattle.resb_pool_bundle.specs.Inner.Sized.{field_checks, end_checks}
 use Rattle.resb_pool_bundle.proofs.SizeSteps.{sizes_in_two}

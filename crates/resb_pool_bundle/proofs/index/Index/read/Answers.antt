@@ -1,7 +1,7 @@
 -- The header, the version, and then the sizes.
 use Rattle.std.proofs.Common.{ℕ, List, ◌≡◌, min, length, drop, None, ap, ◌∙◌, rules, false}
 use Rattle.resb_format.specs.Error.{refusal_of}
-use Rattle.resb_head.specs.File.{header_size}
+use Rattle.resb_format.specs.Bytes.{header_size}
 use Rattle.resb_head.specs.HeadChecks.{header_refusal}
 use Rattle.resb_head.proofs.FileSteps.{header_size_is}
 use Rattle.resb_head.proofs.Lists.{drop_min}

@@ -57,6 +57,13 @@ impl<'t> Contents<'t> {
         Ok(contents)
     }
 
+    /// The texts of the strings. The rest goes.
+    pub(crate) fn into_texts(self) -> Vec<&'t str>
+        ensures { result ≡ self.entry.texts }
+    {
+        self.texts
+    }
+
     /// Adds what a resource holds.
     #[inline(always)]
     fn add(&mut self, node: Node<'t>) -> Result<(), AllocError>

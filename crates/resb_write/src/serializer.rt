@@ -278,7 +278,7 @@ fn write_bundle(
         is_locale_fallback_enabled: bundle.is_locale_fallback_enabled,
         list,
     };
-    write_nodes(alloc, &nodes, keys, &wanted, target)
+    write_nodes(alloc, nodes, keys, &wanted, target)
 }
 
 /// The file of a draft, which stands on this.
@@ -324,7 +324,7 @@ fn write_standing(
     drop(members);
     let numbered = NumberedKeys::of_list(alloc, &keys)?;
     drop(keys);
-    write_nodes(alloc, &pieces, numbered, wanted, target)
+    write_nodes(alloc, pieces, numbered, wanted, target)
 }
 
 /// The file of a draft, whose pieces have these numbers in laying order. Its other lists go first.
@@ -355,24 +355,24 @@ fn write_by_number(
         pieces,
         numbers: order,
     };
-    write_nodes(alloc, &numbered, keys, wanted, target)
+    write_nodes(alloc, numbered, keys, wanted, target)
 }
 
 /// The file of a tree, which stands on this. The tree's resources are given in laying
 /// order, and beside them the keys of its tables.
-fn write_nodes<N: Nodes>(
+fn write_nodes<N: Nodes + Drop>(
     alloc: Global,
-    order: &N,
+    order: N,
     tree_keys: NumberedKeys<'_>,
     wanted: &Wanted<'_>,
     target: Target<'_>,
 ) -> Result<Vec<u8>, BinarySerializerError>
-    requires { (t : Tree) × N.fit order.now (laying_order t) × NumbersKeys tree_keys (keys_of t) }
-    ensures ok { IfOk result (λ v. (t : Tree) → N.fit order.now (laying_order t)
+    requires { (t : Tree) × N.fit order (laying_order t) × NumbersKeys tree_keys (keys_of t) }
+    ensures ok { IfOk result (λ v. (t : Tree) → N.fit order (laying_order t)
         → NumbersKeys tree_keys.entry (keys_of t)
         → IsFileOver target.entry v.items t wanted.now.is_locale_fallback_enabled
         wanted.now.list.now) }
-    ensures err { IfErr result (λ e. (t : Tree) → N.fit order.now (laying_order t)
+    ensures err { IfErr result (λ e. (t : Tree) → N.fit order (laying_order t)
         → NumbersKeys tree_keys.entry (keys_of t)
         → RefusesOver target.entry t wanted.now.list.now (fault_of e)) }
 {
@@ -408,27 +408,27 @@ fn checked<'t, 'k, N: Nodes>(
 
 /// The refusals in their order, and then the file of a tree, whose resources are given in laying
 /// order, and beside them the keys of its tables.
-pub(crate) fn write_order<N: Nodes>(
+pub(crate) fn write_order<N: Nodes + Drop>(
     alloc: Global,
-    order: &N,
+    order: N,
     tree_keys: NumberedKeys<'_>,
     wanted: &Wanted<'_>,
     packing: Packing,
 ) -> Result<Vec<u8>, BinarySerializerError>
-    requires { (t : Tree) × N.fit order.now (laying_order t)
+    requires { (t : Tree) × N.fit order (laying_order t)
         × NumbersKeys tree_keys (keys_of t) }
-    ensures ok { IfOk result (λ v. (t : Tree) → N.fit order.now (laying_order t)
+    ensures ok { IfOk result (λ v. (t : Tree) → N.fit order (laying_order t)
         → NumbersKeys tree_keys.entry (keys_of t)
         → IsFileOver (Alone packing) v.items t wanted.now.is_locale_fallback_enabled
         wanted.now.list.now) }
-    ensures err { IfErr result (λ e. (t : Tree) → N.fit order.now (laying_order t)
+    ensures err { IfErr result (λ e. (t : Tree) → N.fit order (laying_order t)
         → NumbersKeys tree_keys.entry (keys_of t)
         → RefusesWriting t wanted.now.list.now (fault_of e)) }
 {
-    let (contents, block) = checked(alloc, order, tree_keys, wanted.list, packing)?;
+    let (contents, block) = checked(alloc, &order, tree_keys, wanted.list, packing)?;
     let KeyBlock { keys, positions } = block;
     let largest_table = contents.largest_table as u32;
-    let Strings { pool, offsets } = Strings::plan(alloc, packing, contents.texts)?;
+    let Strings { pool, offsets } = Strings::plan(alloc, packing, contents.into_texts())?;
     let keys_end = KEYS_START + block_length(&keys);
     let sites = Sites {
         positions: &positions,
@@ -436,7 +436,8 @@ pub(crate) fn write_order<N: Nodes>(
         lent: None,
         packing,
     };
-    let (bodies, word) = lay_bodies(alloc, &sites, pool, keys_end, order)?;
+    let (bodies, word) = lay_bodies(alloc, &sites, pool, keys_end, &order)?;
+    drop(order);
     drop(positions);
     drop(offsets);
     let parts = FileParts {

@@ -45,23 +45,23 @@ const OWN_KEYS_START: usize = 36;
 
 /// The refusals in their order, and then the file over a pool bundle of a tree, whose resources are
 /// given in laying order, and beside them the keys of its tables.
-pub(crate) fn write_order_with_pool<N: Nodes>(
+pub(crate) fn write_order_with_pool<N: Nodes + Drop>(
     alloc: Global,
-    order: &N,
+    order: N,
     tree_keys: NumberedKeys<'_>,
     wanted: &Wanted<'_>,
     over: &OverPool<'_>,
 ) -> Result<Vec<u8>, BinarySerializerError>
-    requires { (t : Tree) × N.fit order.now (laying_order t) × NumbersKeys tree_keys (keys_of t) }
-    ensures ok { IfOk result (λ v. (t : Tree) → N.fit order.now (laying_order t)
+    requires { (t : Tree) × N.fit order (laying_order t) × NumbersKeys tree_keys (keys_of t) }
+    ensures ok { IfOk result (λ v. (t : Tree) → N.fit order (laying_order t)
         → NumbersKeys tree_keys.entry (keys_of t)
         → WrittenWithBy over.now.packing (pool_in over.now.pool) v.items t
         wanted.now.is_locale_fallback_enabled wanted.now.list.now) }
-    ensures err { IfErr result (λ e. (t : Tree) → N.fit order.now (laying_order t)
+    ensures err { IfErr result (λ e. (t : Tree) → N.fit order (laying_order t)
         → NumbersKeys tree_keys.entry (keys_of t)
         → RefusesWritingWith (pool_in over.now.pool) t wanted.now.list.now (fault_of e)) }
 {
-    let (contents, block) = checked_beside(alloc, order, tree_keys, wanted.list, over)?;
+    let (contents, block) = checked_beside(alloc, &order, tree_keys, wanted.list, over)?;
     let KeyBlock { keys, positions } = block;
     let largest_table = contents.largest_table as u32;
     let PlanWithPool {
@@ -69,7 +69,7 @@ pub(crate) fn write_order_with_pool<N: Nodes>(
         indexes,
         limit,
         short_limit,
-    } = plan_beside(alloc, contents.texts, over)?;
+    } = plan_beside(alloc, contents.into_texts(), over)?;
     let lends = Lends {
         own_end: own_end(&keys),
         limit,
@@ -82,7 +82,8 @@ pub(crate) fn write_order_with_pool<N: Nodes>(
         packing: over.packing,
     };
     let keys_end = OWN_KEYS_START + block_length(&keys);
-    let (bodies, word) = lay_bodies(alloc, &sites, units, keys_end, order)?;
+    let (bodies, word) = lay_bodies(alloc, &sites, units, keys_end, &order)?;
+    drop(order);
     drop(positions);
     drop(indexes);
     let parts = FileParts {

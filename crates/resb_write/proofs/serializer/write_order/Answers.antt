@@ -34,10 +34,10 @@ returns-in_err-pool-clause-err g c =
     c.from_residual-in_err-pool.ensures.1 in
     rw p.1 (λ t f k.
     let gathered = (c.in_ok-contents.ensures.ok t f k).0 in
-    let texts = gathered.texts_are in
+    let texts = (ap (λ v. nows v.items) c.into_texts.ensures ∙ gathered.texts_are) in
     let small = (c.in_ok-contents.ensures.ok t f k).2 in
     subst (RefusesWriting t c.args.wanted.now.list.now) (sym p.2)
-    (plan_refused t c.args.wanted.now.list.now (nows c.in_ok-contents.contents.texts.items) _
+    (plan_refused t c.args.wanted.now.list.now (nows c.into_texts.result.items) _
     texts small
     c.in_err-pool.ensures.err))
 
@@ -75,7 +75,7 @@ overflow_add-keys_end g c =
 
 -- where the keys and the strings of the tree stand, for a tail that begins at a byte of the body
 numbered : (g : _) (c : After-deref-3 g) (base : ℕ) (t : Tree)
-    → g.N.Nodes.fit c.args.order.now (laying_order t)
+    → g.N.Nodes.fit c.args.order (laying_order t)
     → NumbersKeys c.args.tree_keys (keys_of t)
     → GivesInTurn (record {
       position = key_position_by c.args.packing t c.args.wanted.now.list.now;
@@ -89,15 +89,15 @@ numbered g c base t f us =
     let b = (c.in_ok-contents.ensures.ok t f us).1 in
     let list = c.args.wanted.now.list.now in
     let small = (c.in_ok-contents.ensures.ok t f us).2 in
-    let texts = gathered.texts_are in
+    let texts = (ap (λ v. nows v.items) c.into_texts.ensures ∙ gathered.texts_are) in
     let offsets = pooled.offsets ∙ ap (map Some) (sym c.deref-3.ensures.value) in
     record {
       keys = b.positions (omega (arith, used_room (keys_of t) list, small))
           ∙ ap (map Some) (sym c.deref-2.ensures.value);
       texts = ap (map pooled.offset) (sym texts) ∙ offsets;
-      near = near_offsets c.args.packing (nows c.in_ok-contents.contents.texts.items)
+      near = near_offsets c.args.packing (nows c.into_texts.result.items)
           c.in_ok-pool.field-0.pool.items pooled.offset pooled.plan
-          (nows c.in_ok-contents.contents.texts.items) c.deref-3.result.now (λ s h. h) offsets;
+          (nows c.into_texts.result.items) c.deref-3.result.now (λ s h. h) offsets;
     }
 
 pub lay_bodies-requires-clause-tree : goal.lay_bodies-requires-clause-tree
@@ -110,8 +110,8 @@ lay_bodies-requires-clause-tree g c =
     let small = (c.in_ok-contents.ensures.ok t r.1 r.2).2 in
     let js = ap nows c.deref.ensures.value
     ∙ (c.in_ok-contents.ensures.ok t c.requires.1 c.requires.2).1.keys in
-    let texts = gathered.texts_are in
-    let pool = pool_room c.args.packing (nows c.in_ok-contents.contents.texts.items) us
+    let texts = (ap (λ v. nows v.items) c.into_texts.ensures ∙ gathered.texts_are) in
+    let pool = pool_room c.args.packing (nows c.into_texts.result.items) us
     pooled.offset pooled.plan in
     let same = ap (sum_by size) texts in (
       t,
@@ -186,7 +186,7 @@ returns-clause-ok g c = λ t f k.
     let pool = c.in_ok-pool.field-0.pool.items in
     let b = (c.in_ok-contents.ensures.ok t f k).1 in
     let laid = laid_of c.in_ok-bodies.bodies in
-    let texts = gathered.texts_are in
+    let texts = (ap (λ v. nows v.items) c.into_texts.ensures ∙ gathered.texts_are) in
     let small = (c.in_ok-contents.ensures.ok t f k).2 in
     let end : ℕ = 32 + c.block_length-keys_end.result + 2 *
     (length c.in_ok-bodies.bodies.units.items + length c.in_ok-bodies.bodies.units.items % 2) in

@@ -57,7 +57,7 @@ returns-in_err-units-clause-err g c =
     rw (p.1, p.2) (λ t f k.
     let known = c.in_ok-contents.ensures.ok t f k in
     unplanned t c.args.wanted.now.list.now (pool_in c.args.over.now.pool) known.1.faultless known.2
-    c.args.over.now.packing (nows c.in_ok-contents.contents.texts.items) _ known.0.texts_are
+    c.args.over.now.packing (nows c.into_texts.result.items) _ (ap (λ v. nows v.items) c.into_texts.ensures ∙ known.0.texts_are)
     c.in_err-units.ensures.err)
 
 -- the own keys take few bytes
@@ -96,7 +96,7 @@ block_length-keys_end-requires g c =
 
 -- where the keys and the strings of the tree stand, for a tail that begins at a byte of the body
 numbered : (g : _) (c : After-deref-3 g) (base : ℕ) (t : Tree)
-    → (f : g.N.Nodes.fit c.args.order.now (laying_order t))
+    → (f : g.N.Nodes.fit c.args.order (laying_order t))
     → (k : NumbersKeys c.args.tree_keys (keys_of t))
     → let place = (c.in_ok-contents.ensures.ok t f k).1.place in
     GivesInTurn (record {
@@ -118,7 +118,7 @@ numbered g c base t f us =
     let block = (pool_in c.args.over.now.pool).block in
     let plan = subst (λ S. IsPlanWithBy q block S p.units.items p.indexes.items p.limit
     p.short_limit)
-    known.0.texts_are c.in_ok-units.ensures.ok in
+    (ap (λ v. nows v.items) c.into_texts.ensures ∙ known.0.texts_are) c.in_ok-units.ensures.ok in
     record {
       keys = (λ i. map (position_beside q place (used (keys_of t) ks) (sym keys.own i)) (keys_of t))
           ∙ keys.positions (omega (arith, few)) ∙ ap (map Some) (sym c.deref-2.ensures.value);
@@ -147,7 +147,7 @@ lay_bodies-requires-clause-tree g c =
     let ks = c.args.wanted.now.list.now in
     let few = few_keys _ _ t ks _ _ known.1 known.2 in
     let units = few_units _ _ _ _ _ _ _ c.in_ok-units.ensures.ok in
-    let same = ap (sum_by size) known.0.texts_are in
+    let same = ap (sum_by size) (ap (λ v. nows v.items) c.into_texts.ensures ∙ known.0.texts_are) in
     let js = ap (λ l. length (key_bytes (nows l))) c.deref-4.ensures.value in (
       t,
       r.1,
@@ -222,7 +222,7 @@ returns-clause-ok g c = λ t f k.
     let js : nows c.in_ok-contents.block.keys.items ≡ own = known.1.own in
     let plan : IsPlanWithBy q pool.block (texts_of t) p.units.items p.indexes.items p.limit
     p.short_limit = subst (λ S. IsPlanWithBy q pool.block S p.units.items p.indexes.items p.limit
-    p.short_limit) known.0.texts_are c.in_ok-units.ensures.ok in
+    p.short_limit) (ap (λ v. nows v.items) c.into_texts.ensures ∙ known.0.texts_are) c.in_ok-units.ensures.ok in
     let room = c.in_ok-bodies.ensures.fits in
     let base : ℕ = tail_start_beside (key_block_beside q place t ks) laid in
     let base_is : base ≡ 36 + c.block_length-keys_end.result + 2 * (length laid.units

@@ -5,9 +5,15 @@ use Rattle.std.proofs.Common.{arith, length-append}
 use Rattle.std.proofs.lemmas.Bool.{false≢true}
 use Rattle.std.specs.Prelude.{slice_index}
 use Rattle.resb_grammar.specs.Ascii as ascii
+use Rattle.resb_icu_grammar.specs.declared.group_kind.IcuKind.{IcuKind as Kind}
+use Rattle.resb_icu_grammar.specs.declared.group_kind.IcuKind.TheVariants.{
+  String as string_kind,
+  Alias as alias_kind,
+  Binary as binary_kind,
+  Integer as integer_kind,
+  IntVector as vector_kind,
+}
 use Rattle.resb_icu_grammar.specs.Groups.{digit_bytes}
-use Rattle.resb_icu_grammar.specs.Kinds.{Kind, string_kind, alias_kind, binary_kind, integer_kind}
-use Rattle.resb_icu_grammar.specs.Kinds.{vector_kind}
 use Rattle.resb_grammar.specs.Limit.{number_bytes}
 use Rattle.resb_tree.specs.View.{tree_of}
 use Rattle.resb_tree.specs.declared.resource.Resource.{Resource}

@@ -20,7 +20,6 @@ use Rattle.resb_icu_text.specs.declared.steps.Read.TheVariants as read
 use Rattle.resb_icu_text.specs.declared.open.OpenGroups.{OpenGroups}
 use Rattle.resb_icu_text.specs.declared.open.Next.{Next}
 use Rattle.resb_icu_text.specs.declared.open.Next.TheVariants as next
-use Rattle.resb_icu_text.specs.declared.steps.Waiting.TheVariants as waiting
 use Rattle.resb_icu_text.specs.declared.quota.Quota.{Quota}
 use Rattle.resb_icu_text.specs.Inner.Build.{pairs_by, Grows}
 use Rattle.resb_icu_text.specs.Inner.Kept.{Test, Passing, IsKept, groups_pass, read_passes}

@@ -7,14 +7,15 @@ use Rattle.std.proofs.lemmas.Bool.{false≢true, and_parts}
 use Rattle.std.proofs.lemmas.Bool.Decides.{nat_tests}
 use Rattle.std.proofs.lemmas.List.Folds.{list_all-append}
 use Rattle.std.proofs.lemmas.Str.{encode_ascii, char_from_byte, length-encode, len_utf8_bounds}
+use Rattle.std.specs.Char.{digit_value, is_digit}
+use Rattle.resb_icu_grammar.proofs.FewDigitsLemmas.{few_first}
 use Rattle.resb_grammar.specs.Ascii as ascii
-use Rattle.resb_grammar.specs.Group.{is_hex, hex_value, hex_bytes, byte_before}
+use Rattle.resb_grammar.specs.Group.{is_hex, hex_bytes, byte_before}
 use Rattle.resb_icu_grammar.specs.Bytes.{backslash}
 use Rattle.resb_icu_grammar.specs.Blanks.{Skip}
 use Rattle.resb_icu_grammar.specs.Escapes.{Escape, itself, line_feed, carriage_return, tab}
 use Rattle.resb_icu_grammar.specs.Escapes.{four_digits, eight_digits, control, short_hex, octal}
-use Rattle.resb_icu_grammar.specs.Escapes.{is_octal, is_lost}
-use Rattle.resb_icu_grammar.proofs.Lexical.{octal_first}
+use Rattle.resb_icu_grammar.specs.Escapes.{is_lost}
 use Rattle.resb_icu_grammar.specs.Pieces.{QuotedBytes, ends, byte, escape, Joined, last_piece}
 use Rattle.resb_icu_grammar.specs.Pieces.{one_more}
 use Rattle.resb_icu_grammar.proofs.Lexical.{Skip-one}
@@ -33,10 +34,10 @@ pairs_say (a ∷ b ∷ s) n h e =
     let p = and_parts (is_hex a) _ h in
     let q = and_parts (is_hex b) _ p.1 in
     let r = pairs_say s (n - 1) q.1 (omega arith) in
-    ((hex_value a * 16 + hex_value b) ∷ r.0, said p.0 q.0 r.1, omega (arith, r.2))
+    ((digit_value a * 16 + digit_value b) ∷ r.0, said p.0 q.0 r.1, omega (arith, r.2))
   where
     said : {bytes : List ℕ} → is_hex a ≡ true → is_hex b ≡ true → hex_bytes s ≡ Some bytes
-        → hex_bytes (a ∷ b ∷ s) ≡ Some ((hex_value a * 16 + hex_value b) ∷ bytes)
+        → hex_bytes (a ∷ b ∷ s) ≡ Some ((digit_value a * 16 + digit_value b) ∷ bytes)
     said x y z = rw (x, y, z) refl
 
 -- and what says bytes is digits in pairs
@@ -49,12 +50,12 @@ pairs_are (a ∷ b ∷ s) bytes e =
     by (is_hex a) (is_hex b) (hex_bytes s) refl refl e (λ bs f. pairs_are s bs f)
   where
     by : (x y : Bool) (o : Option (List ℕ)) → is_hex a ≡ x → is_hex b ≡ y
-        → byte_before (x && y) (hex_value a * 16 + hex_value b) o ≡ Some bytes
+        → byte_before (x && y) (digit_value a * 16 + digit_value b) o ≡ Some bytes
         → ((bs : List ℕ) → o ≡ Some bs → (are_digits s ≡ true) × (length s ≡ 2 * length bs))
         → (are_digits (a ∷ b ∷ s) ≡ true) × (length (a ∷ b ∷ s) ≡ 2 * length bytes)
     by true true (Some bs) h k g f =
         let r = f bs refl in
-        let same : (hex_value a * 16 + hex_value b) ∷ bs ≡ bytes = cc in
+        let same : (digit_value a * 16 + digit_value b) ∷ bs ≡ bytes = cc in
         (rw (h, k, r.0) refl, omega (arith, r.1, ap length same))
     by true true None h k g f = absurd cc
     by true false o h k g f = absurd cc
@@ -86,7 +87,7 @@ hex_encoded c h = by (encode_utf8 c) refl
     by [] e = absurd (omega (arith, length-encode c, (len_utf8_bounds c).0, ap length e))
     by (b ∷ t) e = first b t (is_hex b) e refl
 
-octal_ascii : (b : ℕ) → is_octal b ≡ true → (0 < b) × (b < 128)
+octal_ascii : (b : ℕ) → is_digit b 8 ≡ true → (0 < b) × (b < 128)
 octal_ascii b h = (grind (arith, nat_tests, h), grind (arith, nat_tests, h))
 
 lost : (c first : ℕ) → c ≡ first → is_lost first c ≡ true
@@ -112,7 +113,7 @@ escape_no_digit text at to s (control h l m) is =
     absurd (omega (arith, same, h))
 escape_no_digit text at to s (short_hex c _ h p o) is = ap is_hex h
 escape_no_digit text at to s (octal c _ p o) is =
-    let low = octal_ascii (slice_index text at) (octal_first text at to c p) in
+    let low = octal_ascii (slice_index text at) (few_first p) in
     let same : c ≡ slice_index text at =
     char_from_byte (slice_index text at ∷ []) [] c (sym (append-nil (encode_utf8 c) ∙ is)) low.1
     (omega arith) in

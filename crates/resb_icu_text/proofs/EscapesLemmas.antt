@@ -1,18 +1,19 @@
 -- Laws of hex digits and escapes, as the reader's functions use them.
-use Rattle.std.proofs.Common.{◌≡◌, ◌≢◌, ℕ, ◌+◌, ◌-◌, ◌*◌, ◌%◌, ◌<◌, ◌≤◌, true, false, List, [], ◌∷◌}
+use Rattle.std.proofs.Common.{◌≡◌, ◌≢◌, ℕ, ◌+◌, ◌-◌, ◌*◌, ◌%◌, ◌<◌, true, false, List, [], ◌∷◌}
 use Rattle.std.proofs.Common.{arith, subst, sym, ap, ◌∙◌, encode_utf8, lit≤, refl}
 use Rattle.std.proofs.lemmas.Str.{encode_ascii}
 use Rattle.std.specs.Prelude.{slice_index}
 use Rattle.std.proofs.lemmas.Bool.{false≢true, and_parts, and_from}
 use Rattle.std.proofs.lemmas.Bool.Decides.{nat_tests}
-use Rattle.std.specs.Char.{is_ascii_alphanumeric}
-use Rattle.resb_grammar.specs.Group.{is_hex, hex_value}
+use Rattle.std.specs.Char.{is_ascii_alphanumeric, digit_value, IsScalar, is_digit}
+use Rattle.resb_grammar.specs.Lexical.{digits_value}
+use Rattle.resb_grammar.specs.Group.{is_hex}
 use Rattle.resb_icu_grammar.specs.Bytes.{backslash}
-use Rattle.resb_icu_grammar.specs.Escapes.{Escape, itself, line_feed, carriage_return, tab}
-use Rattle.resb_icu_grammar.specs.Escapes.{four_digits, eight_digits, are_hex, hex_number}
-use Rattle.resb_icu_grammar.specs.Escapes.{is_surrogate, is_not_meant, control, short_hex, octal}
-use Rattle.resb_icu_grammar.specs.Escapes.{is_octal}
-use Rattle.resb_icu_grammar.proofs.Lexical.{octal_first, no_octal}
+use Rattle.resb_icu_grammar.specs.Escapes.{Escape, itself, line_feed, carriage_return, tab, is_lost}
+use Rattle.resb_icu_grammar.specs.Escapes.{four_digits, eight_digits, are_hex}
+use Rattle.resb_icu_grammar.specs.Escapes.{control, short_hex, octal}
+use Rattle.resb_icu_grammar.proofs.Lexical.{no_octal}
+use Rattle.resb_icu_grammar.proofs.FewDigitsLemmas.{few_first}
 
 pub hex_some : (b : ℕ) → is_hex b ≡ true → 0 < b
 hex_some b h = grind (arith, nat_tests, h)
@@ -20,18 +21,18 @@ hex_some b h = grind (arith, nat_tests, h)
 module _ (text : List ℕ) (from : ℕ) where
   -- four hex digits, and the number that they say
   pub four_are : (a b c d v : ℕ) → is_hex (slice_index text from) ≡ true
-      → a ≡ hex_value (slice_index text from) → is_hex (slice_index text (from + 1)) ≡ true
-      → b ≡ hex_value (slice_index text (from + 1)) → is_hex (slice_index text (from + 2)) ≡ true
-      → c ≡ hex_value (slice_index text (from + 2)) → is_hex (slice_index text (from + 3)) ≡ true
-      → d ≡ hex_value (slice_index text (from + 3))
+      → a ≡ digit_value (slice_index text from) → is_hex (slice_index text (from + 1)) ≡ true
+      → b ≡ digit_value (slice_index text (from + 1)) → is_hex (slice_index text (from + 2)) ≡ true
+      → c ≡ digit_value (slice_index text (from + 2)) → is_hex (slice_index text (from + 3)) ≡ true
+      → d ≡ digit_value (slice_index text (from + 3))
       → v ≡ ((a * 16 + b) * 16 + c) * 16 + d
-      → (are_hex text from 4 ≡ true) × (v ≡ hex_number text from 4)
+      → (are_hex text from 4 ≡ true) × (v ≡ digits_value 16 text from 4)
   four_are a b c d v h e h1 e1 h2 e2 h3 e3 is =
       let z : from + 0 ≡ from = omega arith in
       let h0 : is_hex (slice_index text (from + 0)) ≡ true =
       subst (λ n. is_hex (slice_index text n) ≡ true) (sym z) h in
-      let e0 : a ≡ hex_value (slice_index text (from + 0)) =
-      subst (λ n. a ≡ hex_value (slice_index text n)) (sym z) e in
+      let e0 : a ≡ digit_value (slice_index text (from + 0)) =
+      subst (λ n. a ≡ digit_value (slice_index text n)) (sym z) e in
       (and_from _ _ (and_from _ _ (and_from _ _ h0 h1) h2) h3, omega (arith, is, e0, e1, e2, e3))
 
   -- each of four hex digits is one
@@ -52,14 +53,14 @@ digit_moved : (text : List ℕ) (a b : ℕ) → a ≡ b → is_hex (slice_index 
 digit_moved text a b e h = subst (λ n. is_hex (slice_index text n) ≡ true) e h
 
 value_moved : (text : List ℕ) (a b : ℕ) → a ≡ b
-    → hex_value (slice_index text a) ≡ hex_value (slice_index text b)
-value_moved text a b e = ap (λ n. hex_value (slice_index text n)) e
+    → digit_value (slice_index text a) ≡ digit_value (slice_index text b)
+value_moved text a b e = ap (λ n. digit_value (slice_index text n)) e
 
 -- eight hex digits, and the number that they say
 pub eight_are : (text : List ℕ) (from high low v : ℕ) → are_hex text from 4 ≡ true
-    → high ≡ hex_number text from 4 → are_hex text (from + 4) 4 ≡ true
-    → low ≡ hex_number text (from + 4) 4 → v ≡ high * 65536 + low
-    → (are_hex text from 8 ≡ true) × (v ≡ hex_number text from 8)
+    → high ≡ digits_value 16 text from 4 → are_hex text (from + 4) 4 ≡ true
+    → low ≡ digits_value 16 text (from + 4) 4 → v ≡ high * 65536 + low
+    → (are_hex text from 8 ≡ true) × (v ≡ digits_value 16 text from 8)
 eight_are text from high low v h e l f is =
     let p = four_parts text (from + 4) l in
     let d4 = p.0 in
@@ -98,24 +99,24 @@ not_last text from f h = f (eight_parts text from h).1
 
 -- no escape of digits stands where they say no character
 pub no_short : (text : List ℕ) (at : ℕ) → slice_index text at ≡ 117
-    → ((are_hex text (at + 1) 4 ≡ true) → is_surrogate (hex_number text (at + 1) 4) ≡ false
-    → hex_number text (at + 1) 4 ≢ backslash → ⊥)
+    → ((are_hex text (at + 1) 4 ≡ true) → IsScalar (digits_value 16 text (at + 1) 4)
+    → digits_value 16 text (at + 1) 4 ≢ backslash → ⊥)
     → (to : ℕ) (s : List ℕ) → Escape text at to s → ⊥
 no_short text at e f to s (itself g h) = false≢true (sym h ∙ ap is_ascii_alphanumeric e)
 no_short text at e f to s (line_feed h) = absurd (omega arith)
 no_short text at e f to s (carriage_return h) = absurd (omega arith)
 no_short text at e f to s (tab h) = absurd (omega arith)
 no_short text at e f to s (four_digits c h x i y z) =
-    f x (subst (λ n. is_surrogate n ≡ false) i y) (λ g. z (i ∙ g))
+    f x (subst IsScalar i y) (λ g. z (i ∙ g))
 no_short text at e f to s (eight_digits c h x i y z) = absurd (omega arith)
 no_short text at e f to s (control h l m) = absurd (omega arith)
 no_short text at e f to s (short_hex c _ h p o) = absurd (omega arith)
 no_short text at e f to s (octal c _ p o) =
-    no_octal _ 117 (octal_first text at to c p) e refl
+    no_octal _ 117 (few_first p) e refl
 
 pub no_long : (text : List ℕ) (at : ℕ) → slice_index text at ≡ 85
-    → ((are_hex text (at + 1) 8 ≡ true) → hex_number text (at + 1) 8 ≤ 0x10_ffff
-    → is_not_meant (hex_number text (at + 1) 8) ≡ false → ⊥)
+    → ((are_hex text (at + 1) 8 ≡ true) → IsScalar (digits_value 16 text (at + 1) 8)
+    → is_lost 85 (digits_value 16 text (at + 1) 8) ≡ false → ⊥)
     → (to : ℕ) (s : List ℕ) → Escape text at to s → ⊥
 no_long text at e f to s (itself g h) = false≢true (sym h ∙ ap is_ascii_alphanumeric e)
 no_long text at e f to s (line_feed h) = absurd (omega arith)
@@ -123,11 +124,11 @@ no_long text at e f to s (carriage_return h) = absurd (omega arith)
 no_long text at e f to s (tab h) = absurd (omega arith)
 no_long text at e f to s (four_digits c h x i y z) = absurd (omega arith)
 no_long text at e f to s (eight_digits c h x i y z) =
-    f x (omega (arith, i, y)) (subst (λ n. is_not_meant n ≡ false) i z)
+    f x (subst IsScalar i y) (subst (λ n. is_lost 85 n ≡ false) i z)
 no_long text at e f to s (control h l m) = absurd (omega arith)
 no_long text at e f to s (short_hex c _ h p o) = absurd (omega arith)
 no_long text at e f to s (octal c _ p o) =
-    no_octal _ 85 (octal_first text at to c p) e refl
+    no_octal _ 85 (few_first p) e refl
 
 -- nor one of a control character where no character of ASCII stands
 pub no_control : (text : List ℕ) (at : ℕ) → slice_index text at ≡ 99
@@ -142,12 +143,12 @@ no_control text at e f to s (eight_digits c h x i y z) = absurd (omega arith)
 no_control text at e f to s (control h l m) = f l m
 no_control text at e f to s (short_hex c _ h p o) = absurd (omega arith)
 no_control text at e f to s (octal c _ p o) =
-    no_octal _ 99 (octal_first text at to c p) e refl
+    no_octal _ 99 (few_first p) e refl
 
 -- no other letter or digit is an escape
 pub no_escape : (text : List ℕ) (at b : ℕ) → b ≡ slice_index text at
     → is_ascii_alphanumeric b ≡ true → b ≢ 110 → b ≢ 114 → b ≢ 116 → b ≢ 117 → b ≢ 85 → b ≢ 99
-    → b ≢ 120 → is_octal b ≡ false → (to : ℕ) (s : List ℕ) → Escape text at to s → ⊥
+    → b ≢ 120 → is_digit b 8 ≡ false → (to : ℕ) (s : List ℕ) → Escape text at to s → ⊥
 no_escape text at b e a n r t u l d q i to s (itself g h) =
     false≢true (sym h ∙ ap is_ascii_alphanumeric (sym e) ∙ a)
 no_escape text at b e a n r t u l d q i to s (line_feed h) = n (e ∙ h)
@@ -158,7 +159,7 @@ no_escape text at b e a n r t u l d q i to s (eight_digits c h x j y z) = l (e �
 no_escape text at b e a n r t u l d q i to s (control h p m) = d (e ∙ h)
 no_escape text at b e a n r t u l d q i to s (short_hex c _ h p o) = q (e ∙ h)
 no_escape text at b e a n r t u l d q i to s (octal c _ p o) =
-    false≢true (sym i ∙ ap is_octal e ∙ octal_first text at to c p)
+    false≢true (sym i ∙ ap (λ d. is_digit d 8) e ∙ few_first p)
 
 -- the bytes of the three characters that have a letter
 feed_bytes : encode_utf8 10 ≡ 10 ∷ []
@@ -183,15 +184,15 @@ pub is_tab : (text : List ℕ) (at : ℕ) → slice_index text at ≡ 116
 is_tab text at e = subst (λ s. Escape text at (at + 1) s) (sym tab_bytes) (tab e)
 
 pub is_short : (text : List ℕ) (at n c : ℕ) → slice_index text at ≡ 117
-    → are_hex text (at + 1) 4 ≡ true → n ≡ hex_number text (at + 1) 4 → c ≡ n
-    → is_surrogate n ≡ false → n ≢ backslash → Escape text at (at + 5) (encode_utf8 c)
+    → are_hex text (at + 1) 4 ≡ true → n ≡ digits_value 16 text (at + 1) 4 → c ≡ n
+    → IsScalar n → n ≢ backslash → Escape text at (at + 5) (encode_utf8 c)
 is_short text at n c h x e is y z =
     subst (λ k. Escape text at (at + 5) (encode_utf8 k)) (sym is)
     (four_digits n h x e y z)
 
 pub is_long : (text : List ℕ) (at n c : ℕ) → slice_index text at ≡ 85
-    → are_hex text (at + 1) 8 ≡ true → n ≡ hex_number text (at + 1) 8 → c ≡ n
-    → n ≤ 0x10_ffff → is_not_meant n ≡ false → Escape text at (at + 9) (encode_utf8 c)
+    → are_hex text (at + 1) 8 ≡ true → n ≡ digits_value 16 text (at + 1) 8 → c ≡ n
+    → IsScalar n → is_lost 85 n ≡ false → Escape text at (at + 9) (encode_utf8 c)
 is_long text at n c h x e is y z =
     subst (λ k. Escape text at (at + 9) (encode_utf8 k)) (sym is)
     (eight_digits n h x e y z)
@@ -215,20 +216,19 @@ second_ascii text at b e low high =
 
 -- four digits say no character that an escape may stand for
 pub said_short : (text : List ℕ) (at n : ℕ) → slice_index text at ≡ 117
-    → n ≡ hex_number text (at + 1) 4 → n < 65536
-    → (n < 65536 → is_surrogate n ≡ false → n ≢ backslash → ⊥)
+    → n ≡ digits_value 16 text (at + 1) 4 → (IsScalar n → n ≢ backslash → ⊥)
     → (to : ℕ) (s : List ℕ) → Escape text at to s → ⊥
-said_short text at n h e low f =
-    no_short text at h (λ x y z. f low (subst (λ k. is_surrogate k ≡ false) (sym e) y)
+said_short text at n h e f =
+    no_short text at h (λ x y z. f (subst IsScalar (sym e) y)
     (λ g. z (sym e ∙ g)))
 
 -- nor do eight
 pub said_long : (text : List ℕ) (at n : ℕ) → slice_index text at ≡ 85
-    → n ≡ hex_number text (at + 1) 8 → (n ≤ 0x10_ffff → is_not_meant n ≡ false → ⊥)
+    → n ≡ digits_value 16 text (at + 1) 8 → (IsScalar n → is_lost 85 n ≡ false → ⊥)
     → (to : ℕ) (s : List ℕ) → Escape text at to s → ⊥
 said_long text at n h e f =
-    no_long text at h (λ x y z. f (omega (arith, e, y))
-    (subst (λ k. is_not_meant k ≡ false) (sym e) z))
+    no_long text at h (λ x y z. f (subst IsScalar (sym e) y)
+    (subst (λ k. is_lost 85 k ≡ false) (sym e) z))
 
 -- a hex digit is ASCII
 pub hex_ascii : (b : ℕ) → is_hex b ≡ true → (0 < b) × (b < 128)

@@ -12,8 +12,7 @@ use Rattle.resb_tree.specs.Borrowing.{all_true, are_slice}
 use Rattle.resb_tree.specs.declared.resource.Resource.{String, Alias, Binary, Integer, IntVector}
 use Rattle.resb_tree.proofs.BorrowingLemmas.{all_snoc, string_passes, alias_passes, binary_passes}
 use Rattle.resb_tree.proofs.BorrowingLemmas.{integer_passes, vector_passes}
-use Rattle.resb_icu_grammar.specs.Words.{Text}
-use Rattle.resb_icu_text.specs.Lexemes.{Verbatim}
+use Rattle.resb_icu_grammar.specs.Words.{Text, Verbatim}
 use Rattle.resb_icu_text.specs.Inner.Found.{IsFound, is_whole}
 use Rattle.resb_icu_text.specs.Borrowed.{IsPutTogether, PassesWhatIsSaid, KeepsSlices}
 use Rattle.resb_icu_text.specs.Inner.Kept.{Test, members_pass, entries_pass}

@@ -4,11 +4,17 @@ use Rattle.std.proofs.Common.{ap, subst, append_assoc, suc, ◌+◌, ◌*◌, �
 use Rattle.std.proofs.Common.{arith, length-append, slice_index}
 use Rattle.std.proofs.lemmas.Bool.{false≢true}
 use Rattle.resb_grammar.specs.Ascii as ascii
+use Rattle.resb_icu_grammar.specs.declared.group_kind.IcuKind.{IcuKind as Kind}
+use Rattle.resb_icu_grammar.specs.declared.group_kind.IcuKind.TheVariants.{
+  String as string_kind,
+  Alias as alias_kind,
+  Binary as binary_kind,
+  Integer as integer_kind,
+  IntVector as vector_kind,
+}
 use Rattle.resb_icu_grammar.specs.Groups.{digit_bytes, last_number, last_comma, one_more}
 use Rattle.resb_icu_grammar.specs.Groups.{string_content, alias_content, binary_content}
 use Rattle.resb_icu_grammar.specs.Groups.{integer_content, no_numbers, numbers}
-use Rattle.resb_icu_grammar.specs.Kinds.{Kind, string_kind, alias_kind, binary_kind, integer_kind}
-use Rattle.resb_icu_grammar.specs.Kinds.{vector_kind}
 use Rattle.resb_grammar.specs.Limit.{number_bytes}
 use Rattle.resb_tree.specs.View.{tree_of}
 use Rattle.resb_tree.specs.declared.resource.Resource.{Resource}

@@ -1,18 +1,17 @@
 -- What a string stands for isn't longer than its text.
 use Rattle.std.proofs.Common.{◌≡◌, ℕ, ◌+◌, ◌-◌, ◌<◌, ◌≤◌, true, List, ◌∷◌, length, arith, ap, sym}
-use Rattle.std.proofs.Common.{◌∙◌, encode_utf8, lit≤, length-drop}
+use Rattle.std.proofs.Common.{◌∙◌, encode_utf8, lit≤, length-drop, ◌⊎◌, inl, inr, ⊎_elim}
 use Rattle.std.specs.Prelude.{slice_index, nat_lt, Bool, false, cond}
-use Rattle.std.proofs.lemmas.Bool.{false≢true}
+use Rattle.std.proofs.lemmas.Bool.{false≢true, cases_lt}
 use Rattle.resb_grammar.specs.ByteRuns.{is_white}
 use Rattle.std.proofs.lemmas.List.{length-append, length-take-le}
 use Rattle.std.proofs.lemmas.Str.{length-encode, len_utf8_bounds, len_utf8_ascii}
 use Rattle.std.proofs.lemmas.Bool.Decides.{nat_tests}
 use Rattle.resb_icu_grammar.specs.Escapes.{Escape, itself, line_feed, carriage_return, tab}
 use Rattle.resb_icu_grammar.specs.Escapes.{four_digits, eight_digits, control, short_hex, octal}
-use Rattle.resb_icu_grammar.specs.Escapes.{one_digit, two_digits, one_octal, two_octal, three_octal}
-use Rattle.resb_icu_grammar.specs.Escapes.{is_octal}
-use Rattle.resb_grammar.specs.Group.{is_hex, hex_value}
-use Rattle.std.specs.Char.{len_utf8}
+use Rattle.std.specs.Char.{len_utf8, digit_value, is_digit}
+use Rattle.resb_grammar.specs.Lexical.{digits_value}
+use Rattle.resb_icu_grammar.specs.Escapes.{FewDigits}
 use Rattle.resb_icu_grammar.specs.Pieces.{QuotedBytes, ends, byte, escape, Joined, last_piece}
 use Rattle.resb_icu_grammar.specs.Pieces.{one_more}
 use Rattle.resb_icu_grammar.specs.Blanks.{Comment, line, block, Blanks, none, white, comment}
@@ -53,11 +52,50 @@ encoded_most c l = omega (arith, length-encode c, three)
         by false true = omega arith
         by false false = rw low (lit≤ tt)
 
-hex_low : (b : ℕ) → is_hex b ≡ true → hex_value b < 16
+hex_low : (b : ℕ) → is_digit b 16 ≡ true → digit_value b < 16
 hex_low b h = grind (arith, nat_tests, h)
 
-octal_low : (b : ℕ) → is_octal b ≡ true → b - 48 < 8
+octal_low : (b : ℕ) → is_digit b 8 ≡ true → digit_value b < 8
 octal_low b h = grind (arith, nat_tests, h)
+
+-- what so many digits say
+said_by : {radix most : ℕ} {text : List ℕ} {from to c : ℕ} (n : ℕ)
+    → FewDigits radix most text from to c → to ≡ from + n → c ≡ digits_value radix text from n
+said_by {radix = radix} {text = text} {from = from} {to = to} n p e =
+    let count : to - from ≡ n = omega (arith, e) in
+    p.means ∙ ap (digits_value radix text from) count
+
+-- one hex digit says a character of ASCII, and two say one below U+0400
+hex_short : (text : List ℕ) (from to c : ℕ) → FewDigits 16 2 text from to c
+    → (c < 128) ⊎ ((to ≡ from + 2) × (c < 1024))
+hex_short text from to c p = ⊎_elim
+    (λ (l : from + 1 < to).
+    let e : to ≡ from + 2 = omega (arith, l, p.few) in
+    let first = hex_low (slice_index text (from + 0)) (p.each (from + 0) (omega arith) (omega (arith, p.some))) in
+    let second = hex_low (slice_index text (from + 1)) (p.each (from + 1) (omega arith) l) in
+    inr (e, omega (arith, said_by 2 p e, first, second)))
+    (λ (l : to ≤ from + 1).
+    let first = hex_low (slice_index text (from + 0)) (p.each (from + 0) (omega arith) (omega (arith, p.some))) in
+    inl (omega (arith, said_by 1 p (omega (arith, l, p.some)), first)))
+    (cases_lt (from + 1) to)
+
+-- one octal digit and two say a character of ASCII, and three say one below U+0400
+octal_short : (text : List ℕ) (from to c : ℕ) → FewDigits 8 3 text from to c
+    → (c < 128) ⊎ ((to ≡ from + 3) × (c < 1024))
+octal_short text from to c p =
+    let first = octal_low (slice_index text (from + 0)) (p.each (from + 0) (omega arith) (omega (arith, p.some))) in
+    ⊎_elim
+    (λ (l : from + 1 < to).
+    let second = octal_low (slice_index text (from + 1)) (p.each (from + 1) (omega arith) l) in
+    ⊎_elim
+    (λ (m : from + 2 < to).
+    let e : to ≡ from + 3 = omega (arith, m, p.few) in
+    let third = octal_low (slice_index text (from + 2)) (p.each (from + 2) (omega arith) m) in
+    inr (e, omega (arith, said_by 3 p e, first, second, third)))
+    (λ (m : to ≤ from + 2). inl (omega (arith, said_by 2 p (omega (arith, l, m)), first, second)))
+    (cases_lt (from + 2) to))
+    (λ (l : to ≤ from + 1). inl (omega (arith, said_by 1 p (omega (arith, l, p.some)), first)))
+    (cases_lt (from + 1) to)
 
 pub escape_short : (text : List ℕ) (at to : ℕ) (s : List ℕ) → Escape text at to s
     → length s + at ≤ to
@@ -68,23 +106,14 @@ escape_short text at to s (tab h) = omega arith
 escape_short text at to s (four_digits c h k e f g) = omega (arith, encoded c)
 escape_short text at to s (eight_digits c h k e f g) = omega (arith, encoded c)
 escape_short text at to s (control h l m) = omega arith
-escape_short text at to s (short_hex c _ h (one_digit k l) o) =
-    omega (arith, encoded_low c (omega (arith, hex_low (slice_index text (at + 1)) k)))
-escape_short text at to s (short_hex c _ h (two_digits k l) o) =
-    let first = hex_low (slice_index text (at + 1)) k in
-    let second = hex_low (slice_index text (at + 1 + 1)) l in
-    omega (arith, encoded_most c (omega (arith, first, second)))
-escape_short text at to s (octal c _ (one_octal h k) o) =
-    omega (arith, encoded_low c (omega (arith, octal_low (slice_index text at) h)))
-escape_short text at to s (octal c _ (two_octal h k l) o) =
-    let first = octal_low (slice_index text at) h in
-    let second = octal_low (slice_index text (at + 1)) k in
-    omega (arith, encoded_low c (omega (arith, first, second)))
-escape_short text at to s (octal c _ (three_octal h k l) o) =
-    let first = octal_low (slice_index text at) h in
-    let second = octal_low (slice_index text (at + 1)) k in
-    let third = octal_low (slice_index text (at + 2)) l in
-    omega (arith, encoded_most c (omega (arith, first, second, third)))
+escape_short text at to s (short_hex c _ h p o) = ⊎_elim
+    (λ (l : c < 128). omega (arith, encoded_low c l, p.some))
+    (λ (m : (to ≡ at + 1 + 2) × (c < 1024)). omega (arith, encoded_most c m.1, m.0))
+    (hex_short text (at + 1) to c p)
+escape_short text at to s (octal c _ p o) = ⊎_elim
+    (λ (l : c < 128). omega (arith, encoded_low c l, p.some))
+    (λ (m : (to ≡ at + 3) × (c < 1024)). omega (arith, encoded_most c m.1, m.0))
+    (octal_short text at to c p)
 
 -- nor is what a piece says
 pub inside_short : (text : List ℕ) (at to : ℕ) (s : List ℕ) → QuotedBytes text at to s

@@ -1,74 +1,79 @@
 -- Laws of the numbers of one hex digit or two, and of octal digits, that escapes say.
-use Rattle.std.proofs.Common.{◌≡◌, ◌≢◌, ℕ, ◌+◌, ◌-◌, ◌*◌, ◌<◌, true, false, List, arith, subst}
-use Rattle.std.proofs.Common.{sym, ap, ◌∙◌, encode_utf8}
+use Rattle.std.proofs.Common.{◌≡◌, ◌≢◌, ℕ, ◌+◌, ◌-◌, ◌*◌, ◌<◌, true, false, List, arith, subst, inl}
+use Rattle.std.proofs.Common.{sym, ap, ◌∙◌, encode_utf8, inr, refl}
 use Rattle.std.specs.Prelude.{slice_index}
-use Rattle.std.specs.Char.{is_ascii_alphanumeric}
+use Rattle.std.specs.Char.{is_ascii_alphanumeric, digit_value, is_digit}
 use Rattle.std.proofs.lemmas.Bool.{false≢true}
 use Rattle.std.proofs.lemmas.Bool.Decides.{nat_tests}
-use Rattle.resb_grammar.specs.Group.{is_hex, hex_value}
+use Rattle.resb_icu_grammar.proofs.FewDigitsLemmas.{few_last, FewDigits-one}
+use Rattle.resb_icu_grammar.proofs.FewDigitsLemmas.{Says, said_none, said_more, few_said, few_first}
+use Rattle.resb_grammar.specs.Group.{is_hex}
 use Rattle.resb_icu_grammar.specs.Escapes.{Escape, itself, line_feed, carriage_return, tab}
 use Rattle.resb_icu_grammar.specs.Escapes.{four_digits, eight_digits, control, short_hex, octal}
-use Rattle.resb_icu_grammar.specs.Escapes.{ShortHex, one_digit, two_digits, Octal, one_octal}
-use Rattle.resb_icu_grammar.specs.Escapes.{two_octal, three_octal, is_octal, is_lost}
-use Rattle.resb_icu_grammar.proofs.Lexical.{ShortHex-one, Octal-one, octal_first}
+use Rattle.resb_icu_grammar.specs.Escapes.{is_lost, FewDigits}
 use Rattle.resb_icu_text.specs.Inner.Escaped.{ShortNumber, by_hex, by_octal}
 
 -- no hex digits stand where the first is none
 pub no_short_hex : (text : List ℕ) (at : ℕ) → slice_index text at ≡ 120
     → is_hex (slice_index text (at + 1)) ≡ false
     → (to c : ℕ) → ShortNumber text at to c → ⊥
-no_short_hex text at e h to c (by_hex x (one_digit k l)) = false≢true (sym h ∙ k)
-no_short_hex text at e h to c (by_hex x (two_digits k l)) = false≢true (sym h ∙ k)
+no_short_hex text at e h to c (by_hex x p) = false≢true (sym h ∙ few_first p)
 no_short_hex text at e h to c (by_octal x o) = x e
 
 -- nor octal ones
 pub no_octal_digits : (text : List ℕ) (at : ℕ) → slice_index text at ≢ 120
-    → is_octal (slice_index text at) ≡ false → (to c : ℕ) → ShortNumber text at to c → ⊥
+    → is_digit (slice_index text at) 8 ≡ false → (to c : ℕ) → ShortNumber text at to c → ⊥
 no_octal_digits text at e h to c (by_hex x s) = e x
-no_octal_digits text at e h to c (by_octal x o) = false≢true (sym h ∙ octal_first text at to c o)
+no_octal_digits text at e h to c (by_octal x p) = false≢true (sym h ∙ few_first p)
 
 module _ (text : List ℕ) (at : ℕ) where
+  -- the first digit, and a second one
+  one : {radix : ℕ} (b v : ℕ) → b ≡ slice_index text at → is_digit b radix ≡ true
+      → v ≡ digit_value b → Says radix text at 1 (0 * radix + v)
+  one b v e h is = said_more said_none at b v (omega arith) e h is
+
+  two : {radix : ℕ} (b d v w : ℕ) → b ≡ slice_index text at → d ≡ slice_index text (at + 1)
+      → is_digit b radix ≡ true → v ≡ digit_value b → is_digit d radix ≡ true → w ≡ digit_value d
+      → Says radix text at 2 ((0 * radix + v) * radix + w)
+  two b d v w e f h is k are = said_more (one b v e h is) (at + 1) d w (omega arith) f k are
+
   -- the digits that stand there, and the number that they say
   pub hex_one : (b d v : ℕ) → b ≡ slice_index text at → d ≡ slice_index text (at + 1)
-      → is_hex b ≡ true → v ≡ hex_value b → is_hex d ≡ false → ShortHex text at (at + 1) v
+      → is_hex b ≡ true → v ≡ digit_value b → is_hex d ≡ false
+      → FewDigits 16 2 text at (at + 1) v
   hex_one b d v e f h is k =
-      subst (λ n. ShortHex text at (at + 1) n) (sym (is ∙ ap hex_value e))
-      (one_digit (sym (ap is_hex e) ∙ h) (sym (ap is_hex f) ∙ k))
+      few_said (one b v e h is) (omega arith) (omega arith) refl (omega arith)
+      (inr (sym (ap is_hex f) ∙ k))
 
   pub hex_two : (b d v w : ℕ) → b ≡ slice_index text at → d ≡ slice_index text (at + 1)
-      → is_hex b ≡ true → v ≡ hex_value b → is_hex d ≡ true → w ≡ hex_value d
-      → ShortHex text at (at + 2) (v * 16 + w)
+      → is_hex b ≡ true → v ≡ digit_value b → is_hex d ≡ true → w ≡ digit_value d
+      → FewDigits 16 2 text at (at + 2) (v * 16 + w)
   hex_two b d v w e f h is k are =
-      let first : v ≡ hex_value (slice_index text at) = is ∙ ap hex_value e in
-      let second : w ≡ hex_value (slice_index text (at + 1)) = are ∙ ap hex_value f in
-      subst (λ n. ShortHex text at (at + 2) n) (omega (arith, first, second))
-      (two_digits (sym (ap is_hex e) ∙ h) (sym (ap is_hex f) ∙ k))
+      few_said (two b d v w e f h is k are) (omega arith) (omega arith) refl (omega arith)
+      (inl refl)
 
   pub octal_one : (b d v : ℕ) → b ≡ slice_index text at → d ≡ slice_index text (at + 1)
-      → is_octal b ≡ true → v ≡ b - 48 → is_octal d ≡ false → Octal text at (at + 1) v
+      → is_digit b 8 ≡ true → v ≡ digit_value b → is_digit d 8 ≡ false
+      → FewDigits 8 3 text at (at + 1) v
   octal_one b d v e f h is k =
-      subst (λ n. Octal text at (at + 1) n) (sym (is ∙ ap (λ n. n - 48) e))
-      (one_octal (sym (ap is_octal e) ∙ h) (sym (ap is_octal f) ∙ k))
+      few_said (one b v e h is) (omega arith) (omega arith) refl (omega arith)
+      (inr (sym (ap (λ c. is_digit c 8) f) ∙ k))
 
   pub octal_two : (b d g v w : ℕ) → b ≡ slice_index text at → d ≡ slice_index text (at + 1)
-      → g ≡ slice_index text (at + 2) → is_octal b ≡ true → v ≡ b - 48 → is_octal d ≡ true
-      → w ≡ d - 48 → is_octal g ≡ false → Octal text at (at + 2) (v * 8 + w)
+      → g ≡ slice_index text (at + 2) → is_digit b 8 ≡ true → v ≡ digit_value b
+      → is_digit d 8 ≡ true → w ≡ digit_value d → is_digit g 8 ≡ false
+      → FewDigits 8 3 text at (at + 2) (v * 8 + w)
   octal_two b d g v w e f q h is k are l =
-      let first : v ≡ slice_index text at - 48 = is ∙ ap (λ n. n - 48) e in
-      let second : w ≡ slice_index text (at + 1) - 48 = are ∙ ap (λ n. n - 48) f in
-      subst (λ n. Octal text at (at + 2) n) (omega (arith, first, second))
-      (two_octal (sym (ap is_octal e) ∙ h) (sym (ap is_octal f) ∙ k) (sym (ap is_octal q) ∙ l))
+      few_said (two b d v w e f h is k are) (omega arith) (omega arith) refl (omega arith)
+      (inr (sym (ap (λ c. is_digit c 8) q) ∙ l))
 
   pub octal_three : (b d g v w x : ℕ) → b ≡ slice_index text at → d ≡ slice_index text (at + 1)
-      → g ≡ slice_index text (at + 2) → is_octal b ≡ true → v ≡ b - 48 → is_octal d ≡ true
-      → w ≡ d - 48 → is_octal g ≡ true → x ≡ g - 48
-      → Octal text at (at + 3) ((v * 8 + w) * 8 + x)
+      → g ≡ slice_index text (at + 2) → is_digit b 8 ≡ true → v ≡ digit_value b
+      → is_digit d 8 ≡ true → w ≡ digit_value d → is_digit g 8 ≡ true → x ≡ digit_value g
+      → FewDigits 8 3 text at (at + 3) ((v * 8 + w) * 8 + x)
   octal_three b d g v w x e f q h is k are l say =
-      let first : v ≡ slice_index text at - 48 = is ∙ ap (λ n. n - 48) e in
-      let second : w ≡ slice_index text (at + 1) - 48 = are ∙ ap (λ n. n - 48) f in
-      let third : x ≡ slice_index text (at + 2) - 48 = say ∙ ap (λ n. n - 48) q in
-      subst (λ n. Octal text at (at + 3) n) (omega (arith, first, second, third))
-      (three_octal (sym (ap is_octal e) ∙ h) (sym (ap is_octal f) ∙ k) (sym (ap is_octal q) ∙ l))
+      few_said (said_more (two b d v w e f h is k are) (at + 2) g x (omega arith) q l say)
+      (omega arith) (omega arith) refl (omega arith) (inl refl)
 
 pub ruleset short_numbers = (no_short_hex, no_octal_digits)
 
@@ -86,26 +91,13 @@ is_short_number text at to n c b e (by_octal x s) same o =
 hex_is_ascii : (b : ℕ) → is_hex b ≡ true → (0 < b) × (b < 128)
 hex_is_ascii b h = (grind (arith, nat_tests, h), grind (arith, nat_tests, h))
 
-octal_is_ascii : (b : ℕ) → is_octal b ≡ true → (0 < b) × (b < 128)
+octal_is_ascii : (b : ℕ) → is_digit b 8 ≡ true → (0 < b) × (b < 128)
 octal_is_ascii b h = (grind (arith, nat_tests, h), grind (arith, nat_tests, h))
-
-last_at : (text : List ℕ) (i to : ℕ) → i ≡ to - 1
-    → (0 < slice_index text i) × (slice_index text i < 128)
-    → (0 < slice_index text (to - 1)) × (slice_index text (to - 1) < 128)
-last_at text i to e h = subst (λ k. (0 < slice_index text k) × (slice_index text k < 128)) e h
 
 pub last_ascii : (text : List ℕ) (at to c : ℕ) → ShortNumber text at to c
     → (0 < slice_index text (to - 1)) × (slice_index text (to - 1) < 128)
-last_ascii text at to c (by_hex x (one_digit k l)) =
-    last_at text (at + 1) to (omega arith) (hex_is_ascii _ k)
-last_ascii text at to c (by_hex x (two_digits k l)) =
-    last_at text (at + 1 + 1) to (omega arith) (hex_is_ascii _ l)
-last_ascii text at to c (by_octal x (one_octal h k)) =
-    last_at text at to (omega arith) (octal_is_ascii _ h)
-last_ascii text at to c (by_octal x (two_octal h k l)) =
-    last_at text (at + 1) to (omega arith) (octal_is_ascii _ k)
-last_ascii text at to c (by_octal x (three_octal h k l)) =
-    last_at text (at + 2) to (omega arith) (octal_is_ascii _ l)
+last_ascii text at to c (by_hex x p) = hex_is_ascii (slice_index text (to - 1)) (few_last p)
+last_ascii text at to c (by_octal x p) = octal_is_ascii (slice_index text (to - 1)) (few_last p)
 
 -- a byte that begins none of the other escapes
 module _ (text : List ℕ) (at b : ℕ) (e : b ≡ slice_index text at)
@@ -125,11 +117,11 @@ module _ (text : List ℕ) (at b : ℕ) (e : b ≡ slice_index text at)
   numbered f to s (short_hex c _ h p o) =
       f to c (by_hex h p) (ap (λ k. is_lost k c) (e ∙ h) ∙ o)
   numbered f to s (octal c _ p o) =
-      f to c (by_octal (λ h. no_x (octal_first text at to c p) h) p)
+      f to c (by_octal (λ h. no_x (few_first p) h) p)
       (ap (λ k. is_lost k c) e ∙ o)
     where
-      no_x : is_octal (slice_index text at) ≡ true → slice_index text at ≡ 120 → ⊥
-      no_x h k = false≢true (sym (ap is_octal k) ∙ h)
+      no_x : is_digit (slice_index text at) 8 ≡ true → slice_index text at ≡ 120 → ⊥
+      no_x h k = false≢true (sym (ap (λ c. is_digit c 8) k) ∙ h)
 
   -- so not where it says one that is lost
   pub lost_there : (k m : ℕ) → ShortNumber text at k m → is_lost b m ≡ true
@@ -139,8 +131,8 @@ module _ (text : List ℕ) (at b : ℕ) (e : b ≡ slice_index text at)
       other : (to c : ℕ) → ShortNumber text at k m → ShortNumber text at to c
           → is_lost b c ≡ false → ⊥
       other to c (by_hex x s) (by_hex y z) o =
-          false≢true (sym o ∙ ap (is_lost b) (ShortHex-one text (at + 1) to k c m z s).1 ∙ h)
+          false≢true (sym o ∙ ap (is_lost b) (FewDigits-one 16 2 text (at + 1) to k c m z s).1 ∙ h)
       other to c (by_hex x s) (by_octal y z) o = y x
       other to c (by_octal x s) (by_hex y z) o = x y
       other to c (by_octal x s) (by_octal y z) o =
-          false≢true (sym o ∙ ap (is_lost b) (Octal-one text at to k c m z s).1 ∙ h)
+          false≢true (sym o ∙ ap (is_lost b) (FewDigits-one 8 3 text at to k c m z s).1 ∙ h)

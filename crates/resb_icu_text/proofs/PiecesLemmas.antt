@@ -12,7 +12,6 @@ use Rattle.resb_grammar.specs.Ascii as ascii
 use Rattle.resb_icu_grammar.specs.Bytes.{backslash}
 use Rattle.resb_icu_grammar.specs.Escapes.{Escape, itself, line_feed, carriage_return, tab}
 use Rattle.resb_icu_grammar.specs.Escapes.{four_digits, eight_digits, control, short_hex, octal}
-use Rattle.resb_icu_grammar.specs.Escapes.{one_digit, two_digits, one_octal, two_octal, three_octal}
 use Rattle.resb_icu_grammar.specs.Faults.{PieceFault, NoEscapeAt}
 use Rattle.resb_icu_grammar.specs.Faults as faults
 use Rattle.resb_icu_grammar.specs.declared.expected.IcuExpected.{IcuExpected}
@@ -249,11 +248,8 @@ escape_order text at to s (tab h) = omega arith
 escape_order text at to s (four_digits c h k e f g) = omega arith
 escape_order text at to s (eight_digits c h k e f g) = omega arith
 escape_order text at to s (control h l m) = omega arith
-escape_order text at to s (short_hex _ _ _ (one_digit _ _) _) = omega arith
-escape_order text at to s (short_hex _ _ _ (two_digits _ _) _) = omega arith
-escape_order text at to s (octal _ _ (one_octal _ _) _) = omega arith
-escape_order text at to s (octal _ _ (two_octal _ _ _) _) = omega arith
-escape_order text at to s (octal _ _ (three_octal _ _ _) _) = omega arith
+escape_order text at to s (short_hex _ _ _ p _) = omega (arith, p.some)
+escape_order text at to s (octal _ _ p _) = omega (arith, p.some)
 
 -- a piece ends no earlier than it begins
 pub inside_order : (text : List ℕ) (at to : ℕ) (s : List ℕ) → QuotedBytes text at to s → at ≤ to

@@ -14,7 +14,6 @@ use Rattle.resb_icu_grammar.specs.Unquoted.{Unquoted, UnquotedRow, last_one, one
 use Rattle.resb_icu_grammar.specs.Unquoted.{begins_unquoted}
 use Rattle.resb_icu_grammar.specs.Limit.{is_put_together}
 use Rattle.resb_icu_grammar.proofs.Lexical.{Unquoted-one, joined_first, no_quote_row}
-use Rattle.resb_icu_text.specs.Lexemes.{Verbatim, a_word, a_piece}
 use Rattle.resb_icu_text.specs.Inner.Found.{IsFound, Shows, is_whole}
 use Rattle.resb_icu_text.specs.Inner.Unquoted.{StringOfRow}
 use Rattle.resb_icu_text.specs.declared.strings.Found.{Found}
@@ -25,7 +24,9 @@ use Rattle.resb_icu_text.proofs.PartsLemmas.{Rows, RowFrom, one_alone, and_other
 use Rattle.resb_icu_text.proofs.StringsLemmas.{slice_cons}
 use Rattle.resb_icu_text.proofs.Lists.{slice_none}
 use Rattle.std.specs.Option.{option_map}
-use Rattle.resb_grammar.specs.Group.{is_hex, hex_value, hex_bytes, byte_before}
+use Rattle.std.specs.Char.{digit_value}
+use Rattle.resb_icu_grammar.specs.Words.{Verbatim, a_word, a_piece}
+use Rattle.resb_grammar.specs.Group.{is_hex, hex_bytes, byte_before}
 use Rattle.resb_icu_grammar.specs.Groups.{spaced_bytes, digit_bytes}
 use Rattle.resb_icu_grammar.specs.Pieces.{Joined}
 use Rattle.resb_icu_text.specs.Inner.Digits.{SaysPairs, SaysNone, RowSaysPairs, RowSaysNone}
@@ -168,7 +169,7 @@ spaced_pairs (a ∷ b ∷ w) bs rest o e f =
     (λ l g. spaced_pairs w l rest o g f) o refl
   where
     by : (x y : Bool) (p : Option (List ℕ)) → is_hex a ≡ x → is_hex b ≡ y
-        → byte_before (x && y) (hex_value a * 16 + hex_value b) p ≡ Some bs
+        → byte_before (x && y) (digit_value a * 16 + digit_value b) p ≡ Some bs
         → ((l : List ℕ) → p ≡ Some l
         → spaced_bytes (w ++ rest) ≡ option_map (λ (k : List ℕ). l ++ k) o)
         → (q : Option (List ℕ)) → o ≡ q
@@ -179,7 +180,7 @@ spaced_pairs (a ∷ b ∷ w) bs rest o e f =
         rw (other, h, k, deeper, n) refl
     by true true (Some l) h k g f (Some m) n =
         let other : (a == ascii.space) ≡ false = grind (arith, nat_tests, h) in
-        let same : (hex_value a * 16 + hex_value b) ∷ l ≡ bs = cc in
+        let same : (digit_value a * 16 + digit_value b) ∷ l ≡ bs = cc in
         let deeper = f l refl in
         rw (other, h, k, deeper, n) (ap (λ (j : List ℕ). Some (j ++ m)) same)
     by true true None h k g f q n = absurd cc
@@ -208,7 +209,7 @@ spaced_none (a ∷ b ∷ w) s h e =
     other = (blank_parts a (b ∷ w) h).0
 
     by : (x y : Bool) (p : Option (List ℕ)) → is_hex a ≡ x → is_hex b ≡ y
-        → byte_before (x && y) (hex_value a * 16 + hex_value b) p ≡ None
+        → byte_before (x && y) (digit_value a * 16 + digit_value b) p ≡ None
         → (p ≡ None → spaced_bytes (w ++ ascii.space ∷ s) ≡ None)
         → spaced_bytes (a ∷ b ∷ (w ++ ascii.space ∷ s)) ≡ None
     by true true (Some l) k m g f = absurd cc

@@ -8,7 +8,6 @@ use Rattle.std.specs.Prelude.{slice_index, map, ◌==◌, Result, Ok, Err, Match
 use Rattle.std.proofs.lemmas.Bool.Decides.{nat_tests}
 use Rattle.std.specs.declared.borrow.CowStr.{CowStr}
 use Rattle.resb_grammar.specs.Ascii as ascii
-use Rattle.resb_icu_grammar.specs.Kinds.{Kind}
 use Rattle.resb_tree.specs.Borrowing as borrowing
 use Rattle.resb_tree.specs.Tree.{Tree, string}
 use Rattle.resb_tree.specs.View.{tree_of}
@@ -17,6 +16,7 @@ use Rattle.resb_grammar.specs.declared.limit.Weights.{Weights}
 use Rattle.resb_tree.specs.declared.resource.Resource.{String}
 use Rattle.resb_tree.proofs.ViewLemmas.{tree_of_string}
 use Rattle.resb_draft.specs.Drafts.{is_leaf}
+use Rattle.resb_icu_grammar.specs.declared.group_kind.IcuKind.{IcuKind as Kind}
 use Rattle.resb_icu_grammar.specs.Blanks.{Skip}
 use Rattle.resb_icu_grammar.specs.Limit.{key_bytes, next_key_bytes, joining_bytes}
 use Rattle.resb_icu_grammar.specs.Words.{Text, KeyText, GroupType}

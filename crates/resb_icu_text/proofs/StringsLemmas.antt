@@ -13,7 +13,7 @@ use Rattle.resb_icu_grammar.specs.Faults.{PieceFault, StringFault, this_piece, T
 use Rattle.resb_icu_grammar.specs.declared.expected.IcuExpected.{IcuExpected}
 use Rattle.resb_icu_grammar.proofs.Faults.{fault_no_string, unquoted_told}
 use Rattle.resb_icu_grammar.specs.Unquoted.{Unquoted, last_one, UnquotedRow}
-use Rattle.resb_icu_grammar.specs.Words.{Text, KeyText, HasNoEscape}
+use Rattle.resb_icu_grammar.specs.Words.{Text, KeyText, HasNoEscape, Verbatim, a_word, a_piece}
 use Rattle.resb_icu_grammar.specs.Unquoted as rows
 use Rattle.resb_icu_grammar.specs.Words as words
 use Rattle.resb_icu_grammar.proofs.Lexical.{Piece-one, no_quote_word, joined_first, Inside-one}
@@ -25,7 +25,7 @@ use Rattle.resb_icu_text.proofs.ReachLemmas.{reach_string}
 use Rattle.resb_grammar.proofs.ReachLemmas.{reach_low, reach_high}
 use Rattle.resb_icu_text.specs.declared.strings.Said.{Said}
 use Rattle.resb_icu_grammar.specs.Stuck.{NoStringAt}
-use Rattle.resb_icu_text.specs.Lexemes.{IsLexeme, Verbatim, a_word, a_piece}
+use Rattle.resb_icu_text.specs.Lexemes.{IsLexeme}
 use Rattle.resb_icu_text.specs.Inner.Ahead.{StringFails}
 use Rattle.resb_icu_text.specs.Inner.Found.{IsFound, IsSaid, Shows, length_of, fits_key, is_whole}
 use Rattle.resb_icu_text.specs.Inner.Unquoted.{row_goes_on}
@@ -113,13 +113,11 @@ no_escape_quoted text from last q r n k low high b =
 -- what may be a key is what stands in the text as it is, with bytes that a key may have
 pub key_plain : (text : List ℕ) (from to : ℕ) (s : List ℕ) → KeyText text from to s
     → Verbatim text from to s × (are_key_bytes s ≡ true)
-key_plain text from to s (words.a_word r w k) = (a_word r w, k)
-key_plain text from to s (words.quoted j p n k) = (a_piece j p n, k)
+key_plain text from to s k = (k.verbatim, k.fits)
 
 plain_key : (text : List ℕ) (from to : ℕ) (s : List ℕ) → Verbatim text from to s
     → are_key_bytes s ≡ true → KeyText text from to s
-plain_key text from to s (a_word r w) k = words.a_word r w k
-plain_key text from to s (a_piece j p n) k = words.quoted j p n k
+plain_key text from to s v k = record { verbatim = v; fits = k }
 
 plain_is_string : (text : List ℕ) (from to : ℕ) (s : List ℕ) → Verbatim text from to s
     → Text text from to s

@@ -4,7 +4,9 @@ use Rattle.std.proofs.Common.{get_or, drop, refl, sym, ap, subst, Some, drop-con
 use Rattle.std.specs.Prelude.{slice_get, slice_index, codes}
 use Rattle.resb_grammar.specs.Ascii as ascii
 use Rattle.resb_grammar.specs.GroupTypes.{Stands, NoFallback}
-use Rattle.resb_icu_grammar.specs.Kinds.{Kind, Names, table_kind}
+use Rattle.resb_icu_grammar.specs.declared.group_kind.IcuKind.{IcuKind as Kind}
+use Rattle.resb_icu_grammar.specs.declared.group_kind.IcuKind.TheVariants.{Table as table_kind}
+use Rattle.resb_icu_grammar.specs.Kinds.{Names}
 use Rattle.resb_icu_grammar.specs.Words.{Word, TypeName, GroupType, RootType, table_type}
 use Rattle.resb_icu_grammar.specs.Words.{no_fallback_type}
 use Rattle.resb_icu_grammar.specs.Expected.{instead_of}

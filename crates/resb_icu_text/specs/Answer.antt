@@ -1,7 +1,7 @@
 -- What a refusal says of a text.
-use Rattle.std.specs.Prelude.{◌≡◌, ◌⊎◌, ℕ, Bool, List}
-use Rattle.resb_tree.specs.Tree.{Tree}
+use Rattle.std.specs.Prelude.{◌≡◌, ◌⊎◌, ℕ, List}
 use Rattle.resb_grammar.specs.declared.limit.Limit.{Limit}
+use Rattle.resb_grammar.specs.Laws.{IsNone}
 use Rattle.resb_icu_grammar.specs.Bundle.{IcuText}
 use Rattle.resb_icu_grammar.specs.Stuck.{Stuck}
 use Rattle.resb_icu_grammar.specs.Limit.{IcuMadeWithin, IcuMakesMore}
@@ -16,9 +16,7 @@ IcuFails text e = (e ≡ want_of_memory) ⊎ Stuck text e.position e.expected
 
 -- the text is no bundle in ICU's form, of any name, fallback, tree and keys
 abbrev pub IsNoIcuText : List ℕ → Type 0
-IsNoIcuText text =
-    (name : List ℕ) (fallback : Bool) (tree : Tree) (keys : List (List ℕ))
-    → IcuText text name fallback tree keys → ⊥
+IsNoIcuText = IsNone IcuText
 
 -- memory was wanted, or no reading of the text makes more than the limit
 abbrev pub IcuNeverMore : List ℕ → Limit → IcuTextError → Type 0

@@ -9,8 +9,7 @@ use Rattle.resb_tree.specs.Borrowing.{is_slice, are_slice, each_leaf}
 use Rattle.resb_tree.specs.Bundle.{name_part, root_part}
 use Rattle.resb_tree.specs.declared.resource.Resource.{Resource}
 use Rattle.resb_tree.specs.declared.bundle.ResourceBundle.{ResourceBundle}
-use Rattle.resb_icu_grammar.specs.Words.{Text}
-use Rattle.resb_icu_text.specs.Lexemes.{Verbatim}
+use Rattle.resb_icu_grammar.specs.Words.{Text, Verbatim}
 
 -- the text says these bytes somewhere in several pieces or with an escape
 pub record IsPutTogether (text bytes : List ℕ) : Type 0 where

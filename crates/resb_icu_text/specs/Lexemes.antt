@@ -4,9 +4,7 @@ use Rattle.std.specs.Prelude.{IsTrue}
 use Rattle.std.specs.String.{string_bytes}
 use Rattle.resb_icu_grammar.specs.Bytes.{are_key_bytes}
 use Rattle.resb_icu_grammar.specs.Blanks.{Skip}
-use Rattle.resb_icu_grammar.specs.Pieces.{Joined, QuotedPiece}
-use Rattle.resb_icu_grammar.specs.Unquoted.{Unquoted, UnquotedRow}
-use Rattle.resb_icu_grammar.specs.Words.{Text, KeyText, HasNoEscape}
+use Rattle.resb_icu_grammar.specs.Words.{Text, KeyText, Verbatim}
 use Rattle.resb_icu_text.specs.declared.strings.Said.{Said}
 use Rattle.resb_icu_text.specs.declared.strings.Said.TheVariants as the
 use Rattle.resb_icu_text.specs.declared.strings.Lexeme.{Lexeme}
@@ -25,15 +23,6 @@ may_be_key (the.Built s) = false
 abbrev pub stands_whole : Said → Bool
 stands_whole (the.Slice s) = true
 stands_whole (the.Built s) = false
-
--- an unquoted string, or one quoted piece without a backslash, with no other behind it: what it
--- says
--- stands in the text as it is
-pub data Verbatim (text : List ℕ) (from to : ℕ) (bytes : List ℕ) : Type 0 where
-  a_word : UnquotedRow text from to bytes → Unquoted text from to bytes → Verbatim text from to
-      bytes
-  a_piece : Joined text from to bytes → QuotedPiece text from to bytes → HasNoEscape text from to
-      → Verbatim text from to bytes
 
 -- a string stands there, with what it says, whether it may be a key, and blanks behind it
 pub record IsLexeme (text : List ℕ) (from : ℕ) (l : Lexeme) : Type 0 where

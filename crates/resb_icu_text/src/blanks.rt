@@ -7,8 +7,7 @@ ghost use Rattle.resb_grammar.specs.Ascii as ascii;
 ghost use Rattle.resb_grammar.specs.ByteRuns as spec;
 ghost use Rattle.resb_grammar.specs.ByteRuns.{Each};
 ghost use Rattle.resb_grammar.specs.Lexical.{FirstCloser};
-ghost use Rattle.resb_icu_grammar.specs.Blanks.{LineRest, Comment, Skip};
-ghost use Rattle.resb_icu_grammar.specs.Blanks.{IsParagraphEnd};
+ghost use Rattle.resb_icu_grammar.specs.Blanks.{are_there, LineRest, Comment, Skip};
 ghost use Rattle.resb_grammar.specs.Inner.Reach.{reach};
 
 use crate::turns::IcuTurns;
@@ -30,8 +29,7 @@ pub(crate) fn byte(text: &str, at: usize) -> u8
 /// Whether the character U+2029 stands there.
 fn is_paragraph_end(text: &str, at: usize) -> bool
     requires { at < length text.now }
-    ensures yes { result ≡ true → IsParagraphEnd text.now at }
-    ensures no { result ≡ false → IsParagraphEnd text.now at → ⊥ }
+    ensures { result ≡ are_there 0xe2 0x80 0xa9 text.now at }
 {
     byte(text, at) == 0xe2 && byte(text, at + 1) == 0x80 && byte(text, at + 2) == 0xa9
 }

@@ -3,17 +3,18 @@
 ghost use Rattle.std.specs.Prelude.{◌≡◌, ◌≢◌, ℕ, ◌+◌, ◌-◌, ◌%◌, ◌<◌, ◌≤◌, true, false, List};
 ghost use Rattle.std.specs.Prelude.{length, Some, None};
 ghost use Rattle.std.specs.Prelude.{slice_index, IfSome, IfNone};
-ghost use Rattle.resb_grammar.specs.Group.{is_hex, hex_value};
+ghost use Rattle.std.specs.Char.{IsScalar, digit_value, is_digit};
+ghost use Rattle.resb_grammar.specs.Lexical.{digits_value};
+ghost use Rattle.resb_grammar.specs.Group.{is_hex};
 ghost use Rattle.resb_icu_grammar.specs.Bytes.{backslash};
-ghost use Rattle.resb_icu_grammar.specs.Escapes.{Escape, are_hex, hex_number, is_surrogate};
-ghost use Rattle.resb_icu_grammar.specs.Escapes.{is_not_meant, is_octal, is_lost, ShortHex, Octal};
+ghost use Rattle.resb_icu_grammar.specs.Escapes.{Escape, FewDigits, are_hex, is_lost};
 ghost use Rattle.resb_icu_text.specs.Inner.Escaped.{bytes_of, IsAscii, ShortNumber};
 
 use crate::blanks::byte;
 
 /// The value of a hex digit.
 fn hex_digit(b: u8) -> Option<u32>
-    ensures found { IfSome result (λ v. (is_hex b ≡ true) × (v ≡ hex_value b) × (v < 16)) }
+    ensures found { IfSome result (λ v. (is_hex b ≡ true) × (v ≡ digit_value b) × (v < 16)) }
     ensures none { IfNone result (is_hex b ≡ false) }
 {
     if b >= b'0' && b <= b'9' {
@@ -31,7 +32,7 @@ fn hex_digit(b: u8) -> Option<u32>
 fn four_digits(text: &str, from: usize) -> Option<u32>
     requires within { from ≤ length text.now }
     ensures found { IfSome result (λ v. (are_hex text.now from 4 ≡ true)
-        × (v ≡ hex_number text.now from 4) × (v < 65536) × (from + 4 ≤ length text.now)) }
+        × (v ≡ digits_value 16 text.now from 4) × (v < 65536) × (from + 4 ≤ length text.now)) }
     ensures none { IfNone result (are_hex text.now from 4 ≡ true → ⊥) }
 {
     let first = hex_digit(byte(text, from))?;
@@ -45,7 +46,7 @@ fn four_digits(text: &str, from: usize) -> Option<u32>
 fn eight_digits(text: &str, from: usize) -> Option<u32>
     requires within { from ≤ length text.now }
     ensures found { IfSome result (λ v. (are_hex text.now from 8 ≡ true)
-        × (v ≡ hex_number text.now from 8) × (from + 8 ≤ length text.now)) }
+        × (v ≡ digits_value 16 text.now from 8) × (from + 8 ≤ length text.now)) }
     ensures none { IfNone result (are_hex text.now from 8 ≡ true → ⊥) }
 {
     let high = four_digits(text, from)?;
@@ -55,10 +56,9 @@ fn eight_digits(text: &str, from: usize) -> Option<u32>
 
 /// The character of a number of four digits, which is no backslash.
 fn short_character(number: u32) -> Option<char>
-    ensures found { IfSome result (λ c. (c ≡ number) × (is_surrogate number ≡ false)
+    ensures found { IfSome result (λ c. (c ≡ number) × IsScalar number
         × (number ≢ backslash)) }
-    ensures none { IfNone result (number < 65536 → is_surrogate number ≡ false
-        → number ≢ backslash → ⊥) }
+    ensures none { IfNone result (IsScalar number → number ≢ backslash → ⊥) }
 {
     if number == 92 {
         return None;
@@ -68,9 +68,9 @@ fn short_character(number: u32) -> Option<char>
 
 /// The character of a number of eight digits, which is neither a backslash nor a `U`.
 fn long_character(number: u32) -> Option<char>
-    ensures found { IfSome result (λ c. (c ≡ number) × (number ≤ 0x10_ffff)
-        × (is_not_meant number ≡ false)) }
-    ensures none { IfNone result (number ≤ 0x10_ffff → is_not_meant number ≡ false → ⊥) }
+    ensures found { IfSome result (λ c. (c ≡ number) × IsScalar number
+        × (is_lost 85 number ≡ false)) }
+    ensures none { IfNone result (IsScalar number → is_lost 85 number ≡ false → ⊥) }
 {
     if number == 92 || number == 85 {
         return None;
@@ -92,7 +92,7 @@ fn control_character(b: u8) -> Option<char>
 /// The number that one hex digit or two say, and where they end.
 fn short_hex(text: &str, at: usize) -> Option<(usize, u32)>
     requires within { at ≤ length text.now }
-    ensures found { IfSome result (λ r. ShortHex text.now at r.0 r.1) }
+    ensures found { IfSome result (λ r. FewDigits 16 2 text.now at r.0 r.1) }
     ensures none { IfNone result (is_hex (slice_index text.now at) ≡ false) }
     ensures within { IfSome result (λ r. (at < r.0) × (r.0 ≤ length text.now) × (r.1 < 1024)) }
 {
@@ -105,8 +105,8 @@ fn short_hex(text: &str, at: usize) -> Option<(usize, u32)>
 
 /// The value of an octal digit.
 fn octal_digit(b: u8) -> Option<u32>
-    ensures found { IfSome result (λ v. (is_octal b ≡ true) × (v ≡ b - 48) × (v < 8)) }
-    ensures none { IfNone result (is_octal b ≡ false) }
+    ensures found { IfSome result (λ v. (is_digit b 8 ≡ true) × (v ≡ digit_value b) × (v < 8)) }
+    ensures none { IfNone result (is_digit b 8 ≡ false) }
 {
     if b >= b'0' && b <= b'7' {
         Some((b - b'0') as u32)
@@ -118,8 +118,8 @@ fn octal_digit(b: u8) -> Option<u32>
 /// The number that one octal digit to three say, and where they end.
 fn octal(text: &str, at: usize) -> Option<(usize, u32)>
     requires within { at ≤ length text.now }
-    ensures found { IfSome result (λ r. Octal text.now at r.0 r.1) }
-    ensures none { IfNone result (is_octal (slice_index text.now at) ≡ false) }
+    ensures found { IfSome result (λ r. FewDigits 8 3 text.now at r.0 r.1) }
+    ensures none { IfNone result (is_digit (slice_index text.now at) 8 ≡ false) }
     ensures within { IfSome result (λ r. (at < r.0) × (r.0 ≤ length text.now) × (r.1 < 1024)) }
 {
     let first = octal_digit(byte(text, at))?;

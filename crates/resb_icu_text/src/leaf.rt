@@ -3,9 +3,16 @@
 ghost use Rattle.std.specs.Prelude.{◌≡◌, ◌≢◌, ◌+◌, ◌*◌, ◌<◌, ◌≤◌, length, MatchResult};
 ghost use Rattle.std.specs.Prelude.{◌-◌, None, Some, IfOk, slice_index};
 ghost use Rattle.resb_grammar.specs.Ascii as ascii;
+ghost use Rattle.resb_icu_grammar.specs.declared.group_kind.IcuKind.TheVariants.{
+  String as string_kind,
+  Alias as alias_kind,
+  Array as array_kind,
+  Table as table_kind,
+  Binary as binary_kind,
+  Integer as integer_kind,
+  IntVector as vector_kind,
+};
 ghost use Rattle.resb_icu_grammar.specs.Groups.{digit_bytes};
-ghost use Rattle.resb_icu_grammar.specs.Kinds.{kind_of, string_kind, alias_kind, binary_kind};
-ghost use Rattle.resb_icu_grammar.specs.Kinds.{integer_kind, vector_kind, array_kind, table_kind};
 ghost use Rattle.resb_icu_text.specs.Inner.Found.{IsFound, turns_to_make};
 ghost use Rattle.resb_icu_text.specs.Inner.Leaf.{IsReadLeaf, LeafStops, IsVector, IsBrace};
 ghost use Rattle.resb_icu_text.specs.Inner.Leaf.{IsBehindNumber, WantsBrace, WantsCommaOrBrace};
@@ -251,10 +258,10 @@ pub(crate) fn leaf<'a>(
     meter: &mut Meter,
 ) -> Result<(usize, Resource<'a>), IcuTextError>
     requires within { at ≤ length text.now }
-    requires leaf { (kind_of kind ≢ array_kind) × (kind_of kind ≢ table_kind) }
+    requires leaf { (kind ≢ array_kind) × (kind ≢ table_kind) }
     ensures reads { MatchResult result
-        (IsReadLeaf text.now at (kind_of kind) meter.old.quota meter.new.quota)
-        (LeafStops text.now at (kind_of kind) meter.old.quota meter.new.quota) }
+        (IsReadLeaf text.now at kind meter.old.quota meter.new.quota)
+        (LeafStops text.now at kind meter.old.quota meter.new.quota) }
     ensures cost { MatchResult result
         (λ r. meter.new.turns.count + 8 * reach text.now at ≤ meter.old.turns.count + 8 * r.0)
         (λ e. Halts text.now 4 at meter.old.turns meter.new.turns) }

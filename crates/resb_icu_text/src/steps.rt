@@ -9,7 +9,6 @@ ghost use Rattle.resb_icu_grammar.specs.Groups as spec;
 ghost use Rattle.resb_icu_grammar.specs.Limit.{next_key_bytes, opening_bytes};
 ghost use Rattle.resb_icu_grammar.specs.Machine.{BeginsGroup};
 ghost use Rattle.resb_icu_grammar.specs.Stuck.{member_behind};
-ghost use Rattle.resb_icu_grammar.specs.Kinds.{kind_of};
 ghost use Rattle.resb_tree.specs.Tree.{Tree};
 ghost use Rattle.resb_icu_text.specs.Inner.Ahead.{KeyFails};
 ghost use Rattle.resb_icu_text.specs.Inner.Build.{pairs_by};
@@ -330,7 +329,7 @@ fn typed<'a, X: Drop>(
 
 /// What the `{` behind a type makes.
 fn opening_bytes(weights: Weights, kind: IcuKind) -> u128
-    ensures { result ≡ opening_bytes weights (kind_of kind) }
+    ensures { result ≡ opening_bytes weights kind }
 {
     match kind {
         IcuKind::Array | IcuKind::Table => weights.group as u128,
@@ -348,8 +347,8 @@ fn content<'a, X: Drop>(
 ) -> Result<Read<'a, X>, IcuTextError>
     requires within { at ≤ length text.now }
     ensures reads { MatchResult result
-        (StepsTo text.now (typed_place X (kind_of kind) at) meter.old.quota meter.new.quota)
-        (StepFails text.now (typed_place X (kind_of kind) at) meter.old.quota meter.new.quota) }
+        (StepsTo text.now (typed_place X kind at) meter.old.quota meter.new.quota)
+        (StepFails text.now (typed_place X kind at) meter.old.quota meter.new.quota) }
     ensures cost { MatchResult result
         (Proceeds text.now 0 at meter.old.turns meter.new.turns)
         (λ e. Halts text.now 4 at meter.old.turns meter.new.turns) }

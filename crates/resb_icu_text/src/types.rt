@@ -6,7 +6,6 @@ ghost use Rattle.resb_grammar.specs.Ascii as ascii;
 ghost use Rattle.resb_grammar.specs.GroupTypes.{Stands};
 ghost use Rattle.resb_icu_grammar.specs.Words.{GroupType, RootType};
 ghost use Rattle.resb_icu_grammar.specs.Stuck.{TypeStuck};
-ghost use Rattle.resb_icu_grammar.specs.Kinds.{kind_of};
 
 use crate::error::IcuTextError;
 use crate::turns::IcuTurns;
@@ -23,7 +22,7 @@ pub fn group_type(
 ) -> Result<(usize, IcuKind), IcuTextError>
     requires within { at < length text.now }
     requires colon { slice_index text.now at ≡ ascii.colon }
-    ensures found { IfOk result (λ r. GroupType text.now at r.0 (kind_of r.1)) }
+    ensures found { IfOk result (λ r. GroupType text.now at r.0 r.1) }
     ensures err { IfErr result (λ e. (e.position ≡ at) × TypeStuck text.now at e.expected) }
     ensures within { IfOk result (λ r. (at < r.0) × (r.0 ≤ length text.now)) }
     ensures cost { IfOk result (λ r. turns.new.count + at ≤ turns.old.count + r.0) }

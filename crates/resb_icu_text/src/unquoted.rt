@@ -3,6 +3,7 @@
 ghost use Rattle.std.specs.Prelude.{◌≡◌, ◌≤◌, ◌<◌, ℕ, List, length, false};
 ghost use Rattle.std.specs.Prelude.{IfSome, IfNone};
 ghost use Rattle.resb_icu_grammar.specs.Bytes as bytes;
+ghost use Rattle.resb_icu_grammar.specs.Blanks as grammar;
 ghost use Rattle.resb_icu_grammar.specs.Unquoted as spec;
 ghost use Rattle.resb_icu_grammar.specs.Unquoted.{Unquoted};
 ghost use Rattle.resb_icu_text.specs.Inner.Unquoted.{GoesOnTo};
@@ -30,7 +31,7 @@ fn begins_comment(text: &str, at: usize) -> bool
 /// Whether these three bytes stand there.
 fn are_there(text: &str, at: usize, first: u8, second: u8, third: u8) -> bool
     requires inside { at < length text.now }
-    ensures { result ≡ spec.are_there first second third text.now at }
+    ensures { result ≡ grammar.are_there first second third text.now at }
 {
     byte(text, at) == first && (byte(text, at + 1) == second && byte(text, at + 2) == third)
 }

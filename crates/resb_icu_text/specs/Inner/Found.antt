@@ -6,8 +6,8 @@ use Rattle.resb_icu_grammar.specs.Bytes.{are_key_bytes}
 use Rattle.resb_icu_grammar.specs.Blanks.{Skip}
 use Rattle.resb_icu_grammar.specs.Pieces.{Joined}
 use Rattle.resb_icu_grammar.specs.Unquoted.{UnquotedRow}
-use Rattle.resb_icu_grammar.specs.Words.{Text, KeyText}
-use Rattle.resb_icu_text.specs.Lexemes.{Verbatim, bytes_said, may_be_key, stands_whole}
+use Rattle.resb_icu_grammar.specs.Words.{Text, KeyText, Verbatim}
+use Rattle.resb_icu_text.specs.Lexemes.{bytes_said, may_be_key, stands_whole}
 use Rattle.resb_icu_text.specs.declared.strings.Said.{Said}
 use Rattle.resb_icu_text.specs.declared.strings.Found.{Found}
 use Rattle.resb_icu_text.specs.declared.strings.Stands.{Stands}

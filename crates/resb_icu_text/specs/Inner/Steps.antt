@@ -3,10 +3,10 @@ use Rattle.std.specs.Prelude.{◌≡◌, ◌≤◌, ◌<◌, ◌+◌, ◌*◌, �
 use Rattle.std.specs.Prelude.{Bool, true, slice_index}
 use Rattle.std.specs.Borrow.{Bor}
 use Rattle.resb_grammar.specs.Ascii as ascii
-use Rattle.resb_icu_grammar.specs.Kinds.{Kind}
 use Rattle.resb_tree.specs.Tree.{Tree, array, trees_of}
 use Rattle.resb_tree.specs.View.{tree_of}
 use Rattle.resb_draft.specs.Drafts.{is_leaf}
+use Rattle.resb_icu_grammar.specs.declared.group_kind.IcuKind.{IcuKind as Kind}
 use Rattle.resb_icu_grammar.specs.Blanks.{Skip}
 use Rattle.resb_icu_grammar.specs.Groups as spec
 use Rattle.resb_icu_grammar.specs.Words.{KeyText}

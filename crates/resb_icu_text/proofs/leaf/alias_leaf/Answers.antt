@@ -1,7 +1,7 @@
 use Rattle.std.proofs.Common.{ap, arith, refl, sym, ◌∙◌}
 use Rattle.resb_tree.specs.Tree.{alias}
 use Rattle.resb_tree.specs.declared.resource.Resource.{Alias}
-use Rattle.resb_icu_grammar.specs.Kinds.{alias_kind}
+use Rattle.resb_icu_grammar.specs.declared.group_kind.IcuKind.TheVariants.{Alias as alias_kind}
 use Rattle.resb_icu_grammar.specs.Stuck.{no_path, open_alias}
 use Rattle.resb_tree.proofs.ViewLemmas.{tree_of_alias}
 use Rattle.resb_icu_text.proofs.KeptLemmas.{path_kept}

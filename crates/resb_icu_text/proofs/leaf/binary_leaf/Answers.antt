@@ -1,6 +1,6 @@
 use Rattle.std.proofs.Common.{◌≡◌, ap, arith, refl, sym, length}
 use Rattle.resb_tree.proofs.ViewLemmas.{tree_of_binary}
-use Rattle.resb_icu_grammar.specs.Kinds.{binary_kind}
+use Rattle.resb_icu_grammar.specs.declared.group_kind.IcuKind.TheVariants.{Binary as binary_kind}
 use Rattle.resb_icu_grammar.specs.Stuck.{no_digits, odd_digits, open_binary}
 use Rattle.resb_icu_text.proofs.LeafLemmas.{leaf_fails, told_leaf, leaf_lacks, leaf_over, leaf_read}
 use Rattle.resb_icu_text.proofs.LeafLemmas.{binary_stands, closing_at}

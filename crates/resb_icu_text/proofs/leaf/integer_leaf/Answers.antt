@@ -1,7 +1,7 @@
 use Rattle.std.proofs.Common.{ap, arith, refl, sym, ◌∙◌}
 use Rattle.resb_tree.specs.Tree.{integer}
 use Rattle.resb_tree.proofs.ViewLemmas.{tree_of_integer}
-use Rattle.resb_icu_grammar.specs.Kinds.{integer_kind}
+use Rattle.resb_icu_grammar.specs.declared.group_kind.IcuKind.TheVariants.{Integer as integer_kind}
 use Rattle.resb_icu_grammar.specs.Stuck.{no_integer, open_integer}
 use Rattle.resb_icu_text.proofs.LeafLemmas.{leaf_fails, leaf_over, leaf_read}
 use Rattle.resb_icu_text.proofs.LeafLemmas.{integer_stands, closing_at}

@@ -1,5 +1,5 @@
 use Rattle.std.proofs.Common.{◌+◌, sym, ◌∙◌, arith, refl, length, length-append, ◌∷◌, []}
-use Rattle.resb_icu_grammar.specs.Kinds.{vector_kind}
+use Rattle.resb_icu_grammar.specs.declared.group_kind.IcuKind.TheVariants.{IntVector as vector_kind}
 use Rattle.resb_icu_grammar.specs.Stuck.{none_yet, no_number, open_vector}
 use Rattle.resb_icu_grammar.proofs.Blocked.{no_more, a_last}
 use Rattle.resb_grammar.proofs.ReachLemmas.{reach_low}

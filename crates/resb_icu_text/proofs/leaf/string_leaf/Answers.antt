@@ -1,7 +1,7 @@
 use Rattle.std.proofs.Common.{ap, arith, refl, sym, ◌∙◌}
 use Rattle.resb_tree.specs.Tree.{string}
 use Rattle.resb_tree.specs.declared.resource.Resource.{String}
-use Rattle.resb_icu_grammar.specs.Kinds.{string_kind}
+use Rattle.resb_icu_grammar.specs.declared.group_kind.IcuKind.TheVariants.{String as string_kind}
 use Rattle.resb_icu_grammar.specs.Stuck.{no_string, open_string}
 use Rattle.resb_tree.proofs.ViewLemmas.{tree_of_string}
 use Rattle.resb_icu_text.proofs.KeptLemmas.{said_kept}

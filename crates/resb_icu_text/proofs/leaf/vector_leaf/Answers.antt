@@ -1,11 +1,11 @@
 use Rattle.std.proofs.Common.{ap, arith, refl, sym, ◌∙◌, []}
 use Rattle.resb_tree.specs.Tree.{int_vector}
 use Rattle.resb_tree.proofs.ViewLemmas.{tree_of_vector}
-use Rattle.resb_icu_grammar.specs.Kinds.{vector_kind}
 use Rattle.resb_icu_text.proofs.LeafLemmas.{empty_vector, vector_stands, leaf_over, leaf_read}
 use Rattle.resb_icu_text.proofs.KeptLemmas.{numbers_kept}
 use Rattle.resb_icu_text.proofs.QuotaLemmas.{both_taken, taken_over, match_fails}
 use Rattle.resb_icu_text.proofs.leaf.vector_leaf.Goals as goal
+use Rattle.resb_icu_grammar.specs.declared.group_kind.IcuKind.TheVariants.{IntVector as vector_kind}
 
 pub returns-in_err-take-clause-reads : goal.returns-in_err-take-clause-reads
 returns-in_err-take-clause-reads c =

@@ -1,5 +1,4 @@
 use Rattle.std.proofs.Common.{◌+◌, ◌≤◌, arith, refl, sym, ◌∙◌}
-use Rattle.resb_icu_grammar.specs.Kinds.{kind_of}
 use Rattle.resb_icu_text.proofs.QuotaLemmas.{none_taken, by_move, match_fails, over_stops}
 use Rattle.resb_icu_grammar.specs.Machine.{type_opens, before_group}
 use Rattle.resb_icu_grammar.specs.Stuck.{no_brace}
@@ -34,7 +33,7 @@ returns-clause-reads g c =
     c.skip-first.ensures.skip in
     let first = c.skip-first.result in
     let order : c.args.at + 1 ≤ first = omega (arith, c.in_ok-end.ensures.within) in
-    entered _ (group_place _ c.args.at) (typed_place _ (kind_of c.in_ok-end.kind) first)
+    entered _ (group_place _ c.args.at) (typed_place _ c.in_ok-end.kind first)
     c.content.result (λ tree ws ks. by_move _ _ _ _ _ (type_opens _ _ _ opens)
     c.opening_bytes.ensures c.in_ok-take.ensures) (λ pass test. refl) (omega (arith, order))
     c.content.ensures.reads

@@ -1,5 +1,5 @@
 -- What stands inside a table or an array is what stands in its tree.
-use Rattle.std.proofs.Common.{ℕ, zero, suc, List, Bool, true, false, Option, Some, None}
+use Rattle.std.proofs.Common.{ℕ, zero, suc, List, [], Bool, true, false, Option, Some, None}
 use Rattle.std.proofs.Common.{◌≡◌, ◌+◌, ◌==◌, ◌⊎◌, inl, inr, map, refl, sym, ap, ◌∙◌, subst}
 use Rattle.std.proofs.Common.{slice_get}
 use Rattle.std.specs.Prelude.{◌/◌, ◌%◌, ◌^◌, ◌*◌, ◌&&◌, ◌||◌, option_map, option_and_then, cond}

@@ -60,7 +60,8 @@ module _ {V : Type 0} (tree : V → Tree) where
       let found = fin.find-put text_cmp nat_list_cmp_total p.0 k v es in
       let more = put_new es ps k v in (
         λ n.
-            let q = put_found (eq_by_cmp text_cmp p.0 k) (fin.find text_cmp p.0 es) (sym found ∙ n.0) in
+            let q = put_found (eq_by_cmp text_cmp p.0 k) (fin.find text_cmp p.0 es)
+            (sym found ∙ n.0) in
             let rest = more.0 n.1 in (
               new ∙ ap (λ b. not (b || list_any (λ f. pointwise nat_eq k f.0) (seen_by tree ps)))
                   (turned k p.0 ∙ q.0) ∙ rest.0,

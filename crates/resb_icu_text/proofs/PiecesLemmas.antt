@@ -40,7 +40,8 @@ kept_bytes : (text : List ℕ) (P : ℕ → Type 0)
     → ((i : ℕ) → i < length text → slice_index text i ≢ ascii.quote
     → slice_index text i ≢ backslash → P i → P (i + 1))
     → (n at stop : ℕ) → stop ≡ at + n → stop ≤ length text → HasNoStop text at stop → P at → P stop
-kept_bytes text P keeps zero at stop e l h p = let same : at ≡ stop = omega (arith, e) in subst P same p
+kept_bytes text P keeps zero at stop e l h p =
+    let same : at ≡ stop = omega (arith, e) in subst P same p
 kept_bytes text P keeps (suc n) at stop e l h p =
     let b = h at (omega arith) (omega (arith, e)) in
     kept_bytes text P keeps n (at + 1) stop (omega (arith, e)) l
@@ -64,7 +65,8 @@ pub fault_bytes : (text : List ℕ) (opening from at stop : ℕ) → at ≤ stop
     → HasNoStop text at stop → FaultOn text opening at from → FaultOn text opening stop from
 fault_bytes text o from at stop low =
     kept_bytes text (λ i. FaultOn text o i from)
-    (λ i l q s f to x r. f to x (faults.byte i to x l q s r)) (stop - at) at stop (omega (arith, low))
+    (λ i l q s f to x r. f to x (faults.byte i to x l q s r)) (stop - at) at stop
+    (omega (arith, low))
 
 pub goes_escape : (text : List ℕ) (from at next b n k : ℕ) (xs : List ℕ) → b ≡ slice_index text at
     → b ≡ backslash → Escape text (at + 1) next xs → k ≡ length xs → GoesOn text at from n

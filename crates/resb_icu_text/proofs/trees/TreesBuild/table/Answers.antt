@@ -35,6 +35,7 @@ returns-clause-none c = λ distinct.
     let m = c.in_ok-table.table in
     let is = c.in_ok-table.ensures in
     c.if-len-count.false (c.len.ensures.len
-    ∙ made_count es c.in_ok-with_keys.field-0.items m keys is ∙ (as_many_entries tree_of es).0 distinct
+    ∙ made_count es c.in_ok-with_keys.field-0.items m keys is
+    ∙ (as_many_entries tree_of es).0 distinct
     ∙ sym (c.len-count.ensures ∙ c.replace-entries.result.ok.0
     ∙ ap (λ v. length v.items) c.replace-entries.ensures.value))

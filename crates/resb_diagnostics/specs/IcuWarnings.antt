@@ -8,6 +8,7 @@
 use Rattle.std.specs.Prelude.{ℕ, zero, suc, Bool, true, false, ◌&&◌, ◌||◌, not, ◌==◌, List}
 use Rattle.std.specs.Prelude.{◌+◌, nat_lt, ℤ, [], ◌∷◌, ◌++◌}
 use Rattle.std.specs.Prelude.{slice_index, slice_range, if◌then◌else◌, Option, Some, None}
+use Rattle.std.specs.Char.{is_ascii_digit}
 use Rattle.resb_diagnostics.specs.Braces.{mode_in, icu_form, has_icu_tokens}
 use Rattle.resb_diagnostics.specs.Groups.{named_by}
 use Rattle.resb_diagnostics.specs.Warnings.{warning_at, is_quoted, is_negative, number_of, cut}
@@ -21,7 +22,7 @@ use Rattle.resb_diagnostics.specs.declared.icu_tokens.IcuLast.{IcuLast}
 use Rattle.resb_diagnostics.specs.declared.icu_tokens.IcuLast.TheVariants as last
 use Rattle.resb_diagnostics.specs.declared.warning.Reason.TheVariants as reason
 use Rattle.resb_diagnostics.specs.declared.warning.Warning.{Warning}
-use Rattle.resb_grammar.specs.Ascii.{quote, dash, digit_0, digit_9, left_brace, right_brace, comma}
+use Rattle.resb_grammar.specs.Ascii.{quote, dash, left_brace, right_brace, comma}
 use Rattle.resb_grammar.specs.Ascii.{colon, plus}
 use Rattle.resb_grammar.specs.ByteRuns.{is_line_end}
 use Rattle.resb_icu_grammar.specs.Bytes.{is_unquoted}
@@ -91,7 +92,7 @@ last_named _ _ = last.OtherType
 
 -- these bytes are one decimal digit
 abbrev pub is_digit : List ℕ → Bool
-is_digit (b ∷ []) = not (nat_lt b digit_0) && not (nat_lt digit_9 b)
+is_digit (b ∷ []) = is_ascii_digit b
 is_digit _ = false
 
 -- the first piece or word of a string before which a line ended: that one, or the one at this place

@@ -89,7 +89,8 @@ word_at text from n h stop fits some =
 
 -- words, white characters
 white_examples : (is_white 32 ≡ true) × (is_white 10 ≡ true) × (is_white 11 ≡ false)
-    × (is_word 45 ≡ true) × (is_word 95 ≡ false) × (is_ascii_digit 57 ≡ true) × (is_ascii_digit 47 ≡ false)
+    × (is_word 45 ≡ true) × (is_word 95 ≡ false) × (is_ascii_digit 57 ≡ true)
+    × (is_ascii_digit 47 ≡ false)
 white_examples = (refl, refl, refl, refl, refl, refl, refl)
 
 -- hex digits come in pairs, of either case

@@ -5,8 +5,10 @@ use Rattle.std.proofs.Common.{if◌then◌else◌, arith, add-one, drop-cons, su
 use Rattle.std.specs.Prelude.{slice_index, option_and_then, ◌||◌, not}
 use Rattle.std.proofs.lemmas.Bool.{and_from}
 use Rattle.std.proofs.lemmas.List.{at_drop_all}
-use Rattle.resb_grammar.specs.Group.{is_hex, hex_value}
-use Rattle.resb_icu_grammar.specs.Escapes.{are_hex, hex_number}
+use Rattle.std.specs.Char.{digit_value}
+use Rattle.resb_grammar.specs.Lexical.{digits_value}
+use Rattle.resb_grammar.specs.Group.{is_hex}
+use Rattle.resb_icu_grammar.specs.Escapes.{are_hex}
 use Rattle.resb_icu_files.specs.CollationRules.{Step, by_digits, is_not_said, left_from}
 use Rattle.resb_icu_files.specs.CollationRules.{collation_step, at_end}
 use Rattle.resb_icu_files.specs.Inner.CollationRules.{IsSaid}
@@ -15,12 +17,13 @@ use Rattle.resb_icu_files.specs.declared.collation.Part.{Part}
 -- a hex digit at a place, with its value
 abbrev pub Digit : List ℕ → ℕ → ℕ → Type 0
 Digit text at v =
-    (is_hex (slice_index text at) ≡ true) × (v ≡ hex_value (slice_index text at)) × (v < 16)
+    (is_hex (slice_index text at) ≡ true) × (v ≡ digit_value (slice_index text at)) × (v < 16)
 
 -- four hex digits in a row say a number
 pub four_are : (text : List ℕ) (from a b c d : ℕ) → Digit text from a → Digit text (from + 1) b
     → Digit text (from + 2) c → Digit text (from + 3) d
-    → (are_hex text from 4 ≡ true) × (((a * 16 + b) * 16 + c) * 16 + d ≡ hex_number text from 4)
+    → (are_hex text from 4 ≡ true)
+    × (((a * 16 + b) * 16 + c) * 16 + d ≡ digits_value 16 text from 4)
     × (((a * 16 + b) * 16 + c) * 16 + d < 65536)
 four_are text from a b c d first second third fourth =
     let z : from + 0 ≡ from = omega arith in
@@ -40,8 +43,9 @@ neither false b s never = refl
 pub not_said : (quoted : Bool) (out rest : List ℕ) (count : ℕ)
     → ((c : ℕ) → IsSaid rest count c → ⊥) → by_digits quoted out rest count ≡ None
 not_said quoted out rest count never =
-    neither (are_hex rest 1 count) (is_not_said (slice_index rest 0) (hex_number rest 1 count)) _
-    (λ h w. never (hex_number rest 1 count) record { hex = h; says = refl; meant = w })
+    neither (are_hex rest 1 count)
+    (is_not_said (slice_index rest 0) (digits_value 16 rest 1 count)) _
+    (λ h w. never (digits_value 16 rest 1 count) record { hex = h; says = refl; meant = w })
 
 -- the rest, by its first character
 drop_one : (cs : List ℕ) (at : ℕ) → at < length cs

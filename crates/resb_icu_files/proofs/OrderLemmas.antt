@@ -29,16 +29,7 @@ row_order text from to bytes (last_one _ _ next _ u s e) = omega (arith, u.some)
 row_order text from to bytes (one_more _ mid next _ some later u w s r) =
     omega (arith, u.some, skip_order text mid next s, row_order text next to later r)
 
--- digits of an escape, and an escape
-short_order : (text : List ℕ) (at to c : ℕ) → escapes.ShortHex text at to c → at ≤ to
-short_order text at to c (escapes.one_digit h n) = omega arith
-short_order text at to c (escapes.two_digits h k) = omega arith
-
-octal_order : (text : List ℕ) (at to c : ℕ) → escapes.Octal text at to c → at ≤ to
-octal_order text at to c (escapes.one_octal h n) = omega arith
-octal_order text at to c (escapes.two_octal h k n) = omega arith
-octal_order text at to c (escapes.three_octal h k l) = omega arith
-
+-- an escape
 escape_order : (text : List ℕ) (at to : ℕ) (bytes : List ℕ) → escapes.Escape text at to bytes
     → at ≤ to
 escape_order text at to bytes (escapes.itself l n) = omega arith
@@ -48,9 +39,8 @@ escape_order text at to bytes (escapes.tab e) = omega arith
 escape_order text at to bytes (escapes.four_digits c e h i s n) = omega arith
 escape_order text at to bytes (escapes.eight_digits c e h i l n) = omega arith
 escape_order text at to bytes (escapes.control e l h) = omega arith
-escape_order text at to bytes (escapes.short_hex c _ e s n) =
-    omega (arith, short_order text (at + 1) to c s)
-escape_order text at to bytes (escapes.octal c _ o n) = octal_order text at to c o
+escape_order text at to bytes (escapes.short_hex c _ e s n) = omega (arith, s.some)
+escape_order text at to bytes (escapes.octal c _ o n) = omega (arith, o.some)
 
 -- quoted pieces in a row
 bytes_order : (text : List ℕ) (from to : ℕ) (bytes : List ℕ)

@@ -8,8 +8,10 @@ use Rattle.std.specs.Str.{encode_utf8_all}
 use Rattle.std.proofs.lemmas.List.{take_more, at_drop_all}
 use Rattle.std.proofs.lemmas.Str.{encodes-append}
 use Rattle.std.proofs.lemmas.Grind.{common_steps}
+use Rattle.resb_icu_files.specs.Rules.{is_surrogate}
+use Rattle.resb_grammar.specs.Lexical.{digits_value}
 use Rattle.resb_icu_grammar.specs.Bytes.{backslash}
-use Rattle.resb_icu_grammar.specs.Escapes.{are_hex, hex_number, is_surrogate}
+use Rattle.resb_icu_grammar.specs.Escapes.{are_hex}
 use Rattle.resb_icu_files.specs.Inner.Rules.{IsEscaped}
 use Rattle.resb_icu_files.specs.Rules.{Step, by_number, stays_escaped, stripped, rule_step}
 use Rattle.resb_icu_files.specs.declared.rules.Standing.{Standing}
@@ -31,8 +33,8 @@ both false b s e f = absurd (cc)
 pub not_escaped : (out rest : List ℕ) → ((c : ℕ) → IsEscaped rest c → ⊥)
     → by_number out rest ≡ None
 not_escaped out rest never =
-    neither (are_hex rest 1 4) (is_surrogate (hex_number rest 1 4)) _
-    (λ h w. never (hex_number rest 1 4) record { hex = h; says = refl; whole = w })
+    neither (are_hex rest 1 4) (is_surrogate (digits_value 16 rest 1 4)) _
+    (λ h w. never (digits_value 16 rest 1 4) record { hex = h; says = refl; whole = w })
 
 chosen : (b : Bool) (s t : Step) → b ≡ true → (if b then s else t) ≡ s
 chosen true s t e = refl
@@ -46,14 +48,14 @@ other false s t e = refl
 pub stays : (out rest : List ℕ) (c : ℕ) → IsEscaped rest c → stays_escaped c ≡ true
     → by_number out rest ≡ Some (standing.Plain, out ++ backslash ∷ [])
 stays out rest c e s =
-    both (are_hex rest 1 4) (is_surrogate (hex_number rest 1 4)) _ e.hex e.whole
-    ∙ chosen (stays_escaped (hex_number rest 1 4)) _ _ (ap stays_escaped (sym e.says) ∙ s)
+    both (are_hex rest 1 4) (is_surrogate (digits_value 16 rest 1 4)) _ e.hex e.whole
+    ∙ chosen (stays_escaped (digits_value 16 rest 1 4)) _ _ (ap stays_escaped (sym e.says) ∙ s)
 
 pub stands_for : (out rest : List ℕ) (c : ℕ) → IsEscaped rest c → stays_escaped c ≡ false
     → by_number out rest ≡ Some (standing.Dropping 5, out ++ c ∷ [])
 stands_for out rest c e s =
-    both (are_hex rest 1 4) (is_surrogate (hex_number rest 1 4)) _ e.hex e.whole
-    ∙ (other (stays_escaped (hex_number rest 1 4)) _ _ (ap stays_escaped (sym e.says) ∙ s)
+    both (are_hex rest 1 4) (is_surrogate (digits_value 16 rest 1 4)) _ e.hex e.whole
+    ∙ (other (stays_escaped (digits_value 16 rest 1 4)) _ _ (ap stays_escaped (sym e.says) ∙ s)
     ∙ ap (λ n. Some (standing.Dropping 5, out ++ n ∷ [])) (sym e.says))
 
 -- all that is behind a place

@@ -7,10 +7,11 @@ use Rattle.std.specs.Prelude.{◌∷◌, ◌++◌, Option, Some, None, length, s
 use Rattle.std.specs.Prelude.{if◌then◌else◌, option_map, option_and_then}
 use Rattle.std.specs.Char.{is_ascii_alphanumeric}
 use Rattle.std.specs.Str.{chars, encode_utf8_all}
+use Rattle.resb_grammar.specs.Lexical.{digits_value}
 use Rattle.resb_grammar.specs.ByteRuns.{is_line_end, is_white}
 use Rattle.resb_icu_grammar.specs.Bytes.{backslash}
-use Rattle.resb_icu_grammar.specs.Escapes.{are_hex, hex_number, is_surrogate}
-use Rattle.resb_icu_files.specs.Rules.{hash, apostrophe}
+use Rattle.resb_icu_grammar.specs.Escapes.{are_hex}
+use Rattle.resb_icu_files.specs.Rules.{hash, apostrophe, is_surrogate}
 use Rattle.resb_icu_files.specs.declared.collation.Part.{Part}
 use Rattle.resb_icu_files.specs.declared.collation.Part.TheVariants as part
 
@@ -30,8 +31,9 @@ is_not_said letter c = is_surrogate c || (nat_lt 0x10ffff c || (c == 85 && lette
 -- behind a backslash and a letter, the character that n hex digits say; other digits are none
 abbrev pub by_digits : Bool → List ℕ → List ℕ → ℕ → Step
 by_digits quoted out rest n =
-    if not (are_hex rest 1 n) || is_not_said (slice_index rest 0) (hex_number rest 1 n) then None
-    else Some (part.Digits (n + 1) quoted, out ++ hex_number rest 1 n ∷ [])
+    if not (are_hex rest 1 n) || is_not_said (slice_index rest 0) (digits_value 16 rest 1 n)
+    then None
+    else Some (part.Digits (n + 1) quoted, out ++ digits_value 16 rest 1 n ∷ [])
 
 -- what follows a backslash makes no escape by itself: nothing, or a letter or digit of ASCII
 abbrev pub is_no_escape : List ℕ → Bool

@@ -5,13 +5,14 @@ use Rattle.std.specs.Prelude.{◌-◌, ◌==◌, ◌||◌, ◌&&◌, not, ℕ, B
 use Rattle.std.specs.Prelude.{◌++◌, Option, Some, None, length, slice_index, nat_le, reverse}
 use Rattle.std.specs.Prelude.{if◌then◌else◌, option_map, option_and_then}
 use Rattle.std.specs.Str.{chars, encode_utf8_all}
+use Rattle.resb_grammar.specs.Lexical.{digits_value}
 use Rattle.ucd_category.specs.GeneralCategory.{general_category}
 use Rattle.ucd_category.specs.declared.GeneralCategory.{GeneralCategory}
 use Rattle.ucd_category.specs.declared.GeneralCategory.TheVariants as category
 use Rattle.resb_grammar.specs.Ascii as ascii
 use Rattle.resb_grammar.specs.ByteRuns.{is_line_end}
 use Rattle.resb_icu_grammar.specs.Bytes.{backslash}
-use Rattle.resb_icu_grammar.specs.Escapes.{are_hex, hex_number, is_surrogate}
+use Rattle.resb_icu_grammar.specs.Escapes.{are_hex}
 use Rattle.resb_icu_files.specs.declared.rules.Standing.{Standing}
 use Rattle.resb_icu_files.specs.declared.rules.Standing.TheVariants as standing
 
@@ -55,13 +56,18 @@ trimmed cs = reverse (behind_spaces (reverse cs))
 abbrev pub Step : Type 0
 Step = Option (Standing × List ℕ)
 
+-- halves of surrogate pairs, which are no characters
+abbrev pub is_surrogate : ℕ → Bool
+is_surrogate c = nat_le 0xd800 c && nat_le c 0xdfff
+
 -- behind `\u`, given what follows the backslash: the character that four hex digits say, or the
 -- backslash where that stays escaped; other digits, and half of a pair, are none
 abbrev pub by_number : List ℕ → List ℕ → Step
 by_number out rest =
-    if not (are_hex rest 1 4) || is_surrogate (hex_number rest 1 4) then None
-    else if stays_escaped (hex_number rest 1 4) then Some (standing.Plain, out ++ backslash ∷ [])
-    else Some (standing.Dropping 5, out ++ hex_number rest 1 4 ∷ [])
+    if not (are_hex rest 1 4) || is_surrogate (digits_value 16 rest 1 4) then None
+    else if stays_escaped (digits_value 16 rest 1 4)
+    then Some (standing.Plain, out ++ backslash ∷ [])
+    else Some (standing.Dropping 5, out ++ digits_value 16 rest 1 4 ∷ [])
 
 -- behind a backslash, given what follows it: a line end is dropped with it; `u` and at least five
 -- characters more are an escape; a quote goes on as if one was open

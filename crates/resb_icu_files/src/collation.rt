@@ -3,8 +3,9 @@
 ghost use Rattle.std.specs.Prelude.{◌≡◌, ◌⊎◌, ℕ, List, [], true, false, Some, None, IfOk};
 ghost use Rattle.std.specs.Prelude.{OnOk, IfSome, IfNone, option_map, if◌then◌else◌};
 ghost use Rattle.std.specs.String.{string_bytes};
+ghost use Rattle.resb_grammar.specs.Lexical.{digits_value};
 ghost use Rattle.resb_grammar.specs.ByteRuns as runs;
-ghost use Rattle.resb_icu_grammar.specs.Escapes.{are_hex, hex_number};
+ghost use Rattle.resb_icu_grammar.specs.Escapes.{are_hex};
 ghost use Rattle.resb_icu_files.specs.Inner.CollationRules.{IsAnswer, IsSaid};
 ghost use Rattle.resb_icu_files.specs.CollationRules as spec;
 
@@ -44,7 +45,7 @@ fn quotes(quoted: bool) -> Part
 /// The number that eight hex digits behind the first character say.
 fn eight_digits(rest: &[char]) -> Option<u32>
     ensures found { IfSome result (λ v. (are_hex rest.now 1 8 ≡ true)
-        × (v ≡ hex_number rest.now 1 8)) }
+        × (v ≡ digits_value 16 rest.now 1 8)) }
     ensures none { IfNone result (are_hex rest.now 1 8 ≡ true → ⊥) }
 {
     let high = four_digits(rest, 1)?;

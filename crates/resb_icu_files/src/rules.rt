@@ -4,8 +4,11 @@ ghost use Rattle.std.specs.Prelude.{◌≡◌, ◌<◌, ◌≤◌, ◌||◌, not
 ghost use Rattle.std.specs.Prelude.{IfSome, IfNone, length, slice_index, option_map};
 ghost use Rattle.std.specs.Str.{encode_utf8_all, chars};
 ghost use Rattle.std.specs.String.{string_bytes};
-ghost use Rattle.resb_icu_grammar.specs.Escapes.{are_hex, hex_number, is_surrogate};
-ghost use Rattle.resb_grammar.specs.Group.{is_hex, hex_value};
+ghost use Rattle.std.specs.Char.{digit_value};
+ghost use Rattle.resb_icu_files.specs.Rules.{is_surrogate};
+ghost use Rattle.resb_grammar.specs.Lexical.{digits_value};
+ghost use Rattle.resb_icu_grammar.specs.Escapes.{are_hex};
+ghost use Rattle.resb_grammar.specs.Group.{is_hex};
 ghost use Rattle.resb_icu_files.specs.Inner.Rules.{IsAnswer, IsEscaped, ends_in_space};
 ghost use Rattle.resb_grammar.specs.ByteRuns as runs;
 ghost use Rattle.resb_icu_files.specs.Rules as spec;
@@ -85,7 +88,7 @@ fn ends_in_space(characters: &[char]) -> bool
 
 /// The value of a hex digit.
 fn hex_digit(c: char) -> Option<u32>
-    ensures found { IfSome result (λ v. (is_hex c ≡ true) × (v ≡ hex_value c) × (v < 16)) }
+    ensures found { IfSome result (λ v. (is_hex c ≡ true) × (v ≡ digit_value c) × (v < 16)) }
     ensures none { IfNone result (is_hex c ≡ false) }
 {
     let code = c as u32;
@@ -104,7 +107,7 @@ fn hex_digit(c: char) -> Option<u32>
 pub(crate) fn four_digits(rest: &[char], from: usize) -> Option<u32>
     requires { from < 16 }
     ensures found { IfSome result (λ v. (are_hex rest.now from 4 ≡ true)
-        × (v ≡ hex_number rest.now from 4) × (v < 65536)) }
+        × (v ≡ digits_value 16 rest.now from 4) × (v < 65536)) }
     ensures none { IfNone result (are_hex rest.now from 4 ≡ false) }
 {
     let first = hex_digit(character_at(rest, from))?;

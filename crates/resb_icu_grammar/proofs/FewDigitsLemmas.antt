@@ -1,6 +1,6 @@
 -- The digits that an escape says, one by one, and what is known of them.
-use Rattle.std.proofs.Common.{◌≡◌, ℕ, suc, ◌+◌, ◌*◌, ◌-◌, ◌<◌, ◌≤◌, ◌⊎◌, inl, inr, true, false, List}
-use Rattle.std.proofs.Common.{refl, sym, ap, ◌∙◌, subst, arith, ⊎_elim}
+use Rattle.std.proofs.Common.{◌≡◌, ℕ, suc, ◌+◌, ◌*◌, ◌-◌, ◌<◌, ◌≤◌, ◌⊎◌, inl, inr, true, false}
+use Rattle.std.proofs.Common.{List, refl, sym, ap, ◌∙◌, subst, arith, ⊎_elim}
 use Rattle.std.specs.Prelude.{slice_index}
 use Rattle.std.specs.Char.{is_digit, digit_value}
 use Rattle.std.proofs.lemmas.Bool.{false≢true}
@@ -31,7 +31,8 @@ module _ {radix : ℕ} {text : List ℕ} {from : ℕ} where
       let value : w ≡ digit_value (slice_index text (from + n)) = is ∙ ap digit_value same in
       record {
         each = λ k l m.
-            each_more (λ d. is_digit d radix) text from (from + n) s.each here k l (omega (arith, m));
+            each_more (λ d. is_digit d radix) text from (from + n) s.each here k l
+            (omega (arith, m));
         means = λ i. s.means i * radix + value i;
       }
 

@@ -51,7 +51,8 @@ more_digits n ds l h = record {
 no_zero : (n : ℕ) → n < 2 ^ 64 → HasNoZero n (decimal n)
 no_zero = decimal_by_steps HasNoZero one_digit more_digits
 
-digit_solid : (b : ℕ) → is_ascii_digit b ≡ true → (is_white b ≡ false) × ((b == ascii.slash) ≡ false)
+digit_solid : (b : ℕ) → is_ascii_digit b ≡ true
+    → (is_white b ≡ false) × ((b == ascii.slash) ≡ false)
 digit_solid b h = (grind (arith, nat_tests), grind (arith, nat_tests))
 
 digit_word : (b : ℕ) → is_ascii_digit b ≡ true → is_word b ≡ true

@@ -158,7 +158,8 @@ unfolding key_is_plain
 key_byte_plain b h q =
     let e = below_passes key_is_plain 128 b keys_are_plain (key_byte_low b h) in
     let f : not (is_marked b) && not (is_ascii_control b) ≡ true =
-    sym (ap (λ t. not t || ((b == ascii.quote) || (not (is_marked b) && not (is_ascii_control b)))) h
+    sym (ap (λ t. not t || ((b == ascii.quote)
+    || (not (is_marked b) && not (is_ascii_control b)))) h
     ∙ ap (λ t. t || (not (is_marked b) && not (is_ascii_control b))) q) ∙ e in
     let p = and_parts (not (is_marked b)) (not (is_ascii_control b)) f in
     (false_from_not (is_marked b) p.0, false_from_not (is_ascii_control b) p.1)
@@ -371,7 +372,10 @@ module _ (text : List ℕ) where
           (solid, (at + length k, record { verbatim = a_word row word; fits = key }, g))
       go false e f =
           let (to, joined, piece, no_escape, g) = quoted_read k b rest stop key free f in
-          (solid_at text f refl refl, (to, record { verbatim = a_piece joined piece no_escape; fits = key }, g))
+          (
+            solid_at text f refl refl,
+            (to, record { verbatim = a_piece joined piece no_escape; fits = key }, g),
+          )
 
 -- what is written of a text in two parts
 pub inside_append : (s t rest : List ℕ) → inside_on (s ++ t) rest ≡ inside_on s (inside_on t rest)

@@ -71,11 +71,13 @@ hex_short : (text : List ℕ) (from to c : ℕ) → FewDigits 16 2 text from to 
 hex_short text from to c p = ⊎_elim
     (λ (l : from + 1 < to).
     let e : to ≡ from + 2 = omega (arith, l, p.few) in
-    let first = hex_low (slice_index text (from + 0)) (p.each (from + 0) (omega arith) (omega (arith, p.some))) in
+    let first = hex_low (slice_index text (from + 0))
+    (p.each (from + 0) (omega arith) (omega (arith, p.some))) in
     let second = hex_low (slice_index text (from + 1)) (p.each (from + 1) (omega arith) l) in
     inr (e, omega (arith, said_by 2 p e, first, second)))
     (λ (l : to ≤ from + 1).
-    let first = hex_low (slice_index text (from + 0)) (p.each (from + 0) (omega arith) (omega (arith, p.some))) in
+    let first = hex_low (slice_index text (from + 0))
+    (p.each (from + 0) (omega arith) (omega (arith, p.some))) in
     inl (omega (arith, said_by 1 p (omega (arith, l, p.some)), first)))
     (cases_lt (from + 1) to)
 
@@ -83,7 +85,8 @@ hex_short text from to c p = ⊎_elim
 octal_short : (text : List ℕ) (from to c : ℕ) → FewDigits 8 3 text from to c
     → (c < 128) ⊎ ((to ≡ from + 3) × (c < 1024))
 octal_short text from to c p =
-    let first = octal_low (slice_index text (from + 0)) (p.each (from + 0) (omega arith) (omega (arith, p.some))) in
+    let first = octal_low (slice_index text (from + 0))
+    (p.each (from + 0) (omega arith) (omega (arith, p.some))) in
     ⊎_elim
     (λ (l : from + 1 < to).
     let second = octal_low (slice_index text (from + 1)) (p.each (from + 1) (omega arith) l) in

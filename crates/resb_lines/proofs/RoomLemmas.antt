@@ -14,7 +14,7 @@ use Rattle.resb_print.specs.declared.place.Place.{Place}
 use Rattle.resb_print.specs.declared.place.Place.TheVariants.{InTable, InArray}
 use Rattle.resb_print.proofs.Sizes.{indent_length}
 use Rattle.resb_shown.specs.Shown.{text_in}
-use Rattle.resb_lines.specs.Spelling.{Grows}
+use Rattle.resb_lines.specs.Growing.{Grows}
 use Rattle.resb_lines.specs.Inner.Jobs.{Job, head_job, entry_job, member_job, value_job}
 use Rattle.resb_lines.specs.Inner.Jobs.{entries_job, members_job, numbers_job, digits_job}
 use Rattle.resb_lines.specs.Inner.Jobs.{line_feed_job, job_on, jobs_on}

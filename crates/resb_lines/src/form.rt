@@ -5,7 +5,7 @@ ghost use Rattle.resb_print.specs.Inner.Appends.{Appends};
 ghost use Rattle.resb_print.specs.Paths as paths;
 ghost use Rattle.resb_print.specs.Paths.{Tests};
 ghost use Rattle.resb_print.specs.Spelling.{Spelling};
-ghost use Rattle.resb_lines.specs.Spelling.{Grows};
+ghost use Rattle.resb_lines.specs.Growing.{Grows};
 ghost use Rattle.resb_lines.specs.Causes.{IsCauseByItself};
 
 use resb_icu_print::{IcuCause, is_bare, is_key};

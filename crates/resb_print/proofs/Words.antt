@@ -182,7 +182,8 @@ more_digits n ds l h = record {
 pub decimal_digits : (n : ℕ) → n < 2 ^ 64 → AreDigitsOf n (decimal n)
 decimal_digits = decimal_by_steps AreDigitsOf one_digit more_digits
 
-digit_solid : (b : ℕ) → is_ascii_digit b ≡ true → (is_white b ≡ false) × ((b == ascii.slash) ≡ false)
+digit_solid : (b : ℕ) → is_ascii_digit b ≡ true
+    → (is_white b ≡ false) × ((b == ascii.slash) ≡ false)
 digit_solid b h = (grind (arith, nat_tests), grind (arith, nat_tests))
 
 -- a number, where no digit follows

@@ -8,7 +8,7 @@ use Rattle.resb_tree.specs.Tree.{Tree}
 use Rattle.resb_grammar.specs.KeyLists.{listed_keys}
 use Rattle.resb_grammar.specs.Items.{Term, string_term, group_term, Item, plain, before_comma}
 use Rattle.resb_grammar.specs.Items.{Shape, a_string, a_table, an_array, shape_of, tree_in, keys_in}
-use Rattle.resb_grammar.specs.Items.{keys_by, term_keys, inner_keys, is_pairs}
+use Rattle.resb_grammar.specs.Items.{item_keys, term_keys, inner_keys, is_pairs}
 use Rattle.resb_grammar.specs.Machine.{Body, table_body, array_body, untyped_body, Frame, with_item}
 use Rattle.resb_grammar.specs.Machine.{new_frame, shape_in, closed}
 use Rattle.resb_grammar.specs.Inner.Half.{is_half_behind, is_half}
@@ -77,7 +77,7 @@ module _ (n : ℕ) (f : Frame) where
     rest =
         ap texts (without-append n own (cand s n ∷ [])
         ∙ ap (λ cs. without n own ++ cs) (without-own n s) ∙ append-nil (without n own))
-        ∙ x.rest ∙ sym (append-nil (keys_by inner_keys f.items));
+        ∙ x.rest ∙ sym (append-nil (item_keys inner_keys f.items));
     later =
         λ h lt. without-behind h own (cand s n ∷ []) (x.later h lt)
         ∙ ap (λ cs. own ++ cs) (without-other h n s (omega arith));
@@ -89,7 +89,7 @@ module _ (n : ℕ) (f : Frame) where
       → IsFrom (with_number n (with_item (string_term s) f)) own
   from_item s no_table own x = record {
     whole = λ h. absurd (false≢true (sym no_table ∙ h));
-    rest = x.rest ∙ sym (append-nil (keys_by inner_keys f.items));
+    rest = x.rest ∙ sym (append-nil (item_keys inner_keys f.items));
     later = x.later;
   }
 
@@ -123,7 +123,7 @@ module _ (n : ℕ) (f : Frame) where
       → IsFrom (with_number n f) own → IsFrom (with_number n (comma_frame f m xs)) own
   from_comma m k xs i own x = record {
     whole = λ h. absurd (may_comma f.body m xs h);
-    rest = x.rest ∙ ap (keys_by inner_keys) i;
+    rest = x.rest ∙ ap (item_keys inner_keys) i;
     later = x.later;
   }
 
@@ -149,27 +149,27 @@ holds_new n b gs cs x apart =
     (record { whole = λ h. refl; rest = refl; later = λ h l. refl })
     (sym (append-nil cs))
 
-one_string : (xs : List Item) (s : List ℕ) → shape_of xs ≡ a_string s → keys_by inner_keys xs ≡ []
+one_string : (xs : List Item) (s : List ℕ) → shape_of xs ≡ a_string s → item_keys inner_keys xs ≡ []
 one_string [] s e = cc
 one_string (x ∷ []) s e = go x.term x.comma e
   where
     go : (m : Term) (f : Bool) → shape_of (record { term = m; comma = f } ∷ []) ≡ a_string s
-        → keys_by inner_keys (record { term = m; comma = f } ∷ []) ≡ []
+        → item_keys inner_keys (record { term = m; comma = f } ∷ []) ≡ []
     go (string_term w) false e = refl
     go (string_term w) true e = cc
     go (group_term t ks) f e = cc
 one_string (x ∷ y ∷ xs) s e = no (is_pairs (x ∷ y ∷ xs)) e
   where
     no : (b : Bool) → (if b then a_table else an_array) ≡ a_string s
-        → keys_by inner_keys (x ∷ y ∷ xs) ≡ []
+        → item_keys inner_keys (x ∷ y ∷ xs) ≡ []
     no true e = cc
     no false e = cc
 
 -- the keys of a closed group
 keys_closed : (b : Body) (xs : List Item) (n : ℕ) (own : List GroupText) (sh : Shape)
     → shape_in b xs ≡ sh → (b ≡ table_body → is_pairs xs ≡ true)
-    → (may_be_table b xs ≡ true → texts own ≡ keys_by term_keys xs)
-    → texts (without n own) ≡ keys_by inner_keys xs → texts (left_after sh n own) ≡ keys_in sh xs
+    → (may_be_table b xs ≡ true → texts own ≡ item_keys term_keys xs)
+    → texts (without n own) ≡ item_keys inner_keys xs → texts (left_after sh n own) ≡ keys_in sh xs
 keys_closed b xs n own an_array e pairs whole rest = rest
 keys_closed table_body xs n own a_table e pairs whole rest =
     whole (half-pairs xs (pairs refl))
@@ -212,7 +212,7 @@ holds_closed n m f outer gs cs lt pairs
 -- the keys of the root
 holds_root : (n : ℕ) (f : Frame) (cs : List GroupText) → f.body ≡ table_body
     → is_pairs f.items ≡ true → HoldsCandidates (with_number n f ∷ []) cs
-    → texts cs ≡ keys_by term_keys f.items
+    → texts cs ≡ item_keys term_keys f.items
 holds_root n f cs b pairs (one_more _ _ _ own _ none apart x e) =
     ap texts e
     ∙ x.whole (ap (λ k. may_be_table k f.items) b ∙ half-pairs f.items pairs)
@@ -361,7 +361,7 @@ keys_root k n lt open_now empty none_listed = record {
 -- its keys, once it is closed
 pub root_keys : {k : Keys} {n : ℕ} {f : Frame} (gs : List NumberedFrame) → frames_in gs ≡ []
     → (x : HoldsKeys k (with_number n f) gs) → f.body ≡ table_body → is_pairs f.items ≡ true
-    → texts (x.settled ++ left k) ≡ keys_by term_keys f.items
+    → texts (x.settled ++ left k) ≡ item_keys term_keys f.items
 root_keys {n = n} {f = f} [] e x b pairs = holds_root n f _ b pairs x.holds
 root_keys (g ∷ gs) e x b pairs = cc
 

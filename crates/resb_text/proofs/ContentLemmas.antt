@@ -6,8 +6,9 @@ use Rattle.std.specs.List.{list_all}
 use Rattle.std.specs.Option.{unwrap_or}
 use Rattle.std.proofs.lemmas.Bool.{false≢true, and_parts}
 use Rattle.std.proofs.lemmas.Bool.Decides.{nat_tests}
+use Rattle.std.specs.Char.{digit_value}
 use Rattle.resb_draft.specs.Drafts.{is_leaf}
-use Rattle.resb_grammar.specs.Group.{is_hex, hex_value, hex_bytes, byte_before}
+use Rattle.resb_grammar.specs.Group.{is_hex, hex_bytes, byte_before}
 use Rattle.resb_text.specs.Inner.Content.{ArePairs, tree_of_content}
 use Rattle.resb_text.specs.declared.content.Content.{Content}
 use Rattle.resb_text.specs.declared.content.Content.TheVariants as variant
@@ -29,12 +30,12 @@ bytes_paired (a ∷ b ∷ s) bytes e =
     by (is_hex a) (is_hex b) (hex_bytes s) refl refl e (λ bs f. bytes_paired s bs f)
   where
     by : (x y : Bool) (o : Option (List ℕ)) → is_hex a ≡ x → is_hex b ≡ y
-        → byte_before (x && y) (hex_value a * 16 + hex_value b) o ≡ Some bytes
+        → byte_before (x && y) (digit_value a * 16 + digit_value b) o ≡ Some bytes
         → ((bs : List ℕ) → o ≡ Some bs → (list_all is_hex s ≡ true) × (length s ≡ 2 * length bs))
         → (list_all is_hex (a ∷ b ∷ s) ≡ true) × (length (a ∷ b ∷ s) ≡ 2 * length bytes)
     by true true (Some bs) h k g f =
         let r = f bs refl in
-        let same : (hex_value a * 16 + hex_value b) ∷ bs ≡ bytes = cc in
+        let same : (digit_value a * 16 + digit_value b) ∷ bs ≡ bytes = cc in
         (rw (h, k, r.0) refl, omega (arith, r.1, ap length same))
     by true true None h k g f = absurd cc
     by true false o h k g f = absurd cc
@@ -53,7 +54,7 @@ digits_paired (a ∷ b ∷ s) h e =
         → ArePairs (a ∷ b ∷ s)
     by None e x y other = absurd (other refl)
     by (Some bytes) e x y other =
-        let said : hex_bytes (a ∷ b ∷ s) ≡ Some ((hex_value a * 16 + hex_value b) ∷ bytes) =
+        let said : hex_bytes (a ∷ b ∷ s) ≡ Some ((digit_value a * 16 + digit_value b) ∷ bytes) =
         rw (x, y, e) refl in
         λ none. absurd cc
 

@@ -2,9 +2,10 @@
 -- kind leads on.
 use Rattle.std.proofs.Common.{◌≡◌, ℕ, Bool, List, Some}
 use Rattle.std.specs.Prelude.{slice_index}
+use Rattle.resb_grammar.specs.declared.group_kind.Kind.{Kind}
 use Rattle.resb_grammar.specs.Ascii as ascii
 use Rattle.resb_grammar.specs.Lexical.{Text, Number}
-use Rattle.resb_grammar.specs.GroupTypes.{Kind, GroupType, RootType}
+use Rattle.resb_grammar.specs.GroupTypes.{GroupType, RootType}
 use Rattle.resb_grammar.specs.Machine.{Token, a_text, a_number, opening, closing, a_comma, a_type}
 use Rattle.resb_grammar.specs.Machine.{a_root_type, State, next}
 use Rattle.resb_grammar.specs.Token.{Means}

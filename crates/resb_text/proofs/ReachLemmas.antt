@@ -3,8 +3,9 @@ use Rattle.std.proofs.Common.{◌≡◌, ℕ, ◌+◌, ◌<◌, ◌≤◌, true,
 use Rattle.std.specs.Prelude.{slice_index}
 use Rattle.std.proofs.lemmas.Bool.{cases_eq}
 use Rattle.std.proofs.lemmas.Bool.Decides.{nat_tests}
+use Rattle.std.specs.Char.{is_ascii_digit}
 use Rattle.resb_grammar.specs.Ascii as ascii
-use Rattle.resb_grammar.specs.ByteRuns.{Run, is_word, is_digit}
+use Rattle.resb_grammar.specs.ByteRuns.{Run, is_word}
 use Rattle.resb_grammar.specs.Inner.Reach.{reach}
 use Rattle.resb_grammar.proofs.ReachLemmas.{reach_low, reach_high, reach_here, reach_byte}
 use Rattle.resb_grammar.proofs.ReachLemmas.{reach_left, reach_right, reach_quote, reach_comma}
@@ -20,14 +21,14 @@ reach_word text from to run low =
     reach_here text from (λ e. grind (arith, nat_tests, e, word))
 
 -- where a digit stands, up to its place
-pub reach_digit : (text : List ℕ) (from to : ℕ) → Run is_digit text from to → from < to
+pub reach_digit : (text : List ℕ) (from to : ℕ) → Run is_ascii_digit text from to → from < to
     → reach text from ≡ from
 reach_digit text from to run low =
-    let digit : is_digit (slice_index text from) ≡ true = run.each from (omega arith) low in
+    let digit : is_ascii_digit (slice_index text from) ≡ true = run.each from (omega arith) low in
     reach_here text from (λ e. grind (arith, nat_tests, e, digit))
 
 -- where a run of digits ends that begins at a place, a reading has looked no further than that run
-pub reach_digits : (text : List ℕ) (from to : ℕ) → Run is_digit text from to
+pub reach_digits : (text : List ℕ) (from to : ℕ) → Run is_ascii_digit text from to
     → reach text from + to ≤ length text + from
 reach_digits text from to run =
     ⊎_elim (λ same. omega (arith, reach_high text from (omega (arith, run.order, run.fits)), same))

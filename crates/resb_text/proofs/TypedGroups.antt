@@ -3,18 +3,26 @@ use Rattle.std.proofs.Common.{◌≡◌, ◌≢◌, ◌+◌, ◌≤◌, ℕ, Boo
 use Rattle.std.proofs.Common.{ap, subst, arith, length, Some, inl, inr, ⊎_elim}
 use Rattle.std.specs.Prelude.{not, slice_index}
 use Rattle.std.proofs.lemmas.Bool.{false≢true}
+use Rattle.resb_text.proofs.StepsLemmas.{type_in_table}
+use Rattle.resb_grammar.specs.declared.group_kind.Kind.{Kind}
+use Rattle.resb_grammar.specs.declared.group_kind.Kind.TheVariants.{
+  String as string_kind,
+  Array as array_kind,
+  Table as table_kind,
+  Binary as binary_kind,
+  Integer as integer_kind,
+  IntVector as vector_kind,
+}
 use Rattle.resb_grammar.specs.Ascii as ascii
 use Rattle.resb_tree.specs.Tree.{Tree}
 use Rattle.resb_grammar.specs.Lexical.{Skip}
-use Rattle.resb_grammar.specs.GroupTypes.{Kind, string_kind, array_kind, table_kind, binary_kind}
-use Rattle.resb_grammar.specs.GroupTypes.{integer_kind, vector_kind, GroupType, TypedOpening}
+use Rattle.resb_grammar.specs.GroupTypes.{GroupType, TypedOpening}
 use Rattle.resb_grammar.specs.Group.{LeafContent, string_content, binary_content, integer_content}
 use Rattle.resb_grammar.specs.Group.{vector_content}
 use Rattle.resb_grammar.specs.Limit.{begun_bytes, leaf_bytes, Makes}
 use Rattle.resb_grammar.specs.declared.limit.Limit.{Limit}
 use Rattle.resb_grammar.specs.declared.limit.Weights.{Weights}
 use Rattle.resb_grammar.specs.Inner.Content.{content_bytes}
-use Rattle.resb_grammar.specs.Kinds.{group_kind_of}
 use Rattle.resb_grammar.specs.declared.group_kind.Kind.{Kind as CodeKind}
 use Rattle.resb_grammar.specs.declared.group_kind.Kind.TheVariants as kinds
 use Rattle.resb_grammar.proofs.Making.{makes_on, makes_more, opening_made, begun_made}
@@ -81,7 +89,7 @@ leaf_kind w (vector_content ns v) = refl
 
 -- nor does one that is neither an array nor a table
 pub no_items_begun : (w : Weights) (kind : CodeKind) → (kind ≢ kinds.Array) × (kind ≢ kinds.Table)
-    → begun_bytes w (group_kind_of kind) ≡ 0
+    → begun_bytes w kind ≡ 0
 no_items_begun w kinds.String other = refl
 no_items_begun w kinds.Array other = absurd (other.0 refl)
 no_items_begun w kinds.Table other = absurd (other.1 refl)
@@ -144,7 +152,7 @@ module _ {B X : Type 0} {tree : B → X → Tree} {held : B → X → Bool} {tex
   type_refused colon is denied =
       stuck_here x is (only_types text here.0 x.open_groups (sym x.byte ∙ colon)
       (λ to kind u g. not_group_like x.open_groups.frame.body _
-      (λ b. in_body b x.open_groups (a_type kind)) _ u refl denied))
+      (λ b. in_body b x.open_groups (a_type kind)) _ u (type_in_table x.open_groups kind _) denied))
 
   -- no type and `{` stand here
   pub opening_refused : {e : TextParserError} → MayStand → TypedOpeningFails text here.0 e
@@ -158,8 +166,8 @@ module _ {B X : Type 0} {tree : B → X → Tree} {held : B → X → Bool} {tex
   type_moves : (kind : Kind) → MayStand
       → next (inside x.open_groups) (a_type kind) ≡ Some (typed kind x.open_groups)
   type_moves kind may =
-      group_like x.open_groups.frame.body _ (λ b. in_body b x.open_groups (a_type kind)) _ refl refl
-      refl may
+      group_like x.open_groups.frame.body _ (λ b. in_body b x.open_groups (a_type kind)) _
+      (type_in_table x.open_groups kind _) refl refl may
 
   -- a group is weighed as by the quota's own weights
   group_same : q.limit.weights.group ≡ limit.weights.group

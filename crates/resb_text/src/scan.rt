@@ -3,7 +3,8 @@
 //! What stands in the text is read in `tokens`, and where a run ends is found in `runs`.
 ghost use Rattle.std.specs.Prelude.{◌≡◌, ℕ, ◌+◌, ◌-◌, ◌<◌, ◌≤◌, length, slice_get};
 ghost use Rattle.std.specs.Prelude.{true, false, slice_index, slice_range, MatchOption, min};
-ghost use Rattle.resb_grammar.specs.ByteRuns.{Run, is_line_end, is_white, is_word, is_digit};
+ghost use Rattle.std.specs.Char.{is_ascii_digit};
+ghost use Rattle.resb_grammar.specs.ByteRuns.{Run, is_line_end, is_white, is_word};
 ghost use Rattle.resb_grammar.specs.Lexical.{digits_value};
 ghost use Rattle.resb_text.specs.Inner.Runs.{FirstByte, NoByte};
 ghost use Rattle.resb_text.specs.Inner.Ticked.{Ticked};
@@ -141,9 +142,9 @@ pub(crate) fn word_end(text: &str, ticks: &mut Ticks, from: usize) -> usize
 /// one. Gives their end and their value, or 2 ^ 32 where it is larger.
 pub(crate) fn digits_end(text: &str, ticks: &mut Ticks, from: usize) -> (usize, u64)
     requires within { from ≤ length text.now }
-    ensures run { Run is_digit text.now from result.0 }
+    ensures run { Run is_ascii_digit text.now from result.0 }
     ensures value { result.1
-        ≡ min (digits_value text.now from (result.0 - from)) 4294967296 }
+        ≡ min (digits_value 10 text.now from (result.0 - from)) 4294967296 }
     ensures counted { let to = min (result.0 + 1) (length text.now) in
         Ticked ticks.old ticks.new (to - from) }
 {

@@ -4,7 +4,7 @@ use Rattle.std.specs.Prelude.{map, length, Some}
 use Rattle.std.specs.List.{sum_by}
 use Rattle.resb_tree.specs.Tree.{Tree, string, array, table, trees_of, map_of}
 use Rattle.resb_grammar.specs.Items as spec
-use Rattle.resb_grammar.specs.Items.{is_pairs, keys_by, term_keys, inner_keys}
+use Rattle.resb_grammar.specs.Items.{is_pairs, item_keys, term_keys, inner_keys}
 use Rattle.resb_grammar.specs.Inner.Half.{is_half}
 use Rattle.resb_grammar.specs.Machine as machine
 use Rattle.resb_grammar.specs.BundleText.{first_places}
@@ -84,8 +84,8 @@ views_of_frames (g ∷ gs) = views_of_frames gs ++ view_of_frame g ∷ []
 -- be a table, they are its keys
 pub record IsFrom (g : NumberedFrame) (own : List GroupText) : Type 0 where
   pub whole : may_be_table g.frame.body g.frame.items ≡ true
-      → texts own ≡ keys_by term_keys g.frame.items
-  pub rest : texts (without g.number own) ≡ keys_by inner_keys g.frame.items
+      → texts own ≡ item_keys term_keys g.frame.items
+  pub rest : texts (without g.number own) ≡ item_keys inner_keys g.frame.items
   pub later : (h : ℕ) → h < g.number → without h own ≡ own
 
 -- the candidates of the open groups, the innermost one's last

@@ -1,9 +1,9 @@
 -- Groups that hold no items, from after their `{` on.
 use Rattle.std.specs.Prelude.{◌≡◌, ◌≢◌, ◌⊎◌, ℕ, ◌+◌, List, slice_index}
+use Rattle.resb_grammar.specs.declared.group_kind.Kind.{Kind}
 use Rattle.resb_grammar.specs.Ascii as ascii
 use Rattle.resb_tree.specs.Tree.{Tree}
 use Rattle.resb_grammar.specs.Lexical.{Skip}
-use Rattle.resb_grammar.specs.GroupTypes.{Kind}
 use Rattle.resb_grammar.specs.Group.{LeafContent, Vector}
 use Rattle.resb_grammar.specs.Machine.{Open, begun_as}
 use Rattle.resb_grammar.specs.Limit.{Makes}

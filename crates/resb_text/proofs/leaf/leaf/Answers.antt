@@ -1,6 +1,10 @@
-use Rattle.resb_grammar.specs.GroupTypes.{string_kind, binary_kind, integer_kind}
 use Rattle.resb_text.proofs.Leaves.{leaf_takes_none, leaf_refused}
 use Rattle.resb_text.proofs.leaf.leaf.Goals as goal
+use Rattle.resb_grammar.specs.declared.group_kind.Kind.TheVariants.{
+  String as string_kind,
+  Binary as binary_kind,
+  Integer as integer_kind,
+}
 
 pub returns-in-String-clause-quota : goal.returns-in-String-clause-quota
 returns-in-String-clause-quota c =

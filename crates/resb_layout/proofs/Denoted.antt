@@ -24,7 +24,7 @@ use Rattle.resb_format.specs.Denotes.{each_more as more_denoted, DenEntries, ent
 use Rattle.resb_format.specs.Denotes.{entries_more}
 use Rattle.resb_layout.specs.Laid.{Given, Laid, here, more_units, to_data, words_body}
 use Rattle.resb_layout.specs.Laid.{near_table_body, wide_table_body, is_short_by, are_short_by}
-use Rattle.resb_layout.specs.Laid.{offsets_by, nears_by, near_by, short_by, short_in}
+use Rattle.resb_layout.specs.Laid.{offsets_by, nears_by, near_by, short_by}
 use Rattle.resb_layout.specs.Laid.{ClosesArrayBy, short_array, long_array}
 use Rattle.resb_layout.specs.Laid.{ClosesTableBy, short_table}
 use Rattle.resb_layout.specs.Laid.{long_table, wide_table, entry_trees, ArePlaced, LaysBy}
@@ -168,7 +168,7 @@ short_word (Some l) (suc v) e =
     record {
       low = λ some. leb-true 0x6000_0000 w both.0;
       high = leb-true w 0x6fff_ffff rest.0;
-      short = leb-true (short_in l (w - 0x6000_0000)) 65535 rest.1;
+      short = leb-true (short_by (Some l) (w - 0x6000_0000)) 65535 rest.1;
     }
 
 pub all_short : (lent : Option Lends) (ws : List ℕ) → are_short_by lent ws ≡ true

@@ -1,11 +1,10 @@
 -- How a tree is laid out behind the pool of its strings. Short bodies stand in the 16-bit block,
 -- all others in the tail behind it, a member's body before its collection's. (ICU's
 -- `uresdata.h`.)
---     Lays g before t after w         from where before stands, the tree t takes what after has
---                                     more, and its word is w
---     LaysBy lent g ..                the same of a file to which a pool bundle lends, or of one
---                                     that uses none
---     LaysEachBy lent g .. ts .. ws   the same of trees in a row
+--     LaysBy lent g before t after w  from where before stands, the tree t takes what after has
+--                                     more, and its word is w, in a file to which a pool bundle
+--                                     lends, or in one that uses none
+--     LaysEachBy lent g .. ts .. ws   so trees in a row do
 use Rattle.std.specs.Prelude.{◌≡◌, ℕ, ◌+◌, ◌-◌, ◌*◌, ◌^◌, ◌<◌, ◌%◌, List, [], ◌∷◌, ◌++◌}
 use Rattle.std.specs.Prelude.{length, map, replicate, All, Option, Some, None, Bool, true, false}
 use Rattle.std.specs.Prelude.{◌&&◌, ◌||◌, nat_le, nat_lt, nat_eq, if◌then◌else◌}
@@ -105,68 +104,46 @@ abbrev pub word_of_string : Packing → ℕ → ℕ
 word_of_string Plain k = 0x6000_0000 + k
 word_of_string Compact k = if nat_eq k 0 then 0 else 0x6000_0000 + k
 
--- the word of a string at an offset that a unit can hold: 0 is an empty one's
-abbrev pub is_short_string : ℕ → Bool
-is_short_string w = nat_eq w 0 || (nat_le 0x6000_0000 w && nat_le w 0x6000_ffff)
-
--- all words are those of strings at offsets that a unit can hold, and a unit can count them
-abbrev pub are_short : List ℕ → Bool
-are_short ws = nat_le (length ws) 65535 && list_all is_short_string ws
-
 -- a unit can hold each of the positions, and count them
 abbrev pub are_near : List ℕ → Bool
 are_near ps = nat_le (length ps) 65535 && list_all (λ p. nat_le p 65535) ps
 
--- the offsets in the words of strings
-abbrev pub offsets_in : List ℕ → List ℕ
-offsets_in ws = map (λ w. w - 0x6000_0000) ws
-
 -- a position as 16 bits tell it, if they can: a place in a pool's keys, which a position of 2^31
--- and more tells, is counted from the end of the file's own
-abbrev pub near_in : Lends → ℕ → ℕ
-near_in l p = if nat_le (2 ^ 31) p then p - 2 ^ 31 + l.own_end else p
+-- and more tells, is counted from the end of the file's own; where no pool is used, it is itself
+abbrev pub near_by : Option Lends → ℕ → ℕ
+near_by None = λ p. p
+near_by (Some l) = λ p. if nat_le (2 ^ 31) p then p - 2 ^ 31 + l.own_end else p
 
 -- an index as a unit tells it, if one can: 0, the empty text's, tells itself; so does that of a
 -- string of the pool below the short limit, and none from there on; the file's own follow from the
--- short limit on
-abbrev pub short_in : Lends → ℕ → ℕ
-short_in l i =
+-- short limit on. Where no pool is used, an index tells itself
+abbrev pub short_by : Option Lends → ℕ → ℕ
+short_by None = λ i. i
+short_by (Some l) = λ i.
     if nat_eq i 0 then 0
     else if nat_le l.limit i then i - l.limit + l.short_limit
     else if nat_lt i l.short_limit then i
     else 65536
 
--- the same, or the position itself where no pool is used
-abbrev pub near_by : Option Lends → ℕ → ℕ
-near_by None = λ p. p
-near_by (Some l) = near_in l
-
--- the same, or the index itself where no pool is used
-abbrev pub short_by : Option Lends → ℕ → ℕ
-short_by None = λ i. i
-short_by (Some l) = short_in l
-
 -- these positions as 16 bits tell them
 abbrev pub nears_by : Option Lends → List ℕ → List ℕ
 nears_by None = λ ps. ps
-nears_by (Some l) = map (near_in l)
+nears_by (Some l) = map (near_by (Some l))
 
 -- the word of a string that a unit can tell: 0 is an empty one's
 abbrev pub is_short_by : Option Lends → ℕ → Bool
-is_short_by None = is_short_string
+is_short_by None = λ w. nat_eq w 0 || (nat_le 0x6000_0000 w && nat_le w 0x6000_ffff)
 is_short_by (Some l) =
     λ w. nat_eq w 0 || (nat_le 0x6000_0000 w
-    && (nat_le w 0x6fff_ffff && nat_le (short_in l (w - 0x6000_0000)) 65535))
+    && (nat_le w 0x6fff_ffff && nat_le (short_by (Some l) (w - 0x6000_0000)) 65535))
 
 -- all words are those of strings that a unit can tell, and a unit can count them
 abbrev pub are_short_by : Option Lends → List ℕ → Bool
-are_short_by None = are_short
-are_short_by (Some l) = λ ws. nat_le (length ws) 65535 && list_all (is_short_by (Some l)) ws
+are_short_by lent ws = nat_le (length ws) 65535 && list_all (is_short_by lent) ws
 
 -- what units tell of the strings of these words
 abbrev pub offsets_by : Option Lends → List ℕ → List ℕ
-offsets_by None = offsets_in
-offsets_by (Some l) = map (λ w. short_in l (w - 0x6000_0000))
+offsets_by lent ws = map (λ w. short_by lent (w - 0x6000_0000)) ws
 
 -- behind its members, whose words are ws: an array's further units or bytes, and its word
 pub data ClosesArrayBy (lent : Option Lends) (g : Given) (s : Laid) (ws : List ℕ)
@@ -243,7 +220,3 @@ mutual
     each_more : {s mid end : Laid} {ws : List ℕ} {w : ℕ} {t : Tree} {ts : Trees}
         → LaysBy lent g s t mid w → LaysEachBy lent g mid ts end ws
         → LaysEachBy lent g s (more_trees t ts) end (w ∷ ws)
-
--- the same of a file that uses no pool
-abbrev pub Lays : Given → Laid → Tree → Laid → ℕ → Type 0
-Lays = LaysBy None

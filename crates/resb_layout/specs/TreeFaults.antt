@@ -4,7 +4,7 @@
 use Rattle.std.specs.Prelude.{◌≡◌, ℕ, ◌^◌, ◌≤◌, List, length, Bool, false, nat_eq, nat_lt, codes}
 use Rattle.std.specs.Prelude.{Option, Some, None, option_map, unwrap_or, if◌then◌else◌}
 use Rattle.std.specs.List.{list_any}
-use Rattle.std.specs.Option.{is_none}
+use Rattle.std.specs.Option.{is_none, option_or}
 use Rattle.resb_tree.specs.Tree.{Tree, alias, array, binary, int_vector}
 use Rattle.resb_format.specs.Units.{units}
 use Rattle.resb_layout.specs.WritingFault.{WritingFault, string_too_long, unexpected, limit}
@@ -48,16 +48,11 @@ abbrev pub count_fault : List Tree → Option WritingFault
 count_fault ts = if list_any is_over_32_bits ts then Some (limit (codes "count over 32 bits")) else
     None
 
--- the first of two faults
-abbrev pub first_of : Option WritingFault → Option WritingFault → Option WritingFault
-first_of (Some f) later = Some f
-first_of None later = later
-
 -- the first fault of a tree and a list of keys: of its keys, of a string's length, of a count
 abbrev pub tree_fault : Tree → List (List ℕ) → Option WritingFault
 tree_fault t ks =
-    first_of (key_fault (keys_of t) (used (keys_of t) ks))
-    (first_of (option_map string_too_long (first_too_long (texts_of t))) (count_fault (laying_order
+    option_or (key_fault (keys_of t) (used (keys_of t) ks))
+    (option_or (option_map string_too_long (first_too_long (texts_of t))) (count_fault (laying_order
     t)))
 
 -- want of memory, the first fault, or a plain size of 2^28 and more where there is no fault

@@ -13,7 +13,7 @@ use Rattle.resb_tree.specs.Aliases.{has_alias}
 use Rattle.resb_head.specs.File.{body_of, root_word, keys_end, block_end, Denotes}
 use Rattle.resb_head.specs.File.{DenotesWithAliases, budget}
 use Rattle.resb_pool.specs.Plan.{IsPlanBy}
-use Rattle.resb_layout.specs.Laid.{Laid, Lays}
+use Rattle.resb_layout.specs.Laid.{Laid, LaysBy}
 use Rattle.resb_format.specs.Bytes.{units_as_bytes}
 use Rattle.resb_tree.specs.LayingOrder.{texts_of}
 use Rattle.resb_layout.specs.KeyBlock.{keys_start}
@@ -42,7 +42,7 @@ pub record BlocksBy (q : Packing) (t : Tree) (ks : List (List ℕ)) : Type 0 whe
   pub laid : Laid
   pub root : ℕ
   pub is_pool : IsPlanBy q (texts_of t) pool offset
-  pub lays : Lays
+  pub lays : LaysBy None
       (record {
         position = key_position_by q t ks;
         offset = offset;

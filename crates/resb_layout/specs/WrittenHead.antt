@@ -1,17 +1,22 @@
 -- The header and the index of a written file. (ICU's `ucmndata.h`, `udata.h` and `uresdata.h`.)
---     written_header          the 32 bytes that it begins with
+--     header_of version       the 32 bytes that a file of this version begins with
+--     written_header          those of a file that uses no pool
 --     IndexOf bytes t f       the index is that of a bundle of the tree t, with locale fallback or
 --                             not
 use Rattle.std.specs.Prelude.{◌≡◌, ℕ, ◌*◌, List, [], ◌∷◌, length, take, Bool, if◌then◌else◌}
 use Rattle.resb_tree.specs.Tree.{Tree, largest_table}
 use Rattle.resb_head.specs.File.{body_of, body_word, field_count, attributes}
 
--- 32 bytes of header, of which 20 are the info: little-endian, ASCII, two bytes a unit, `ResB`,
--- format version 2.0, data version 1.4
-abbrev pub written_header : List ℕ
-written_header =
+-- 32 bytes of header, of which 20 are the info: little-endian, ASCII, two bytes a unit, `ResB`, a
+-- format version whose second number is 0, data version 1.4
+abbrev pub header_of : ℕ → List ℕ
+header_of version =
     32 ∷ 0 ∷ 0xda ∷ 0x27 ∷ 20 ∷ 0 ∷ 0 ∷ 0 ∷ 0 ∷ 0 ∷ 2 ∷ 0 ∷ 0x52 ∷ 0x65 ∷ 0x73 ∷ 0x42
-    ∷ 2 ∷ 0 ∷ 0 ∷ 0 ∷ 1 ∷ 4 ∷ 0 ∷ 0 ∷ 0 ∷ 0 ∷ 0 ∷ 0 ∷ 0 ∷ 0 ∷ 0 ∷ 0 ∷ []
+    ∷ version ∷ 0 ∷ 0 ∷ 0 ∷ 1 ∷ 4 ∷ 0 ∷ 0 ∷ 0 ∷ 0 ∷ 0 ∷ 0 ∷ 0 ∷ 0 ∷ 0 ∷ 0 ∷ []
+
+-- the header of format version 2.0
+abbrev pub written_header : List ℕ
+written_header = header_of 2
 
 -- the written header, seven fields, both ends at the body's end, the largest table, and the
 -- fallback flag

@@ -16,6 +16,7 @@ use Rattle.resb_head.specs.File.{body_of, root_word, field_count, keys_end, attr
 use Rattle.resb_head.specs.File.{block_end}
 use Rattle.resb_head.specs.HeadChecks.{header_checks, info_checks}
 use Rattle.resb_layout.specs.Laid.{words}
+use Rattle.resb_layout.specs.WrittenHead.{header_of}
 use Rattle.resb_layout.proofs.BytesLemmas.{EachBelow, words_read, halves_len, halves_read}
 use Rattle.resb_pool_bundle.specs.Checks.{version_checks, size_checks, lending_checks, head_checks}
 use Rattle.resb_pool_bundle.specs.Checks.{pool_given_checks, refusal_with}
@@ -26,7 +27,7 @@ use Rattle.resb_format.specs.Parts.{no_pool}
 use Rattle.resb_pool_bundle.specs.FileWith.{IsFileWith}
 use Rattle.resb_pool_bundle.specs.Pool.{Pool, parts_with, block_bytes}
 use Rattle.resb_pool_bundle.proofs.Steps.{later_refusal}
-use Rattle.resb_lent.specs.HeadWithPool.{IsHead, head_words, header_with}
+use Rattle.resb_lent.specs.HeadWithPool.{IsHead, head_words}
 use Rattle.resb_lent.specs.HeadWithPool.{attributes_with, body_behind, parts_behind}
 use Rattle.resb_lent.specs.Laws.{HeadWithPoolIsRead}
 use Rattle.resb_lent.specs.declared.head_with_pool.HeadWithPool.{HeadWithPool}
@@ -83,36 +84,36 @@ same_eq m n e = by (nat_eq m n) refl
     by true f = refl
     by false f = absurd (eqb-false m n f e)
 
-size_of_header : (b : Bool) (rest : List ℕ) → header_size (header_with (number b) ++ rest) ≡ 32
+size_of_header : (b : Bool) (rest : List ℕ) → header_size (header_of (number b) ++ rest) ≡ 32
 unfolding units_of
 size_of_header true rest = refl
 size_of_header false rest = refl
 
-behind_header : (b : Bool) (rest : List ℕ) → body_of (header_with (number b) ++ rest) ≡ rest
-behind_header b rest = ap (λ n. drop n (header_with (number b) ++ rest)) (size_of_header b rest)
-    ∙ drop_at (header_with (number b)) rest 32 refl
+behind_header : (b : Bool) (rest : List ℕ) → body_of (header_of (number b) ++ rest) ≡ rest
+behind_header b rest = ap (λ n. drop n (header_of (number b) ++ rest)) (size_of_header b rest)
+    ∙ drop_at (header_of (number b)) rest 32 refl
 
 header_holds : (b : Bool) (rest : List ℕ)
-    → first_refusal (header_checks false (header_with (number b) ++ rest)) ≡ None
+    → first_refusal (header_checks false (header_of (number b) ++ rest)) ≡ None
 unfolding header_checks info_checks units_of
 header_holds true rest =
-    first (nat_le 24 (length (header_with 2 ++ rest)))
+    first (nat_le 24 (length (header_of 2 ++ rest)))
     (invalid (codes "input is too short to contain file header"))
-    (le-leb 24 (length (header_with 2 ++ rest))
-    (omega (arith, length-append (header_with 2) rest)))
+    (le-leb 24 (length (header_of 2 ++ rest))
+    (omega (arith, length-append (header_of 2) rest)))
 header_holds false rest =
-    first (nat_le 24 (length (header_with 3 ++ rest)))
+    first (nat_le 24 (length (header_of 3 ++ rest)))
     (invalid (codes "input is too short to contain file header"))
-    (le-leb 24 (length (header_with 3 ++ rest))
-    (omega (arith, length-append (header_with 3) rest)))
+    (le-leb 24 (length (header_of 3 ++ rest))
+    (omega (arith, length-append (header_of 3) rest)))
 
 version_holds : (b : Bool) (rest : List ℕ)
-    → first_refusal (version_checks (drop 4 (header_with (number b) ++ rest))) ≡ None
+    → first_refusal (version_checks (drop 4 (header_of (number b) ++ rest))) ≡ None
 unfolding version_checks
 version_holds true rest = refl
 version_holds false rest = refl
 
-major_is : (b : Bool) (rest : List ℕ) → major (header_with (number b) ++ rest) ≡ number b
+major_is : (b : Bool) (rest : List ℕ) → major (header_of (number b) ++ rest) ≡ number b
 major_is true rest = refl
 major_is false rest = refl
 
@@ -170,7 +171,7 @@ module _ (h : HeadWithPool) (pool : Pool) (keys us tail : List ℕ) (is : IsHead
   body = body_behind h keys us tail
 
   abbrev file : List ℕ
-  file = header_with (number none) ++ body
+  file = header_of (number none) ++ body
 
   words_fit : EachBelow (2 ^ 32) (head_words h)
   words_fit = (

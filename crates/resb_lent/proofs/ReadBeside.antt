@@ -12,7 +12,7 @@ use Rattle.resb_format.specs.Lookups.{key_in, key_place_by, lent_position, text_
 use Rattle.resb_format.specs.Lookups.{index_by}
 use Rattle.resb_format.specs.Parts.{Parts, Lent}
 use Rattle.resb_format.specs.Strings.{key_at, text_at}
-use Rattle.resb_layout.specs.Laid.{Given, Lends, near_in, short_in}
+use Rattle.resb_layout.specs.Laid.{Given, Lends, near_by, short_by}
 use Rattle.resb_pool.proofs.ReadBack.{text_at-zero}
 use Rattle.resb_lent.specs.Laws.{LentIsRead, KeysStand, lends_to}
 use Rattle.resb_pool.specs.declared.packing.Packing.{Packing}
@@ -22,24 +22,25 @@ use Rattle.resb_lent.proofs.Read.{at_zero}
 use Rattle.resb_lent.proofs.Told.{told_there}
 
 -- an own position tells itself, and one in the pool is counted from the own keys' end
-near_own : (l : Lends) (at : ℕ) → at < 2 ^ 31 → near_in l at ≡ at
+near_own : (l : Lends) (at : ℕ) → at < 2 ^ 31 → near_by (Some l) at ≡ at
 near_own l at h = grind (arith, nat_tests)
 
-near_lent : (l : Lends) (n : ℕ) → near_in l (n + 2 ^ 31) ≡ n + l.own_end
+near_lent : (l : Lends) (n : ℕ) → near_by (Some l) (n + 2 ^ 31) ≡ n + l.own_end
 near_lent l n = grind (arith, nat_tests)
 
 -- a unit that tells an index over 0 tells it back
 index_back : (l : Lent) (own i : ℕ) → 0 < i
-    → short_in (record { own_end = own; limit = l.limit; short_limit = l.short_limit }) i ≤ 65535
-    → index_by (Some l) (short_in (record {
+    → short_by (Some (record { own_end = own; limit = l.limit; short_limit = l.short_limit })) i
+    ≤ 65535
+    → index_by (Some l) (short_by (Some (record {
       own_end = own;
       limit = l.limit;
       short_limit = l.short_limit;
-    }) i) ≡ i
+    })) i) ≡ i
 unfolding index_by
 index_back l own i some h = grind (arith, nat_tests)
 
-zero_told : (l : Lends) → short_in l 0 ≡ 0
+zero_told : (l : Lends) → short_by (Some l) 0 ≡ 0
 zero_told l = refl
 
 zero_below : (l : Lent) → 0 < l.short_limit → index_by (Some l) 0 ≡ 0
@@ -73,18 +74,19 @@ module _ (p : Parts) (l : Lent) (g : Given) (lent : p.lent ≡ Some l) (few : le
       by (inl o) = own_key k at o.0 o.1
       by (inr (n, f, w)) = ap (key_in p) f ∙ (told_there p l k n lent few w).0
 
-  near_read : (k : List ℕ) (at : ℕ) → g.position k ≡ Some at → near_in (lends_to p l) at ≤ 65535
-      → key_in p (near_in (lends_to p l) at) ≡ Some k
+  near_read : (k : List ℕ) (at : ℕ) → g.position k ≡ Some at
+      → near_by (Some (lends_to p l)) at ≤ 65535
+      → key_in p (near_by (Some (lends_to p l)) at) ≡ Some k
   near_read k at e near = by (stand k at e)
     where
       by : ((at < length p.keys) × (key_at p.keys at ≡ Some k))
           ⊎ ((n : ℕ) × (at ≡ n + 2 ^ 31) × (key_at l.keys n ≡ Some k))
-          → key_in p (near_in (lends_to p l) at) ≡ Some k
+          → key_in p (near_by (Some (lends_to p l)) at) ≡ Some k
       by (inl o) = ap (key_in p) (near_own (lends_to p l) at (omega (arith, o.0, few)))
           ∙ own_key k at o.0 o.1
       by (inr (n, f, w)) =
-          let told : near_in (lends_to p l) at ≡ n + length p.keys =
-          ap (near_in (lends_to p l)) f ∙ near_lent (lends_to p l) n in
+          let told : near_by (Some (lends_to p l)) at ≡ n + length p.keys =
+          ap (near_by (Some (lends_to p l))) f ∙ near_lent (lends_to p l) n in
           ap (key_in p) told
           ∙ (told_there p l k n lent few w).1 (omega (arith, told, near))
 
@@ -129,15 +131,15 @@ module _ (way : Packing) (p : Parts) (l : Lent) (S : List (List ℕ)) (us is res
   told : (u : ℕ) → index_in p u ≡ index_by (Some l) u
   told u = ap (λ o. index_by o u) lent
 
-  short_read : (s : List ℕ) (i : ℕ) → offset s ≡ Some i → short_in (lends_to p l) i ≤ 65535
-      → text_in p (index_in p (short_in (lends_to p l) i)) ≡ Some s
+  short_read : (s : List ℕ) (i : ℕ) → offset s ≡ Some i → short_by (Some (lends_to p l)) i ≤ 65535
+      → text_in p (index_in p (short_by (Some (lends_to p l)) i)) ≡ Some s
   short_read s i e short = elim (cases_lt 0 i) [
-    | inl some ↦ ap (text_in p) (told (short_in (lends_to p l) i)
+    | inl some ↦ ap (text_in p) (told (short_by (Some (lends_to p l)) i)
         ∙ index_back l (length p.keys) i some short) ∙ text_read s i e
     | inr none ↦
         let z : i ≡ 0 = omega (arith, none) in
-        let unit : short_in (lends_to p l) i ≡ 0 =
-        ap (short_in (lends_to p l)) z ∙ zero_told (lends_to p l) in
+        let unit : short_by (Some (lends_to p l)) i ≡ 0 =
+        ap (short_by (Some (lends_to p l))) z ∙ zero_told (lends_to p l) in
         let empty : s ≡ [] = only_empty s (e ∙ ap Some z) in
         ap (λ u. text_in p (index_in p u)) unit ∙ ap (text_in p) (told 0) ∙ at_0
         ∙ ap Some (sym empty)

@@ -4,22 +4,18 @@
 --     head_bytes h            the header, and these words
 --     IsHead h                the numbers fit their bits
 --     parts_behind h pool keys us tail    the parts of a file that has these blocks behind it
-use Rattle.std.specs.Prelude.{◌≡◌, ℕ, ◌+◌, ◌*◌, ◌/◌, ◌%◌, ◌^◌, ◌<◌, ◌≤◌, List, [], ◌∷◌, ◌++◌, take}
-use Rattle.std.specs.Prelude.{drop, Some, nat_eq, if◌then◌else◌}
+use Rattle.std.specs.Prelude.{◌≡◌, ℕ, ◌+◌, ◌*◌, ◌/◌, ◌%◌, ◌^◌, ◌<◌, ◌≤◌, List, [], ◌∷◌, ◌++◌}
+use Rattle.std.specs.Prelude.{Some, nat_eq, if◌then◌else◌}
 use Rattle.resb_format.specs.Bytes.{units_as_bytes}
 use Rattle.resb_format.specs.Parts.{Parts}
 use Rattle.resb_layout.specs.Laid.{words}
-use Rattle.resb_layout.specs.WrittenHead.{written_header}
+use Rattle.resb_layout.specs.WrittenHead.{header_of}
 use Rattle.resb_pool_bundle.specs.Pool.{Pool}
 use Rattle.resb_lent.specs.declared.head_with_pool.HeadWithPool.{HeadWithPool}
 
 -- the format version's first number: 2 where the pool lends no string, and else 3
 abbrev pub version_with : ℕ → ℕ
 version_with limit = if nat_eq limit 0 then 2 else 3
-
--- the header that each written file has, but for the version
-abbrev pub header_with : ℕ → List ℕ
-header_with version = take 16 written_header ++ version ∷ drop 17 written_header
 
 -- the attributes: a pool is used, and whether there is no fallback; above them the upper 4 bits of
 -- the limit, and the short limit
@@ -42,7 +38,7 @@ head_words h =
 
 -- the header, and the words
 abbrev pub head_bytes : HeadWithPool → List ℕ
-head_bytes h = header_with (version_with h.limit) ++ words (head_words h)
+head_bytes h = header_of (version_with h.limit) ++ words (head_words h)
 
 -- each number fits its bits, and there is no short limit without a limit
 pub record IsHead (h : HeadWithPool) : Type 0 where

@@ -2,7 +2,8 @@
 //! What stands behind it is not said here; heads are read in `resb_pool_bundle`.
 ghost use Rattle.std.specs.Prelude.{◌≡◌, ◌++◌, OnOk};
 ghost use Rattle.resb_head.specs.Head.{index_words};
-ghost use Rattle.resb_lent.specs.HeadWithPool.{header_with, version_with};
+ghost use Rattle.resb_layout.specs.WrittenHead.{header_of};
+ghost use Rattle.resb_lent.specs.HeadWithPool.{version_with};
 
 use resb_head::{BinHeader, BinIndex, BinReprInfo, CharsetFamily, Endianness, FormatVersion};
 use resb_tree::NoMemory;
@@ -37,7 +38,7 @@ pub struct HeadWithPool {
 /// Appends a header of 32 bytes: of version 2.0 where no string is lent, and else of 3.0.
 fn append_header(file: &mut Vec<u8>, limit: u32) -> Result<(), NoMemory>
     ensures { OnOk result (file.new.items
-        ≡ file.old.items ++ header_with (version_with limit)) }
+        ≡ file.old.items ++ header_of (version_with limit)) }
 {
     let header = BinHeader {
         size: HEADER_SIZE,

@@ -5,7 +5,6 @@
 --     IsPlanAmong way A S us offset   these are the units and offsets of the strings S, in a file
 --                             that is packed this way, where A are its texts and those beside it
 --     IsPlanBy way S us offset    the same of a file of just these strings
---     IsPlan S us offset      the same of a plain file
 --     NotPlanned S e          the error e is the answer for the strings S
 use Rattle.std.specs.Prelude.{◌≡◌, ℕ, ◌+◌, ◌^◌, ◌≤◌, List, [], ◌∷◌, length, Option, Some, None}
 use Rattle.std.specs.Prelude.{MatchOption, All, Contains, nat_le, sum_by, map, slice_get}
@@ -63,10 +62,6 @@ pub record IsPlanAmong (way : Packing) (A : List ℕ → Type 0) (S : List (List
 -- the same of a file in which no other texts stand, and beside which there are none
 abbrev pub IsPlanBy : Packing → List (List ℕ) → List ℕ → (List ℕ → Option ℕ) → Type 0
 IsPlanBy way S us offset = IsPlanAmong way (Contains S) S us offset
-
--- the same of a file in which each string lies in the greatest record that ends with it
-abbrev pub IsPlan : List (List ℕ) → List ℕ → (List ℕ → Option ℕ) → Type 0
-IsPlan = IsPlanBy Plain
 
 -- the number of units of the first text of more than 4294967295
 abbrev pub first_too_long : List (List ℕ) → Option ℕ

@@ -4,7 +4,8 @@
 ghost use Rattle.std.specs.Prelude.{◌≡◌, ℕ, ◌<◌, ◌^◌, List, map, Option, Some};
 ghost use Rattle.std.specs.Prelude.{IfOk, IfErr, All, Contains, length};
 ghost use Rattle.resb_pool.specs.Plan.{nows, plan_units, offset_of, turn_offsets, texts_size};
-ghost use Rattle.resb_pool.specs.Plan.{IsPlan, NotPlanned};
+ghost use Rattle.resb_pool.specs.Plan.{IsPlanBy, NotPlanned};
+ghost use Rattle.resb_pool.specs.declared.packing.Packing.TheVariants.{Plain};
 ghost use Rattle.resb_pool.specs.Ended.{AreEnded};
 ghost use Rattle.resb_pool.specs.Inner.Placing.{AreTexts, AreContainers};
 ghost use Rattle.resb_pool.specs.Inner.LaidRecords.{IsBlock, HaveOffsets};
@@ -85,7 +86,7 @@ fn plan_texts<'a>(alloc: Global, texts: Texts<'a>) -> Result<Plan<'a>, PlanError
         texts.measures.items texts.order.items }
     ensures ok { IfOk result (λ p. (strings : List (List ℕ)) → ToldApart strings
         (nows texts.entry.distinct.keys) texts.entry.measures.items texts.entry.order.items
-        → IsPlan strings (plan_units p) (offset_of p)) }
+        → IsPlanBy Plain strings (plan_units p) (offset_of p)) }
     ensures turns { IfOk result (λ p. (strings : List (List ℕ)) → ToldApart strings
         (nows texts.entry.distinct.keys) texts.entry.measures.items texts.entry.order.items
         → map (offset_of p) strings ≡ map Some (turn_offsets p)) }
@@ -115,7 +116,7 @@ fn plan_texts<'a>(alloc: Global, texts: Texts<'a>) -> Result<Plan<'a>, PlanError
 /// Refused are a string of more than 4294967295 units, the first of them, and strings whose units
 /// and 16 for each come to 2^28 or more.
 pub fn plan<'a>(alloc: Global, strings: &[&'a str]) -> Result<Plan<'a>, PlanError>
-    ensures ok { IfOk result (λ p. IsPlan (nows strings.now) (plan_units p) (offset_of p)) }
+    ensures ok { IfOk result (λ p. IsPlanBy Plain (nows strings.now) (plan_units p) (offset_of p)) }
     ensures turns { IfOk result (λ p.
         map (offset_of p) (nows strings.now) ≡ map Some (turn_offsets p)) }
     ensures err { IfErr result (NotPlanned (nows strings.now)) }
@@ -153,7 +154,7 @@ pub fn plan_in_turn<'a>(
     strings: Vec<&'a str>,
 ) -> Result<(Vec<u16>, Vec<u32>), PlanError>
     ensures ok { IfOk result (λ p. (offset : List ℕ → Option ℕ)
-        × IsPlan (nows strings.entry.items) p.0.items offset
+        × IsPlanBy Plain (nows strings.entry.items) p.0.items offset
         × (map offset (nows strings.entry.items) ≡ map Some p.1.items)) }
     ensures err { IfErr result (NotPlanned (nows strings.entry.items)) }
 {

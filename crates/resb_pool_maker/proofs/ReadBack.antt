@@ -12,6 +12,7 @@ use Rattle.resb_format.proofs.WordsBack.{written_length}
 use Rattle.resb_head.specs.File.{body_of, field_count, keys_end, attributes, block_end}
 use Rattle.resb_head.specs.HeadChecks.{header_checks, info_checks}
 use Rattle.resb_layout.specs.Laid.{words}
+use Rattle.resb_layout.specs.WrittenHead.{header_of}
 use Rattle.resb_layout.proofs.BytesLemmas.{EachBelow, words_read, halves_len}
 use Rattle.resb_pool_bundle.specs.Checks.{version_checks, size_checks, lending_checks, head_checks}
 use Rattle.resb_pool_bundle.specs.Checks.{pool_checks, pool_refusal}
@@ -21,7 +22,7 @@ use Rattle.resb_pool_bundle.specs.Fields.{short_limit_in}
 use Rattle.resb_pool_bundle.specs.FileWith.{IsPoolFile}
 use Rattle.resb_pool_bundle.specs.Pool.{pool_of, block_bytes}
 use Rattle.resb_pool_bundle.proofs.Steps.{later_refusal}
-use Rattle.resb_pool_maker.specs.PoolFile.{header_of, head_words, file_of_blocks, blocks_checksum}
+use Rattle.resb_pool_maker.specs.PoolFile.{head_words, file_of_blocks, blocks_checksum}
 use Rattle.resb_pool_maker.proofs.Blocks.{units_back}
 
 -- the number of a version with strings, or of one without

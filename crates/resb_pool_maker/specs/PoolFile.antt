@@ -8,6 +8,7 @@ use Rattle.resb_format.specs.Bytes.{units_as_bytes}
 use Rattle.resb_layout.specs.KeyBlock.{key_bytes, padded}
 use Rattle.resb_layout.specs.Laid.{words}
 use Rattle.resb_layout.specs.Written.{even}
+use Rattle.resb_layout.specs.WrittenHead.{header_of}
 use Rattle.resb_pool.specs.declared.packing.Packing.{Packing}
 use Rattle.resb_pool.specs.declared.packing.Packing.TheVariants.{Plain, Compact}
 use Rattle.resb_pool_bundle.specs.Checksum.{checksum_of}
@@ -21,12 +22,6 @@ is_third Compact us = true
 -- the format version's first number
 abbrev pub version_of : Packing → List ℕ → ℕ
 version_of q us = if is_third q us then 3 else 2
-
--- 32 bytes of header, as every written file has them: of a version whose second number is 0
-abbrev pub header_of : ℕ → List ℕ
-header_of version =
-    32 ∷ 0 ∷ 0xda ∷ 0x27 ∷ 20 ∷ 0 ∷ 0 ∷ 0 ∷ 0 ∷ 0 ∷ 2 ∷ 0 ∷ 0x52 ∷ 0x65 ∷ 0x73 ∷ 0x42
-    ∷ version ∷ 0 ∷ 0 ∷ 0 ∷ 1 ∷ 4 ∷ 0 ∷ 0 ∷ 0 ∷ 0 ∷ 0 ∷ 0 ∷ 0 ∷ 0 ∷ 0 ∷ 0 ∷ []
 
 -- the checksum of key bytes and units, which are filled to a word both
 abbrev pub blocks_checksum : List ℕ → List ℕ → ℕ

@@ -6,8 +6,9 @@ ghost use Rattle.resb_format.specs.Bytes.{units_as_bytes, units_of};
 ghost use Rattle.resb_head.specs.Head.{index_words};
 ghost use Rattle.resb_layout.specs.KeyBlock.{key_bytes, padded};
 ghost use Rattle.resb_layout.specs.Written.{even};
+ghost use Rattle.resb_layout.specs.WrittenHead.{header_of};
 ghost use Rattle.resb_pool.specs.Plan.{nows};
-ghost use Rattle.resb_pool_maker.specs.PoolFile.{header_of, head_words, pool_file, blocks_checksum};
+ghost use Rattle.resb_pool_maker.specs.PoolFile.{head_words, pool_file, blocks_checksum};
 ghost use Rattle.resb_pool_maker.specs.PoolFile.{is_third as has_version_3};
 
 use resb_head::{BinHeader, BinIndex, BinReprInfo, CharsetFamily, Endianness, FormatVersion};

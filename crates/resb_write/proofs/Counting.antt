@@ -20,8 +20,8 @@ use Rattle.std.proofs.lemmas.Bool.{ne_eqb}
 use Rattle.resb_layout.specs.Laid.{word_of_string}
 use Rattle.resb_pool.specs.declared.packing.Packing.{Packing}
 use Rattle.resb_layout.proofs.StringWords.{word_cases}
-use Rattle.resb_layout.specs.Laid.{Given, Lends, Laid, is_short_string, is_short_by, are_short_by}
-use Rattle.resb_layout.specs.Laid.{are_near, nears_by, offsets_by, near_by, short_by, short_in}
+use Rattle.resb_layout.specs.Laid.{Given, Lends, Laid, is_short_by, are_short_by}
+use Rattle.resb_layout.specs.Laid.{are_near, nears_by, offsets_by, near_by, short_by}
 use Rattle.resb_layout.specs.Laid.{ClosesArrayBy, short_array, long_array, ClosesTableBy}
 use Rattle.resb_layout.specs.Laid.{short_table, long_table, wide_table, LaysBy, lays_integer}
 use Rattle.resb_layout.specs.Laid.{lays_string, lays_no_path, lays_path, lays_no_bytes}
@@ -45,7 +45,7 @@ plain_offset : (lent : Option Lends) (k : ℕ) → k < 2 ^ 28
 plain_offset (Some l) k small = some_word k _ ∙
     (λ i. le-leb 0x6000_0000 (0x6000_0000 + k) (omega arith) i
     && (le-leb (0x6000_0000 + k) 0x6fff_ffff (omega (arith, small)) i
-    && nat_le (short_in l (back i)) 65535))
+    && nat_le (short_by (Some l) (back i)) 65535))
   where
     back : 0x6000_0000 + k - 0x6000_0000 ≡ k
     back = omega arith
@@ -65,9 +65,9 @@ plain_offset None k small = some_word k _ ∙ by (nat_le k 65535) refl
 -- so is word 0, which is the empty string's
 zero_offset : (lent : Option Lends) (w k : ℕ) → w ≡ 0 → k ≡ 0
     → is_short_by lent w ≡ nat_le (short_by lent k) 65535
-zero_offset None w k e f = ap is_short_string e ∙ sym (ap (λ n. nat_le n 65535) f)
+zero_offset None w k e f = ap (is_short_by None) e ∙ sym (ap (λ n. nat_le n 65535) f)
 zero_offset (Some l) w k e f = ap (is_short_by (Some l)) e
-    ∙ sym (ap (λ n. nat_le (short_in l n) 65535) f)
+    ∙ sym (ap (λ n. nat_le (short_by (Some l) n) 65535) f)
 
 short_offset : (lent : Option Lends) (q : Packing) (k : ℕ) → k < 2 ^ 28
     → is_short_by lent (word_of_string q k) ≡ nat_le (short_by lent k) 65535

@@ -13,7 +13,7 @@ use Rattle.resb_pool.specs.Records.{IsRecord, IsHeldBy}
 use Rattle.resb_pool.specs.declared.packing.Packing.TheVariants.{Plain, Compact}
 use Rattle.resb_layout.specs.CompactKeys.{container, kept, end_position, key_block_by}
 use Rattle.resb_layout.specs.CompactKeys.{key_position_by}
-use Rattle.resb_layout.specs.Laid.{Lays, lays_integer, lays_members, each_none, each_more}
+use Rattle.resb_layout.specs.Laid.{LaysBy, lays_integer, lays_members, each_none, each_more}
 use Rattle.resb_layout.specs.Laid.{long_array, lays_path, word_of_string}
 use Rattle.resb_layout.specs.KeyBlock.{key_bytes, padded}
 use Rattle.resb_layout.specs.PlainSize.{plain_size}
@@ -99,14 +99,16 @@ plain_size_of_three : plain_size
 plain_size_of_three = refl
 
 -- An array of one integer, from byte 36 of the body.
-array_laid : Lays (record { position = λ k. None; offset = λ s. None; base = 36; packing = Plain })
+array_laid : LaysBy None
+    (record { position = λ k. None; offset = λ s. None; base = 36; packing = Plain })
     (record { units = 0 ∷ []; tail = [] }) (array (more_trees (integer 5) no_trees))
     (record { units = 0 ∷ []; tail = 1 ∷ 0 ∷ 0 ∷ 0 ∷ 5 ∷ 0 ∷ 0 ∷ 0x70 ∷ [] }) 0x8000_0009
 array_laid = lays_members (each_more (lays_integer (omega arith)) each_none) (omega arith)
     (long_array 9 refl refl (omega arith) (omega arith))
 
 -- An alias of the path ab, from byte 36 of the body: two units, a unit 0 and padding.
-alias_laid : Lays (record { position = λ k. None; offset = λ s. None; base = 36; packing = Plain })
+alias_laid : LaysBy None
+    (record { position = λ k. None; offset = λ s. None; base = 36; packing = Plain })
     (record { units = 0 ∷ []; tail = [] }) (alias (97 ∷ 98 ∷ []))
     (record {
       units = 0 ∷ [];

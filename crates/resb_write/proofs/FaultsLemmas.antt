@@ -3,7 +3,7 @@ use Rattle.std.proofs.Common.{◌≡◌, ℕ, ◌+◌, ◌^◌, List, [], ◌∷
 use Rattle.std.proofs.Common.{Bool, true, false, cond, ◌||◌, nat_le, nat_lt, unwrap_or, codes, refl}
 use Rattle.std.proofs.Common.{sym, ◌∙◌, ap, arith}
 use Rattle.std.specs.List.{list_any, flat_map}
-use Rattle.std.specs.Option.{is_none}
+use Rattle.std.specs.Option.{is_none, option_or}
 use Rattle.std.proofs.lemmas.Bool.Decides.{nat_tests}
 use Rattle.resb_tree.specs.Tree.{Tree}
 use Rattle.resb_layout.specs.WritingFault.{string_too_long, unexpected, limit}
@@ -11,7 +11,7 @@ use Rattle.resb_pool.specs.Plan.{nows, first_too_long}
 use Rattle.resb_tree.specs.LayingOrder.{text_in}
 use Rattle.resb_layout.specs.KeyBlock.{last_place, keys_start}
 use Rattle.resb_layout.specs.TreeFaults.{has_nul, is_unlisted, is_far, key_fault, is_over_32_bits}
-use Rattle.resb_layout.specs.TreeFaults.{count_fault, first_of}
+use Rattle.resb_layout.specs.TreeFaults.{count_fault}
 use Rattle.resb_write.specs.Inner.NearPositions.{near_position, near_position_in}
 use Rattle.resb_write.specs.Inner.Sizes.{size_fault}
 
@@ -69,14 +69,14 @@ module _ (us js : List (List ℕ)) where
 module _ (ts : List Tree) where
   pub long_fault : (n : ℕ) → first_too_long (flat_map text_in ts) ≡ Some n
       → size_fault ts ≡ Some (string_too_long n)
-  long_fault n e = ap (λ o. first_of (option_map string_too_long o) (count_fault ts)) e
+  long_fault n e = ap (λ o. option_or (option_map string_too_long o) (count_fault ts)) e
 
   pub over_fault : first_too_long (flat_map text_in ts) ≡ None → list_any is_over_32_bits ts ≡ true
       → size_fault ts ≡ Some (limit (codes "count over 32 bits"))
-  over_fault e h = ap (λ o. first_of (option_map string_too_long o) (count_fault ts)) e
+  over_fault e h = ap (λ o. option_or (option_map string_too_long o) (count_fault ts)) e
       ∙ ap (λ b. cond b (Some (limit (codes "count over 32 bits"))) None) h
 
   pub no_size_fault : first_too_long (flat_map text_in ts) ≡ None
       → list_any is_over_32_bits ts ≡ false → size_fault ts ≡ None
-  no_size_fault e h = ap (λ o. first_of (option_map string_too_long o) (count_fault ts)) e
+  no_size_fault e h = ap (λ o. option_or (option_map string_too_long o) (count_fault ts)) e
       ∙ ap (λ b. cond b (Some (limit (codes "count over 32 bits"))) None) h

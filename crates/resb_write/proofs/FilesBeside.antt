@@ -5,7 +5,7 @@ use Rattle.std.proofs.Common.{false, cond, nat_eq, ◌⊎◌, inl, inr, refl, sy
 use Rattle.std.proofs.Common.{append_assoc, append-nil, length-append, arith, map}
 use Rattle.std.specs.Prelude.{slice_get}
 use Rattle.std.specs.List.{All, Contains}
-use Rattle.std.specs.Option.{is_none}
+use Rattle.std.specs.Option.{is_none, option_or}
 use Rattle.std.specs.Str.{IsUtf8}
 use Rattle.std.specs.Cmp.Lexicographic.{bytes_decides}
 use Rattle.std.proofs.lemmas.Bool.{ne_eqb, true≢false}
@@ -28,7 +28,7 @@ use Rattle.resb_layout.specs.Laid.{Given, Lends, words, fill, to_word}
 use Rattle.resb_layout.specs.Laws.{IsRead, StandsIn, ReadsOlderOf}
 use Rattle.resb_layout.specs.KeyBlock.{used, is_among, key_bytes, padded}
 use Rattle.resb_layout.specs.PlainSize.{list_size, resources_size}
-use Rattle.resb_layout.specs.TreeFaults.{key_fault, tree_fault, first_of}
+use Rattle.resb_layout.specs.TreeFaults.{key_fault, tree_fault}
 use Rattle.resb_layout.specs.Written.{even}
 use Rattle.resb_layout.proofs.BytesLemmas.{EachBelow, halves_len}
 use Rattle.resb_layout.proofs.Denoted.{laid_is_denoted}
@@ -319,7 +319,7 @@ module _ (q : Packing) (pool : Pool) (t : Tree) (ks : List (List ℕ)) (b : Bloc
 
     no_fault : tree_fault t ks ≡ None
     no_fault =
-        ap (λ o. first_of o (size_fault (laying_order t))) faultless
+        ap (λ o. option_or o (size_fault (laying_order t))) faultless
         ∙ small_sizes (laying_order t) (omega (arith, small))
 
     pub written_with : WrittenWithBy q pool file t fallback ks

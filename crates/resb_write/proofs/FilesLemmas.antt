@@ -1,6 +1,6 @@
 -- What is put together is the file of its tree.
 use Rattle.std.proofs.Common.{◌≡◌, ℕ, ◌+◌, ◌-◌, ◌*◌, ◌%◌, ◌^◌, ◌<◌, ◌≤◌, List, [], ◌∷◌, ◌++◌}
-use Rattle.std.proofs.Common.{drop, length, get_or, Option, Some, None, Bool, true, false}
+use Rattle.std.proofs.Common.{length, get_or, Option, Some, None, Bool, true, false}
 use Rattle.std.proofs.Common.{cond, refl, sym, ◌∙◌, ap, subst, append_assoc, append-nil}
 use Rattle.std.proofs.Common.{length-append, inl, inr, arith, MatchOption}
 use Rattle.std.specs.List.{Contains}
@@ -10,17 +10,17 @@ use Rattle.std.specs.Str.{IsUtf8}
 use Rattle.std.proofs.lemmas.List.{take_at}
 use Rattle.std.proofs.lemmas.List.Elements.{All-contains}
 use Rattle.std.proofs.lemmas.List.Sums.{sum_by-cons}
+use Rattle.std.specs.Option.{option_or}
 use Rattle.resb_tree.specs.Tree.{Tree, string, alias, array, table, binary, integer, int_vector}
 use Rattle.resb_tree.specs.Tree.{Entries, no_entries, entry, entries_len, tree_count}
 use Rattle.resb_format.specs.Strings.{text_at, key_at}
 use Rattle.resb_format.specs.Parts.{Parts, beside_no_pool, reads_older}
-use Rattle.resb_head.specs.File.{root_word, parts_of, body_of, keys_end, block_end, budget, Denotes}
-use Rattle.resb_head.specs.File.{DenotesWithAliases}
+use Rattle.resb_head.specs.File.{root_word, parts_of, keys_end, block_end}
 use Rattle.resb_format.specs.Denotes.{Den}
 use Rattle.resb_pool.specs.Plan.{IsPlanBy}
 use Rattle.resb_pool.proofs.IsRead.{pool_is_read}
 use Rattle.resb_pool.proofs.ReadBack.{text_at-zero}
-use Rattle.resb_layout.specs.Laid.{Given, Laid, Lays, fill}
+use Rattle.resb_layout.specs.Laid.{Given, Laid, LaysBy, fill}
 use Rattle.resb_format.specs.Bytes.{units_as_bytes}
 use Rattle.resb_format.specs.Lookups.{key_place_by, text_place_by, index_by, text_in}
 use Rattle.resb_layout.specs.Laws.{IsRead, StandsIn, ReadsOlderOf}
@@ -30,15 +30,14 @@ use Rattle.resb_layout.proofs.Denoted.{laid_is_denoted}
 use Rattle.resb_layout.proofs.Paid.{laid_is_paid}
 use Rattle.resb_tree.specs.LayingOrder.{laying_order, texts_of, values_of}
 use Rattle.resb_write.specs.Inner.Room.{HasRoomFor}
-use Rattle.resb_layout.specs.KeyBlock.{used, key_bytes, padded, keys_start}
+use Rattle.resb_layout.specs.KeyBlock.{used, key_bytes, padded}
 use Rattle.resb_layout.specs.CompactKeys.{keys_by, key_block_by, key_position_by}
 use Rattle.resb_tree.specs.LayingOrder.{keys_of}
 use Rattle.resb_layout.specs.PlainSize.{held_size, resources_size, list_size}
-use Rattle.resb_layout.specs.TreeFaults.{key_fault, tree_fault, first_of}
+use Rattle.resb_layout.specs.TreeFaults.{key_fault, tree_fault}
 use Rattle.resb_layout.specs.WrittenHead.{written_header}
-use Rattle.resb_layout.specs.Written.{even, tail_start, BlocksBy, block_bytes, WrittenBy}
+use Rattle.resb_layout.specs.Written.{even, tail_start, BlocksBy, WrittenBy}
 use Rattle.resb_layout.specs.Written.{LacksEmpty}
-use Rattle.resb_layout.specs.WrittenHead.{IndexOf}
 use Rattle.resb_pool.specs.declared.packing.Packing.{Packing}
 use Rattle.resb_pool.specs.declared.packing.Packing.TheVariants.{Plain, Compact}
 use Rattle.resb_tree.specs.Aliases.{has_alias}
@@ -90,7 +89,7 @@ pub record Made (q : Packing) (t : Tree) (ks : List (List ℕ)) : Type 0 where
   pub base : ℕ
   pub base_is : base ≡ 32 + length (key_block_by q t ks) + 2 *
       (length laid.units + length laid.units % 2)
-  pub lays : Lays
+  pub lays : LaysBy None
       (record { position = key_position_by q t ks; offset = offset; base = base; packing = q })
       (record { units = pool; tail = [] }) t laid root
   pub room : HasRoomFor base laid []
@@ -334,13 +333,13 @@ module _ (q : Packing) (t : Tree) (ks : List (List ℕ)) (m : Made q t ks) (larg
     laid = m.laid;
     root = m.root;
     is_pool = m.plan;
-    lays = subst (λ h. Lays h (record { units = m.pool; tail = [] }) t m.laid m.root) given_is
-        m.lays;
+    lays = subst (λ h. LaysBy None h (record { units = m.pool; tail = [] }) t m.laid m.root)
+        given_is m.lays;
   }
 
   no_fault : tree_fault t ks ≡ None
   no_fault =
-      ap (λ o. first_of o (size_fault (laying_order t))) m.faultless
+      ap (λ o. option_or o (size_fault (laying_order t))) m.faultless
       ∙ small_sizes (laying_order t) (omega (arith, m.small))
 
   pub written : WrittenBy q file t fallback ks

@@ -3,7 +3,7 @@ use Rattle.std.proofs.Common.{◌≡◌, ℕ, zero, suc, ◌+◌, List, [], ◌�
 use Rattle.std.proofs.Common.{Option, Some, None, option_map, Bool, true, false, cond, codes}
 use Rattle.std.proofs.Common.{refl, sym, ◌∙◌, ap, subst, append-nil, ⊎_elim, arith}
 use Rattle.std.specs.List.{Contains, list_any, flat_map}
-use Rattle.std.specs.Option.{is_none}
+use Rattle.std.specs.Option.{is_none, option_or}
 use Rattle.std.specs.Cmp.Lexicographic.{bytes_decides}
 use Rattle.std.proofs.lemmas.Bool.{or_left, or_right, true≢false}
 use Rattle.resb_tree.specs.Tree.{Tree, string, alias, array, table, binary, integer, int_vector}
@@ -18,7 +18,7 @@ use Rattle.resb_layout.specs.KeyBlock.{is_among, used, last_place}
 use Rattle.resb_tree.specs.LayingOrder.{own_keys, keys_of}
 use Rattle.resb_layout.specs.KeyBlock.{keys_start}
 use Rattle.resb_layout.specs.TreeFaults.{has_nul, is_unlisted, is_far, is_over_32_bits}
-use Rattle.resb_layout.specs.TreeFaults.{tree_fault, first_of}
+use Rattle.resb_layout.specs.TreeFaults.{tree_fault}
 use Rattle.resb_write.proofs.Keys.{no_place}
 use Rattle.resb_write.proofs.Distinct.{contains_among}
 use Rattle.std.proofs.lemmas.List.Elements.{Contains-append_cases}
@@ -101,10 +101,10 @@ module _ (t : Tree) (ks : List (List ℕ)) (listed : (k : List ℕ) → is_key k
 
   -- what the fault says, if it is none of that a key isn't listed
   later_faults : (a b c d : Bool) (long : Option ℕ) (f : WritingFault) → a ≡ false
-      → first_of (cond a (Some (unexpected (codes "key not present in position map")))
+      → option_or (cond a (Some (unexpected (codes "key not present in position map")))
       (cond b (Some (unexpected (codes "key contains U+0000")))
       (cond c (Some (limit (codes "key position over 2147483647"))) None)))
-      (first_of (option_map string_too_long long)
+      (option_or (option_map string_too_long long)
       (cond d (Some (limit (codes "count over 32 bits"))) None)) ≡ Some f
       → f ≡ unexpected (codes "key not present in position map") → ⊥
   unfolding said

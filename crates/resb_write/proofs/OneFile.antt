@@ -12,7 +12,7 @@ use Rattle.resb_head.specs.File.{body_of}
 use Rattle.resb_format.proofs.WordsBack.{bytes_back, fits_drop}
 use Rattle.resb_format.proofs.Spelled.{words_length}
 use Rattle.resb_pool.proofs.OnePool.{one_pool}
-use Rattle.resb_layout.specs.Laid.{Given, Laid, Lays}
+use Rattle.resb_layout.specs.Laid.{Given, Laid, LaysBy}
 use Rattle.resb_format.specs.Bytes.{units_as_bytes}
 use Rattle.resb_layout.proofs.Once.{one_layout}
 use Rattle.resb_tree.specs.LayingOrder.{texts_of}
@@ -63,9 +63,9 @@ module _ (q : Packing) (t : Tree) (ks : List (List ℕ)) (x y : BlocksBy q t ks)
   start_is : ◌≡◌ {A = Laid} (start x) (start y)
   start_is = λ i. record { units = pool_is i; tail = [] }
 
-  moved : Lays (given y) (start y) t x.laid x.root
-  moved = subst (λ s. Lays (given y) s t x.laid x.root) start_is
-      (subst (λ g. Lays g (start x) t x.laid x.root) given_is x.lays)
+  moved : LaysBy None (given y) (start y) t x.laid x.root
+  moved = subst (λ s. LaysBy None (given y) s t x.laid x.root) start_is
+      (subst (λ g. LaysBy None g (start x) t x.laid x.root) given_is x.lays)
 
   laid_is : x.laid ≡ y.laid
   laid_is = (one_layout None (given y) (start y) x.laid y.laid t x.root y.root moved y.lays).0

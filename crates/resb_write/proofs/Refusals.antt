@@ -3,6 +3,7 @@ use Rattle.std.proofs.Common.{◌≡◌, ℕ, ◌+◌, ◌^◌, ◌<◌, List, S
 use Rattle.std.proofs.Common.{length, Option}
 use Rattle.std.proofs.Common.{subst, arith}
 use Rattle.std.specs.List.{flat_map}
+use Rattle.std.specs.Option.{option_or}
 use Rattle.resb_tree.specs.Tree.{Tree}
 use Rattle.resb_format.specs.Units.{units, size}
 use Rattle.resb_layout.specs.WritingFault.{WritingFault, out_of_memory}
@@ -13,7 +14,7 @@ use Rattle.resb_tree.specs.LayingOrder.{laying_order, text_in, texts_of}
 use Rattle.resb_layout.specs.KeyBlock.{used}
 use Rattle.resb_tree.specs.LayingOrder.{keys_of}
 use Rattle.resb_layout.specs.PlainSize.{list_size, resources_size}
-use Rattle.resb_layout.specs.TreeFaults.{key_fault, tree_fault, first_of, RefusesWriting, no_memory}
+use Rattle.resb_layout.specs.TreeFaults.{key_fault, tree_fault, RefusesWriting, no_memory}
 use Rattle.resb_layout.specs.TreeFaults.{at_the_first}
 use Rattle.resb_layout.specs.TreeFaults.{too_large}
 use Rattle.resb_write.specs.declared.target.Target.{Target}
@@ -39,7 +40,7 @@ module _ (t : Tree) (ks : List (List ℕ)) where
   key_refused us f e (inr h) =
       let k : key_fault (keys_of t) (used (keys_of t) ks) ≡ Some f =
       (λ i. key_fault (sym e i) (used (sym e i) ks)) ∙ h in
-      at_the_first (ap (λ o. first_of o (size_fault (laying_order t))) k)
+      at_the_first (ap (λ o. option_or o (size_fault (laying_order t))) k)
 
   module _ (us js : List (List ℕ)) (us_are : us ≡ keys_of t) (js_are : js ≡ used us ks)
       (no_key : key_fault us js ≡ None) where
@@ -48,7 +49,7 @@ module _ (t : Tree) (ks : List (List ℕ)) where
         ∙ ap (key_fault us) (sym js_are) ∙ no_key
 
     only_sizes : tree_fault t ks ≡ size_fault (laying_order t)
-    only_sizes = ap (λ o. first_of o (size_fault (laying_order t))) no_key_fault
+    only_sizes = ap (λ o. option_or o (size_fault (laying_order t))) no_key_fault
 
     pub size_refused : (f : WritingFault) → IsTooMuch (laying_order t) ks f → RefusesWriting t ks f
     size_refused f (at_fault h) = at_the_first (only_sizes ∙ h)
@@ -84,7 +85,7 @@ module _ (t : Tree) (ks : List (List ℕ)) (pool : Pool)
 
   no_fault : tree_fault t ks ≡ None
   no_fault =
-      ap (λ o. first_of o (size_fault (laying_order t))) no_key
+      ap (λ o. option_or o (size_fault (laying_order t))) no_key
       ∙ small_sizes (laying_order t) (omega (arith, small))
 
   own_refused : (os : List (Option ℕ)) (e : PlanError) → NotPlanned (lacking (texts_of t) os) e

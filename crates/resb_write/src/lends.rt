@@ -1,7 +1,7 @@
 //! What a pool bundle lends to a file, and how the file's short bodies tell it.
 //! Where a pool has keys and strings is found in `resb_lent`.
 ghost use Rattle.std.specs.Prelude.{◌≡◌};
-ghost use Rattle.resb_layout.specs.Laid.{near_in, short_in, near_by, short_by};
+ghost use Rattle.resb_layout.specs.Laid.{near_by, short_by};
 ghost use Rattle.resb_write.specs.Inner.Lending.{lends_of, lent_of};
 
 /// What a position of a key that the pool has is over its place there.
@@ -25,7 +25,7 @@ pub(crate) struct Lends {
 impl Lends {
     /// A position as 16 bits tell it: more than 65535 where they can't.
     fn near(&self, position: u32) -> u64
-        ensures { result ≡ near_in (lends_of self.now) position }
+        ensures { result ≡ near_by (Some (lends_of self.now)) position }
     {
         if position >= LENT_KEY {
             u64::from(position - LENT_KEY) + u64::from(self.own_end)
@@ -36,7 +36,7 @@ impl Lends {
 
     /// A string's index as a unit tells it: more than 65535 where none can.
     fn short(&self, index: u32) -> u64
-        ensures { result ≡ short_in (lends_of self.now) index }
+        ensures { result ≡ short_by (Some (lends_of self.now)) index }
     {
         if index == 0 {
             0

@@ -7,9 +7,10 @@ use Rattle.resb_head.specs.Head.{index_words}
 use Rattle.resb_layout.specs.KeyBlock.{key_bytes, padded}
 use Rattle.resb_layout.specs.Laid.{words}
 use Rattle.resb_layout.specs.Written.{even}
+use Rattle.resb_layout.specs.WrittenHead.{header_of}
 use Rattle.resb_layout.proofs.BytesLemmas.{halves_len}
 use Rattle.resb_pool.specs.Plan.{nows}
-use Rattle.resb_pool_maker.specs.PoolFile.{header_of, version_of, head_words, blocks_checksum}
+use Rattle.resb_pool_maker.specs.PoolFile.{version_of, head_words, blocks_checksum}
 use Rattle.resb_pool_maker.proofs.Blocks.{even_long, each_below, below_even, units_back}
 use Rattle.resb_pool_maker.proofs.file.assemble.Goals as goal
 

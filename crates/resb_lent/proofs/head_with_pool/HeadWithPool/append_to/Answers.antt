@@ -2,7 +2,8 @@ use Rattle.std.proofs.Common.{◌≡◌, ℕ, List, ◌++◌, ◌∙◌, ap, app
 use Rattle.std.proofs.lemmas.Result.{on_ok_weaker}
 use Rattle.resb_head.specs.Head.{index_words}
 use Rattle.resb_layout.specs.Laid.{words}
-use Rattle.resb_lent.specs.HeadWithPool.{header_with, version_with}
+use Rattle.resb_layout.specs.WrittenHead.{header_of}
+use Rattle.resb_lent.specs.HeadWithPool.{version_with}
 use Rattle.resb_lent.proofs.head_with_pool.HeadWithPool.append_to.Goals as goal
 
 three : {b c d : List ℕ} (a h r i : List ℕ) → b ≡ a ++ h → c ≡ b ++ r → d ≡ c ++ i
@@ -13,7 +14,7 @@ three a h r i f g k =
 
 pub returns : goal.returns
 returns c =
-    let head = header_with (version_with c.args.self.now.limit) in
+    let head = header_of (version_with c.args.self.now.limit) in
     on_ok_weaker c.append_to.result (λ h.
     three c.args.file.now.items head _ (words (index_words c.index-index.result))
     c.in_ok-append_header.ensures

@@ -371,8 +371,7 @@ module _ (text : List ℕ) where
           let (solid, row, word, g) = bare_read k b rest e stop f in
           (solid, (at + length k, record { verbatim = a_word row word; fits = key }, g))
       go false e f =
-          let (to, joined, piece, no_escape, g) = quoted_read k b rest stop key free f in
-          (
+          let (to, joined, piece, no_escape, g) = quoted_read k b rest stop key free f in (
             solid_at text f refl refl,
             (to, record { verbatim = a_piece joined piece no_escape; fits = key }, g),
           )

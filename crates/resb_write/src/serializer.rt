@@ -358,8 +358,8 @@ fn write_by_number(
     write_nodes(alloc, numbered, keys, wanted, target)
 }
 
-/// The file of a tree, which stands on this. The tree's resources are given in laying
-/// order, and beside them the keys of its tables.
+/// The file of a tree, which stands on this. The tree's resources are given in laying order, and
+/// beside them the keys of its tables; both go before the file is put together.
 fn write_nodes<N: Nodes + Drop>(
     alloc: Global,
     order: N,

@@ -57,8 +57,8 @@ returns-in_err-units-clause-err g c =
     rw (p.1, p.2) (λ t f k.
     let known = c.in_ok-contents.ensures.ok t f k in
     unplanned t c.args.wanted.now.list.now (pool_in c.args.over.now.pool) known.1.faultless known.2
-    c.args.over.now.packing (nows c.into_texts.result.items) _ (ap (λ v. nows v.items) c.into_texts.ensures ∙ known.0.texts_are)
-    c.in_err-units.ensures.err)
+    c.args.over.now.packing (nows c.into_texts.result.items) _
+    (ap (λ v. nows v.items) c.into_texts.ensures ∙ known.0.texts_are) c.in_err-units.ensures.err)
 
 -- the own keys take few bytes
 few_keys : (q : Packing) (pool : List ℕ) (t : Tree) (ks js : List (List ℕ)) (ps : List ℕ)
@@ -222,7 +222,8 @@ returns-clause-ok g c = λ t f k.
     let js : nows c.in_ok-contents.block.keys.items ≡ own = known.1.own in
     let plan : IsPlanWithBy q pool.block (texts_of t) p.units.items p.indexes.items p.limit
     p.short_limit = subst (λ S. IsPlanWithBy q pool.block S p.units.items p.indexes.items p.limit
-    p.short_limit) (ap (λ v. nows v.items) c.into_texts.ensures ∙ known.0.texts_are) c.in_ok-units.ensures.ok in
+    p.short_limit) (ap (λ v. nows v.items) c.into_texts.ensures ∙ known.0.texts_are)
+    c.in_ok-units.ensures.ok in
     let room = c.in_ok-bodies.ensures.fits in
     let base : ℕ = tail_start_beside (key_block_beside q place t ks) laid in
     let base_is : base ≡ 36 + c.block_length-keys_end.result + 2 * (length laid.units

@@ -6,7 +6,7 @@
 -- types. A key is one piece or one word alone. So pieces in a row, or words, are a member of an
 -- array, but where they are all that stands in a group that is not `:array`.
 use Rattle.std.specs.Prelude.{ℕ, zero, suc, Bool, true, false, ◌&&◌, ◌||◌, not, ◌==◌, List}
-use Rattle.std.specs.Prelude.{◌+◌, nat_lt, ℤ, [], ◌∷◌, ◌++◌}
+use Rattle.std.specs.Prelude.{◌+◌, ℤ, [], ◌∷◌, ◌++◌}
 use Rattle.std.specs.Prelude.{slice_index, slice_range, if◌then◌else◌, Option, Some, None}
 use Rattle.std.specs.Char.{is_ascii_digit}
 use Rattle.resb_diagnostics.specs.Braces.{mode_in, icu_form, has_icu_tokens}

@@ -8,12 +8,12 @@ use Rattle.std.specs.Str.{encode_utf8_all}
 use Rattle.std.proofs.lemmas.List.{take_more, at_drop_all}
 use Rattle.std.proofs.lemmas.Str.{encodes-append}
 use Rattle.std.proofs.lemmas.Grind.{common_steps}
-use Rattle.resb_icu_files.specs.Rules.{is_surrogate}
 use Rattle.resb_grammar.specs.Lexical.{digits_value}
 use Rattle.resb_icu_grammar.specs.Bytes.{backslash}
 use Rattle.resb_icu_grammar.specs.Escapes.{are_hex}
 use Rattle.resb_icu_files.specs.Inner.Rules.{IsEscaped}
 use Rattle.resb_icu_files.specs.Rules.{Step, by_number, stays_escaped, stripped, rule_step}
+use Rattle.resb_icu_files.specs.Rules.{is_surrogate}
 use Rattle.resb_icu_files.specs.declared.rules.Standing.{Standing}
 use Rattle.resb_icu_files.specs.declared.rules.Standing.TheVariants as standing
 

@@ -169,10 +169,6 @@ none_spelt text from n never at low high =
     get_or-drop from text (at - from) 0 ∙ ap (λ k. slice_index text k) i in
     no_colon text at (λ e. never (at - from) (omega (arith, high)) (is_colon _ (same ∙ e)))
 
--- where a type is spelt nowhere, no group takes a file in there
-pub no_group : (text : List ℕ) (at : ℕ) → way_at text at ≡ None → NoFileGroup text at
-no_group text at none kind brace last name group = absurd (cc (none, group.spelt))
-
 -- no type is spelt before the place behind the first colon of what is left, if none is there
 pub none_on : (text : List ℕ) (from n : ℕ) → ((at : ℕ) → at < from → way_at text at ≡ None)
     → ((k : ℕ) → k < n → (slice_index (drop from text) k == ascii.colon) ≡ true → ⊥)
@@ -196,10 +192,10 @@ none_on text from n before never here at high = by (nat_lt at from) refl (nat_lt
 -- if none is left, no type is spelt anywhere
 pub none_at_all : (text : List ℕ) (from : ℕ) → ((at : ℕ) → at < from → way_at text at ≡ None)
     → ((k : ℕ) → (slice_index (drop from text) k == ascii.colon) ≡ true → ⊥)
-    → (at : ℕ) → NoFileGroup text at
+    → (at : ℕ) → way_at text at ≡ None
 none_at_all text from before never at =
-    no_group text at (none_on text from at before (λ k lt. never k)
-    (nothing (way_at text (from + at)) refl) at (omega arith))
+    none_on text from at before (λ k lt. never k)
+    (nothing (way_at text (from + at)) refl) at (omega arith)
   where
     nothing : (spelt : Option Way) → way_at text (from + at) ≡ spelt
         → is_some (way_at text (from + at)) ≡ false

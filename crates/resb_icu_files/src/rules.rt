@@ -5,13 +5,13 @@ ghost use Rattle.std.specs.Prelude.{IfSome, IfNone, length, slice_index, option_
 ghost use Rattle.std.specs.Str.{encode_utf8_all, chars};
 ghost use Rattle.std.specs.String.{string_bytes};
 ghost use Rattle.std.specs.Char.{digit_value};
-ghost use Rattle.resb_icu_files.specs.Rules.{is_surrogate};
 ghost use Rattle.resb_grammar.specs.Lexical.{digits_value};
 ghost use Rattle.resb_icu_grammar.specs.Escapes.{are_hex};
 ghost use Rattle.resb_grammar.specs.Group.{is_hex};
 ghost use Rattle.resb_icu_files.specs.Inner.Rules.{IsAnswer, IsEscaped, ends_in_space};
 ghost use Rattle.resb_grammar.specs.ByteRuns as runs;
 ghost use Rattle.resb_icu_files.specs.Rules as spec;
+ghost use Rattle.resb_icu_files.specs.Rules.{is_surrogate};
 
 use resb_tree::NoMemory;
 use std::alloc::{AllocError, Global};

@@ -1,6 +1,6 @@
 //! The types of groups that take a file in, and where one is spelt.
 //! What is written for each is said in `making`.
-ghost use Rattle.std.specs.Prelude.{◌≡◌, ◌+◌, ◌≤◌, ℕ, false, Some, length, IsTrue, IfSome};
+ghost use Rattle.std.specs.Prelude.{◌≡◌, ◌+◌, ◌≤◌, ℕ, false, Some, None, length, IsTrue, IfSome};
 ghost use Rattle.resb_icu_files.specs.Ways as spec;
 
 use memchr::memchr;
@@ -73,7 +73,7 @@ pub(crate) fn way_at(text: &[u8], at: usize) -> Option<Way>
 /// Whether a text may take files in: the type of a group that does is spelt somewhere, be it in a
 /// string or a comment.
 pub fn may_take_files(text: &str) -> bool
-    ensures never { result ≡ false → (at : ℕ) → spec.NoFileGroup text.now at }
+    ensures unspelt { result ≡ false → (at : ℕ) → spec.way_at text.now at ≡ None }
     ensures spelt { IsTrue result → (at : ℕ) × (kind : Way)
         × (spec.way_at text.now at ≡ Some kind) }
 {

@@ -1,10 +1,10 @@
 -- Up to the first colon of what is left no type is spelt, and at it none either.
-use Rattle.std.proofs.Common.{◌≡◌, ◌-◌, ◌<◌, ◌==◌, ℕ, true, List, length, arith, subst}
+use Rattle.std.proofs.Common.{◌≡◌, None, ◌-◌, ◌<◌, ◌==◌, ℕ, true, List, length, arith, subst}
 use Rattle.std.proofs.Common.{sym, ◌∙◌, ap, drop, take, take_all, length-drop, eqb-true}
 use Rattle.std.specs.Prelude.{is_some, slice_index}
 use Rattle.resb_grammar.specs.Ascii as ascii
 use Rattle.resb_grammar.proofs.Lists.{nonzero_inside}
-use Rattle.resb_icu_files.specs.Ways.{NoFileGroup}
+use Rattle.resb_icu_files.specs.Ways.{way_at}
 use Rattle.resb_icu_files.proofs.WaysLemmas.{none_on, none_at_all}
 use Rattle.resb_icu_files.proofs.way.may_take_files.Goals as goal
 
@@ -34,11 +34,11 @@ colons-preserved c =
           (ap is_some (sym c.way_at.ensures.value) ∙ sym c.is_some.ensures ∙ c.if-is_some.false);
     }
 
-pub returns-clause-never : goal.returns-clause-never
-returns-clause-never c = λ e at.
+pub returns-clause-unspelt : goal.returns-clause-unspelt
+returns-clause-unspelt c = λ e at.
     let text = c.as_bytes-bytes.result.now in
     let from = c.colons.from in
-    subst (λ (l : List ℕ). NoFileGroup l at) c.as_bytes-bytes.ensures.value
+    subst (λ (l : List ℕ). way_at l at ≡ None) c.as_bytes-bytes.ensures.value
     (none_at_all text from c.colons.invariant.none
     (λ k is. c.in_default.ensures k (omega arith) (inside _ k (in_slice text from k is))
     (in_slice text from k is)) at)

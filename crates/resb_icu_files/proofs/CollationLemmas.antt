@@ -2,14 +2,15 @@
 use Rattle.std.proofs.Common.{◌≡◌, ℕ, ◌+◌, ◌*◌, ◌<◌, ◌≤◌, Bool, true, false, List}
 use Rattle.std.proofs.Common.{◌∷◌, length, Option, None, drop, sym, ap, ◌∙◌, refl}
 use Rattle.std.proofs.Common.{if◌then◌else◌, arith, add-one, drop-cons, subst}
-use Rattle.std.specs.Prelude.{slice_index, option_and_then, ◌||◌, not}
-use Rattle.std.proofs.lemmas.Bool.{and_from}
+use Rattle.std.specs.Prelude.{slice_index, option_and_then, ◌||◌, ◌&&◌, not, ◌==◌, Some}
+use Rattle.std.proofs.lemmas.Bool.{and_from, ne_eqb}
 use Rattle.std.proofs.lemmas.List.{at_drop_all}
 use Rattle.std.specs.Char.{digit_value}
 use Rattle.resb_grammar.specs.Lexical.{digits_value}
 use Rattle.resb_grammar.specs.Group.{is_hex}
 use Rattle.resb_icu_grammar.specs.Escapes.{are_hex}
-use Rattle.resb_icu_files.specs.CollationRules.{Step, by_digits, is_not_said, left_from}
+use Rattle.resb_icu_files.specs.CollationRules.{Step, by_digits, is_not_said, left_from, quotes}
+use Rattle.resb_icu_files.specs.CollationRules.{by_escape, is_no_escape, with_backslash}
 use Rattle.resb_icu_files.specs.CollationRules.{collation_step, at_end}
 use Rattle.resb_icu_files.specs.Inner.CollationRules.{IsSaid}
 use Rattle.resb_icu_files.specs.declared.collation.Part.{Part}
@@ -32,6 +33,42 @@ four_are text from a b c d first second third fourth =
       omega (arith, f.1, second.1, third.1, fourth.1),
       omega (arith, f.2, second.2, third.2, fourth.2),
     )
+
+-- where one of four tests fails, not all hold
+not_all : (a b c d : Bool) → (a ≡ true → b ≡ true → c ≡ true → d ≡ true → ⊥)
+    → (((a && b) && c) && d) ≡ false
+not_all true true true true never = absurd (never refl refl refl refl)
+not_all true true true false never = refl
+not_all true true false d never = refl
+not_all true false c d never = refl
+not_all false b c d never = refl
+
+-- where one of four characters is no hex digit, they aren't four hex digits
+pub four_not : (text : List ℕ) (from : ℕ)
+    → (is_hex (slice_index text (from + 0)) ≡ true → is_hex (slice_index text (from + 1)) ≡ true
+    → is_hex (slice_index text (from + 2)) ≡ true → is_hex (slice_index text (from + 3)) ≡ true → ⊥)
+    → are_hex text from 4 ≡ false
+four_not text from never =
+    not_all (is_hex (slice_index text (from + 0))) (is_hex (slice_index text (from + 1)))
+    (is_hex (slice_index text (from + 2))) (is_hex (slice_index text (from + 3))) never
+
+-- behind a backslash, where what follows makes no escape and has no digits
+pub no_escape : (quoted : Bool) (out rest : List ℕ) → (slice_index rest 0 ≡ 117 → ⊥)
+    → (slice_index rest 0 ≡ 85 → ⊥) → is_no_escape rest ≡ true
+    → by_escape quoted out rest ≡ None
+no_escape quoted out rest lower upper e =
+    let l : (slice_index rest 0 == 117) ≡ false = ne_eqb _ 117 lower in
+    let u : (slice_index rest 0 == 85) ≡ false = ne_eqb _ 85 upper in
+    rw (l, u, e) refl
+
+-- and where it stands for itself
+pub is_itself : (quoted : Bool) (out rest : List ℕ) → (slice_index rest 0 ≡ 117 → ⊥)
+    → (slice_index rest 0 ≡ 85 → ⊥) → is_no_escape rest ≡ false
+    → by_escape quoted out rest ≡ Some (quotes quoted, with_backslash out (slice_index rest 0))
+is_itself quoted out rest lower upper e =
+    let l : (slice_index rest 0 == 117) ≡ false = ne_eqb _ 117 lower in
+    let u : (slice_index rest 0 == 85) ≡ false = ne_eqb _ 85 upper in
+    rw (l, u, e) refl
 
 neither : (a b : Bool) (s : Step) → (a ≡ true → b ≡ false → ⊥)
     → (if not a || b then None else s) ≡ None

@@ -140,4 +140,5 @@ def main():
             beside_genrb(program, work, known(words, KINDS, 'kind') or list(KINDS))
 
 
-main()
+if __name__ == '__main__':
+    main()

@@ -31,7 +31,7 @@ SIZES = [300, 1_000, 3_000, 10_000, 60_000, 250_000, 2_000_000]
 LARGE = 8_000_000
 LEAST_READ = 1 << 20
 # what a draft is counted for
-GROUP, STRING, BYTE, TABLE, NUMBER, REQUEST = 72, 112, 3, 64, 8, 32
+GROUP, STRING, BYTE, TABLE, NUMBER, REQUEST = 88, 112, 3, 64, 8, 32
 A_STRING = STRING + BYTE
 # b{v..}: the root with its `{` and `}`, and its key
 ROOT = GROUP + TABLE + A_STRING

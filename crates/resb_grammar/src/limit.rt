@@ -41,7 +41,7 @@ impl Limit {
         ensures { result ≡ draft_limit bytes }
     {
         let weights = Weights {
-            group: 72,
+            group: 88,
             entry: 112,
             table: 64,
         };

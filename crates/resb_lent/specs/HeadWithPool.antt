@@ -5,7 +5,7 @@
 --     IsHead h                the numbers fit their bits
 --     parts_behind h pool keys us tail    the parts of a file that has these blocks behind it
 use Rattle.std.specs.Prelude.{◌≡◌, ℕ, ◌+◌, ◌*◌, ◌/◌, ◌%◌, ◌^◌, ◌<◌, ◌≤◌, List, [], ◌∷◌, ◌++◌}
-use Rattle.std.specs.Prelude.{Some, nat_eq, not, if◌then◌else◌}
+use Rattle.std.specs.Prelude.{Some, nat_eq, if◌then◌else◌}
 use Rattle.resb_format.specs.Bytes.{units_as_bytes}
 use Rattle.resb_format.specs.Parts.{Parts}
 use Rattle.resb_layout.specs.Laid.{words}
@@ -13,9 +13,9 @@ use Rattle.resb_layout.specs.WrittenHead.{header_of}
 use Rattle.resb_pool_bundle.specs.Pool.{Pool}
 use Rattle.resb_lent.specs.declared.head_with_pool.HeadWithPool.{HeadWithPool}
 
--- the format version's first number: 3 where the pool lends a string, and else 2
+-- the format version's first number: 2 where the pool lends no string, and else 3
 abbrev pub version_with : ℕ → ℕ
-version_with limit = if not (nat_eq limit 0) then 3 else 2
+version_with limit = if nat_eq limit 0 then 2 else 3
 
 -- the attributes: a pool is used, and whether there is no fallback; above them the upper 4 bits of
 -- the limit, and the short limit

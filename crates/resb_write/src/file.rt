@@ -85,7 +85,10 @@ pub(crate) fn assemble(alloc: Global, parts: &FileParts<'_>) -> Result<Vec<u8>, 
     ensures words { OnOk result (parts.now.root < 2 ^ 32) }
 {
     let index = index_of(parts);
-    let mut file = Vec::with_capacity(alloc, usize::from(HEADER_SIZE) + 4 * index.resources_end as usize)?;
+    let mut file = Vec::with_capacity(
+        alloc,
+        usize::from(HEADER_SIZE) + 4 * index.resources_end as usize,
+    )?;
     append_header(&mut file, false)?;
     file.extend_from_slice(&parts.root.to_le_bytes())?;
     index.append_to(&mut file)?;

@@ -1,7 +1,7 @@
 //! The text form of resource bundles as definitions: its grammar, the readings of a text token by
 //! token, and the laws of both. What both text forms need beside stands here too: what the laws of
-//! each form say, the bytes of hex digits, runs of blanks and of digits, the search for a near byte,
-//! lists of items and of keys, and the limit of what a reading may make.
+//! each form say, the bytes of hex digits, runs of blanks and of digits, the search for a byte that
+//! is near, lists of items and of keys, and the limit of what a reading may make.
 #![tactic(auto)]
 
 mod expected;

@@ -1,6 +1,6 @@
 -- What the code keeps of the groups that are open, beside their items.
-use Rattle.std.specs.Prelude.{◌≡◌, ◌<◌, ℕ, Bool, true, false, ◌&&◌, not, List, []}
-use Rattle.std.specs.Prelude.{◌∷◌, ◌++◌, map, length, take, get_or}
+use Rattle.std.specs.Prelude.{◌≡◌, ◌≤◌, Bool, true, false, ◌&&◌, not, nat_lt, List, []}
+use Rattle.std.specs.Prelude.{◌∷◌, ◌++◌, map, length, take, drop, reverse}
 use Rattle.resb_diagnostics.specs.Pieces.{PlacedText, TextPiece, a_string, a_type, opening, closing}
 use Rattle.resb_diagnostics.specs.Pieces.{a_comma}
 use Rattle.resb_diagnostics.specs.Groups.{GroupItem, string_item, group_item, OpenGroup, Nesting}
@@ -14,7 +14,7 @@ use Rattle.resb_diagnostics.specs.declared.warning.Reason.TheVariants as reason
 use Rattle.resb_diagnostics.specs.declared.warning.Warning.{Warning}
 use Rattle.resb_diagnostics.specs.declared.groups.Shape.{Shape}
 use Rattle.resb_diagnostics.specs.declared.groups.Shape.TheVariants as shape
-use Rattle.resb_diagnostics.specs.declared.groups.Group.{Group as CodeGroup}
+use Rattle.resb_diagnostics.specs.declared.groups.Outer.{Outer}
 use Rattle.resb_diagnostics.specs.declared.groups.Groups.{Groups as CodeGroups}
 
 abbrev pub placed_text_of : StringAt → PlacedText
@@ -55,57 +55,64 @@ pub record Level : Type 0 where
   pub named : Named
   pub pairing : Pairing
 
-abbrev pub level_of_code : CodeGroup → Level
-level_of_code g =
-    record { named = g.named; pairing = pairing_in g.shape (map placed_text_of g.keys.items) }
-
 abbrev pub level_of : OpenGroup → Level
 level_of g = record { named = g.named; pairing = pairing_of g.items }
+
+-- of a group of the code: what it names as its type, what its items are, and the keys among them
+abbrev pub level_in : Named → Shape → List StringAt → Level
+level_in n sh ks = record { named = n; pairing = pairing_in sh (map placed_text_of ks) }
+
+-- what items are that are pairs, or not
+abbrev pub shape_of : Bool → Shape
+shape_of true = shape.Pairs
+shape_of false = shape.Other
+
+-- a group around another one is this one, once that is an item of it; and those of these keys that
+-- begin at its place are its own
+pub record IsAround (x : Outer) (ks : List StringAt) (g : OpenGroup) : Type 0 where
+  pub fits : x.keys_from ≤ length ks
+  pub level : level_in x.named (shape_of x.is_paired) (drop x.keys_from ks)
+      ≡ level_of (with_one_more group_item g)
+
+-- groups of the code, from the inside out, that have these keys are these
+abbrev pub AreAround : List Outer → List StringAt → List OpenGroup → Type 0
+AreAround [] ks [] = Unit
+AreAround (x ∷ xs) ks (g ∷ gs) = IsAround x ks g × AreAround xs (take x.keys_from ks) gs
+AreAround _ ks _ = ⊥
+
+-- the keys of the code's innermost group
+abbrev pub inner_keys : CodeGroups → List StringAt
+inner_keys c = drop c.keys_from c.keys.items
+
+-- the code knows the open groups
+pub record ShowsOpen (c : CodeGroups) (g : Nesting) : Type 0 where
+  pub fits : c.keys_from ≤ length c.keys.items
+  pub level : level_in c.named c.shape (inner_keys c) ≡ level_of g.inner
+  pub around : AreAround (reverse c.around.items) (take c.keys_from c.keys.items) g.around
+
+-- and the last piece
+pub record ShowsNesting (c : CodeGroups) (g : Nesting) : Type 0 where
+  pub string : c.is_behind_string ≡ is_string_piece g.last
+  pub next : c.next ≡ named_behind g.last
+  pub groups : ShowsOpen c g
 
 abbrev pub is_nil : {A : Type 0} → List A → Bool
 is_nil [] = true
 is_nil (x ∷ xs) = false
 
--- what the code asks of a group
-abbrev pub code_may_be_table : CodeGroup → Bool
-code_may_be_table g = not (is_array g.named) && is_pairs g.shape
+-- what the code asks of the innermost group
+abbrev pub may_be_table : CodeGroups → Bool
+may_be_table c = not (is_array c.named) && is_pairs c.shape
 
-abbrev pub code_is_empty : CodeGroup → Bool
-code_is_empty g = is_nothing g.named && (is_pairs g.shape && is_nil g.keys.items)
+abbrev pub has_pairs : CodeGroups → Bool
+has_pairs c = may_be_table c && not (is_nil (inner_keys c))
 
-abbrev pub code_has_pairs : CodeGroup → Bool
-code_has_pairs g = code_may_be_table g && not (is_nil g.keys.items)
+abbrev pub has_empty_group : CodeGroups → Bool
+has_empty_group c =
+    (is_nothing c.named && (is_pairs c.shape && is_nil (inner_keys c)))
+    && nat_lt 1 (length c.around.items)
 
 -- the warnings of a string alone behind pairs, in a group that names no type or one
-abbrev pub code_lone : Bool → Shape → List StringAt → List Warning
-code_lone true (shape.Key s) (k ∷ ks) = warning_at reason.LoneString s.place ∷ []
-code_lone _ _ _ = []
-
--- groups from the inside out, as the code lists them: the innermost last
-abbrev pub levels_of : List OpenGroup → List Level
-levels_of [] = []
-levels_of (g ∷ gs) = levels_of gs ++ level_of g ∷ []
-
--- the code's innermost group is there
-abbrev pub HasInner : CodeGroups → Type 0
-HasInner c = c.depth < length c.groups.items
-
--- of the groups that the code keeps, those up to this depth are these open ones
-pub record ShowsOpen (xs : List CodeGroup) (depth : ℕ) (g : OpenGroup) (gs : List OpenGroup) :
-    Type 0 where
-  pub fits : depth < length xs
-  pub count : depth ≡ length gs
-  pub inner : (x : CodeGroup) → level_of_code (get_or xs depth x) ≡ level_of g
-  pub around : map level_of_code (take depth xs) ≡ levels_of gs
-
--- the code knows the last piece and the open groups
-pub record ShowsNesting (c : CodeGroups) (g : Nesting) : Type 0 where
-  pub string : c.is_behind_string ≡ is_string_piece g.last
-  pub next : c.next ≡ named_behind g.last
-  pub groups : ShowsOpen c.groups.items c.depth g.inner g.around
-
--- the innermost group ended
-abbrev pub IsClosed : CodeGroups → OpenGroup → List OpenGroup → Type 0
-IsClosed c g [] = ShowsOpen c.groups.items c.depth g []
-IsClosed c g (outer ∷ gs) =
-    ShowsOpen c.groups.items c.depth (with_one_more group_item outer) gs
+abbrev pub told_lone : Bool → Shape → List StringAt → List Warning
+told_lone true (shape.Key s) (k ∷ ks) = warning_at reason.LoneString s.place ∷ []
+told_lone _ _ _ = []

@@ -1,7 +1,6 @@
 -- The keys of a group beside what the code keeps, and the first places of keys.
 use Rattle.std.proofs.Common.{◌≡◌, ℕ, Bool, true, false, cond, List, [], ◌∷◌, ◌++◌, Option, Some}
-use Rattle.std.proofs.Common.{None, refl, sym, ◌∙◌, ap, append_assoc, nat_eq}
-use Rattle.std.proofs.Common.{arith}
+use Rattle.std.proofs.Common.{None, refl, sym, ◌∙◌, ap, append_assoc, nat_eq, arith}
 use Rattle.std.specs.Prelude.{map, not, ◌&&◌, nat_lt, reverse, length, take}
 use Rattle.std.specs.Option.{option_map}
 use Rattle.std.specs.Cmp.Lexicographic.{pointwise, bytes_decides}
@@ -10,7 +9,7 @@ use Rattle.std.proofs.lemmas.List.{length-reverse}
 use Rattle.resb_diagnostics.specs.Pieces.{PlacedText}
 use Rattle.resb_diagnostics.specs.Groups.{GroupItem, string_item, group_item, comma_item, OpenGroup}
 use Rattle.resb_diagnostics.specs.Groups.{pair_keys, Nesting}
-use Rattle.resb_diagnostics.specs.Warnings.{first_place, of_key, of_keys, of_some_keys, of_group}
+use Rattle.resb_diagnostics.specs.Warnings.{first_place, of_key, of_keys, of_group}
 use Rattle.resb_diagnostics.specs.Warnings.{is_array, is_nothing, is_empty, has_none}
 use Rattle.resb_diagnostics.specs.Warnings.{behind_pairs, lone_string, is_below_root}
 use Rattle.resb_diagnostics.specs.Warnings.{of_lone, of_some_lone}
@@ -18,14 +17,13 @@ use Rattle.resb_diagnostics.specs.Warnings.{of_comma, of_comma_behind, warning_a
 use Rattle.resb_diagnostics.specs.Inner.Looks.{Pairing, pairs, key, other, pairing_of}
 use Rattle.resb_diagnostics.specs.Inner.Looks.{pairing_behind, pairing_in, placed_text_of}
 use Rattle.resb_diagnostics.specs.Inner.Looks.{is_pairs, is_nil, inner_keys, may_be_table}
-use Rattle.resb_diagnostics.specs.Inner.Looks.{has_pairs, has_empty_group, told_lone, ShowsNesting}
-use Rattle.resb_diagnostics.specs.Inner.Looks.{AreAround}
+use Rattle.resb_diagnostics.specs.Inner.Looks.{has_pairs, has_empty_group, has_lone, is_key}
+use Rattle.resb_diagnostics.specs.Inner.Looks.{AreAround, ShowsNesting}
 use Rattle.resb_diagnostics.specs.declared.warning.Reason.TheVariants as reason
 use Rattle.resb_diagnostics.specs.declared.text_pieces.StringAt.{StringAt}
 use Rattle.resb_diagnostics.specs.declared.warning.Warning.{Warning}
 use Rattle.resb_diagnostics.specs.declared.groups.Shape.{Shape}
-use Rattle.resb_diagnostics.specs.declared.groups.Shape.TheVariants as shape
-use Rattle.resb_diagnostics.specs.declared.groups.Outer.{Outer}
+use Rattle.resb_diagnostics.specs.declared.groups.Group.{Group as CodeGroup}
 use Rattle.resb_diagnostics.specs.declared.groups.Groups.{Groups as CodeGroups}
 use Rattle.resb_diagnostics.proofs.Lists.{either_way}
 
@@ -37,20 +35,14 @@ keys_if other = None
 group_after_string : (s : PlacedText) (l : Pairing)
     → option_map (λ ks. ks ++ s ∷ []) (keys_if l)
     ≡ keys_if (pairing_behind group_item (pairing_behind (string_item s) l))
-group_after_string s (pairs ks) = refl
-group_after_string s (key ks t) = refl
-group_after_string s other = refl
+group_after_string s l = grind arith
 
 group_after_group : (l : Pairing)
     → None ≡ keys_if (pairing_behind group_item (pairing_behind group_item l))
-group_after_group (pairs ks) = refl
-group_after_group (key ks t) = refl
-group_after_group other = refl
+group_after_group l = grind arith
 
 string_last : (s : PlacedText) (l : Pairing) → None ≡ keys_if (pairing_behind (string_item s) l)
-string_last s (pairs ks) = refl
-string_last s (key ks t) = refl
-string_last s other = refl
+string_last s l = grind arith
 
 pub keys_by_pairing : (xs : List GroupItem) → pair_keys xs ≡ keys_if (pairing_of xs)
 keys_by_pairing [] = refl
@@ -67,16 +59,12 @@ is_none (pairs []) = true
 is_none _ = false
 
 none_behind : (x : GroupItem) (l : Pairing) → false ≡ is_none (pairing_behind x l)
-none_behind (string_item s) (pairs ks) = refl
-none_behind (string_item s) (key ks t) = refl
-none_behind (string_item s) other = refl
+none_behind (string_item s) l = grind arith
+none_behind comma_item l = refl
 none_behind group_item (pairs ks) = refl
-none_behind group_item (key [] t) = refl
-none_behind group_item (key (k ∷ ks) t) = refl
+none_behind group_item (key [] s) = refl
+none_behind group_item (key (k ∷ ks) s) = refl
 none_behind group_item other = refl
-none_behind comma_item (pairs ks) = refl
-none_behind comma_item (key ks t) = refl
-none_behind comma_item other = refl
 
 none_by_pairing : (xs : List GroupItem) → has_none xs ≡ is_none (pairing_of xs)
 none_by_pairing [] = refl
@@ -88,15 +76,10 @@ lone_if _ = None
 
 lone_after_string : (s : PlacedText) (l : Pairing)
     → behind_pairs s (keys_if l) ≡ lone_if (pairing_behind (string_item s) l)
-lone_after_string s (pairs []) = refl
-lone_after_string s (pairs (k ∷ ks)) = refl
-lone_after_string s (key ks t) = refl
-lone_after_string s other = refl
+lone_after_string s l = grind arith
 
 lone_after_group : (l : Pairing) → None ≡ lone_if (pairing_behind group_item l)
-lone_after_group (pairs ks) = refl
-lone_after_group (key ks t) = refl
-lone_after_group other = refl
+lone_after_group l = grind arith
 
 lone_by_pairing : (xs : List GroupItem) → lone_string xs ≡ lone_if (pairing_of xs)
 lone_by_pairing [] = refl
@@ -106,7 +89,7 @@ lone_by_pairing (string_item s ∷ xs) =
     ap (behind_pairs s) (keys_by_pairing xs) ∙ lone_after_string s (pairing_of xs)
 
 -- neither the root nor the text itself
-below_root : (xs : List Outer) (ks : List StringAt) (gs : List OpenGroup) → AreAround xs ks gs
+below_root : (xs : List CodeGroup) (ks : List StringAt) (gs : List OpenGroup) → AreAround xs ks gs
     → nat_lt 1 (length xs) ≡ is_below_root gs
 below_root [] ks [] around = refl
 below_root [] ks (g ∷ gs) around = absurd around
@@ -120,75 +103,50 @@ below_root (x ∷ y ∷ xs) ks (g ∷ h ∷ gs) around = grind arith
 module _ (c : CodeGroups) (g : Nesting) (shows : ShowsNesting c g) where
   pub keys_by_code : cond (may_be_table c) (of_keys [] (map placed_text_of (inner_keys c))) []
       ≡ of_group g.inner
-  keys_by_code =
-      by (is_array c.named) c.shape (map placed_text_of (inner_keys c))
-      ∙ ap (λ l. cond (is_array l.named) [] (of_some_keys (keys_if l.pairing))) shows.groups.level
-      ∙ ap (λ ks. cond (is_array g.inner.named) [] (of_some_keys ks))
-      (sym (keys_by_pairing g.inner.items))
-    where
-      by : (b : Bool) (sh : Shape) (ks : List PlacedText)
-          → cond (not b && is_pairs sh) (of_keys [] ks) []
-          ≡ cond b [] (of_some_keys (keys_if (pairing_in sh ks)))
-      by true sh ks = refl
-      by false shape.Pairs ks = refl
-      by false (shape.Key k) ks = refl
-      by false shape.Other ks = refl
+  keys_by_code = grind (arith, keys_by_pairing g.inner.items, shows.groups.inner.level)
 
   pub comma_by_code : (n : ℕ)
       → cond (has_pairs c) (warning_at reason.CommaBehindPairs n ∷ []) [] ≡ of_comma n g.inner
   comma_by_code n =
-      by (is_array c.named) c.shape (inner_keys c)
-      ∙ ap (λ l. cond (is_array l.named) [] (of_comma_behind n (keys_if l.pairing)))
-      shows.groups.level
-      ∙ ap (λ ks. cond (is_array g.inner.named) [] (of_comma_behind n ks))
-      (sym (keys_by_pairing g.inner.items))
+      grind (
+        arith,
+        keys_by_pairing g.inner.items,
+        shows.groups.inner.level,
+        by (is_array c.named) c.shape (inner_keys c),
+      )
     where
       by : (b : Bool) (sh : Shape) (ks : List StringAt)
           → cond ((not b && is_pairs sh) && not (is_nil ks))
           (warning_at reason.CommaBehindPairs n ∷ []) []
-          ≡ cond b [] (of_comma_behind n (keys_if (pairing_in sh (map placed_text_of ks))))
-      by true sh ks = refl
-      by false shape.Pairs [] = refl
-      by false shape.Pairs (k ∷ ks) = refl
-      by false (shape.Key k) ks = refl
-      by false shape.Other ks = refl
+          ≡ cond b [] (of_comma_behind n (keys_if (pairing_in sh c.last ks)))
+      by b sh ks = grind arith
 
-  pub lone_by_code : told_lone (is_nothing c.named) c.shape (inner_keys c) ≡ of_lone g.inner
+  pub lone_by_code : cond (has_lone c) (warning_at reason.LoneString c.last.place ∷ []) []
+      ≡ of_lone g.inner
   lone_by_code =
-      by (is_nothing c.named) c.shape (inner_keys c)
-      ∙ ap (λ l. cond (is_nothing l.named) (of_some_lone (lone_if l.pairing)) []) shows.groups.level
-      ∙ ap (λ s. cond (is_nothing g.inner.named) (of_some_lone s) [])
-      (sym (lone_by_pairing g.inner.items))
+      grind (
+        arith,
+        lone_by_pairing g.inner.items,
+        shows.groups.inner.level,
+        by (is_nothing c.named) c.shape (inner_keys c),
+      )
     where
       by : (b : Bool) (sh : Shape) (ks : List StringAt)
-          → told_lone b sh ks
-          ≡ cond b (of_some_lone (lone_if (pairing_in sh (map placed_text_of ks)))) []
-      by true shape.Pairs ks = refl
-      by true (shape.Key s) [] = refl
-      by true (shape.Key s) (k ∷ ks) = refl
-      by true shape.Other ks = refl
-      by false shape.Pairs ks = refl
-      by false (shape.Key s) ks = refl
-      by false shape.Other ks = refl
+          → cond (b && (is_key sh && not (is_nil ks)))
+          (warning_at reason.LoneString c.last.place ∷ []) []
+          ≡ cond b (of_some_lone (lone_if (pairing_in sh c.last ks))) []
+      by b sh ks = grind arith
 
   pub empty_by_code : has_empty_group c ≡ (is_empty g.inner && is_below_root g.around)
   empty_by_code =
-      ap (λ n. (is_nothing c.named && (is_pairs c.shape && is_nil (inner_keys c))) && nat_lt 1 n)
-      (sym (length-reverse c.around.items))
-      ∙ ap (λ b. b && nat_lt 1 (length (reverse c.around.items)))
-      (by (is_nothing c.named) c.shape (inner_keys c)
-      ∙ ap (λ l. is_nothing l.named && is_none l.pairing) shows.groups.level
-      ∙ ap (λ b. is_nothing g.inner.named && b) (sym (none_by_pairing g.inner.items)))
-      ∙ ap (λ b. is_empty g.inner && b)
-      (below_root (reverse c.around.items) (take c.keys_from c.keys.items) g.around
-      shows.groups.around)
-    where
-      by : (b : Bool) (sh : Shape) (ks : List StringAt) → b && (is_pairs sh && is_nil ks)
-          ≡ b && is_none (pairing_in sh (map placed_text_of ks))
-      by b shape.Pairs [] = refl
-      by b shape.Pairs (k ∷ ks) = refl
-      by b (shape.Key k) ks = refl
-      by b shape.Other ks = refl
+      grind (
+        arith,
+        none_by_pairing g.inner.items,
+        shows.groups.inner.level,
+        length-reverse c.around.items,
+        below_root (reverse c.around.items) (take c.keys_from c.keys.items) g.around
+            shows.groups.around,
+      )
 
 abbrev place_if : Bool → ℕ → Option ℕ → Option ℕ
 place_if b n (Some m) = Some m

@@ -6,10 +6,11 @@ ghost use Rattle.resb_diagnostics.specs.Groups as spec;
 ghost use Rattle.resb_diagnostics.specs.Groups.{behind_piece};
 ghost use Rattle.resb_diagnostics.specs.Pieces.{a_string, opening, closing};
 ghost use Rattle.resb_diagnostics.specs.Warnings.{of_keys, of_group, of_piece};
-ghost use Rattle.resb_diagnostics.specs.Warnings.{warning_at, is_nothing};
+ghost use Rattle.resb_diagnostics.specs.Warnings.{warning_at};
+ghost use Rattle.resb_diagnostics.specs.declared.warning.Reason.TheVariants as reason;
 ghost use Rattle.resb_diagnostics.specs.Inner.Looks.{placed_text_of, text_piece_of, inner_keys};
 ghost use Rattle.resb_diagnostics.specs.Inner.Looks.{may_be_table, has_pairs, has_empty_group};
-ghost use Rattle.resb_diagnostics.specs.Inner.Looks.{told_lone, shape_of, ShowsOpen, ShowsNesting};
+ghost use Rattle.resb_diagnostics.specs.Inner.Looks.{is_pairs, has_lone, ShowsOpen, ShowsNesting};
 
 use crate::named::{Named, named_by};
 use crate::numbers::tell_number;
@@ -21,34 +22,22 @@ use std::cmp::Ordering;
 
 /// What the items of a group are so far.
 #[derive(Clone, Copy)]
-enum Shape<'a> {
+enum Shape {
     /// Pairs of a string and a group, without commas.
     Pairs,
     /// The same, and then a string.
-    Key(StringAt<'a>),
+    Key,
     /// Anything else.
     Other,
 }
 
 /// A group around the innermost one, as it will be behind that one.
 #[derive(Clone, Copy)]
-struct Outer {
+struct Group {
     named: Named,
-    /// Whether it has pairs of a string and a group alone.
-    is_paired: bool,
+    shape: Shape,
     /// Where its keys begin in the list of all keys.
     keys_from: usize,
-}
-
-/// What items are that are pairs, or not.
-fn shape_of<'a>(is_paired: bool) -> Shape<'a>
-    ensures { result ≡ shape_of is_paired }
-{
-    if is_paired {
-        Shape::Pairs
-    } else {
-        Shape::Other
-    }
 }
 
 /// Adds a warning of what stands at a place, if it is due.
@@ -125,16 +114,18 @@ pub(crate) struct Groups<'a> {
     is_behind_string: bool,
     /// What a group names that begins here.
     next: Named,
-    /// What the innermost group names, or nothing, if that is the text itself.
+    /// Where the keys of the innermost group begin in the list of all keys.
+    keys_from: usize,
+    /// What it names: nothing, if it is the text itself.
     named: Named,
     /// What its items are so far.
-    shape: Shape<'a>,
-    /// Where its keys begin in the list of all keys.
-    keys_from: usize,
+    shape: Shape,
     /// The groups around it, the innermost last; the first one is the text itself.
-    around: Vec<Outer>,
+    around: Vec<Group>,
     /// The keys of all these groups: the strings of their pairs, in order.
     keys: Vec<StringAt<'a>>,
+    /// The last string.
+    last: StringAt<'a>,
 }
 
 impl<'a> Groups<'a> {
@@ -146,11 +137,15 @@ impl<'a> Groups<'a> {
             alloc,
             is_behind_string: false,
             next: Named::Nothing,
+            keys_from: 0,
             named: Named::Nothing,
             shape: Shape::Pairs,
-            keys_from: 0,
             around: Vec::new(alloc),
             keys: Vec::new(alloc),
+            last: StringAt {
+                content: b"".as_slice(),
+                place: 0,
+            },
         }
     }
 
@@ -161,12 +156,19 @@ impl<'a> Groups<'a> {
         &self.keys[self.keys_from.min(self.keys.len())..]
     }
 
+    /// Whether the innermost group has pairs of a string and a group alone, or nothing.
+    fn is_paired(&self) -> bool
+        ensures { result ≡ is_pairs self.now.shape }
+    {
+        matches!(self.shape, Shape::Pairs)
+    }
+
     /// Whether the innermost group may be a table: it is no `:array`, and has pairs of a string and
     /// a group, or nothing.
     fn may_be_table(&self) -> bool
         ensures { result ≡ may_be_table self.now }
     {
-        !self.named.is_array() && matches!(self.shape, Shape::Pairs)
+        !self.named.is_array() && self.is_paired()
     }
 
     /// Whether the innermost group has pairs, and may be a table.
@@ -181,7 +183,7 @@ impl<'a> Groups<'a> {
         ensures { result ≡ has_empty_group self.now }
     {
         self.named.is_nothing()
-            && matches!(self.shape, Shape::Pairs)
+            && self.is_paired()
             && self.inner_keys().is_empty()
             && 1 < self.around.len()
     }
@@ -200,13 +202,27 @@ impl<'a> Groups<'a> {
     /// Adds the warning of a string alone behind pairs, with which the innermost group ends.
     fn tell_lone(&self, found: &mut Vec<Warning>) -> Result<(), AllocError>
         ensures { OnOk result (found.new.items ≡ found.old.items
-            ++ told_lone (is_nothing self.now.named) self.now.shape (inner_keys self.now)) }
+            ++ (if has_lone self.now then warning_at reason.LoneString self.now.last.place ∷ []
+            else [])) }
     {
-        let Shape::Key(string) = self.shape else {
-            return Ok(());
-        };
-        let is_due = self.named.is_nothing() && !self.inner_keys().is_empty();
-        tell_if(is_due, string.place, Reason::LoneString, found)
+        let is_due = self.named.is_nothing()
+            && matches!(self.shape, Shape::Key)
+            && !self.inner_keys().is_empty();
+        tell_if(is_due, self.last.place, Reason::LoneString, found)
+    }
+
+    /// Adds the warnings of the innermost group, whose `}` stands at a place: of one thing at most.
+    fn tell_close(&self, at: usize, found: &mut Vec<Warning>) -> Result<(), AllocError>
+        ensures { OnOk result ((g : spec.Nesting) → ShowsNesting self.now g
+            → found.new.items ≡ found.old.items ++ of_piece (closing at) g) }
+    {
+        if !self.is_paired() {
+            return self.tell_lone(found);
+        }
+        if self.inner_keys().is_empty() {
+            return tell_if(self.has_empty_group(), at, Reason::EmptyGroup, found);
+        }
+        self.tell_keys(found)
     }
 
     /// Adds the warnings of a piece that comes.
@@ -216,11 +232,7 @@ impl<'a> Groups<'a> {
             → found.new.items ≡ found.old.items ++ of_piece (text_piece_of piece.entry) g) }
     {
         match piece {
-            Piece::Close(at) => {
-                self.tell_keys(found)?;
-                self.tell_lone(found)?;
-                tell_if(self.has_empty_group(), at, Reason::EmptyGroup, found)
-            }
+            Piece::Close(at) => self.tell_close(at, found),
             Piece::Comma(at) => tell_if(self.has_pairs(), at, Reason::CommaBehindPairs, found),
             Piece::String(string) => {
                 let is_due = self.is_behind_string;
@@ -243,7 +255,7 @@ impl<'a> Groups<'a> {
         Ok(())
     }
 
-    /// The open groups behind a piece.
+    /// Goes on to the groups that are open behind a piece.
     #[inline(always)]
     fn pass(&mut self, piece: Piece<'a>) -> Result<(), AllocError>
         ensures { OnOk result ((g : spec.Nesting) → ShowsNesting self.old g
@@ -264,8 +276,9 @@ impl<'a> Groups<'a> {
         ensures { (g : spec.Nesting) → ShowsNesting self.old g
             → ShowsOpen self.new (behind_piece (a_string (placed_text_of string.entry)) g) }
     {
+        self.last = string;
         self.shape = match self.shape {
-            Shape::Pairs => Shape::Key(string),
+            Shape::Pairs => Shape::Key,
             _ => Shape::Other,
         };
     }
@@ -275,16 +288,16 @@ impl<'a> Groups<'a> {
         ensures { OnOk result ((g : spec.Nesting) → ShowsNesting self.old g
             → ShowsOpen self.new (behind_piece opening g)) }
     {
-        let mut outer = Outer {
-            named: self.named,
-            is_paired: false,
-            keys_from: self.keys_from,
-        };
-        if let Shape::Key(key) = self.shape {
-            self.keys.push(key)?;
-            outer.is_paired = true;
+        let mut shape = Shape::Other;
+        if let Shape::Key = self.shape {
+            self.keys.push(self.last)?;
+            shape = Shape::Pairs;
         }
-        self.around.push(outer)?;
+        self.around.push(Group {
+            named: self.named,
+            shape,
+            keys_from: self.keys_from,
+        })?;
         self.named = self.next;
         self.shape = Shape::Pairs;
         self.keys_from = self.keys.len();
@@ -301,7 +314,7 @@ impl<'a> Groups<'a> {
         };
         self.keys.truncate(self.keys_from);
         self.named = outer.named;
-        self.shape = shape_of(outer.is_paired);
+        self.shape = outer.shape;
         self.keys_from = outer.keys_from;
     }
 }

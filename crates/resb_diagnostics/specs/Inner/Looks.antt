@@ -5,21 +5,21 @@ use Rattle.resb_diagnostics.specs.Pieces.{PlacedText, TextPiece, a_string, a_typ
 use Rattle.resb_diagnostics.specs.Pieces.{a_comma}
 use Rattle.resb_diagnostics.specs.Groups.{GroupItem, string_item, group_item, OpenGroup, Nesting}
 use Rattle.resb_diagnostics.specs.Groups.{is_string_piece, named_behind, with_one_more}
-use Rattle.resb_diagnostics.specs.Warnings.{is_array, is_nothing, warning_at}
+use Rattle.resb_diagnostics.specs.Warnings.{is_array, is_nothing}
 use Rattle.resb_diagnostics.specs.declared.text_pieces.StringAt.{StringAt}
 use Rattle.resb_diagnostics.specs.declared.text_pieces.Piece.{Piece as CodePiece}
 use Rattle.resb_diagnostics.specs.declared.text_pieces.Piece.TheVariants as piece
 use Rattle.resb_diagnostics.specs.declared.named.Named.{Named}
-use Rattle.resb_diagnostics.specs.declared.warning.Reason.TheVariants as reason
-use Rattle.resb_diagnostics.specs.declared.warning.Warning.{Warning}
 use Rattle.resb_diagnostics.specs.declared.groups.Shape.{Shape}
 use Rattle.resb_diagnostics.specs.declared.groups.Shape.TheVariants as shape
-use Rattle.resb_diagnostics.specs.declared.groups.Outer.{Outer}
+use Rattle.resb_diagnostics.specs.declared.groups.Group.{Group as CodeGroup}
 use Rattle.resb_diagnostics.specs.declared.groups.Groups.{Groups as CodeGroups}
 
+-- a string of the code, as the definitions have it
 abbrev pub placed_text_of : StringAt → PlacedText
 placed_text_of s = record { bytes = s.content.now; place = s.place }
 
+-- a piece of the code, as the definitions have it
 abbrev pub text_piece_of : CodePiece → TextPiece
 text_piece_of (piece.String s) = a_string (placed_text_of s)
 text_piece_of (piece.Type name) = a_type name.now
@@ -33,52 +33,57 @@ pub data Pairing : Type 0 where
   key : List PlacedText → PlacedText → Pairing
   other : Pairing
 
+-- what items are with one more
 abbrev pub pairing_behind : GroupItem → Pairing → Pairing
 pairing_behind (string_item s) (pairs ks) = key ks s
 pairing_behind group_item (key ks s) = pairs (ks ++ s ∷ [])
 pairing_behind _ _ = other
 
+-- what these items are
 abbrev pub pairing_of : List GroupItem → Pairing
 pairing_of [] = pairs []
 pairing_of (x ∷ xs) = pairing_behind x (pairing_of xs)
 
-abbrev pub pairing_in : Shape → List PlacedText → Pairing
-pairing_in shape.Pairs ks = pairs ks
-pairing_in (shape.Key s) ks = key ks (placed_text_of s)
-pairing_in shape.Other ks = other
+-- what the items of a group of the code are, by the last string and the group's keys
+abbrev pub pairing_in : Shape → StringAt → List StringAt → Pairing
+pairing_in shape.Pairs s ks = pairs (map placed_text_of ks)
+pairing_in shape.Key s ks = key (map placed_text_of ks) (placed_text_of s)
+pairing_in shape.Other s ks = other
 
+-- items are pairs
 abbrev pub is_pairs : Shape → Bool
 is_pairs shape.Pairs = true
 is_pairs _ = false
 
+-- what is known of a group: what it names as its type, and what its items are
 pub record Level : Type 0 where
   pub named : Named
   pub pairing : Pairing
 
+-- what is known of this group
 abbrev pub level_of : OpenGroup → Level
 level_of g = record { named = g.named; pairing = pairing_of g.items }
 
--- of a group of the code: what it names as its type, what its items are, and the keys among them
-abbrev pub level_in : Named → Shape → List StringAt → Level
-level_in n sh ks = record { named = n; pairing = pairing_in sh (map placed_text_of ks) }
-
--- what items are that are pairs, or not
-abbrev pub shape_of : Bool → Shape
-shape_of true = shape.Pairs
-shape_of false = shape.Other
-
--- a group around another one is this one, once that is an item of it; and those of these keys that
--- begin at its place are its own
-pub record IsAround (x : Outer) (ks : List StringAt) (g : OpenGroup) : Type 0 where
+-- a group of the code is this one: behind this string, with those of these keys that begin at its
+-- place
+pub record IsShown (x : CodeGroup) (s : StringAt) (ks : List StringAt) (g : OpenGroup) :
+    Type 0 where
   pub fits : x.keys_from ≤ length ks
-  pub level : level_in x.named (shape_of x.is_paired) (drop x.keys_from ks)
-      ≡ level_of (with_one_more group_item g)
+  pub level : record { named = x.named; pairing = pairing_in x.shape s (drop x.keys_from ks) }
+      ≡ level_of g
 
--- groups of the code, from the inside out, that have these keys are these
-abbrev pub AreAround : List Outer → List StringAt → List OpenGroup → Type 0
+-- groups of the code, from the inside out, that have these keys are these, once the group within
+-- each is an item of it
+abbrev pub AreAround : List CodeGroup → List StringAt → List OpenGroup → Type 0
 AreAround [] ks [] = Unit
-AreAround (x ∷ xs) ks (g ∷ gs) = IsAround x ks g × AreAround xs (take x.keys_from ks) gs
+AreAround (x ∷ xs) ks (g ∷ gs) =
+    ((s : StringAt) → IsShown x s ks (with_one_more group_item g))
+    × AreAround xs (take x.keys_from ks) gs
 AreAround _ ks _ = ⊥
+
+-- the code's innermost group
+abbrev pub inner_group : CodeGroups → CodeGroup
+inner_group c = record { named = c.named; shape = c.shape; keys_from = c.keys_from }
 
 -- the keys of the code's innermost group
 abbrev pub inner_keys : CodeGroups → List StringAt
@@ -86,33 +91,39 @@ inner_keys c = drop c.keys_from c.keys.items
 
 -- the code knows the open groups
 pub record ShowsOpen (c : CodeGroups) (g : Nesting) : Type 0 where
-  pub fits : c.keys_from ≤ length c.keys.items
-  pub level : level_in c.named c.shape (inner_keys c) ≡ level_of g.inner
+  pub inner : IsShown (inner_group c) c.last c.keys.items g.inner
   pub around : AreAround (reverse c.around.items) (take c.keys_from c.keys.items) g.around
 
--- and the last piece
+-- the code knows the last piece and the open groups
 pub record ShowsNesting (c : CodeGroups) (g : Nesting) : Type 0 where
   pub string : c.is_behind_string ≡ is_string_piece g.last
   pub next : c.next ≡ named_behind g.last
   pub groups : ShowsOpen c g
 
+-- a list is empty
 abbrev pub is_nil : {A : Type 0} → List A → Bool
 is_nil [] = true
 is_nil (x ∷ xs) = false
 
--- what the code asks of the innermost group
+-- the code's innermost group is no `:array`, and has pairs or nothing
 abbrev pub may_be_table : CodeGroups → Bool
 may_be_table c = not (is_array c.named) && is_pairs c.shape
 
+-- it has pairs, and is no `:array`
 abbrev pub has_pairs : CodeGroups → Bool
 has_pairs c = may_be_table c && not (is_nil (inner_keys c))
 
+-- it has no type and no items, and isn't the root
 abbrev pub has_empty_group : CodeGroups → Bool
 has_empty_group c =
     (is_nothing c.named && (is_pairs c.shape && is_nil (inner_keys c)))
     && nat_lt 1 (length c.around.items)
 
--- the warnings of a string alone behind pairs, in a group that names no type or one
-abbrev pub told_lone : Bool → Shape → List StringAt → List Warning
-told_lone true (shape.Key s) (k ∷ ks) = warning_at reason.LoneString s.place ∷ []
-told_lone _ _ _ = []
+-- items are pairs, and then a string
+abbrev pub is_key : Shape → Bool
+is_key shape.Key = true
+is_key _ = false
+
+-- it has no type, and pairs, and then a string
+abbrev pub has_lone : CodeGroups → Bool
+has_lone c = is_nothing c.named && (is_key c.shape && not (is_nil (inner_keys c)))

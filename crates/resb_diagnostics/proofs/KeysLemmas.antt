@@ -99,7 +99,7 @@ below_root (x ∷ []) ks (g ∷ h ∷ gs) around = absurd around.1
 below_root (x ∷ y ∷ xs) ks (g ∷ []) around = absurd around.1
 below_root (x ∷ y ∷ xs) ks (g ∷ h ∷ gs) around = grind arith
 
--- what the code asks of the innermost group is what the definitions do
+-- what the code asks of the innermost group is what the definitions ask
 module _ (c : CodeGroups) (g : Nesting) (shows : ShowsNesting c g) where
   pub keys_by_code : cond (may_be_table c) (of_keys [] (map placed_text_of (inner_keys c))) []
       ≡ of_group g.inner

@@ -1,6 +1,6 @@
 //! The groups of a text that are open at a place, and their keys.
 //! Which bytes are strings and braces is found in `text_pieces`, and for ICU's form in `icu_keys`.
-ghost use Rattle.std.specs.Prelude.{◌≡◌, ◌++◌, ◌∷◌, OnOk, [], List, Some, map, IsTrue, ℕ};
+ghost use Rattle.std.specs.Prelude.{◌≡◌, ◌++◌, ◌∷◌, OnOk, [], Some, map, IsTrue, ℕ};
 ghost use Rattle.std.specs.Prelude.{if◌then◌else◌};
 ghost use Rattle.resb_diagnostics.specs.Groups as spec;
 ghost use Rattle.resb_diagnostics.specs.Groups.{behind_piece};
@@ -122,9 +122,9 @@ pub(crate) struct Groups<'a> {
     shape: Shape,
     /// The groups around it, the innermost last; the first one is the text itself.
     around: Vec<Group>,
-    /// The keys of all these groups: the strings of their pairs, in order.
+    /// The keys of all these groups: the strings of their pairs, and of those that are open, in order.
     keys: Vec<StringAt<'a>>,
-    /// The last string.
+    /// The last string; an empty one before the first.
     last: StringAt<'a>,
 }
 
@@ -149,7 +149,7 @@ impl<'a> Groups<'a> {
         }
     }
 
-    /// The keys of the innermost group.
+    /// The keys of the innermost group, whose place is never behind the list.
     fn inner_keys(&self) -> &[StringAt<'a>]
         ensures { result.now ≡ inner_keys self.now }
     {
@@ -178,7 +178,7 @@ impl<'a> Groups<'a> {
         self.may_be_table() && !self.inner_keys().is_empty()
     }
 
-    /// Whether the innermost group has no type, is empty, and is not the root.
+    /// Whether the innermost group has no type, is empty, and is neither the root nor the text.
     fn has_empty_group(&self) -> bool
         ensures { result ≡ has_empty_group self.now }
     {
@@ -304,7 +304,7 @@ impl<'a> Groups<'a> {
         Ok(())
     }
 
-    /// The innermost group ends.
+    /// The innermost group ends. Outside of all groups a `}` changes nothing.
     fn close(&mut self)
         ensures { (n : ℕ) (g : spec.Nesting) → ShowsNesting self.old g
             → ShowsOpen self.new (behind_piece (closing n) g) }

@@ -1,6 +1,6 @@
 //! The keys that stand twice in a table of a text of ICU's form.
 //! Where its tokens stand is found in `icu_walk`; the groups and their keys are kept in `groups`.
-ghost use Rattle.std.specs.Prelude.{◌≡◌, ◌+◌, ◌<◌, ◌≤◌, false, length, drop, IfOk, OnOk};
+ghost use Rattle.std.specs.Prelude.{◌≡◌, ◌+◌, ◌<◌, false, length, IfOk, OnOk};
 ghost use Rattle.std.specs.Prelude.{option_map};
 ghost use Rattle.resb_diagnostics.specs.Groups.{Nesting, groups_behind};
 ghost use Rattle.resb_diagnostics.specs.IcuKeys as spec;

@@ -1,5 +1,5 @@
 //! The header that a written file begins with.
-//! The index behind it is said by those who put a file together; headers are read in `resb_head`.
+//! The index behind it is made by those who put a file together; headers are read in `resb_head`.
 ghost use Rattle.std.specs.Prelude.{◌≡◌, ◌++◌, OnOk, if◌then◌else◌};
 ghost use Rattle.resb_layout.specs.WrittenHead.{header_of};
 
@@ -9,8 +9,8 @@ use resb_tree::NoMemory;
 /// The header and its padding, in bytes.
 pub const HEADER_SIZE: u16 = 32;
 
-/// Appends the header, padded to 32 bytes: that of version 3.0, or of 2.0. For want of memory a
-/// part of it may be there. (ICU's `ucmndata.h` and `udata.h`.)
+/// Appends the header, padded to 32 bytes: that of version 3.0 if it is the third, else of 2.0. For
+/// want of memory a part of it may be there. (ICU's `ucmndata.h` and `udata.h`.)
 pub fn append_header(file: &mut Vec<u8>, is_third: bool) -> Result<(), NoMemory>
     ensures { OnOk result (file.new.items
         ≡ file.old.items ++ header_of (if is_third then 3 else 2)) }

@@ -1,7 +1,7 @@
 //! The bytes of a pool bundle: the header, the root's word and the index around its two blocks.
 //! Which keys and units a pool bundle has is said in `maker`.
 ghost use Rattle.std.specs.Prelude.{◌≡◌, ◌++◌, ◌∷◌, ◌≤◌, ◌<◌, ◌^◌, ℕ, IfOk, OnOk, length};
-ghost use Rattle.std.specs.Prelude.{slice_index, if◌then◌else◌};
+ghost use Rattle.std.specs.Prelude.{slice_index};
 ghost use Rattle.resb_format.specs.Bytes.{units_as_bytes, units_of};
 ghost use Rattle.resb_head.specs.Head.{index_words};
 ghost use Rattle.resb_layout.specs.KeyBlock.{key_bytes, padded};
@@ -12,7 +12,7 @@ ghost use Rattle.resb_pool_maker.specs.PoolFile.{is_third as has_version_3};
 
 use resb_head::BinIndex;
 use resb_layout::Packing;
-use resb_layout::header::append_header;
+use resb_layout::header::{HEADER_SIZE, append_header};
 use resb_pool_bundle::pool_checksum;
 use resb_tree::NoMemory;
 use std::alloc::{AllocError, Global};
@@ -130,7 +130,10 @@ pub(crate) fn assemble(
     let key_bytes = key_block(alloc, keys)?;
     let unit_bytes = unit_block(alloc, units)?;
     let index = index_of(&key_bytes, &unit_bytes);
-    let mut file = Vec::with_capacity(alloc, 4 * index.bundle_end as usize + 32)?;
+    let mut file = Vec::with_capacity(
+        alloc,
+        usize::from(HEADER_SIZE) + 4 * index.bundle_end as usize,
+    )?;
     append_header(&mut file, is_third(packing, units))?;
     file.extend_from_slice(&EMPTY_TABLE.to_le_bytes())?;
     index.append_to(&mut file)?;

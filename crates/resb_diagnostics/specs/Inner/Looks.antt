@@ -64,16 +64,16 @@ pub record Level : Type 0 where
 abbrev pub level_of : OpenGroup → Level
 level_of g = record { named = g.named; pairing = pairing_of g.items }
 
--- a group of the code is this one: behind this string, with those of these keys that begin at its
--- place
+-- a group of the code is this open one, where this is the last string, and its keys are these from
+-- its place on
 pub record IsShown (x : CodeGroup) (s : StringAt) (ks : List StringAt) (g : OpenGroup) :
     Type 0 where
   pub fits : x.keys_from ≤ length ks
   pub level : record { named = x.named; pairing = pairing_in x.shape s (drop x.keys_from ks) }
       ≡ level_of g
 
--- groups of the code, from the inside out, that have these keys are these, once the group within
--- each is an item of it
+-- groups of the code, from the inside out, are these open ones, each as it will be once the group
+-- within it is an item of it; these are all their keys
 abbrev pub AreAround : List CodeGroup → List StringAt → List OpenGroup → Type 0
 AreAround [] ks [] = Unit
 AreAround (x ∷ xs) ks (g ∷ gs) =
@@ -109,11 +109,11 @@ is_nil (x ∷ xs) = false
 abbrev pub may_be_table : CodeGroups → Bool
 may_be_table c = not (is_array c.named) && is_pairs c.shape
 
--- it has pairs, and is no `:array`
+-- the code's innermost group has pairs, and is no `:array`
 abbrev pub has_pairs : CodeGroups → Bool
 has_pairs c = may_be_table c && not (is_nil (inner_keys c))
 
--- it has no type and no items, and isn't the root
+-- the code's innermost group has no type and no items, and is neither the root nor the text
 abbrev pub has_empty_group : CodeGroups → Bool
 has_empty_group c =
     (is_nothing c.named && (is_pairs c.shape && is_nil (inner_keys c)))
@@ -124,6 +124,6 @@ abbrev pub is_key : Shape → Bool
 is_key shape.Key = true
 is_key _ = false
 
--- it has no type, and pairs, and then a string
+-- the code's innermost group has no type, and pairs, and then a string
 abbrev pub has_lone : CodeGroups → Bool
 has_lone c = is_nothing c.named && (is_key c.shape && not (is_nil (inner_keys c)))

@@ -1,4 +1,4 @@
--- What the code asks of the innermost group is what the definitions do.
+-- What the code asks of the innermost group is what the definitions ask.
 use Rattle.std.proofs.Common.{arith}
 use Rattle.std.proofs.lemmas.Grind.{common_steps}
 use Rattle.std.proofs.lemmas.Result.{on_ok_weaker}

@@ -1,4 +1,4 @@
--- Of the three things that a group may be told of, the others are not.
+-- Of the three things that a closed group may be told of, at most one is due.
 use Rattle.std.proofs.Common.{arith}
 use Rattle.std.proofs.lemmas.Grind.{common_steps}
 use Rattle.std.proofs.lemmas.Result.{on_ok_weaker}

@@ -13,6 +13,7 @@ three a h r i f g k =
     k ∙ ap (λ l. l ++ i) (g ∙ ap (λ l. l ++ r) f) ∙ append_assoc (a ++ h) r i
     ∙ append_assoc a h (r ++ i)
 
+-- 3 where a choice is no, said the other way round
 second_else_third : (b : Bool) → ◌≡◌ {A = ℕ} (if not b then 3 else 2) (if b then 2 else 3)
 second_else_third true = refl
 second_else_third false = refl

@@ -99,7 +99,7 @@ uint32_t resb_compile(const uint8_t *text, size_t text_length, uint8_t *out, siz
                       size_t *length, resb_error *error);
 
 /* Compiles a stranger's text: as resb_compile does, but a text is refused by RESB_OVER_LIMIT whose
- * reading would take more bytes of memory than the limit. Counted are 72 for each group, 112 for
+ * reading would take more bytes of memory than the limit. Counted are 88 for each group, 112 for
  * each string among items, keys too, 64 for each table that has entries, 3 for each byte of a
  * string, 1 for each byte of a binary, 8 for each number of a vector, and 32 for each binary and
  * vector. The reading stops before the token by which there would be more. What the file takes
@@ -114,7 +114,7 @@ uint32_t resb_compile_icu(const uint8_t *text, size_t text_length, uint8_t *out,
                           size_t *length, resb_error *error);
 
 /* Compiles a stranger's text of ICU's own form: as resb_compile_icu does, but a text is refused by
- * RESB_OVER_LIMIT whose reading would take more bytes of memory than the limit. Counted are 72 for
+ * RESB_OVER_LIMIT whose reading would take more bytes of memory than the limit. Counted are 88 for
  * each resource, 112 for each entry, 64 for each table that has entries, 3 for each byte of a
  * key, a string, a path or a binary, 8 for each number of a vector, 32 for each binary and vector,
  * and, for each string that is put together or is that of :string or :alias, 32 and 1 for each of

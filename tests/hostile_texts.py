@@ -13,8 +13,9 @@ byte less, and within a tenth, with status 1 and the one line that says so. A te
 1 MiB that is longer than its limit is refused before it is read, as the large ones of comments,
 blanks, digits and escapes are, and then shows no more than that. No run may take more memory than
 1.5 times the limit and the text, 1.7 MB for what its allocator keeps, and what the program itself
-has for a text of 7 bytes, some 2.3 MB: how much of its file is mapped differs from run to run, so
-that the least of five counts where one has more. A binary of 1 MiB of digits, refused
+has for a text of 7 bytes, some 2.3 MB; nor, for a text of up to 2 MB, more than the limit, the text
+and 10 MB. How much of its file is mapped differs from run to run, so that the least of five counts
+where one has more. A binary of 1 MiB of digits, refused
 within a small limit, takes no more than a comment of that length, and 0.2 MB. A run is started by
 a program in C that is smaller than that, since what starts a program counts as its memory; `cc`
 builds it. The last line is 'N passed, M failed'.
@@ -31,12 +32,14 @@ SIZES = [300, 1_000, 3_000, 10_000, 60_000, 250_000, 2_000_000]
 LARGE = 8_000_000
 LEAST_READ = 1 << 20
 # what a draft is counted for
-GROUP, STRING, BYTE, TABLE, NUMBER, REQUEST = 72, 112, 3, 64, 8, 32
+GROUP, STRING, BYTE, TABLE, NUMBER, REQUEST = 88, 112, 3, 64, 8, 32
 A_STRING = STRING + BYTE
 # b{v..}: the root with its `{` and `}`, and its key
 ROOT = GROUP + TABLE + A_STRING
 # what the program's allocator keeps
 KEPT = 1_700_000
+# what a text of up to so many bytes may take beside it and its limit, the program's own included
+MOST_BESIDE, UP_TO = 10_000_000, 2_100_000
 # the memory of the program for a text of 7 bytes
 own = []
 # by how much the memory of two runs over texts of one length may differ
@@ -295,6 +298,8 @@ def runs(folder, name, text, made, form):
         same = (status, out) == wanted[:2] and (said == wanted[2] or status == 0)
         seen(same, f'{name}, {len(text)}, {limit}: {status}, {said[:200]}')
         bound = 1.5 * (limit + len(text)) + KEPT + own[0]
+        if len(text) <= UP_TO:
+            bound = min(bound, limit + len(text) + MOST_BESIDE)
         most = least(folder, words, most, bound)
         seen(most <= bound, f'{name}, {len(text)}, {limit}: {most} bytes of memory')
 

@@ -45,26 +45,26 @@ told 1 '' $'half.txt:1:2: expected a key or \'}\' before the text ends inside th
 printf 'b{a{"\\"{"} c{/*/ } */' > inner.txt
 told 1 '' $'inner.txt:1:13: expected a resource or \'}\' before the text ends inside this
 b{a{"\\"{"} c{/*/ } */\n            ^' compile --icu inner.txt
-# within a limit: 72 for the root's brace, 179 for k, which begins a table, 72 for its group,
+# within a limit: 88 for the root's brace, 179 for k, which begins a table, 88 for its group,
 # 3 for v
-told 0 '' '' compile --icu --limit 326 small.txt
-told 1 '' 'small.txt: reading this text takes more than the limit of 325 bytes' \
-  compile --icu --limit 325 small.txt
+told 0 '' '' compile --icu --limit 358 small.txt
+told 1 '' 'small.txt: reading this text takes more than the limit of 357 bytes' \
+  compile --icu --limit 357 small.txt
 # a string of pieces is weighed before it is put together, 3 for each of its two bytes, and 32 and 1
 # for each for the memory that is asked for it, and only where it may stand
 printf 'b{k{"v" "\\u0076"}}' > pieces.txt
-told 0 '' '' compile --icu --limit 363 pieces.txt
+told 0 '' '' compile --icu --limit 395 pieces.txt
 told 0 'vv' '' get pieces.res k
-told 1 '' 'pieces.txt: reading this text takes more than the limit of 362 bytes' \
-  compile --icu --limit 362 pieces.txt
+told 1 '' 'pieces.txt: reading this text takes more than the limit of 394 bytes' \
+  compile --icu --limit 394 pieces.txt
 printf 'b{k{"v" "v":' > stuck.txt
 told 1 '' $'stuck.txt:1:5: expected a string that may be a key\nb{k{"v" "v":\n    ^' \
-  compile --icu --limit 323 stuck.txt
+  compile --icu --limit 355 stuck.txt
 # and each number of a vector as it comes
-told 1 '' 'vector.txt: reading this text takes more than the limit of 258 bytes' \
-  compile --icu --limit 258 vector.txt
+told 1 '' 'vector.txt: reading this text takes more than the limit of 274 bytes' \
+  compile --icu --limit 274 vector.txt
 told 1 '' $'vector.txt:1:17: expected a number or \'}\'\nb{v:intvector{1,x\n                ^' \
-  compile --icu --limit 259 vector.txt
+  compile --icu --limit 275 vector.txt
 
 # each refusal of a text in ICU's form, at its column (docs/ICU_TEXTS.md)
 icu_row() {

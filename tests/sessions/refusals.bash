@@ -225,16 +225,16 @@ told 1 '' 'long.res: its JSON takes at least 6000 bytes, more than the limit of 
 
 # so may the reading of a text
 printf 'b{k{v}}' > small.txt
-told 0 '' '' compile small.txt --limit 438
+told 0 '' '' compile small.txt --limit 470
 told 0 'v' '' get small.res k
-told 1 '' 'small.txt: reading this text takes more than the limit of 437 bytes' \
-  compile --limit 437 small.txt
-# each number of a vector is weighed as it comes: 72 for the root's brace, 115 for v, 8 for 1
+told 1 '' 'small.txt: reading this text takes more than the limit of 469 bytes' \
+  compile --limit 469 small.txt
+# each number of a vector is weighed as it comes: 88 for the root's brace, 115 for v, 8 for 1
 printf 'b{v:intvector{1,x' > vector.txt
-told 1 '' 'vector.txt: reading this text takes more than the limit of 194 bytes' \
-  compile --limit 194 vector.txt
+told 1 '' 'vector.txt: reading this text takes more than the limit of 210 bytes' \
+  compile --limit 210 vector.txt
 told 1 '' $'vector.txt:1:17: expected \'}\'\nb{v:intvector{1,x\n                ^' \
-  compile --limit 195 vector.txt
+  compile --limit 211 vector.txt
 told 2 '' 'resb: --limit is a number of bytes' compile small.txt --limit ten
 
 # where no text holds a string, the path to it is said

@@ -1,30 +1,30 @@
 -- The keys of a group beside what the code keeps, and the first places of keys.
 use Rattle.std.proofs.Common.{◌≡◌, ℕ, Bool, true, false, cond, List, [], ◌∷◌, ◌++◌, Option, Some}
-use Rattle.std.proofs.Common.{None, refl, sym, ◌∙◌, ap, append_assoc, append-nil, nat_eq}
-use Rattle.std.proofs.Common.{true≢false}
-use Rattle.std.specs.Prelude.{map, not, ◌&&◌}
+use Rattle.std.proofs.Common.{None, refl, sym, ◌∙◌, ap, append_assoc, nat_eq, arith}
+use Rattle.std.specs.Prelude.{map, not, ◌&&◌, nat_lt, reverse, length, take}
 use Rattle.std.specs.Option.{option_map}
 use Rattle.std.specs.Cmp.Lexicographic.{pointwise, bytes_decides}
 use Rattle.std.proofs.lemmas.Option.{none-some}
-use Rattle.resb_diagnostics.specs.Pieces.{PlacedText, closing}
+use Rattle.std.proofs.lemmas.List.{length-reverse}
+use Rattle.resb_diagnostics.specs.Pieces.{PlacedText}
 use Rattle.resb_diagnostics.specs.Groups.{GroupItem, string_item, group_item, comma_item, OpenGroup}
 use Rattle.resb_diagnostics.specs.Groups.{pair_keys, Nesting}
-use Rattle.resb_diagnostics.specs.Warnings.{first_place, of_key, of_keys, of_some_keys, of_group}
+use Rattle.resb_diagnostics.specs.Warnings.{first_place, of_key, of_keys, of_group}
 use Rattle.resb_diagnostics.specs.Warnings.{is_array, is_nothing, is_empty, has_none}
 use Rattle.resb_diagnostics.specs.Warnings.{behind_pairs, lone_string, is_below_root}
-use Rattle.resb_diagnostics.specs.Warnings.{of_lone, of_some_lone, of_empty, of_piece}
+use Rattle.resb_diagnostics.specs.Warnings.{of_lone, of_some_lone}
 use Rattle.resb_diagnostics.specs.Warnings.{of_comma, of_comma_behind, warning_at}
 use Rattle.resb_diagnostics.specs.Inner.Looks.{Pairing, pairs, key, other, pairing_of}
-use Rattle.resb_diagnostics.specs.Inner.Looks.{pairing_behind}
-use Rattle.resb_diagnostics.specs.Inner.Looks.{level_of, is_pairs, code_is_empty}
-use Rattle.resb_diagnostics.specs.Inner.Looks.{code_may_be_table, code_has_pairs, code_lone, is_nil}
+use Rattle.resb_diagnostics.specs.Inner.Looks.{pairing_behind, pairing_in, placed_text_of}
+use Rattle.resb_diagnostics.specs.Inner.Looks.{is_pairs, is_nil, inner_keys, may_be_table}
+use Rattle.resb_diagnostics.specs.Inner.Looks.{has_pairs, has_empty_group, has_lone, is_key}
+use Rattle.resb_diagnostics.specs.Inner.Looks.{AreAround, ShowsNesting}
 use Rattle.resb_diagnostics.specs.declared.warning.Reason.TheVariants as reason
 use Rattle.resb_diagnostics.specs.declared.text_pieces.StringAt.{StringAt}
-use Rattle.resb_diagnostics.specs.Inner.Looks.{pairing_in, placed_text_of, level_of_code}
 use Rattle.resb_diagnostics.specs.declared.warning.Warning.{Warning}
 use Rattle.resb_diagnostics.specs.declared.groups.Shape.{Shape}
-use Rattle.resb_diagnostics.specs.declared.groups.Shape.TheVariants as shape
 use Rattle.resb_diagnostics.specs.declared.groups.Group.{Group as CodeGroup}
+use Rattle.resb_diagnostics.specs.declared.groups.Groups.{Groups as CodeGroups}
 use Rattle.resb_diagnostics.proofs.Lists.{either_way}
 
 abbrev keys_if : Pairing → Option (List PlacedText)
@@ -35,20 +35,14 @@ keys_if other = None
 group_after_string : (s : PlacedText) (l : Pairing)
     → option_map (λ ks. ks ++ s ∷ []) (keys_if l)
     ≡ keys_if (pairing_behind group_item (pairing_behind (string_item s) l))
-group_after_string s (pairs ks) = refl
-group_after_string s (key ks t) = refl
-group_after_string s other = refl
+group_after_string s l = grind arith
 
 group_after_group : (l : Pairing)
     → None ≡ keys_if (pairing_behind group_item (pairing_behind group_item l))
-group_after_group (pairs ks) = refl
-group_after_group (key ks t) = refl
-group_after_group other = refl
+group_after_group l = grind arith
 
 string_last : (s : PlacedText) (l : Pairing) → None ≡ keys_if (pairing_behind (string_item s) l)
-string_last s (pairs ks) = refl
-string_last s (key ks t) = refl
-string_last s other = refl
+string_last s l = grind arith
 
 pub keys_by_pairing : (xs : List GroupItem) → pair_keys xs ≡ keys_if (pairing_of xs)
 keys_by_pairing [] = refl
@@ -60,74 +54,21 @@ keys_by_pairing (group_item ∷ group_item ∷ xs) = group_after_group (pairing_
 keys_by_pairing (group_item ∷ string_item s ∷ xs) =
     ap (option_map (λ ks. ks ++ s ∷ [])) (keys_by_pairing xs) ∙ group_after_string s (pairing_of xs)
 
--- what the code asks of a group is what the definitions do
-abbrev pub keys_of_code : CodeGroup → List PlacedText
-keys_of_code c = map placed_text_of c.keys.items
-
-pub group_by_code : (c : CodeGroup) (g : OpenGroup) → level_of_code c ≡ level_of g
-    → cond (code_may_be_table c) (of_keys [] (keys_of_code c)) [] ≡ of_group g
-group_by_code c g e =
-    by (is_array c.named) c.shape
-    ∙ ap (λ l. cond (is_array l.named) [] (of_some_keys (keys_if l.pairing))) e
-    ∙ ap (λ ks. cond (is_array g.named) [] (of_some_keys ks)) (sym (keys_by_pairing g.items))
-  where
-    by : (b : Bool) (sh : Shape) → cond (not b && is_pairs sh) (of_keys [] (keys_of_code c)) []
-        ≡ cond b [] (of_some_keys (keys_if (pairing_in sh (keys_of_code c))))
-    by true sh = refl
-    by false shape.Pairs = refl
-    by false (shape.Key k) = refl
-    by false shape.Other = refl
-
-pub comma_by_code : (n : ℕ) (c : CodeGroup) (g : OpenGroup) → level_of_code c ≡ level_of g
-    → cond (code_has_pairs c) (warning_at reason.CommaBehindPairs n ∷ []) [] ≡ of_comma n g
-comma_by_code n c g e =
-    by (is_array c.named) c.shape c.keys.items
-    ∙ ap (λ l. cond (is_array l.named) [] (of_comma_behind n (keys_if l.pairing))) e
-    ∙ ap (λ ks. cond (is_array g.named) [] (of_comma_behind n ks)) (sym (keys_by_pairing g.items))
-  where
-    by : (b : Bool) (sh : Shape) (ks : List StringAt)
-        → cond ((not b && is_pairs sh) && not (is_nil ks))
-        (warning_at reason.CommaBehindPairs n ∷ []) []
-        ≡ cond b [] (of_comma_behind n (keys_if (pairing_in sh (map placed_text_of ks))))
-    by true sh ks = refl
-    by false shape.Pairs [] = refl
-    by false shape.Pairs (k ∷ ks) = refl
-    by false (shape.Key k) ks = refl
-    by false shape.Other ks = refl
-
 abbrev is_none : Pairing → Bool
 is_none (pairs []) = true
 is_none _ = false
 
 none_behind : (x : GroupItem) (l : Pairing) → false ≡ is_none (pairing_behind x l)
-none_behind (string_item s) (pairs ks) = refl
-none_behind (string_item s) (key ks t) = refl
-none_behind (string_item s) other = refl
+none_behind (string_item s) l = grind arith
+none_behind comma_item l = refl
 none_behind group_item (pairs ks) = refl
-none_behind group_item (key [] t) = refl
-none_behind group_item (key (k ∷ ks) t) = refl
+none_behind group_item (key [] s) = refl
+none_behind group_item (key (k ∷ ks) s) = refl
 none_behind group_item other = refl
-none_behind comma_item (pairs ks) = refl
-none_behind comma_item (key ks t) = refl
-none_behind comma_item other = refl
 
 none_by_pairing : (xs : List GroupItem) → has_none xs ≡ is_none (pairing_of xs)
 none_by_pairing [] = refl
 none_by_pairing (x ∷ xs) = none_behind x (pairing_of xs)
-
-pub empty_by_code : (c : CodeGroup) (g : OpenGroup) → level_of_code c ≡ level_of g
-    → code_is_empty c ≡ is_empty g
-empty_by_code c g e =
-    by (is_nothing c.named) c.shape c.keys.items
-    ∙ ap (λ l. is_nothing l.named && is_none l.pairing) e
-    ∙ ap (λ b. is_nothing g.named && b) (sym (none_by_pairing g.items))
-  where
-    by : (b : Bool) (sh : Shape) (ks : List StringAt) → b && (is_pairs sh && is_nil ks)
-        ≡ b && is_none (pairing_in sh (map placed_text_of ks))
-    by b shape.Pairs [] = refl
-    by b shape.Pairs (k ∷ ks) = refl
-    by b (shape.Key k) ks = refl
-    by b shape.Other ks = refl
 
 abbrev lone_if : Pairing → Option PlacedText
 lone_if (key (k ∷ ks) s) = Some s
@@ -135,15 +76,10 @@ lone_if _ = None
 
 lone_after_string : (s : PlacedText) (l : Pairing)
     → behind_pairs s (keys_if l) ≡ lone_if (pairing_behind (string_item s) l)
-lone_after_string s (pairs []) = refl
-lone_after_string s (pairs (k ∷ ks)) = refl
-lone_after_string s (key ks t) = refl
-lone_after_string s other = refl
+lone_after_string s l = grind arith
 
 lone_after_group : (l : Pairing) → None ≡ lone_if (pairing_behind group_item l)
-lone_after_group (pairs ks) = refl
-lone_after_group (key ks t) = refl
-lone_after_group other = refl
+lone_after_group l = grind arith
 
 lone_by_pairing : (xs : List GroupItem) → lone_string xs ≡ lone_if (pairing_of xs)
 lone_by_pairing [] = refl
@@ -152,106 +88,65 @@ lone_by_pairing (group_item ∷ xs) = lone_after_group (pairing_of xs)
 lone_by_pairing (string_item s ∷ xs) =
     ap (behind_pairs s) (keys_by_pairing xs) ∙ lone_after_string s (pairing_of xs)
 
-pub lone_by_code : (c : CodeGroup) (g : OpenGroup) → level_of_code c ≡ level_of g
-    → code_lone (is_nothing c.named) c.shape c.keys.items ≡ of_lone g
-lone_by_code c g e =
-    by (is_nothing c.named) c.shape c.keys.items
-    ∙ ap (λ l. cond (is_nothing l.named) (of_some_lone (lone_if l.pairing)) []) e
-    ∙ ap (λ s. cond (is_nothing g.named) (of_some_lone s) []) (sym (lone_by_pairing g.items))
-  where
-    by : (b : Bool) (sh : Shape) (ks : List StringAt)
-        → code_lone b sh ks
-        ≡ cond b (of_some_lone (lone_if (pairing_in sh (map placed_text_of ks)))) []
-    by true shape.Pairs ks = refl
-    by true (shape.Key s) [] = refl
-    by true (shape.Key s) (k ∷ ks) = refl
-    by true shape.Other ks = refl
-    by false shape.Pairs ks = refl
-    by false (shape.Key s) ks = refl
-    by false shape.Other ks = refl
+-- neither the root nor the text itself
+below_root : (xs : List CodeGroup) (ks : List StringAt) (gs : List OpenGroup) → AreAround xs ks gs
+    → nat_lt 1 (length xs) ≡ is_below_root gs
+below_root [] ks [] around = refl
+below_root [] ks (g ∷ gs) around = absurd around
+below_root (x ∷ xs) ks [] around = absurd around
+below_root (x ∷ []) ks (g ∷ []) around = refl
+below_root (x ∷ []) ks (g ∷ h ∷ gs) around = absurd around.1
+below_root (x ∷ y ∷ xs) ks (g ∷ []) around = absurd around.1
+below_root (x ∷ y ∷ xs) ks (g ∷ h ∷ gs) around = grind arith
 
--- of a group that is closed, one thing at most is told
-module _ (n : ℕ) (c : CodeGroup) (g : Nesting) (e : level_of_code c ≡ level_of g.inner) where
-  no_group : (is_pairs c.shape && not (is_nil c.keys.items)) ≡ false → of_group g.inner ≡ []
-  no_group h = sym (group_by_code c g.inner e) ∙ by (is_array c.named) c.shape c.keys.items h
+-- what the code asks of the innermost group is what the definitions ask
+module _ (c : CodeGroups) (g : Nesting) (shows : ShowsNesting c g) where
+  pub keys_by_code : cond (may_be_table c) (of_keys [] (map placed_text_of (inner_keys c))) []
+      ≡ of_group g.inner
+  keys_by_code = grind (arith, keys_by_pairing g.inner.items, shows.groups.inner.level)
+
+  pub comma_by_code : (n : ℕ)
+      → cond (has_pairs c) (warning_at reason.CommaBehindPairs n ∷ []) [] ≡ of_comma n g.inner
+  comma_by_code n =
+      grind (
+        arith,
+        keys_by_pairing g.inner.items,
+        shows.groups.inner.level,
+        by (is_array c.named) c.shape (inner_keys c),
+      )
     where
       by : (b : Bool) (sh : Shape) (ks : List StringAt)
-          → (is_pairs sh && not (is_nil ks)) ≡ false
-          → cond (not b && is_pairs sh) (of_keys [] (map placed_text_of ks)) [] ≡ []
-      by true sh ks h = refl
-      by false shape.Pairs [] h = refl
-      by false shape.Pairs (k ∷ ks) h = absurd (true≢false h)
-      by false (shape.Key k) ks h = refl
-      by false shape.Other ks h = refl
+          → cond ((not b && is_pairs sh) && not (is_nil ks))
+          (warning_at reason.CommaBehindPairs n ∷ []) []
+          ≡ cond b [] (of_comma_behind n (keys_if (pairing_in sh c.last ks)))
+      by b sh ks = grind arith
 
-  no_lone : is_pairs c.shape ≡ true → of_lone g.inner ≡ []
-  no_lone h = sym (lone_by_code c g.inner e) ∙ by (is_nothing c.named) c.shape c.keys.items h
+  pub lone_by_code : cond (has_lone c) (warning_at reason.LoneString c.last.place ∷ []) []
+      ≡ of_lone g.inner
+  lone_by_code =
+      grind (
+        arith,
+        lone_by_pairing g.inner.items,
+        shows.groups.inner.level,
+        by (is_nothing c.named) c.shape (inner_keys c),
+      )
     where
-      by : (b : Bool) (sh : Shape) (ks : List StringAt) → is_pairs sh ≡ true
-          → code_lone b sh ks ≡ []
-      by true shape.Pairs ks h = refl
-      by false shape.Pairs ks h = refl
-      by b (shape.Key s) ks h = absurd (true≢false (sym h))
-      by b shape.Other ks h = absurd (true≢false (sym h))
+      by : (b : Bool) (sh : Shape) (ks : List StringAt)
+          → cond (b && (is_key sh && not (is_nil ks)))
+          (warning_at reason.LoneString c.last.place ∷ []) []
+          ≡ cond b (of_some_lone (lone_if (pairing_in sh c.last ks))) []
+      by b sh ks = grind arith
 
-  no_empty : (is_pairs c.shape && is_nil c.keys.items) ≡ false → of_empty n g ≡ []
-  no_empty h =
-      ap (λ b. cond (b && is_below_root g.around) (warning_at reason.EmptyGroup n ∷ []) [])
-      (sym (empty_by_code c g.inner e) ∙ ap (λ b. is_nothing c.named && b) h
-      ∙ by (is_nothing c.named))
-    where
-      by : (b : Bool) → (b && false) ≡ false
-      by true = refl
-      by false = refl
-
-  pub closed_unpaired : is_pairs c.shape ≡ false → of_lone g.inner ≡ of_piece (closing n) g
-  closed_unpaired h =
-      sym (ap (λ l. l ++ (of_lone g.inner ++ of_empty n g))
-      (no_group (ap (λ b. b && not (is_nil c.keys.items)) h))
-      ∙ ap (λ l. of_lone g.inner ++ l) (no_empty (ap (λ b. b && is_nil c.keys.items) h))
-      ∙ append-nil (of_lone g.inner))
-
-  pub closed_empty : is_pairs c.shape ≡ true → is_nil c.keys.items ≡ true
-      → of_empty n g ≡ of_piece (closing n) g
-  closed_empty h k =
-      sym (ap (λ l. l ++ (of_lone g.inner ++ of_empty n g))
-      (no_group (ap (λ b. b && not (is_nil c.keys.items)) h ∙ ap not k))
-      ∙ ap (λ l. l ++ of_empty n g) (no_lone h))
-
-  pub closed_pairs : is_pairs c.shape ≡ true → is_nil c.keys.items ≡ false
-      → of_group g.inner ≡ of_piece (closing n) g
-  closed_pairs h k =
-      sym (ap (λ l. of_group g.inner ++ (l ++ of_empty n g)) (no_lone h)
-      ∙ ap (λ l. of_group g.inner ++ l)
-      (no_empty (ap (λ b. b && is_nil c.keys.items) h ∙ k))
-      ∙ append-nil (of_group g.inner))
-
--- what the code tells of a string alone
-pub told_lone : (c : CodeGroup) (s : StringAt) → c.shape ≡ shape.Key s
-    → is_nothing c.named ≡ true → is_nil c.keys.items ≡ false
-    → warning_at reason.LoneString s.place ∷ []
-    ≡ code_lone (is_nothing c.named) c.shape c.keys.items
-told_lone c s e b n =
-    sym (ap (λ sh. code_lone (is_nothing c.named) sh c.keys.items) e
-    ∙ ap (λ t. code_lone t (shape.Key s) c.keys.items) b ∙ by c.keys.items n)
-  where
-    by : (ks : List StringAt) → is_nil ks ≡ false
-        → code_lone true (shape.Key s) ks ≡ warning_at reason.LoneString s.place ∷ []
-    by [] h = absurd (true≢false h)
-    by (k ∷ ks) h = refl
-
-pub not_lone : (c : CodeGroup) → ((s : StringAt) → c.shape ≡ shape.Key s → ⊥)
-    → [] ≡ code_lone (is_nothing c.named) c.shape c.keys.items
-not_lone c other_shape = by (is_nothing c.named) c.shape c.keys.items other_shape
-  where
-    by : (b : Bool) (sh : Shape) (ks : List StringAt) → ((s : StringAt) → sh ≡ shape.Key s → ⊥)
-        → [] ≡ code_lone b sh ks
-    by true shape.Pairs ks h = refl
-    by true (shape.Key s) ks h = absurd (h s refl)
-    by true shape.Other ks h = refl
-    by false shape.Pairs ks h = refl
-    by false (shape.Key s) ks h = refl
-    by false shape.Other ks h = refl
+  pub empty_by_code : has_empty_group c ≡ (is_empty g.inner && is_below_root g.around)
+  empty_by_code =
+      grind (
+        arith,
+        none_by_pairing g.inner.items,
+        shows.groups.inner.level,
+        length-reverse c.around.items,
+        below_root (reverse c.around.items) (take c.keys_from c.keys.items) g.around
+            shows.groups.around,
+      )
 
 abbrev place_if : Bool → ℕ → Option ℕ → Option ℕ
 place_if b n (Some m) = Some m

@@ -23,7 +23,6 @@ mod Lists
 mod LocationLemmas
 mod OnceLemmas
 mod OnceLists
-mod OpenGroups
 mod OutdentLemmas
 mod PartnersLemmas
 mod LongLemmas

@@ -1,16 +1,16 @@
 //! The groups of a text that are open at a place, and their keys.
 //! Which bytes are strings and braces is found in `text_pieces`, and for ICU's form in `icu_keys`.
-ghost use Rattle.std.specs.Prelude.{◌≡◌, ◌++◌, ◌∷◌, ◌&&◌, OnOk, IfOk, [], List, Some, map, IsTrue};
+ghost use Rattle.std.specs.Prelude.{◌≡◌, ◌++◌, ◌∷◌, OnOk, [], Some, map, IsTrue, ℕ};
+ghost use Rattle.std.specs.Prelude.{if◌then◌else◌};
 ghost use Rattle.resb_diagnostics.specs.Groups as spec;
-ghost use Rattle.resb_diagnostics.specs.Groups.{with_one_more, string_item, group_item, comma_item};
 ghost use Rattle.resb_diagnostics.specs.Groups.{behind_piece};
-ghost use Rattle.resb_diagnostics.specs.Pieces.{closing};
-ghost use Rattle.resb_diagnostics.specs.Warnings.{of_keys, of_group, of_comma, of_empty, of_string};
-ghost use Rattle.resb_diagnostics.specs.Warnings.{of_piece, of_lone, is_empty, is_below_root};
-ghost use Rattle.resb_diagnostics.specs.Inner.Looks.{placed_text_of, text_piece_of, level_of_code};
-ghost use Rattle.resb_diagnostics.specs.Inner.Looks.{level_of, code_may_be_table, code_is_empty};
-ghost use Rattle.resb_diagnostics.specs.Inner.Looks.{code_has_pairs, is_pairs, is_nil};
-ghost use Rattle.resb_diagnostics.specs.Inner.Looks.{HasInner, ShowsOpen, ShowsNesting, IsClosed};
+ghost use Rattle.resb_diagnostics.specs.Pieces.{a_string, opening, closing};
+ghost use Rattle.resb_diagnostics.specs.Warnings.{of_keys, of_group, of_piece};
+ghost use Rattle.resb_diagnostics.specs.Warnings.{warning_at};
+ghost use Rattle.resb_diagnostics.specs.declared.warning.Reason.TheVariants as reason;
+ghost use Rattle.resb_diagnostics.specs.Inner.Looks.{placed_text_of, text_piece_of, inner_keys};
+ghost use Rattle.resb_diagnostics.specs.Inner.Looks.{may_be_table, has_pairs, has_empty_group};
+ghost use Rattle.resb_diagnostics.specs.Inner.Looks.{is_pairs, has_lone, ShowsOpen, ShowsNesting};
 
 use crate::named::{Named, named_by};
 use crate::numbers::tell_number;
@@ -22,157 +22,38 @@ use std::cmp::Ordering;
 
 /// What the items of a group are so far.
 #[derive(Clone, Copy)]
-enum Shape<'a> {
+enum Shape {
     /// Pairs of a string and a group, without commas.
     Pairs,
     /// The same, and then a string.
-    Key(StringAt<'a>),
+    Key,
     /// Anything else.
     Other,
 }
 
-/// An open group.
-#[derive(Drop)]
-struct Group<'a> {
+/// A group around the innermost one, as it will be behind that one.
+#[derive(Clone, Copy)]
+struct Group {
     named: Named,
-    shape: Shape<'a>,
-    /// The strings of the pairs, in order.
-    keys: Vec<StringAt<'a>>,
+    shape: Shape,
+    /// Where its keys begin in the list of all keys.
+    keys_from: usize,
 }
 
-impl<'a> Group<'a> {
-    /// A group without items.
-    fn new(alloc: Global, named: Named) -> Group<'a>
-        ensures { level_of_code result ≡ level_of (record { named = named; items = [] }) }
-    {
-        Group {
-            named,
-            shape: Shape::Pairs,
-            keys: Vec::new(alloc),
-        }
+/// Adds a warning of what stands at a place, if it is due.
+fn tell_if(
+    is_due: bool,
+    place: usize,
+    reason: Reason,
+    found: &mut Vec<Warning>,
+) -> Result<(), AllocError>
+    ensures { OnOk result (found.new.items
+        ≡ found.old.items ++ (if is_due then warning_at reason place ∷ [] else [])) }
+{
+    if is_due {
+        found.push(Warning { place, reason })?;
     }
-
-    /// It begins anew, and keeps the room of its keys.
-    fn begin(&mut self, named: Named)
-        ensures { level_of_code self.new ≡ level_of (record { named = named; items = [] }) }
-    {
-        self.named = named;
-        self.shape = Shape::Pairs;
-        self.keys.clear();
-    }
-
-    /// A string comes.
-    fn string(&mut self, string: StringAt<'a>)
-        ensures { (g : spec.OpenGroup) → level_of_code self.old ≡ level_of g
-            → level_of_code self.new
-            ≡ level_of (with_one_more (string_item (placed_text_of string.entry)) g) }
-    {
-        self.shape = match self.shape {
-            Shape::Pairs => Shape::Key(string),
-            _ => Shape::Other,
-        };
-    }
-
-    /// A group comes.
-    fn group(&mut self) -> Result<(), AllocError>
-        ensures { OnOk result ((g : spec.OpenGroup) → level_of_code self.old ≡ level_of g
-            → level_of_code self.new ≡ level_of (with_one_more group_item g)) }
-    {
-        let Shape::Key(key) = self.shape else {
-            self.shape = Shape::Other;
-            return Ok(());
-        };
-        self.keys.push(key)?;
-        self.shape = Shape::Pairs;
-        Ok(())
-    }
-
-    /// A comma comes.
-    fn comma(&mut self)
-        ensures { (g : spec.OpenGroup) → level_of_code self.old ≡ level_of g
-            → level_of_code self.new ≡ level_of (with_one_more comma_item g) }
-    {
-        self.shape = Shape::Other;
-    }
-
-    /// Whether it has pairs of a string and a group alone, or nothing.
-    fn is_paired(&self) -> bool
-        ensures { result ≡ is_pairs self.now.shape }
-    {
-        matches!(self.shape, Shape::Pairs)
-    }
-
-    /// Whether it has no pair of a string and a group.
-    fn has_no_keys(&self) -> bool
-        ensures { result ≡ is_nil self.now.keys.items }
-    {
-        self.keys.is_empty()
-    }
-
-    /// Whether it may be a table: it is no `:array`, and has pairs of a string and a group, or
-    /// nothing.
-    fn may_be_table(&self) -> bool
-        ensures { result ≡ code_may_be_table self.now }
-    {
-        !self.named.is_array() && self.is_paired()
-    }
-
-    /// Whether it has no type, and nothing stands in it.
-    fn is_empty(&self) -> bool
-        ensures { result ≡ code_is_empty self.now }
-    {
-        self.named.is_nothing() && self.is_paired() && self.keys.is_empty()
-    }
-
-    /// Whether it has pairs, and may be a table.
-    fn has_pairs(&self) -> bool
-        ensures { result ≡ code_has_pairs self.now }
-    {
-        self.may_be_table() && !self.keys.is_empty()
-    }
-
-    /// Adds the warnings of the keys of the group, now closed.
-    #[inline(always)]
-    fn tell(&self, alloc: Global, found: &mut Vec<Warning>) -> Result<(), AllocError>
-        ensures { OnOk result ((g : spec.OpenGroup) → level_of_code self.now ≡ level_of g
-            → found.new.items ≡ found.old.items ++ of_group g) }
-    {
-        if !self.may_be_table() {
-            return Ok(());
-        }
-        tell_keys(alloc, self.keys.as_slice(), found)?;
-        Ok(())
-    }
-
-    /// Adds the warning of a string alone behind pairs, with which the group, now closed, ends.
-    fn tell_lone(&self, found: &mut Vec<Warning>) -> Result<(), AllocError>
-        ensures { OnOk result ((g : spec.OpenGroup) → level_of_code self.now ≡ level_of g
-            → found.new.items ≡ found.old.items ++ of_lone g) }
-    {
-        if let Shape::Key(string) = self.shape {
-            if self.named.is_nothing() && !self.keys.is_empty() {
-                found.push(Warning {
-                    place: string.place,
-                    reason: Reason::LoneString,
-                })?;
-            }
-        }
-        Ok(())
-    }
-
-    /// Adds the warning of a comma that stands at a place, if it stands behind pairs.
-    fn tell_comma(&self, at: usize, found: &mut Vec<Warning>) -> Result<(), AllocError>
-        ensures { OnOk result ((g : spec.OpenGroup) → level_of_code self.now ≡ level_of g
-            → found.new.items ≡ found.old.items ++ of_comma at g) }
-    {
-        if self.has_pairs() {
-            found.push(Warning {
-                place: at,
-                reason: Reason::CommaBehindPairs,
-            })?;
-        }
-        Ok(())
-    }
+    Ok(())
 }
 
 /// Whether each key is above the one before.
@@ -233,166 +114,207 @@ pub(crate) struct Groups<'a> {
     is_behind_string: bool,
     /// What a group names that begins here.
     next: Named,
-    /// How many groups are open in the text itself.
-    depth: usize,
-    /// The text itself and the groups that are open in it, the innermost last. Behind that one
-    /// stand groups that ended, whose room is used again.
-    groups: Vec<Group<'a>>,
+    /// Where the keys of the innermost group begin in the list of all keys.
+    keys_from: usize,
+    /// What it names: nothing, if it is the text itself.
+    named: Named,
+    /// What its items are so far.
+    shape: Shape,
+    /// The groups around it, the innermost last; the first one is the text itself.
+    around: Vec<Group>,
+    /// The keys of all these groups: the strings of their pairs, and of those that are open, in order.
+    keys: Vec<StringAt<'a>>,
+    /// The last string; an empty one before the first.
+    last: StringAt<'a>,
 }
 
 impl<'a> Groups<'a> {
     /// No piece came.
-    pub(crate) fn new(alloc: Global) -> Result<Groups<'a>, AllocError>
-        ensures { IfOk result (λ made. ShowsNesting made spec.outside) }
+    pub(crate) fn new(alloc: Global) -> Groups<'a>
+        ensures { ShowsNesting result spec.outside }
     {
-        let mut groups = Vec::new(alloc);
-        groups.push(Group::new(alloc, Named::Nothing))?;
-        Ok(Groups {
+        Groups {
             alloc,
             is_behind_string: false,
             next: Named::Nothing,
-            depth: 0,
-            groups,
-        })
+            keys_from: 0,
+            named: Named::Nothing,
+            shape: Shape::Pairs,
+            around: Vec::new(alloc),
+            keys: Vec::new(alloc),
+            last: StringAt {
+                content: b"".as_slice(),
+                place: 0,
+            },
+        }
     }
 
-    /// The innermost group.
-    fn inner(&self) -> &Group<'a>
-        requires { HasInner self.now }
-        ensures { (g : spec.OpenGroup) (gs : List spec.OpenGroup)
-            → ShowsOpen self.now.groups.items self.now.depth g gs
-            → level_of_code result.now ≡ level_of g }
+    /// The keys of the innermost group, whose place is never behind the list.
+    fn inner_keys(&self) -> &[StringAt<'a>]
+        ensures { result.now ≡ inner_keys self.now }
     {
-        &self.groups[self.depth]
+        &self.keys[self.keys_from.min(self.keys.len())..]
+    }
+
+    /// Whether the innermost group has pairs of a string and a group alone, or nothing.
+    fn is_paired(&self) -> bool
+        ensures { result ≡ is_pairs self.now.shape }
+    {
+        matches!(self.shape, Shape::Pairs)
+    }
+
+    /// Whether the innermost group may be a table: it is no `:array`, and has pairs of a string and
+    /// a group, or nothing.
+    fn may_be_table(&self) -> bool
+        ensures { result ≡ may_be_table self.now }
+    {
+        !self.named.is_array() && self.is_paired()
+    }
+
+    /// Whether the innermost group has pairs, and may be a table.
+    fn has_pairs(&self) -> bool
+        ensures { result ≡ has_pairs self.now }
+    {
+        self.may_be_table() && !self.inner_keys().is_empty()
+    }
+
+    /// Whether the innermost group has no type, is empty, and is neither the root nor the text.
+    fn has_empty_group(&self) -> bool
+        ensures { result ≡ has_empty_group self.now }
+    {
+        self.named.is_nothing()
+            && self.is_paired()
+            && self.inner_keys().is_empty()
+            && 1 < self.around.len()
     }
 
     /// Adds the warnings of the keys of the innermost group.
     pub(crate) fn tell_keys(&self, found: &mut Vec<Warning>) -> Result<(), AllocError>
-        requires { HasInner self.now }
         ensures { OnOk result ((g : spec.Nesting) → ShowsNesting self.now g
             → found.new.items ≡ found.old.items ++ of_group g.inner) }
     {
-        self.inner().tell(self.alloc, found)
+        if self.may_be_table() {
+            tell_keys(self.alloc, self.inner_keys(), found)?;
+        }
+        Ok(())
+    }
+
+    /// Adds the warning of a string alone behind pairs, with which the innermost group ends.
+    fn tell_lone(&self, found: &mut Vec<Warning>) -> Result<(), AllocError>
+        ensures { OnOk result (found.new.items ≡ found.old.items
+            ++ (if has_lone self.now then warning_at reason.LoneString self.now.last.place ∷ []
+            else [])) }
+    {
+        let is_due = self.named.is_nothing()
+            && matches!(self.shape, Shape::Key)
+            && !self.inner_keys().is_empty();
+        tell_if(is_due, self.last.place, Reason::LoneString, found)
+    }
+
+    /// Adds the warnings of the innermost group, whose `}` stands at a place: of one thing at most.
+    fn tell_close(&self, at: usize, found: &mut Vec<Warning>) -> Result<(), AllocError>
+        ensures { OnOk result ((g : spec.Nesting) → ShowsNesting self.now g
+            → found.new.items ≡ found.old.items ++ of_piece (closing at) g) }
+    {
+        if !self.is_paired() {
+            return self.tell_lone(found);
+        }
+        if self.inner_keys().is_empty() {
+            return tell_if(self.has_empty_group(), at, Reason::EmptyGroup, found);
+        }
+        self.tell_keys(found)
     }
 
     /// Adds the warnings of a piece that comes.
     #[inline(always)]
     pub(crate) fn tell(&self, piece: Piece<'a>, found: &mut Vec<Warning>) -> Result<(), AllocError>
-        requires { HasInner self.now }
         ensures { OnOk result ((g : spec.Nesting) → ShowsNesting self.now g
             → found.new.items ≡ found.old.items ++ of_piece (text_piece_of piece.entry) g) }
     {
         match piece {
             Piece::Close(at) => self.tell_close(at, found),
-            Piece::Comma(at) => self.inner().tell_comma(at, found),
+            Piece::Comma(at) => tell_if(self.has_pairs(), at, Reason::CommaBehindPairs, found),
             Piece::String(string) => {
-                self.tell_row(string, found)?;
-                tell_number(string, self.inner().named, found)
+                let is_due = self.is_behind_string;
+                tell_if(is_due, string.place, Reason::StringsInRow, found)?;
+                tell_number(string, self.named, found)
             }
             _ => Ok(()),
         }
     }
 
-    /// Adds the warnings of the innermost group, whose `}` stands at a place.
-    fn tell_close(&self, at: usize, found: &mut Vec<Warning>) -> Result<(), AllocError>
-        requires { HasInner self.now }
-        ensures { OnOk result ((g : spec.Nesting) → ShowsNesting self.now g
-            → found.new.items ≡ found.old.items ++ of_piece (closing at) g) }
-    {
-        let inner = self.inner();
-        if !inner.is_paired() {
-            return inner.tell_lone(found);
-        }
-        if inner.has_no_keys() {
-            return self.tell_empty(at, found);
-        }
-        inner.tell(self.alloc, found)
-    }
-
-    /// Whether the innermost group is empty, and not the root.
-    fn has_empty_group(&self) -> bool
-        requires { HasInner self.now }
-        ensures { (g : spec.Nesting) → ShowsNesting self.now g
-            → result ≡ (is_empty g.inner && is_below_root g.around) }
-    {
-        self.inner().is_empty() && 1 < self.depth
-    }
-
-    /// Adds the warning of an empty group whose `}` stands at a place, if it is one.
-    fn tell_empty(&self, at: usize, found: &mut Vec<Warning>) -> Result<(), AllocError>
-        requires { HasInner self.now }
-        ensures { OnOk result ((g : spec.Nesting) → ShowsNesting self.now g
-            → found.new.items ≡ found.old.items ++ of_empty at g) }
-    {
-        if self.has_empty_group() {
-            found.push(Warning {
-                place: at,
-                reason: Reason::EmptyGroup,
-            })?;
-        }
-        Ok(())
-    }
-
-    /// Adds the warning of a string that comes, if it stands behind another one.
-    fn tell_row(&self, string: StringAt<'a>, found: &mut Vec<Warning>) -> Result<(), AllocError>
-        ensures { OnOk result ((g : spec.Nesting) → ShowsNesting self.now g
-            → found.new.items
-            ≡ found.old.items ++ of_string (placed_text_of string.entry) g.last) }
-    {
-        if self.is_behind_string {
-            found.push(Warning {
-                place: string.place,
-                reason: Reason::StringsInRow,
-            })?;
-        }
-        Ok(())
-    }
-
     /// Goes on behind a piece.
     #[inline(always)]
     pub(crate) fn take(&mut self, piece: Piece<'a>) -> Result<(), AllocError>
-        requires { HasInner self.old }
         ensures { OnOk result ((g : spec.Nesting) → ShowsNesting self.old g
             → ShowsNesting self.new (behind_piece (text_piece_of piece.entry) g)) }
     {
-        match piece {
-            Piece::String(string) => self.groups[self.depth].string(string),
-            Piece::Comma(_) => self.groups[self.depth].comma(),
-            Piece::Open => self.open()?,
-            Piece::Close(_) => self.close()?,
-            Piece::Type(_) => {}
-        }
+        self.pass(piece)?;
         self.next = named_behind(piece);
         self.is_behind_string = matches!(piece, Piece::String(_));
         Ok(())
     }
 
-    /// A group begins.
-    fn open(&mut self) -> Result<(), AllocError>
-        requires { HasInner self.old }
+    /// Goes on to the groups that are open behind a piece.
+    #[inline(always)]
+    fn pass(&mut self, piece: Piece<'a>) -> Result<(), AllocError>
         ensures { OnOk result ((g : spec.Nesting) → ShowsNesting self.old g
-            → ShowsOpen self.new.groups.items self.new.depth
-            (record { named = spec.named_behind g.last; items = [] }) (g.inner ∷ g.around)) }
+            → ShowsOpen self.new (behind_piece (text_piece_of piece.entry) g)) }
     {
-        self.depth += 1;
-        if self.depth < self.groups.len() {
-            self.groups[self.depth].begin(self.next);
-            return Ok(());
+        match piece {
+            Piece::String(string) => self.string(string),
+            Piece::Comma(_) => self.shape = Shape::Other,
+            Piece::Open => return self.open(),
+            Piece::Close(_) => self.close(),
+            Piece::Type(_) => {}
         }
-        self.groups.push(Group::new(self.alloc, self.next))?;
         Ok(())
     }
 
-    /// The innermost group is an item of the one around it.
-    fn close(&mut self) -> Result<(), AllocError>
-        requires { HasInner self.old }
-        ensures { OnOk result ((g : spec.Nesting) → ShowsNesting self.old g
-            → IsClosed self.new g.inner g.around) }
+    /// A string comes.
+    fn string(&mut self, string: StringAt<'a>)
+        ensures { (g : spec.Nesting) → ShowsNesting self.old g
+            → ShowsOpen self.new (behind_piece (a_string (placed_text_of string.entry)) g) }
     {
-        if self.depth == 0 {
-            return Ok(());
+        self.last = string;
+        self.shape = match self.shape {
+            Shape::Pairs => Shape::Key,
+            _ => Shape::Other,
+        };
+    }
+
+    /// A group begins.
+    fn open(&mut self) -> Result<(), AllocError>
+        ensures { OnOk result ((g : spec.Nesting) → ShowsNesting self.old g
+            → ShowsOpen self.new (behind_piece opening g)) }
+    {
+        let mut shape = Shape::Other;
+        if let Shape::Key = self.shape {
+            self.keys.push(self.last)?;
+            shape = Shape::Pairs;
         }
-        self.depth -= 1;
-        self.groups[self.depth].group()
+        self.around.push(Group {
+            named: self.named,
+            shape,
+            keys_from: self.keys_from,
+        })?;
+        self.named = self.next;
+        self.shape = Shape::Pairs;
+        self.keys_from = self.keys.len();
+        Ok(())
+    }
+
+    /// The innermost group ends. Outside of all groups a `}` changes nothing.
+    fn close(&mut self)
+        ensures { (n : ℕ) (g : spec.Nesting) → ShowsNesting self.old g
+            → ShowsOpen self.new (behind_piece (closing n) g) }
+    {
+        let Some(outer) = self.around.pop() else {
+            return;
+        };
+        self.keys.truncate(self.keys_from);
+        self.named = outer.named;
+        self.shape = outer.shape;
+        self.keys_from = outer.keys_from;
     }
 }

@@ -1,12 +1,12 @@
 //! The keys that stand twice in a table of a text of ICU's form.
 //! Where its tokens stand is found in `icu_walk`; the groups and their keys are kept in `groups`.
-ghost use Rattle.std.specs.Prelude.{◌≡◌, ◌+◌, ◌<◌, ◌≤◌, false, length, drop, IfOk, OnOk};
+ghost use Rattle.std.specs.Prelude.{◌≡◌, ◌+◌, ◌<◌, false, length, IfOk, OnOk};
 ghost use Rattle.std.specs.Prelude.{option_map};
 ghost use Rattle.resb_diagnostics.specs.Groups.{Nesting, groups_behind};
 ghost use Rattle.resb_diagnostics.specs.IcuKeys as spec;
 ghost use Rattle.resb_diagnostics.specs.IcuKeys.{icu_piece, icu_repeated, IsFirstWord};
 ghost use Rattle.resb_diagnostics.specs.Inner.IcuTokens.{HasListed, Fits, IsIn};
-ghost use Rattle.resb_diagnostics.specs.Inner.Looks.{text_piece_of, HasInner, ShowsNesting};
+ghost use Rattle.resb_diagnostics.specs.Inner.Looks.{text_piece_of, ShowsNesting};
 
 use crate::groups::Groups;
 use crate::icu_runs::icu_word_end;
@@ -22,7 +22,7 @@ use std::alloc::{AllocError, Global};
 pub fn repeated_icu_keys(alloc: Global, text: &[u8]) -> Result<Vec<Warning>, AllocError>
     ensures { IfOk result (λ found. found.items ≡ icu_repeated text.now (length text.now)) }
 {
-    let mut keys = Keys::new(alloc, text)?;
+    let mut keys = Keys::new(alloc, text);
     'tokens: while keys.walk.at < text.len() {
         keys.advance()?;
     }
@@ -48,13 +48,13 @@ struct Keys<'a> {
 
 impl<'a> Keys<'a> {
     /// Nothing was looked at.
-    fn new(alloc: Global, text: &'a [u8]) -> Result<Keys<'a>, AllocError>
-        ensures { IfOk result (λ made. HasListed made text.now) }
+    fn new(alloc: Global, text: &'a [u8]) -> Keys<'a>
+        ensures { HasListed result text.now }
     {
-        Ok(Keys {
+        Keys {
             walk: IcuWalk::new(text),
-            groups: Groups::new(alloc)?,
-        })
+            groups: Groups::new(alloc),
+        }
     }
 
     /// Goes on behind blanks and what stands behind them, or to the text's end.
@@ -74,8 +74,7 @@ impl<'a> Keys<'a> {
 
     /// Goes on behind a token, if one comes.
     fn take(&mut self, token: Option<IcuToken>) -> Result<(), AllocError>
-        requires token { IsIn self.old.walk.text.now token }
-        requires inner { HasInner self.old.groups }
+        requires { IsIn self.old.walk.text.now token }
         ensures walk { self.new.walk ≡ self.old.walk }
         ensures groups { OnOk result ((g : Nesting) → ShowsNesting self.old.groups g
             → ShowsNesting self.new.groups

@@ -9,7 +9,7 @@ ghost use Rattle.std.specs.Ordering.{nat_cmp};
 ghost use Rattle.resb_diagnostics.specs.Groups as spec;
 ghost use Rattle.resb_diagnostics.specs.Groups.{groups_behind};
 ghost use Rattle.resb_diagnostics.specs.Warnings.{warned, of_end};
-ghost use Rattle.resb_diagnostics.specs.Inner.Looks.{text_piece_of, HasInner, ShowsNesting};
+ghost use Rattle.resb_diagnostics.specs.Inner.Looks.{text_piece_of, ShowsNesting};
 ghost use Rattle.resb_diagnostics.specs.Inner.Tokens.{of_some_backslash, one_byte_piece};
 ghost use Rattle.resb_diagnostics.specs.Inner.Tokens.{HasScanned, IsBetween, IsToken, Passes};
 
@@ -65,7 +65,7 @@ pub fn warnings(alloc: Global, text: &str) -> Result<Vec<Warning>, AllocError>
         (λ found. IsPermutation (warned text.now (length text.now)) found.items) }
     ensures order { IfOk result (λ found. IsSortedByKey (λ w. w.place) nat_cmp found.items) }
 {
-    let mut scan = Scan::new(alloc, text.as_bytes())?;
+    let mut scan = Scan::new(alloc, text.as_bytes());
     'tokens: while scan.at < text.len() {
         scan.advance()?;
     }
@@ -86,15 +86,15 @@ struct Scan<'a> {
 
 impl<'a> Scan<'a> {
     /// Nothing was looked at.
-    fn new(alloc: Global, text: &'a [u8]) -> Result<Scan<'a>, AllocError>
-        ensures { IfOk result (λ made. HasScanned made text.now) }
+    fn new(alloc: Global, text: &'a [u8]) -> Scan<'a>
+        ensures { HasScanned result text.now }
     {
-        Ok(Scan {
+        Scan {
             text,
             at: 0,
-            groups: Groups::new(alloc)?,
+            groups: Groups::new(alloc),
             found: Vec::new(alloc),
-        })
+        }
     }
 
     /// Goes on behind the next piece, or to the text's end.
@@ -185,7 +185,6 @@ impl<'a> Scan<'a> {
     /// Adds the warnings of a piece, if one comes, and goes on behind it.
     #[inline(always)]
     fn take(&mut self, piece: Option<Piece<'a>>) -> Result<(), AllocError>
-        requires { HasInner self.old.groups }
         ensures text { self.new.text ≡ self.old.text }
         ensures groups { OnOk result ((g : spec.Nesting) → ShowsNesting self.old.groups g
             → ShowsNesting self.new.groups

@@ -72,7 +72,7 @@ first_refusal [] = None
 first_refusal ((holds, refusal) ∷ checks) =
     if holds then first_refusal checks else Some refusal
 
--- where no check is refused, a value of which this holds; else the refusal
+-- where there is no refusal, a value of which this holds; else that refusal
 abbrev pub ReadsUnless : {A : Type 0} → Option Refusal → (A → Type 0) → Result A ReadingError
     → Type 0
 ReadsUnless refusal Holds r =

@@ -18,7 +18,8 @@ is_array n = n == type_number kind.Array || n == type_number kind.Array16
 abbrev pub is_older_type : ℕ → Bool
 is_older_type n = n == type_number kind._String || n == type_number kind._Alias
 
--- a type that each call reads: all but the old string, the alias and the numbers that name none
+-- a type that each call reads: the numbers from the binary's to the new array's but for the
+-- alias's, and that of vectors; not the old string, nor a number that names no type
 abbrev pub is_read_type : ℕ → Bool
 is_read_type n =
     ((nat_le 1 n && nat_le n 9) && not (n == type_number kind._Alias))

@@ -24,7 +24,7 @@ use Rattle.resb_grammar.specs.Machine.{Frame, Title, Open, VectorStage, at_start
 use Rattle.resb_grammar.specs.Machine.{after_number, after_comma, State, start, named, titled}
 use Rattle.resb_grammar.specs.Machine.{inside, typed, in_string, in_binary, in_integer, filled}
 use Rattle.resb_grammar.specs.Machine.{in_vector, finished, is_key_place, leave}
-use Rattle.resb_grammar.specs.Machine.{with_term, within, begun_as, next_in_vector}
+use Rattle.resb_grammar.specs.Machine.{with_term, begun_as, next_in_vector}
 use Rattle.resb_grammar.specs.Machine.{in_body, next, TokenStep, Path, begun, went, At}
 use Rattle.resb_grammar.specs.Inner.Half.{is_half}
 use Rattle.resb_grammar.proofs.HalfLemmas.{pairs-half, group-half}

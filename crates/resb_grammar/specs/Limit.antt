@@ -23,9 +23,9 @@ tree_limit n = record {
   weights = record { group = resource_weight; entry = entry_weight; table = table_weight };
 }
 
--- so many bytes where a draft is made: 72 for a group, 112 for an entry, 64 for a table
+-- so many bytes where a draft is made: 88 for a group, 112 for an entry, 64 for a table
 abbrev pub draft_limit : ℕ → Limit
-draft_limit n = record { bytes = n; weights = record { group = 72; entry = 112; table = 64 } }
+draft_limit n = record { bytes = n; weights = record { group = 88; entry = 112; table = 64 } }
 
 -- a string among items: an entry, since it may be the key of one, and its bytes
 abbrev pub string_bytes : Weights → List ℕ → ℕ

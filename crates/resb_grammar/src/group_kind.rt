@@ -1,4 +1,4 @@
-//! The types that a group of a text may name, in the code.
+//! The types that a group of a text may name.
 //! Where in a text such a name stands is found by the readers.
 ghost use Rattle.std.specs.Prelude.{IfSome, IfNone};
 ghost use Rattle.resb_grammar.specs.GroupTypes as spec;

@@ -3,6 +3,8 @@
 ghost use Rattle.std.specs.Prelude.{◌≡◌};
 ghost use Rattle.resb_grammar.specs.Limit.{tree_limit, draft_limit};
 
+use resb_tree::weights;
+
 /// What is counted for each thing that is made, in bytes.
 #[derive(Clone, Copy)]
 pub struct Weights {
@@ -29,9 +31,9 @@ impl Limit {
         ensures { result ≡ tree_limit bytes }
     {
         let weights = Weights {
-            group: 72,
-            entry: 192,
-            table: 1024,
+            group: weights::RESOURCE as u32,
+            entry: weights::ENTRY as u32,
+            table: weights::TABLE as u32,
         };
         Limit { bytes, weights }
     }
@@ -41,7 +43,7 @@ impl Limit {
         ensures { result ≡ draft_limit bytes }
     {
         let weights = Weights {
-            group: 72,
+            group: 88,
             entry: 112,
             table: 64,
         };

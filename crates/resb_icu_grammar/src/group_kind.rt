@@ -1,4 +1,4 @@
-//! The types that a group of a text in ICU's form may name, in the code.
+//! The types that a group of a text in ICU's form may name.
 //! Where in a text such a name stands is found by the reader.
 ghost use Rattle.std.specs.Prelude.{IfSome, IfNone};
 ghost use Rattle.resb_icu_grammar.specs.Kinds as spec;

@@ -1,6 +1,6 @@
 //! What stands between the tokens: white characters and comments.
 //! Places count bytes of the text from its start.
-ghost use Rattle.std.specs.Prelude.{◌≡◌, ℕ, ◌+◌, ◌*◌, ◌^◌, ◌<◌, ◌≤◌, true, false, length};
+ghost use Rattle.std.specs.Prelude.{◌≡◌, ℕ, ◌+◌, ◌*◌, ◌^◌, ◌<◌, ◌≤◌, length};
 ghost use Rattle.std.specs.Prelude.{slice_index};
 ghost use Rattle.std.specs.Prelude.{IfSome, IfNone};
 ghost use Rattle.resb_grammar.specs.Ascii as ascii;

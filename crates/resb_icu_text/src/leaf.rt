@@ -3,15 +3,7 @@
 ghost use Rattle.std.specs.Prelude.{◌≡◌, ◌≢◌, ◌+◌, ◌*◌, ◌<◌, ◌≤◌, length, MatchResult};
 ghost use Rattle.std.specs.Prelude.{◌-◌, None, Some, IfOk, slice_index};
 ghost use Rattle.resb_grammar.specs.Ascii as ascii;
-ghost use Rattle.resb_icu_grammar.specs.declared.group_kind.IcuKind.TheVariants.{
-  String as string_kind,
-  Alias as alias_kind,
-  Array as array_kind,
-  Table as table_kind,
-  Binary as binary_kind,
-  Integer as integer_kind,
-  IntVector as vector_kind,
-};
+ghost use Rattle.resb_icu_grammar.specs.declared.group_kind.IcuKind.TheVariants as kinds;
 ghost use Rattle.resb_icu_grammar.specs.Groups.{digit_bytes};
 ghost use Rattle.resb_icu_text.specs.Inner.Found.{IsFound, turns_to_make};
 ghost use Rattle.resb_icu_text.specs.Inner.Leaf.{IsReadLeaf, LeafStops, IsVector, IsBrace};
@@ -55,8 +47,8 @@ fn string_leaf<'a>(
 ) -> Result<(usize, Resource<'a>), IcuTextError>
     requires within { at ≤ length text.now }
     ensures reads { MatchResult result
-        (IsReadLeaf text.now at string_kind meter.old.quota meter.new.quota)
-        (LeafStops text.now at string_kind meter.old.quota meter.new.quota) }
+        (IsReadLeaf text.now at kinds.String meter.old.quota meter.new.quota)
+        (LeafStops text.now at kinds.String meter.old.quota meter.new.quota) }
     ensures cost { MatchResult result
         (λ r. meter.new.turns.count + 8 * reach text.now at ≤ meter.old.turns.count + 8 * r.0)
         (λ e. Halts text.now 4 at meter.old.turns meter.new.turns) }
@@ -78,8 +70,8 @@ fn alias_leaf<'a>(
 ) -> Result<(usize, Resource<'a>), IcuTextError>
     requires within { at ≤ length text.now }
     ensures reads { MatchResult result
-        (IsReadLeaf text.now at alias_kind meter.old.quota meter.new.quota)
-        (LeafStops text.now at alias_kind meter.old.quota meter.new.quota) }
+        (IsReadLeaf text.now at kinds.Alias meter.old.quota meter.new.quota)
+        (LeafStops text.now at kinds.Alias meter.old.quota meter.new.quota) }
     ensures cost { MatchResult result
         (λ r. meter.new.turns.count + 8 * reach text.now at ≤ meter.old.turns.count + 8 * r.0)
         (λ e. Halts text.now 4 at meter.old.turns meter.new.turns) }
@@ -102,8 +94,8 @@ fn binary_leaf<'a>(
 ) -> Result<(usize, Resource<'a>), IcuTextError>
     requires within { at ≤ length text.now }
     ensures reads { MatchResult result
-        (IsReadLeaf text.now at binary_kind meter.old.quota meter.new.quota)
-        (LeafStops text.now at binary_kind meter.old.quota meter.new.quota) }
+        (IsReadLeaf text.now at kinds.Binary meter.old.quota meter.new.quota)
+        (LeafStops text.now at kinds.Binary meter.old.quota meter.new.quota) }
     ensures cost { MatchResult result
         (λ r. meter.new.turns.count + 8 * reach text.now at ≤ meter.old.turns.count + 8 * r.0)
         (λ e. Halts text.now 4 at meter.old.turns meter.new.turns) }
@@ -155,8 +147,8 @@ fn integer_leaf<'a>(
 ) -> Result<(usize, Resource<'a>), IcuTextError>
     requires within { at ≤ length text.now }
     ensures reads { MatchResult result
-        (IsReadLeaf text.now at integer_kind meter.old.quota meter.new.quota)
-        (LeafStops text.now at integer_kind meter.old.quota meter.new.quota) }
+        (IsReadLeaf text.now at kinds.Integer meter.old.quota meter.new.quota)
+        (LeafStops text.now at kinds.Integer meter.old.quota meter.new.quota) }
     ensures cost { MatchResult result
         (λ r. meter.new.turns.count + 8 * reach text.now at ≤ meter.old.turns.count + 8 * r.0)
         (λ e. Halts text.now 4 at meter.old.turns meter.new.turns) }
@@ -202,7 +194,7 @@ fn numbers(
     requires some { slice_index text.now at ≢ ascii.right_brace }
     ensures reads { MatchResult result
         (IsVector text.now at meter.old.quota meter.new.quota)
-        (LeafStops text.now at vector_kind meter.old.quota meter.new.quota) }
+        (LeafStops text.now at kinds.IntVector meter.old.quota meter.new.quota) }
     ensures cost { MatchResult result
         (λ r. meter.new.turns.count + 8 * reach text.now at ≤ meter.old.turns.count + 8 * r.0)
         (λ e. Halts text.now 4 at meter.old.turns meter.new.turns) }
@@ -233,8 +225,8 @@ fn vector_leaf<'a>(
 ) -> Result<(usize, Resource<'a>), IcuTextError>
     requires within { at ≤ length text.now }
     ensures reads { MatchResult result
-        (IsReadLeaf text.now at vector_kind meter.old.quota meter.new.quota)
-        (LeafStops text.now at vector_kind meter.old.quota meter.new.quota) }
+        (IsReadLeaf text.now at kinds.IntVector meter.old.quota meter.new.quota)
+        (LeafStops text.now at kinds.IntVector meter.old.quota meter.new.quota) }
     ensures cost { MatchResult result
         (λ r. meter.new.turns.count + 8 * reach text.now at ≤ meter.old.turns.count + 8 * r.0)
         (λ e. Halts text.now 4 at meter.old.turns meter.new.turns) }
@@ -258,7 +250,7 @@ pub(crate) fn leaf<'a>(
     meter: &mut Meter,
 ) -> Result<(usize, Resource<'a>), IcuTextError>
     requires within { at ≤ length text.now }
-    requires leaf { (kind ≢ array_kind) × (kind ≢ table_kind) }
+    requires leaf { (kind ≢ kinds.Array) × (kind ≢ kinds.Table) }
     ensures reads { MatchResult result
         (IsReadLeaf text.now at kind meter.old.quota meter.new.quota)
         (LeafStops text.now at kind meter.old.quota meter.new.quota) }

@@ -127,8 +127,8 @@ impl IcuReader {
     }
 
     /// The bundle as `read_draft` gives it, where reading makes no more bytes than the limit. They
-    /// are counted as in `read_within`, but that a key counts as 112 and the first key of a table
-    /// as 64 more.
+    /// are counted as in `read_within`, but that 88 are counted where 72 are there, 112 for a key,
+    /// and 64 more for the first key of a table.
     pub fn read_draft_within<'a>(
         alloc: Global,
         input: &'a str,

@@ -1,8 +1,8 @@
 //! One step of a reading: from where it stands to behind the next member, entry, brace or group.
 //! What is open around that place is kept in `open`, and what a step has read is made there. Groups
 //! without items are read in `leaf`.
-ghost use Rattle.std.specs.Prelude.{◌≡◌, ◌≢◌, ◌+◌, ◌*◌, ◌<◌, ◌≤◌, true, length, [], ◌∷◌, ◌++◌};
-ghost use Rattle.std.specs.Prelude.{slice_index, IfOk, OnOk, MatchResult, IsTrue, false};
+ghost use Rattle.std.specs.Prelude.{◌≡◌, ◌≢◌, ◌+◌, ◌*◌, ◌<◌, ◌≤◌, true, length};
+ghost use Rattle.std.specs.Prelude.{slice_index, IfOk, MatchResult, IsTrue, false};
 ghost use Rattle.resb_grammar.specs.Ascii as ascii;
 ghost use Rattle.resb_grammar.specs.Inner.Reach.{reach};
 ghost use Rattle.resb_icu_grammar.specs.Groups as spec;
@@ -25,7 +25,7 @@ use crate::quota::{Meter, key_bytes};
 use crate::strings::found_or;
 use crate::turns::IcuTurns;
 use crate::types::group_type;
-use resb_grammar::Weights;
+use resb_grammar::{Weights, push_item};
 use resb_icu_grammar::{IcuExpected, IcuKind};
 use resb_tree::{NoMemory, Resource};
 use std::alloc::Global;
@@ -435,18 +435,6 @@ fn untyped_string<'a, X: Drop>(
         .quota
         .take(weights.table as u128 + key_bytes(weights, key))?;
     Ok(Read::Step(Step::Group(Waiting::Table(Vec::new(alloc), key), next)))
-}
-
-/// Puts an item behind those of an open group. The first one takes room for itself alone: a text
-/// may open groups inside each other that all have one item before the next.
-pub(crate) fn push_item<T: Drop>(items: &mut Vec<T>, item: T) -> Result<(), NoMemory>
-    ensures items { OnOk result (items.new.items ≡ items.old.items ++ item ∷ []) }
-{
-    if items.is_empty() {
-        items.reserve_exact(1)?;
-    }
-    items.push(item)?;
-    Ok(())
 }
 
 /// From behind a group of which this was made to behind the blanks there, among what it stands in.

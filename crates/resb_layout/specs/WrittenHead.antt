@@ -7,8 +7,8 @@ use Rattle.std.specs.Prelude.{◌≡◌, ℕ, ◌*◌, List, [], ◌∷◌, leng
 use Rattle.resb_tree.specs.Tree.{Tree, largest_table}
 use Rattle.resb_head.specs.File.{body_of, body_word, field_count, attributes}
 
--- 32 bytes of header, of which 20 are the info: little-endian, ASCII, two bytes a unit, `ResB`, a
--- format version whose second number is 0, data version 1.4
+-- 32 bytes of header, of which 20 are the info: little-endian, ASCII, two bytes a unit, `ResB`,
+-- the format version with this first number and 0 behind it, data version 1.4
 abbrev pub header_of : ℕ → List ℕ
 header_of version =
     32 ∷ 0 ∷ 0xda ∷ 0x27 ∷ 20 ∷ 0 ∷ 0 ∷ 0 ∷ 0 ∷ 0 ∷ 2 ∷ 0 ∷ 0x52 ∷ 0x65 ∷ 0x73 ∷ 0x42

@@ -1,15 +1,8 @@
 //! The head of a file that uses a pool bundle, as it is written.
 //! What stands behind it is not said here; heads are read in `resb_pool_bundle`.
-ghost use Rattle.std.specs.Prelude.{◌≡◌, ◌++◌, OnOk};
-ghost use Rattle.resb_head.specs.Head.{index_words};
-ghost use Rattle.resb_layout.specs.WrittenHead.{header_of};
-ghost use Rattle.resb_lent.specs.HeadWithPool.{version_with};
-
-use resb_head::{BinHeader, BinIndex, BinReprInfo, CharsetFamily, Endianness, FormatVersion};
+use resb_head::BinIndex;
+use resb_layout::header::append_header;
 use resb_tree::NoMemory;
-
-/// The header and its padding, in bytes.
-const HEADER_SIZE: u16 = 32;
 
 /// The head of a file that uses a pool bundle. (ICU's `uresdata.h`: pool bundles, and the limits
 /// of string indexes.)
@@ -33,34 +26,6 @@ pub struct HeadWithPool {
     pub block_words: u32,
     /// The length of the tail, in words.
     pub tail_words: u32,
-}
-
-/// Appends a header of 32 bytes: of version 2.0 where no string is lent, and else of 3.0.
-fn append_header(file: &mut Vec<u8>, limit: u32) -> Result<(), NoMemory>
-    ensures { OnOk result (file.new.items
-        ≡ file.old.items ++ header_of (version_with limit)) }
-{
-    let header = BinHeader {
-        size: HEADER_SIZE,
-        repr_info: BinReprInfo {
-            size: 20,
-            reserved_word: 0,
-            endianness: Endianness::Little,
-            charset_family: CharsetFamily::Ascii,
-            size_of_char: 2,
-            reserved_byte: 0,
-            data_format: [b'R', b'e', b's', b'B'],
-            format_version: if limit == 0 {
-                FormatVersion::V2_0
-            } else {
-                FormatVersion::V3_0
-            },
-            data_version: [1, 4, 0, 0],
-        },
-    };
-    header.append_to(file)?;
-    file.extend_from_slice(&[0; 8])?;
-    Ok(())
 }
 
 impl HeadWithPool {
@@ -108,7 +73,7 @@ impl HeadWithPool {
         ensures { OnOk result (file.new.items ≡ file.old.items ++ head_bytes self.now) }
     {
         let index = self.index();
-        append_header(file, self.limit)?;
+        append_header(file, self.limit != 0)?;
         file.extend_from_slice(&self.root.to_le_bytes())?;
         index.append_to(file)
     }

@@ -18,7 +18,6 @@ use Rattle.indexmap.specs.IndexSet.{index_of_by}
 use Rattle.resb_format.specs.Units.{units}
 use Rattle.resb_pool.specs.Pool.{IsPool, Off}
 use Rattle.resb_pool.specs.declared.packing.Packing.{Packing}
-use Rattle.resb_pool.specs.declared.packing.Packing.TheVariants.{Plain}
 use Rattle.resb_pool.specs.declared.offsets.Plan.{Plan}
 use Rattle.resb_pool.specs.declared.error.PlanError.{PlanError}
 use Rattle.resb_pool.specs.declared.error.PlanError.TheVariants.{StringTooLong, TooLarge}
@@ -59,7 +58,7 @@ pub record IsPlanAmong (way : Packing) (A : List ℕ → Type 0) (S : List (List
   pub offsets : (s : List ℕ) → MatchOption (offset s) (Contains S s → ⊥) (λ k. Contains S s
       × Off way S records s k)
 
--- the same of a file in which no other texts stand, and beside which there are none
+-- the same of a file that has no other texts, and none beside it
 abbrev pub IsPlanBy : Packing → List (List ℕ) → List ℕ → (List ℕ → Option ℕ) → Type 0
 IsPlanBy way S us offset = IsPlanAmong way (Contains S) S us offset
 

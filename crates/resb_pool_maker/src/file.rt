@@ -1,24 +1,21 @@
 //! The bytes of a pool bundle: the header, the root's word and the index around its two blocks.
 //! Which keys and units a pool bundle has is said in `maker`.
 ghost use Rattle.std.specs.Prelude.{◌≡◌, ◌++◌, ◌∷◌, ◌≤◌, ◌<◌, ◌^◌, ℕ, IfOk, OnOk, length};
-ghost use Rattle.std.specs.Prelude.{slice_index, if◌then◌else◌};
+ghost use Rattle.std.specs.Prelude.{slice_index};
 ghost use Rattle.resb_format.specs.Bytes.{units_as_bytes, units_of};
 ghost use Rattle.resb_head.specs.Head.{index_words};
 ghost use Rattle.resb_layout.specs.KeyBlock.{key_bytes, padded};
 ghost use Rattle.resb_layout.specs.Written.{even};
-ghost use Rattle.resb_layout.specs.WrittenHead.{header_of};
 ghost use Rattle.resb_pool.specs.Plan.{nows};
 ghost use Rattle.resb_pool_maker.specs.PoolFile.{head_words, pool_file, blocks_checksum};
 ghost use Rattle.resb_pool_maker.specs.PoolFile.{is_third as has_version_3};
 
-use resb_head::{BinHeader, BinIndex, BinReprInfo, CharsetFamily, Endianness, FormatVersion};
+use resb_head::BinIndex;
 use resb_layout::Packing;
+use resb_layout::header::{HEADER_SIZE, append_header};
 use resb_pool_bundle::pool_checksum;
 use resb_tree::NoMemory;
 use std::alloc::{AllocError, Global};
-
-/// The header and its padding, in bytes.
-const HEADER_SIZE: u16 = 32;
 
 /// The root's word and the index of 8 fields, in words.
 const HEAD_WORDS: usize = 9;
@@ -85,35 +82,6 @@ fn unit_block(alloc: Global, units: &[u16]) -> Result<Vec<u8>, AllocError>
     Ok(block)
 }
 
-/// Appends the header, padded to 32 bytes: that of version 3.0, or of 2.0.
-fn append_header(file: &mut Vec<u8>, is_third: bool) -> Result<(), NoMemory>
-    ensures { OnOk result (file.new.items
-        ≡ file.old.items ++ header_of (if is_third then 3 else 2)) }
-{
-    let format_version = if is_third {
-        FormatVersion::V3_0
-    } else {
-        FormatVersion::V2_0
-    };
-    let header = BinHeader {
-        size: HEADER_SIZE,
-        repr_info: BinReprInfo {
-            size: 20,
-            reserved_word: 0,
-            endianness: Endianness::Little,
-            charset_family: CharsetFamily::Ascii,
-            size_of_char: 2,
-            reserved_byte: 0,
-            data_format: [b'R', b'e', b's', b'B'],
-            format_version,
-            data_version: [1, 4, 0, 0],
-        },
-    };
-    header.append_to(file)?;
-    file.extend_from_slice(&[0; 8])?;
-    Ok(())
-}
-
 /// The index of a pool bundle with this key block and this 16-bit block, both in whole words.
 fn index_of(keys: &[u8], block: &[u8]) -> BinIndex
     requires keys { length keys.now < 2 ^ 32 }
@@ -162,7 +130,10 @@ pub(crate) fn assemble(
     let key_bytes = key_block(alloc, keys)?;
     let unit_bytes = unit_block(alloc, units)?;
     let index = index_of(&key_bytes, &unit_bytes);
-    let mut file = Vec::with_capacity(alloc, 4 * index.bundle_end as usize + 32)?;
+    let mut file = Vec::with_capacity(
+        alloc,
+        usize::from(HEADER_SIZE) + 4 * index.bundle_end as usize,
+    )?;
     append_header(&mut file, is_third(packing, units))?;
     file.extend_from_slice(&EMPTY_TABLE.to_le_bytes())?;
     index.append_to(&mut file)?;

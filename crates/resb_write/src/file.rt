@@ -3,18 +3,15 @@
 ghost use Rattle.std.specs.Prelude.{◌≡◌, ◌++◌, ◌*◌, ◌^◌, ◌<◌, ℕ, length, slice_index, IfOk, OnOk};
 ghost use Rattle.resb_head.specs.Head.{index_words};
 ghost use Rattle.resb_format.specs.Bytes.{units_as_bytes};
-ghost use Rattle.resb_layout.specs.WrittenHead.{written_header};
 ghost use Rattle.resb_layout.specs.Written.{even};
 ghost use Rattle.resb_write.specs.Inner.Files.{index_words_of, file_with, FitsFile};
 
 use crate::key_block::{KEYS_START, append_block, block_length};
 use crate::sites::Bodies;
-use resb_head::{BinHeader, BinIndex, BinReprInfo, CharsetFamily, Endianness, FormatVersion};
+use resb_head::BinIndex;
+use resb_layout::header::{HEADER_SIZE, append_header};
 use resb_tree::NoMemory;
 use std::alloc::{AllocError, Global};
-
-/// The header and its padding, in bytes.
-const HEADER_SIZE: usize = 32;
 
 /// The parts that a file is put together from.
 #[derive(Clone, Copy)]
@@ -24,29 +21,6 @@ pub(crate) struct FileParts<'c> {
     pub(crate) is_locale_fallback_enabled: bool,
     pub(crate) keys: &'c [&'c str],
     pub(crate) bodies: &'c Bodies,
-}
-
-/// Appends the header that each written file has, padded to 32 bytes.
-fn append_header(file: &mut Vec<u8>) -> Result<(), NoMemory>
-    ensures { OnOk result (file.new.items ≡ file.old.items ++ written_header) }
-{
-    let header = BinHeader {
-        size: HEADER_SIZE as u16,
-        repr_info: BinReprInfo {
-            size: 20,
-            reserved_word: 0,
-            endianness: Endianness::Little,
-            charset_family: CharsetFamily::Ascii,
-            size_of_char: 2,
-            reserved_byte: 0,
-            data_format: [b'R', b'e', b's', b'B'],
-            format_version: FormatVersion::V2_0,
-            data_version: [1, 4, 0, 0],
-        },
-    };
-    header.append_to(file)?;
-    file.extend_from_slice(&[0; 8])?;
-    Ok(())
 }
 
 /// Puts units as bytes into their place.
@@ -111,8 +85,11 @@ pub(crate) fn assemble(alloc: Global, parts: &FileParts<'_>) -> Result<Vec<u8>, 
     ensures words { OnOk result (parts.now.root < 2 ^ 32) }
 {
     let index = index_of(parts);
-    let mut file = Vec::with_capacity(alloc, HEADER_SIZE + 4 * index.resources_end as usize)?;
-    append_header(&mut file)?;
+    let mut file = Vec::with_capacity(
+        alloc,
+        usize::from(HEADER_SIZE) + 4 * index.resources_end as usize,
+    )?;
+    append_header(&mut file, false)?;
     file.extend_from_slice(&parts.root.to_le_bytes())?;
     index.append_to(&mut file)?;
     append_block(&mut file, parts.keys)?;

@@ -23,16 +23,19 @@ pub returns-in_err-second-clause-none : goal.returns-in_err-second-clause-none
 returns-in_err-second-clause-none c =
     let e = c.character_at-2.ensures in
     let n = c.in_err-second.ensures.none in
-    rw c.from_residual-in_err-second.ensures (four_not c.args.rest.now c.args.from (λ f s t l. cc (s, e, n)))
+    rw c.from_residual-in_err-second.ensures
+    (four_not c.args.rest.now c.args.from (λ f s t l. cc (s, e, n)))
 
 pub returns-in_err-third-clause-none : goal.returns-in_err-third-clause-none
 returns-in_err-third-clause-none c =
     let e = c.character_at-3.ensures in
     let n = c.in_err-third.ensures.none in
-    rw c.from_residual-in_err-third.ensures (four_not c.args.rest.now c.args.from (λ f s t l. cc (t, e, n)))
+    rw c.from_residual-in_err-third.ensures
+    (four_not c.args.rest.now c.args.from (λ f s t l. cc (t, e, n)))
 
 pub returns-in_err-fourth-clause-none : goal.returns-in_err-fourth-clause-none
 returns-in_err-fourth-clause-none c =
     let e = c.character_at-4.ensures in
     let n = c.in_err-fourth.ensures.none in
-    rw c.from_residual-in_err-fourth.ensures (four_not c.args.rest.now c.args.from (λ f s t l. cc (l, e, n)))
+    rw c.from_residual-in_err-fourth.ensures
+    (four_not c.args.rest.now c.args.from (λ f s t l. cc (l, e, n)))

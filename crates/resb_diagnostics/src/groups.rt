@@ -122,7 +122,8 @@ pub(crate) struct Groups<'a> {
     shape: Shape,
     /// The groups around it, the innermost last; the first one is the text itself.
     around: Vec<Group>,
-    /// The keys of all these groups: the strings of their pairs, and of those that are open, in order.
+    /// The keys of all these groups: the strings of their pairs, and of those that are open, in
+    /// order.
     keys: Vec<StringAt<'a>>,
     /// The last string; an empty one before the first.
     last: StringAt<'a>,

@@ -96,7 +96,8 @@ done
 { printf before >&3; resb compile t.txt -o /dev/fd/3; } 3> got
 holds 'a file that is open' cmp -s got <(printf before; cat "$want")
 
-ends 2 't.txt: the file would take the place of its own text' compile t.txt -o /dev/fd/3 3>> t.txt
+ends 2 't.txt: writing /dev/fd/3 would replace t.txt, which this call reads' \
+  compile t.txt -o /dev/fd/3 3>> t.txt
 holds 'the text is kept' is "$(cat t.txt)" 'b{a{"x"} c:intvector{1,2}}'
 
 # links stay, and what they lead to is written
@@ -124,7 +125,7 @@ ends 2 'loop: too many links' compile t.txt -o loop
 ln -s none/out.res nowhere
 ends 2 'nowhere: no such folder' compile t.txt -o nowhere
 ln -s t.txt own
-ends 2 't.txt: the file would take the place of its own text' compile t.txt -o own
+ends 2 't.txt: writing ./t.txt would replace t.txt, which this call reads' compile t.txt -o own
 holds 'the text is kept' grep -q intvector t.txt
 
 # a link of others in a folder of all, which the system may forbid to follow
@@ -309,11 +310,11 @@ ln -s one two
 cp t.txt a.txt
 cp t.txt a.foo
 cp t.txt a.res
-ends 2 './a.foo: another of these texts has its file' compile a.txt ./a.foo -d one
-ends 2 '../'"$number"'/a.foo: another of these texts has its file' \
+ends 2 './a.foo: its file one/a.res is that of a.txt too' compile a.txt ./a.foo -d one
+ends 2 '../'"$number"'/a.foo: its file two/a.res is that of a.txt too' \
   compile a.txt "../$number/a.foo" -d two
-ends 2 $'a.txt: the file would take the place of another of these texts
-a.res: the file would take the place of its own text' compile a.txt a.res
+ends 2 $'a.txt: writing a.res would replace a.res, which this call reads
+a.res: writing a.res would replace a.res, which this call reads' compile a.txt a.res
 holds 'the other text is kept' cmp -s a.res t.txt
 
 # help and the version where standard output fails

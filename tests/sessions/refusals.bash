@@ -183,7 +183,7 @@ told 0 "$lost" '' \
 told 1 '' $'open.txt:1:2: expected \'}\' before the text ends inside this\nb{\n ^' \
   compile open.txt names.txt -d .
 told 2 '' 'none.txt: no such file' compile none.txt
-told 2 '' 'names.txt: the file would take the place of its own text' compile names.txt -o names.txt
+told 2 '' 'names.txt: writing names.txt would replace names.txt, which this call reads' compile names.txt -o names.txt
 told 2 '' 'resb: --output is for one text; --directory is for several' \
   compile names.txt again.txt -o x.res
 told 1 '' 'names.txt: Invalid resource bundle data: magic word does not match' check names.txt

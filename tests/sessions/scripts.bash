@@ -1,7 +1,7 @@
 # shellcheck shell=bash
 # What scripts ask for: warnings, names by the bundle, folders, JSON, several paths and files.
 # It is read by tests/resb.sh, behind the parts that stand before it there.
-# a text with warnings: without them, with a status of their own, and without a file
+# a text with warnings: without them, refused for them, and without a file
 mkdir alone
 told 0 '' '' compile --quiet warn.txt -d alone
 holds alone warn.res
@@ -11,12 +11,11 @@ warn.txt:1:29: warning: this string is an item of its own here; genrb joins it t
 one before"
 rm alone/warn.res
 told 1 '' "$warned" compile --strict warn.txt -d alone
-holds alone warn.res
-rm alone/warn.res
+holds alone ''
 told 1 '' '' compile --quiet --strict warn.txt -d alone
-holds alone warn.res
+holds alone ''
 told 0 '' '' compile --strict names.txt small.txt -d alone
-holds alone 'names.res small.res warn.res'
+holds alone 'names.res small.res'
 told 0 '' '' compile --strict --icu icu.txt -d alone
 rm alone/*
 
@@ -105,8 +104,7 @@ told 0 '' '' compile --icu root.txt
 mkdir icu_texts
 cp joined.txt bits.txt icu_texts
 told 1 '' "$bits" compile --icu --strict bits.txt -d alone
-holds alone bits.res
-rm alone/bits.res
+holds alone ''
 told 0 '' "$bits" compile --icu --check bits.txt -d alone
 told 0 '' '' compile --icu --quiet --check bits.txt joined.txt braces.txt -d alone
 told 1 '' '' compile --icu --quiet --strict --check bits.txt -d alone
@@ -121,7 +119,7 @@ told 0 '' "$warned" compile --check warn.txt -d alone
 told 1 '' "$warned" compile --check --strict warn.txt -d alone
 told 1 '' $'open.txt:1:2: expected \'}\' before the text ends inside this\nb{\n ^' \
   compile --check --quiet open.txt names.txt -d alone
-told 2 '' 'two/a.txt: another of these texts has its file' \
+told 2 '' 'two/a.txt: its file alone/a.res is that of one/a.txt too' \
   compile --check one/a.txt two/a.txt -d alone
 input=names.txt
 told 0 '' '' compile --check -
@@ -147,7 +145,7 @@ same de.res alone/de.res
 printf '"../de"{a{"x"}}' > slash.txt
 told 2 '' 'slash.txt: the name of its bundle is no name of a file' compile --by-name slash.txt
 printf 'slash{a{"y"}}' > other.txt
-told 2 '' 'alone/text.txt: another of these texts has its file' \
+told 2 '' 'alone/text.txt: its file alone/de.res is that of alone/text.txt too' \
   compile --by-name alone/text.txt alone/text.txt
 printf '"slash.txt.res/../slash"{}' > up.txt
 told 2 '' 'up.txt: the name of its bundle is no name of a file' compile --by-name up.txt
@@ -173,7 +171,8 @@ small.res: 2 resources, format 2.0, fallback, largest table 1' \
   'nothing: this folder has no .res file' check texts nothing small.res
 told 2 '' 'nothing: this folder has no .txt file' compile nothing
 told 2 '' 'texts: this is a folder' compile texts -o x.res
-told 2 '' 'two/a.txt: another of these texts has its file' compile one two --check -d into
+told 2 '' 'two/a.txt: its file into/a.res is that of one/a.txt too' \
+  compile one two --check -d into
 told 2 '' 'texts: this is a folder' dump texts
 
 # check as JSON: what the line says, or the kind of the cause and what is said of it

@@ -12,7 +12,8 @@ same names.res fresh/names.res
 mkdir -p one two into
 printf 'a{x{"first"}}' > one/a.txt
 printf 'a{x{"second"}}' > two/a.txt
-told 2 '' 'two/a.txt: another of these texts has its file' compile one/a.txt two/a.txt -d into
+told 2 '' 'two/a.txt: its file into/a.res is that of one/a.txt too' \
+  compile one/a.txt two/a.txt -d into
 told 0 'first' '' get into/a.res x
 
 # a write that fails leaves the old file, and nothing beside it
@@ -31,7 +32,7 @@ told 0 "{\"a\":$(printf '[%.0s' $(seq 50000))$(printf ']%.0s' $(seq 50000))}" ''
 # standard input and output are the files that they are
 cp names.txt own.txt
 input=own.txt
-told 2 '' '-: the file would take the place of its own text' compile - -o own.txt
+told 2 '' '-: writing own.txt would replace -, which this call reads' compile - -o own.txt
 input=
 (exec -a resb "$program" compile own.txt -o /dev/stdout) >> own.txt 2> err
 [ $? = 2 ] && passed=$((passed + 1)) || { failed=$((failed + 1)); cat err; }
@@ -40,7 +41,7 @@ same names.txt own.txt
 # a file that standard output is counts too; a text that is refused takes no file
 cp names.txt two.txt
 (exec -a resb "$program" compile - two.txt) < own.txt > two.res 2> err
-[ $? = 2 ] && [ "$(cat err)" = 'two.txt: another of these texts has its file' ] \
+[ $? = 2 ] && [ "$(cat err)" = 'two.txt: its file two.res is that of - too' ] \
   && passed=$((passed + 1)) || { failed=$((failed + 1)); cat err; }
 same names.res two.res
 cp names.txt open.two

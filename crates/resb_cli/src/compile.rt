@@ -1,24 +1,29 @@
 //! The command `compile`: each text to a file of its own.
 //! What a text's file is, and why it has none, is in `resb_program`.
+use crate::depfile::add_rule;
 use crate::drafted::drafted_file;
 use crate::encoding::utf8_of;
+use crate::filter::rules_name;
 use crate::folders::{Named, TEXTS, named_files};
-use crate::input::lending_pool;
+use crate::input::{Input, lending_name};
 use crate::place::{Place, place_of};
 use crate::progress::Progress;
-use crate::save::{Bytes, save, saved};
-use crate::say::{complain, fail, fail_input, or_fail, refuse, refuse_source};
+use crate::save::{Bytes, Until, save, save_until, saved, stands_there};
+use crate::say::{complain, fail, fail_input, or_fail, refuse, refuse_memory, refuse_source};
 use crate::show::settled;
-use crate::streams::{made, read_input};
+use crate::shown::Shown;
+use crate::streams::{NO_MEMORY, made, read_input};
 use crate::taken::Taken;
 use crate::texts::{SourceText, taken_in};
 use crate::warn::warn;
 use crate::words::{NO_UTF8, is_marked};
 use resb_compile::compile_with_pool;
 use resb_pool_bundle::PoolBundle;
+use resb_pool_maker::PoolMaker;
 use resb_program::{SourceError, bundle_name, compile_source, compile_source_within, text_of};
 use resb_words::CompileWords;
-use std::alloc::Global;
+use std::alloc::{AllocError, Global};
+use std::cell::RefCell;
 use std::path::{Path, PathBuf};
 
 /// What is said of a text whose file has no name.
@@ -42,72 +47,156 @@ pub(crate) struct BundleFile<'t> {
     pub(crate) bytes: Vec<u8>,
     /// The name of the text's bundle, if the text is in ICU's own form.
     pub(crate) bundle: Option<&'t str>,
+    /// The name of the file from which it has binary forms of rules of collation, if it has some.
+    pub(crate) forms: Option<String>,
     /// The status of what is said of the text.
     pub(crate) status: u8,
 }
 
-/// What is asked of texts, and the pool bundle over which their files are written.
+/// What is asked of texts, the pool bundle over which their files are written, and the one that is
+/// made of them.
 #[derive(Clone, Copy)]
 pub(crate) struct Work<'w, 'c, 'p> {
     pub(crate) wanted: &'w CompileWords<'c>,
     pub(crate) pool: Option<PoolBundle<'p>>,
+    pub(crate) maker: Option<&'w RefCell<PoolMaker>>,
+}
+
+/// What a call keeps from text to text.
+#[derive(Drop)]
+pub(crate) struct Call {
+    pub(crate) taken: Taken,
+    /// The name of the pool bundle over which files are written.
+    pool: Option<String>,
+    /// The rules for `make` of the files that were written.
+    rules: String,
+}
+
+impl Call {
+    /// No text is compiled yet.
+    pub(crate) fn new(rt: &HostRuntime) -> Call {
+        Call {
+            taken: Taken::new(rt),
+            pool: None,
+            rules: String::new(rt.alloc()),
+        }
+    }
+
+    /// Writes the rules for `make`, if they are asked for, and gives the status of that.
+    pub(crate) fn end(&mut self, rt: &HostRuntime, wanted: &CompileWords<'_>) -> Result<(), u8> {
+        let Some(name) = wanted.writing.depfile else {
+            return Ok(());
+        };
+        let place = or_fail(rt, name, place_of(rt, name))?;
+        self.take(rt, name, &place)?;
+        let done = save(rt, &place, &Bytes(self.rules.as_bytes()));
+        or_fail(rt, name, saved(&place, done))
+    }
+
+    /// Adds the rule for `make` of a file that was made of a text and of others.
+    fn add_rule(
+        &mut self,
+        alloc: Global,
+        file: &str,
+        text: &str,
+        others: Vec<String>,
+    ) -> Result<(), AllocError> {
+        let mut sources = Vec::new(alloc);
+        sources.push(String::from_str(alloc, text)?)?;
+        for other in others {
+            sources.push(other)?;
+        }
+        if let Some(pool) = &self.pool {
+            sources.push(String::from_str(alloc, pool.as_str())?)?;
+        }
+        add_rule(&mut self.rules, file, sources.as_slice())
+    }
+
+    /// Takes the place of the file that is written for what has a name; or the status, once it is
+    /// said what stands against it.
+    pub(crate) fn take(&mut self, rt: &HostRuntime, name: &str, place: &Place) -> Result<(), u8> {
+        match self.taken.take(rt, name, place) {
+            Ok(()) => Ok(()),
+            Err(conflict) => {
+                complain(rt, name, conflict);
+                Err(2)
+            }
+        }
+    }
 }
 
 /// Compiles each text. One that fails doesn't stop the others; the status says whether one did.
 pub(crate) fn compile(rt: &HostRuntime, wanted: &CompileWords<'_>) -> u8 {
+    let mut call = Call::new(rt);
+    let status = compile_into(rt, wanted, None, &mut call);
+    status.max(settled(call.end(rt, wanted).map(|()| 0)))
+}
+
+/// Compiles each text, and adds its bundle to those of which a pool bundle is made, if one is.
+pub(crate) fn compile_into(
+    rt: &HostRuntime,
+    wanted: &CompileWords<'_>,
+    maker: Option<&RefCell<PoolMaker>>,
+    call: &mut Call,
+) -> u8 {
+    let work = Work {
+        wanted,
+        pool: None,
+        maker,
+    };
     match wanted.file.pool {
-        Some(name) => settled(compile_over(rt, wanted, name)),
-        None => compile_texts(rt, Work { wanted, pool: None }),
+        Some(name) => settled(compile_over(rt, work, name, call)),
+        None => compile_texts(rt, work, call),
     }
 }
 
-/// The same over the pool bundle of a name.
-fn compile_over(rt: &HostRuntime, wanted: &CompileWords<'_>, name: &str) -> Result<u8, u8> {
-    let input = lending_pool(rt, name, wanted.limit)?;
-    match PoolBundle::read(input.open(rt, name)?.bytes) {
+/// Compiles texts over the pool bundle of a name.
+fn compile_over(
+    rt: &HostRuntime,
+    work: Work<'_, '_, '_>,
+    name: &str,
+    call: &mut Call,
+) -> Result<u8, u8> {
+    let pool_name = lending_name(rt, name)?;
+    let input = Input::read(rt, pool_name.as_str(), work.wanted.limit)?;
+    call.taken
+        .add_input(rt, pool_name.as_str())
+        .map_err(|_| refuse_memory(rt, name))?;
+    match PoolBundle::read(input.open(rt, pool_name.as_str())?.bytes) {
         Ok(pool) => {
             let pool = Some(pool);
-            Ok(compile_texts(rt, Work { wanted, pool }))
+            call.pool = Some(pool_name);
+            Ok(compile_texts(rt, Work { pool, ..work }, call))
         }
         Err(e) => {
-            complain(rt, name, e);
+            complain(rt, pool_name.as_str(), e);
             Err(1)
         }
     }
 }
 
-/// The same, where the pool bundle is known.
-fn compile_texts(rt: &HostRuntime, work: Work<'_, '_, '_>) -> u8 {
+/// Compiles the texts that the words name, each folder's among them.
+fn compile_texts(rt: &HostRuntime, work: Work<'_, '_, '_>, call: &mut Call) -> u8 {
     // the file of one text is named: that isn't one of a folder's
     let kind = if work.wanted.output.is_some() {
         None
     } else {
         Some(TEXTS)
     };
-    match named_files(rt, work.wanted.texts.as_slice(), kind) {
-        Ok(texts) => compile_files(rt, work, texts.as_slice()),
-        Err(cause) => fail(rt, "resb", cause),
-    }
-}
-
-/// The same, where the folders' texts are known.
-fn compile_files(rt: &HostRuntime, work: Work<'_, '_, '_>, texts: &[Named]) -> u8 {
-    let mut taken = Taken::new(rt);
-    for text in texts {
-        if let Err(cause) = taken.add_text(rt, text.name.as_str()) {
-            return fail(rt, "resb", cause);
+    let texts = match named_files(rt, work.wanted.texts.as_slice(), kind) {
+        Ok(texts) => texts,
+        Err(cause) => return fail(rt, "resb", cause),
+    };
+    for text in texts.iter() {
+        if call.taken.add_read(rt.alloc(), text.name.as_str()).is_err() {
+            return fail(rt, "resb", NO_MEMORY);
         }
     }
-    compile_each(rt, work, texts, &mut taken)
+    compile_each(rt, work, texts.as_slice(), call)
 }
 
-/// The same, where none of the taken files is written over.
-fn compile_each(
-    rt: &HostRuntime,
-    work: Work<'_, '_, '_>,
-    texts: &[Named],
-    taken: &mut Taken,
-) -> u8 {
+/// Compiles these texts, none of which is written over.
+fn compile_each(rt: &HostRuntime, work: Work<'_, '_, '_>, texts: &[Named], call: &mut Call) -> u8 {
     let mut status = 0;
     let shown = if work.wanted.is_quiet { 0 } else { texts.len() };
     let mut progress = Progress::new(rt, shown);
@@ -115,7 +204,7 @@ fn compile_each(
         let name = text.name.as_str();
         status = status.max(match text.fault {
             Some(cause) => fail(rt, name, cause),
-            None => settled(compile_one(rt, name, work, taken)),
+            None => settled(compile_one(rt, name, work, call)),
         });
         progress.one_more(rt);
     }
@@ -129,7 +218,7 @@ fn compile_one(
     rt: &HostRuntime,
     name: &str,
     work: Work<'_, '_, '_>,
-    taken: &mut Taken,
+    call: &mut Call,
 ) -> Result<u8, u8> {
     let wanted = work.wanted;
     let known = if wanted.is_by_name {
@@ -140,7 +229,7 @@ fn compile_one(
     let source = source_of(rt, name, wanted.limit)?;
     let read = text_in(rt, name, source.as_slice())?;
     let whole = if wanted.is_icu {
-        taken_in(rt, name, read, wanted.file.takes_from, wanted.limit)?
+        taken_in(rt, name, read, &wanted.file, wanted.limit)?
     } else {
         None
     };
@@ -150,11 +239,11 @@ fn compile_one(
         Some(target) => target,
         None => named_target(rt, name, text, file.bundle, wanted.folder)?,
     };
-    or_fail(rt, name, taken.take(rt, name, &target.place))?;
-    if !wanted.is_check {
-        target.write(rt, file.bytes.as_slice())?;
-    }
-    Ok(file.status)
+    let others = match &whole {
+        Some(whole) => whole.paths.as_slice(),
+        None => &[],
+    };
+    target.put(rt, Made { name, file, others }, wanted, call)
 }
 
 /// Where a text's file goes, or the status, once it is said why that is nowhere.
@@ -192,12 +281,105 @@ fn named_target(
     )
 }
 
+/// The file of the text of a name, and the paths of the files that the text takes in.
+#[derive(Drop)]
+struct Made<'n, 't> {
+    name: &'n str,
+    file: BundleFile<'t>,
+    others: &'t [String],
+}
+
 impl Target {
+    /// Puts a text's file there, and answers the status; but doesn't where a warning counts as a
+    /// refusal.
+    fn put(
+        &self,
+        rt: &HostRuntime,
+        made: Made<'_, '_>,
+        wanted: &CompileWords<'_>,
+        call: &mut Call,
+    ) -> Result<u8, u8> {
+        let Made { name, file, others } = made;
+        if file.status != 0 {
+            return Ok(file.status);
+        }
+        let sources = sources_of(rt, name, others, file.forms, wanted)?;
+        for source in sources.iter() {
+            note_source(rt, name, source.as_str(), call)?;
+        }
+        call.take(rt, name, &self.place)?;
+        if wanted.is_check {
+            return Ok(0);
+        }
+        self.write(rt, file.bytes.as_slice(), wanted)?;
+        if wanted.writing.depfile.is_some() {
+            let output = self.output.as_path().as_str();
+            call.add_rule(rt.alloc(), output, name, sources)
+                .map_err(|_| refuse_memory(rt, name))?;
+        }
+        Ok(0)
+    }
+
     /// Writes bytes there, or says why they aren't written and gives the status of that.
-    fn write(&self, rt: &HostRuntime, bytes: &[u8]) -> Result<(), u8> {
-        let done = save(rt, &self.place, &Bytes(bytes));
+    fn write(&self, rt: &HostRuntime, bytes: &[u8], wanted: &CompileWords<'_>) -> Result<(), u8> {
+        let writing = &wanted.writing;
+        if writing.is_if_changed && stands_there(rt, &self.place, bytes) {
+            return Ok(());
+        }
+        let until = if writing.is_synced {
+            Until::OnDisk
+        } else {
+            Until::Given
+        };
+        let done = save_until(rt, &self.place, &Bytes(bytes), until);
         or_fail(rt, self.output.as_path().as_str(), saved(&self.place, done))
     }
+}
+
+/// Notes a file of which that of a text is made. One that this call has written is refused: the
+/// text would be compiled of something else than what stood there.
+fn note_source(rt: &HostRuntime, name: &str, source: &str, call: &mut Call) -> Result<(), u8> {
+    match call.taken.written_for(rt, source) {
+        Ok(None) => call
+            .taken
+            .add_read(rt.alloc(), source)
+            .map_err(|_| refuse_memory(rt, name)),
+        Ok(Some(other)) => {
+            let (name, source, other) = (Shown(name), Shown(source), Shown(other));
+            let _ = eprintln!(rt; "{name}: this reads {source}, which this call wrote for {other}");
+            Err(2)
+        }
+        Err(_) => Err(refuse_memory(rt, name)),
+    }
+}
+
+/// The names of the files beside a text of which its file is made: those that the text takes in, its
+/// rules, and the file of binary forms.
+fn sources_of(
+    rt: &HostRuntime,
+    name: &str,
+    others: &[String],
+    forms: Option<String>,
+    wanted: &CompileWords<'_>,
+) -> Result<Vec<String>, u8> {
+    let mut sources = copied(rt.alloc(), others).map_err(|_| refuse_memory(rt, name))?;
+    if let Some(filters) = wanted.file.filters {
+        let rules = rules_name(rt.alloc(), name, filters).map_err(|_| refuse_memory(rt, name))?;
+        sources.push(rules).map_err(|_| refuse_memory(rt, name))?;
+    }
+    if let Some(forms) = forms {
+        sources.push(forms).map_err(|_| refuse_memory(rt, name))?;
+    }
+    Ok(sources)
+}
+
+/// Names in a list of their own.
+fn copied(alloc: Global, names: &[String]) -> Result<Vec<String>, AllocError> {
+    let mut copies = Vec::new(alloc);
+    for name in names {
+        copies.push(String::from_str(alloc, name.as_str())?)?;
+    }
+    Ok(copies)
 }
 
 /// The bytes of a text, made of UTF-16 where it is that, or the status, once it is said why there
@@ -250,6 +432,7 @@ fn file_at_once<'t>(
         Ok(bytes) => Ok(BundleFile {
             bytes,
             bundle: None,
+            forms: None,
             status: 0,
         }),
         Err(e) => Err(refuse_source(rt, name, text, &e)),

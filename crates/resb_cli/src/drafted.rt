@@ -11,15 +11,18 @@ use crate::format_version::check_version;
 use crate::forms::{Built, Forms, why_lacking, with_forms};
 use crate::input::Input;
 use crate::key_order::{ReadKeys, laid_keys};
-use crate::say::{or_fail, refuse_memory};
+use crate::say::{complain, or_fail, refuse_memory};
 use crate::show::opened_of;
 use crate::streams::made;
 use crate::texts::SourceText;
 use resb_compile::IcuCompileError;
 use resb_draft::{Draft, DraftBundle};
+use resb_pool_maker::PoolMaker;
+use resb_tree::Key;
 use resb_words::Collation;
 use resb_write::Serializer;
 use std::alloc::Global;
+use std::cell::RefCell;
 
 /// A text and its name.
 #[derive(Clone, Copy)]
@@ -38,15 +41,17 @@ pub(crate) fn drafted_file<'t>(
 ) -> Result<BundleFile<'t>, u8> {
     let (bundle, keys) = draft_of(rt, name, text, work.wanted.limit)?;
     let bundle_name = bundle.name;
-    let (bytes, status) = if work.wanted.file.collation == Collation::Unbuilt {
-        file_without_forms(rt, name, bundle, keys, work)?
+    let (bytes, forms, status) = if work.wanted.file.collation == Collation::Unbuilt {
+        let (bytes, status) = file_without_forms(rt, name, bundle, keys, work)?;
+        (bytes, None, status)
     } else {
-        let bytes = file_with_forms(rt, Source { name, text }, bundle, keys, work)?;
-        (bytes, 0)
+        let (bytes, forms) = file_with_forms(rt, Source { name, text }, bundle, keys, work)?;
+        (bytes, forms, 0)
     };
     Ok(BundleFile {
         bytes,
         bundle: Some(bundle_name),
+        forms,
         status,
     })
 }
@@ -72,15 +77,16 @@ fn file_without_forms<'t>(
     Ok((bytes, status))
 }
 
-/// The file of a bundle whose rules of collation need binary forms, if there are such rules. Each
-/// gets an empty form first: a form that rules of the filter leave out isn't needed.
+/// The file of a bundle whose rules of collation need binary forms, if there are such rules, and the
+/// name of the file that has the forms. Each gets an empty form first: a form that rules of the
+/// filter leave out isn't needed.
 fn file_with_forms<'t>(
     rt: &HostRuntime,
     source: Source<'_, 't>,
     bundle: DraftBundle<'t>,
     keys: ReadKeys<'t>,
     work: Work<'_, '_, '_>,
-) -> Result<Vec<u8>, u8>
+) -> Result<(Vec<u8>, Option<String>), u8>
     requires { is_ready bundle.root ≡ true }
 {
     let name = source.name;
@@ -90,12 +96,13 @@ fn file_with_forms<'t>(
     let bundle = filtered(rt, name, bundle, work.wanted.file.filters)?;
     let needed = formed_in(rt, name, &bundle.root, types.as_slice())?;
     match (needed.as_slice(), work.wanted.file.collation) {
-        ([], _) => written(rt, name, bundle, keys, work),
+        ([], _) => Ok((written(rt, name, bundle, keys, work)?, None)),
         (needed, Collation::From(folder)) => {
             // it is read once more
             drop(bundle);
             let path = or_fail(rt, name, forms_file(rt.alloc(), folder, bundle_name))?;
-            built_file(rt, source, needed, path.as_str(), work)
+            let bytes = built_file(rt, source, needed, path.as_str(), work)?;
+            Ok((bytes, Some(path)))
         }
         ([key, ..], _) => Err(refuse_form(rt, name, key, Said::Refused)),
     }
@@ -118,7 +125,11 @@ fn formed_in<'k>(
 }
 
 /// The name of the file in a folder that has the binary forms for the bundle of a name.
-fn forms_file(alloc: Global, folder: &str, bundle: &str) -> Result<String, &'static str> {
+pub(crate) fn forms_file(
+    alloc: Global,
+    folder: &str,
+    bundle: &str,
+) -> Result<String, &'static str> {
     if !is_file_name(bundle) {
         return Err(NO_FILE_NAME);
     }
@@ -171,6 +182,32 @@ fn collated_file<'s>(
     written(rt, name, bundle, keys, work)
 }
 
+/// Adds a bundle to those of which a pool bundle is made, if one is; or the status, once it is said
+/// why it isn't added.
+fn add_to_pool(
+    rt: &HostRuntime,
+    name: &str,
+    root: &Draft<'_>,
+    keys: &[Key<'_>],
+    maker: Option<&RefCell<PoolMaker>>,
+) -> Result<(), u8>
+    requires { is_ready root.now ≡ true }
+{
+    let Some(maker) = maker else {
+        return Ok(());
+    };
+    let Ok(mut maker) = maker.try_borrow_mut() else {
+        return Err(refuse_memory(rt, name));
+    };
+    match maker.add_draft(rt.alloc(), root, keys) {
+        Ok(()) => Ok(()),
+        Err(e) => {
+            complain(rt, name, e);
+            Err(1)
+        }
+    }
+}
+
 /// The file of a bundle, laid out as is wanted.
 fn written<'t>(
     rt: &HostRuntime,
@@ -181,12 +218,13 @@ fn written<'t>(
 ) -> Result<Vec<u8>, u8>
     requires { is_ready bundle.root ≡ true }
 {
-    let Work { wanted, pool } = work;
+    let Work { wanted, pool, .. } = work;
     let bundle = without_rules(rt, name, bundle, wanted.file.omits_rules)?;
     let has_fallback = bundle.is_locale_fallback_enabled;
     let (alloc, root, is_compact) = (rt.alloc(), bundle.root, wanted.file.is_compact);
     let keys = laid_keys(alloc, &root, read, is_compact).map_err(|_| refuse_memory(rt, name))?;
     let keys = keys.as_slice();
+    add_to_pool(rt, name, &root, keys, work.maker)?;
     let file = match (&pool, is_compact) {
         (None, false) => Serializer::draft_to_bytes(alloc, root, has_fallback, keys),
         (None, true) => Serializer::draft_to_bytes_compact(alloc, root, has_fallback, keys),

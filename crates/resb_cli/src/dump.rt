@@ -7,7 +7,7 @@ use crate::save::{save, saved};
 use crate::say::{NoText, fail, or_fail, refuse_memory};
 use crate::show::{Form, Showing, bundle_name, bundle_of, opened_of, say_cause, settled};
 use crate::streams::{NO_MEMORY, made};
-use crate::taken::Taken;
+use crate::taken::{Conflict, Taken};
 use crate::unread::Unread;
 use resb_opened::Ascending;
 use resb_pool_bundle::FileHead;
@@ -34,9 +34,9 @@ pub(crate) fn dump(rt: &HostRuntime, wanted: &DumpWords<'_>) -> u8 {
         return fail(rt, "resb", "standard input is read once alone");
     }
     let mut taken = Taken::new(rt);
-    for name in wanted.files.iter().copied() {
-        if let Err(cause) = taken.add_text(rt, name) {
-            return fail(rt, name, cause);
+    for name in wanted.files.iter().copied().chain(wanted.pool) {
+        if taken.add_input(rt, name).is_err() {
+            return fail(rt, name, NO_MEMORY);
         }
     }
     dump_each(rt, wanted, &mut taken)
@@ -236,7 +236,7 @@ fn take(
 ) -> Result<(), &'static str> {
     match taken.take(rt, name, place) {
         Ok(()) => Ok(()),
-        Err(NO_MEMORY) => Err(NO_MEMORY),
+        Err(Conflict::Memory) => Err(NO_MEMORY),
         Err(_) => Err("its text would take the place of one of these files or of their texts"),
     }
 }

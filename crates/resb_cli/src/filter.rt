@@ -158,7 +158,11 @@ pub(crate) fn refuse_text(
 
 /// The name of the file of a text's rules: what leads from the texts' folder to the text leads from
 /// the rules' folder to it.
-fn rules_name(alloc: Global, text: &str, filters: Filters<'_>) -> Result<String, AllocError> {
+pub(crate) fn rules_name(
+    alloc: Global,
+    text: &str,
+    filters: Filters<'_>,
+) -> Result<String, AllocError> {
     let folder = filters.folder;
     match Path::new(text).strip_prefix(filters.source) {
         Ok(inner) => {

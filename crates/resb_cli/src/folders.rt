@@ -9,6 +9,9 @@ use std::io::{self, Read};
 use std::path::Path;
 use std::rt::Files;
 
+/// How many bytes are read of a folder at a time. A name has at most 255.
+const BLOCK: usize = 1 << 15;
+
 /// A file that is asked for, or a folder of which no file is had, with the cause of that.
 #[derive(Drop)]
 pub(crate) struct Named {
@@ -109,8 +112,7 @@ fn files_in(rt: &HostRuntime, folder: &str, ending: &str) -> io::Result<Vec<Stri
     if !folder.ends_with('/') {
         path.push('/')?;
     }
-    let mut names = Vec::new(rt.alloc());
-    rt.open_dir(path.as_str())?.read_to_end(&mut names)?;
+    let names = names_in(rt, path.as_str())?;
     let mut found = Vec::new(rt.alloc());
     for name in names.split(|byte| *byte == 0) {
         if name.ends_with(ending.as_bytes()) && !name.starts_with(b".") {
@@ -122,6 +124,23 @@ fn files_in(rt: &HostRuntime, folder: &str, ending: &str) -> io::Result<Vec<Stri
     }
     found.sort_unstable();
     Ok(found)
+}
+
+/// The names in the folder of a path, each with a zero byte behind it. The system gives whole
+/// entries alone, and none to a read that has no room for the next one.
+fn names_in(rt: &HostRuntime, path: &str) -> io::Result<Vec<u8>> {
+    let mut folder = rt.open_dir(path)?;
+    let mut block = Vec::new(rt.alloc());
+    block.resize(BLOCK, 0u8)?;
+    let mut names = Vec::new(rt.alloc());
+    for _ in 0..u64::MAX {
+        let length = folder.read(block.as_mut_slice())?;
+        match block.get(..length) {
+            Some(read) if !read.is_empty() => names.extend_from_slice(read)?,
+            _ => break,
+        }
+    }
+    Ok(names)
 }
 
 /// The path of a name in a folder.

@@ -234,16 +234,22 @@ fn pool_beside<'f>(rt: &HostRuntime, name: &str, limit: Option<u64>) -> Result<B
     pool_file(rt, pool.as_str(), limit)
 }
 
-/// The pool bundle over which files are written: the one of this name, or that in this folder.
-pub(crate) fn lending_pool(rt: &HostRuntime, name: &str, limit: Option<u64>) -> Result<Input, u8> {
+/// The name of the pool bundle over which files are written: this one, or that in this folder.
+pub(crate) fn lending_name(rt: &HostRuntime, name: &str) -> Result<String, u8> {
     if name == "-" {
         return Err(fail(rt, "resb", FILE_ALONE));
     }
-    if !Path::new(name).is_dir(rt) {
-        return Input::read(rt, name, limit);
-    }
-    let path = or_fail(rt, name, pool_in(rt.alloc(), name))?;
-    Input::read(rt, path.as_path().as_str(), limit)
+    let path = if Path::new(name).is_dir(rt) {
+        pool_in(rt.alloc(), name)
+    } else {
+        made(PathBuf::from_str(rt.alloc(), name))
+    };
+    let path = or_fail(rt, name, path)?;
+    or_fail(
+        rt,
+        name,
+        made(String::from_str(rt.alloc(), path.as_path().as_str())),
+    )
 }
 
 /// The name of the pool bundle in a folder.

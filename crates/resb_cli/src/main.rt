@@ -7,6 +7,7 @@ mod below;
 mod check;
 mod collation;
 mod compile;
+mod depfile;
 mod derb;
 mod diff;
 mod drafted;

@@ -6,8 +6,8 @@ use crate::save::{Bytes, save, saved};
 use crate::say::{complain, or_fail, refuse_memory};
 use crate::show::{settled, show};
 use crate::shown::Shown;
-use crate::streams::NO_MEMORY;
-use crate::taken::Taken;
+use crate::streams::{NO_MEMORY, made};
+use crate::taken::{Conflict, Taken};
 use resb_package::{Package, PackageError};
 use resb_words::ExtractWords;
 use std::alloc::{AllocError, Global};
@@ -95,10 +95,10 @@ fn extract_item(rt: &HostRuntime, wanted: &ExtractWords<'_>) -> Result<u8, u8> {
 fn free_place(rt: &HostRuntime, package: &str, output: &str) -> Result<Place, &'static str> {
     let place = place_of(rt, output)?;
     let mut taken = Taken::new(rt);
-    taken.add_text(rt, package)?;
+    made(taken.add_read(rt.alloc(), package))?;
     match taken.take(rt, package, &place) {
         Ok(()) => Ok(place),
-        Err(NO_MEMORY) => Err(NO_MEMORY),
+        Err(Conflict::Memory) => Err(NO_MEMORY),
         Err(_) => Err("the item would take the place of its package"),
     }
 }

@@ -2,7 +2,7 @@
 //! How bytes come there is in `save`.
 use crate::streams::{NO_MEMORY, cause_of, made};
 use crate::words::{NO_UTF8, is_marked};
-use std::fs;
+use std::fs::{self, Metadata};
 use std::io::ErrorKind;
 use std::path::{Path, PathBuf};
 
@@ -17,11 +17,11 @@ pub(crate) enum Place {
     /// Into what has this name: a device, a pipe, or what a process has open.
     Inside(PathBuf),
     /// To a file of this name, in place of the one that may be there.
-    Beside(PathBuf),
+    Beside(PathBuf, Option<Metadata>),
 }
 
 /// What has a name.
-#[derive(Clone, Copy)]
+#[derive(Drop)]
 enum Kind {
     /// A link by its text.
     Link,
@@ -30,7 +30,7 @@ enum Kind {
     /// A device, a pipe, or what a process has open.
     Open,
     /// A file, or nothing yet.
-    File,
+    File(Option<Metadata>),
 }
 
 /// The place of a name, of which `-` is standard output.
@@ -55,7 +55,7 @@ fn followed(rt: &HostRuntime, path: PathBuf) -> Result<Place, &'static str> {
             Kind::Link => path = target_of(rt, path.as_path())?,
             Kind::Stream => return Ok(Place::Stream),
             Kind::Open => return Ok(Place::Inside(path)),
-            Kind::File => return Ok(Place::Beside(path)),
+            Kind::File(old) => return Ok(Place::Beside(path, old)),
         }
     }
     Err("too many links")
@@ -66,9 +66,9 @@ fn kind_of(rt: &HostRuntime, path: Path<'_>) -> Result<Kind, &'static str> {
     match fs::symlink_metadata(rt, path) {
         Ok(found) if found.is_symlink() => kind_of_link(rt, path),
         Ok(found) if found.is_dir() => Err("this is a folder"),
-        Ok(found) if found.is_file() => Ok(Kind::File),
+        Ok(found) if found.is_file() => Ok(Kind::File(Some(found))),
         Ok(_) => Ok(Kind::Open),
-        Err(e) if e.kind() == ErrorKind::NotFound => Ok(Kind::File),
+        Err(e) if e.kind() == ErrorKind::NotFound => Ok(Kind::File(None)),
         Err(e) => Err(cause_of(&e)),
     }
 }

@@ -1,7 +1,7 @@
 //! How a content comes to a place: a file is written beside it and moved over, so that a write that
 //! fails leaves the old one; all else is written where it is. Where a name leads is in `place`.
-use crate::place::Place;
-use crate::streams::NO_MEMORY;
+use crate::place::{Place, folder_of};
+use crate::streams::{NO_MEMORY, read_input};
 use std::alloc::Global;
 use std::fs::{self, File, Metadata, OpenOptions, Permissions};
 use std::io::{self, ErrorKind, Write};
@@ -28,12 +28,48 @@ impl Content for Bytes<'_> {
     }
 }
 
-/// Writes a content to a place.
+/// When a file that is written counts as written.
+#[derive(Clone, Copy, PartialEq, Eq)]
+pub(crate) enum Until {
+    /// When the system has it. After a loss of power the old file may stand there, or an empty one.
+    Given,
+    /// When the disk has it, and its name in the folder.
+    OnDisk,
+}
+
+/// Writes a content to a place. The disk isn't waited for.
 pub(crate) fn save<C: Content>(rt: &HostRuntime, place: &Place, content: &C) -> io::Result<()> {
+    save_until(rt, place, content, Until::Given)
+}
+
+/// Writes a content to a place, and waits for the disk where that is asked for.
+pub(crate) fn save_until<C: Content>(
+    rt: &HostRuntime,
+    place: &Place,
+    content: &C,
+    until: Until,
+) -> io::Result<()> {
     match place {
         Place::Stream => print(rt, content),
         Place::Inside(path) => write_inside(rt, path.as_path(), content),
-        Place::Beside(path) => replace(rt, path.as_path(), content),
+        Place::Beside(path, old) => {
+            replace(rt, path.as_path(), old.as_ref(), content, until)?;
+            match until {
+                Until::Given => Ok(()),
+                Until::OnDisk => sync(&fs::open(rt, folder_of(path.as_path()))?),
+            }
+        }
+    }
+}
+
+/// Whether a file with these bytes stands at a place already.
+pub(crate) fn stands_there(rt: &HostRuntime, place: &Place, bytes: &[u8]) -> bool {
+    match place {
+        Place::Beside(path, Some(old)) if old.len() == bytes.len() as u64 => {
+            let there = read_input(rt, path.as_path().as_str(), Some(old.len()));
+            there.is_ok_and(|there| there.as_slice() == bytes)
+        }
+        _ => false,
     }
 }
 
@@ -85,10 +121,18 @@ fn write_inside<C: Content>(rt: &HostRuntime, path: Path<'_>, content: &C) -> io
 }
 
 /// Writes a content to a file beside this path, and moves it there.
-fn replace<C: Content>(rt: &HostRuntime, path: Path<'_>, content: &C) -> io::Result<()> {
-    let old = fs::symlink_metadata(rt, path).ok();
+fn replace<C: Content>(
+    rt: &HostRuntime,
+    path: Path<'_>,
+    old: Option<&Metadata>,
+    content: &C,
+    until: Until,
+) -> io::Result<()> {
     let (mut file, beside) = new_file(rt, path, old.is_some())?;
-    let filled = fill(rt, &mut file, old.as_ref(), content);
+    let mut filled = fill(rt, &mut file, old, content);
+    if until == Until::OnDisk && filled.is_ok() {
+        filled = sync(&file);
+    }
     moved(rt, filled, beside.as_path(), path)
 }
 
@@ -135,7 +179,7 @@ fn name_beside(rt: &HostRuntime, path: Path<'_>, number: u8) -> io::Result<PathB
     Ok(path.with_file_name(rt.alloc(), name.as_str())?)
 }
 
-/// Gives a new file the mode of the old one and this content, and has it on the disk.
+/// Gives a new file the mode of the old one and this content.
 fn fill<C: Content>(
     rt: &HostRuntime,
     file: &mut File,
@@ -145,7 +189,11 @@ fn fill<C: Content>(
     if let Some(old) = old {
         keep_rights(file, old)?;
     }
-    content.write_to(rt.alloc(), file)?;
+    content.write_to(rt.alloc(), file)
+}
+
+/// Waits until the disk has a file or a folder.
+fn sync(file: &File) -> io::Result<()> {
     match file.sync_all() {
         // some systems of files have no such call
         Err(e) if matches!(e.kind(), ErrorKind::InvalidInput | ErrorKind::Unsupported) => Ok(()),

@@ -1,127 +1,257 @@
-//! Which files a call of `compile` may not write over: its texts, and the files of those before.
-//! A file is known by the real path of its folder and its name, however it was spelled.
-use crate::place::{Place, folder_of};
-use crate::streams::{NO_MEMORY, made};
-use std::collections::BTreeSet;
-use std::fs;
-use std::io::ErrorKind;
+//! Which files a call reads, and which it writes: none that it reads is written over, and none is
+//! written twice. A file is known by its device and its number there, so that it is found by any
+//! spelling of its name and through any link. Where the bytes for a name go is in `place`.
+use crate::input::split_package;
+use crate::place::{Place, folder_of, place_of};
+use crate::shown::Shown;
+use crate::streams::NO_MEMORY;
+use std::alloc::{AllocError, Global};
+use std::collections::BTreeMap;
+use std::fs::{self, Metadata};
+use std::os::unix::fs::MetadataExt;
 use std::path::Path;
+use std::{fmt, mem};
 
-/// The texts of a call, and the files that it has written or will write.
+/// A file or a folder, as the system knows it.
+#[derive(Clone, Copy, PartialEq, Eq, PartialOrd, Ord)]
+struct FileId {
+    device: u64,
+    number: u64,
+}
+
+impl FileId {
+    /// What stands in the place of an identity where nothing has one.
+    const NONE: FileId = FileId {
+        device: 0,
+        number: 0,
+    };
+
+    /// Which file these are the data of.
+    fn of(found: &Metadata) -> FileId {
+        FileId {
+            device: found.dev(),
+            number: found.ino(),
+        }
+    }
+}
+
+/// Where a file is written: its name in a folder. What is open already has no name there.
+#[derive(PartialEq, Eq, PartialOrd, Ord, Drop)]
+struct Spot {
+    folder: FileId,
+    name: String,
+}
+
+/// Why a file isn't written.
+#[derive(Drop)]
+pub(crate) enum Conflict {
+    Memory,
+    /// It would take the place of one that the call reads under the second name.
+    IsRead(String, String),
+    /// It has been written already, for what has the second name.
+    IsWritten(String, String),
+}
+
+impl From<AllocError> for Conflict {
+    fn from(_: AllocError) -> Conflict {
+        Conflict::Memory
+    }
+}
+
+impl fmt::Display for Conflict {
+    fn fmt<W: fmt::Write>(&self, f: &mut fmt::Formatter<W>) -> fmt::Result {
+        match self {
+            Conflict::Memory => f.write_str(NO_MEMORY),
+            Conflict::IsRead(file, read) => {
+                let (file, read) = (Shown(file.as_str()), Shown(read.as_str()));
+                write!(
+                    f,
+                    "writing {file} would replace {read}, which this call reads"
+                )
+            }
+            Conflict::IsWritten(file, other) => {
+                let (file, other) = (Shown(file.as_str()), Shown(other.as_str()));
+                write!(f, "its file {file} is that of {other} too")
+            }
+        }
+    }
+}
+
+/// What a call reads, and what it has written.
 #[derive(Drop)]
 pub(crate) struct Taken {
-    texts: BTreeSet<String>,
-    files: BTreeSet<String>,
+    /// The names of what is read, of which it isn't known yet which files they are.
+    named: Vec<String>,
+    /// The files that are read, with the names by which they are.
+    read: BTreeMap<FileId, String>,
+    /// Which folders are known by these names.
+    folders: BTreeMap<String, FileId>,
+    /// For what a file was written at each place.
+    written: BTreeMap<Spot, String>,
+    /// The same of files that were open already.
+    open: BTreeMap<FileId, String>,
 }
 
 impl Taken {
-    /// No text is known, and no file is written yet.
+    /// Nothing is read or written yet.
     pub(crate) fn new(rt: &HostRuntime) -> Taken {
+        let alloc = rt.alloc();
         Taken {
-            texts: BTreeSet::new(rt.alloc()),
-            files: BTreeSet::new(rt.alloc()),
+            named: Vec::new(alloc),
+            read: BTreeMap::new(alloc),
+            folders: BTreeMap::new(alloc),
+            written: BTreeMap::new(alloc),
+            open: BTreeMap::new(alloc),
         }
     }
 
-    /// Notes a text that is there.
-    pub(crate) fn add_text(&mut self, rt: &HostRuntime, name: &str) -> Result<(), &'static str> {
-        if let Some(path) = real_path(rt, name)? {
-            insert(&mut self.texts, path)?;
-        }
+    /// Notes the name of what is read; `-` is standard input. Which file that is, is asked only
+    /// where something is to be written over.
+    pub(crate) fn add_read(&mut self, alloc: Global, name: &str) -> Result<(), AllocError> {
+        self.named.push(String::from_str(alloc, name)?)?;
         Ok(())
     }
 
-    /// Takes the place of a text's file, or says what stands against it.
+    /// Notes the name of a file that is read, or of an item of a package that is.
+    pub(crate) fn add_input(&mut self, rt: &HostRuntime, name: &str) -> Result<(), AllocError> {
+        match split_package(rt, name) {
+            Some((package, _)) => self.add_read(rt.alloc(), package),
+            None => self.add_read(rt.alloc(), name),
+        }
+    }
+
+    /// Takes the place of the file that is written for what has a name, or says what stands against
+    /// it.
     pub(crate) fn take(
         &mut self,
         rt: &HostRuntime,
         name: &str,
         place: &Place,
-    ) -> Result<(), &'static str> {
-        let Some(file) = file_at(rt, place)? else {
-            return Ok(());
+    ) -> Result<(), Conflict> {
+        match place {
+            Place::Inside(path) => self.take_open(rt, name, path.as_path()),
+            Place::Stream if Path::new("/dev/stdout").is_file(rt) => {
+                self.take_open(rt, name, Path::new("/dev/stdout"))
+            }
+            Place::Stream => {
+                let spot = spot_named(rt.alloc(), FileId::NONE, "-")?;
+                self.take_spot(rt.alloc(), name, "-", spot)
+            }
+            Place::Beside(path, old) => {
+                let path = path.as_path();
+                if let Some(old) = old {
+                    self.check(rt, path.as_str(), FileId::of(old))?;
+                }
+                let spot = self.spot_of(rt, path)?;
+                self.take_spot(rt.alloc(), name, path.as_str(), spot)
+            }
+        }
+    }
+
+    /// For what the file of a name was written by this call, if it was.
+    pub(crate) fn written_for(
+        &mut self,
+        rt: &HostRuntime,
+        name: &str,
+    ) -> Result<Option<&str>, AllocError> {
+        if self.written.is_empty() {
+            return Ok(None);
+        }
+        let Ok(Place::Beside(path, _)) = place_of(rt, name) else {
+            return Ok(None);
         };
-        self.check(real_path(rt, name)?, file.as_str())?;
-        self.take_file(file)
+        let spot = self.spot_of(rt, path.as_path())?;
+        Ok(self.written.get(&spot).map(|text| text.as_str()))
     }
 
-    /// Whether a file isn't that of the text that has the other path, nor of another text.
-    fn check(&self, text: Option<String>, file: &str) -> Result<(), &'static str> {
-        match text {
-            Some(text) if text.as_str() == file => {
-                Err("the file would take the place of its own text")
+    /// Takes what is open already, if it is a file: a device and a pipe may be written by many.
+    fn take_open(&mut self, rt: &HostRuntime, name: &str, path: Path<'_>) -> Result<(), Conflict> {
+        let id = match fs::metadata(rt, path) {
+            Ok(found) if found.is_file() => FileId::of(&found),
+            _ => return Ok(()),
+        };
+        self.check(rt, path.as_str(), id)?;
+        let name = String::from_str(rt.alloc(), name)?;
+        match self.open.insert(id, name) {
+            Ok(_) => Ok(()),
+            Err(_) => Err(Conflict::Memory),
+        }
+    }
+
+    /// Refuses to write over a file that is read, or that was written while it was open.
+    fn check(&mut self, rt: &HostRuntime, path: &str, id: FileId) -> Result<(), Conflict> {
+        self.look_up(rt)?;
+        let alloc = rt.alloc();
+        let path = String::from_str(alloc, path)?;
+        if let Some(read) = self.read.get(&id) {
+            return Err(Conflict::IsRead(path, String::from_str(alloc, read.as_str())?));
+        }
+        if let Some(other) = self.open.get(&id) {
+            return Err(Conflict::IsWritten(path, String::from_str(alloc, other.as_str())?));
+        }
+        Ok(())
+    }
+
+    /// Takes a place, if no file was written there.
+    fn take_spot(
+        &mut self,
+        alloc: Global,
+        name: &str,
+        path: &str,
+        spot: Spot,
+    ) -> Result<(), Conflict> {
+        if let Some(other) = self.written.get(&spot) {
+            let other = String::from_str(alloc, other.as_str())?;
+            return Err(Conflict::IsWritten(String::from_str(alloc, path)?, other));
+        }
+        match self.written.insert(spot, String::from_str(alloc, name)?) {
+            Ok(_) => Ok(()),
+            Err(_) => Err(Conflict::Memory),
+        }
+    }
+
+    /// Asks which files the names are that were noted since this was asked last.
+    fn look_up(&mut self, rt: &HostRuntime) -> Result<(), AllocError> {
+        let named = mem::replace(&mut self.named, Vec::new(rt.alloc()));
+        for name in named {
+            let path = if name.as_str() == "-" {
+                "/dev/stdin"
+            } else {
+                name.as_str()
+            };
+            if let Ok(found) = fs::metadata(rt, path) {
+                self.read.insert(FileId::of(&found), name)?;
             }
-            _ if self.texts.contains(file) => {
-                Err("the file would take the place of another of these texts")
-            }
-            _ => Ok(()),
+        }
+        Ok(())
+    }
+
+    /// The place that a path names.
+    fn spot_of(&mut self, rt: &HostRuntime, path: Path<'_>) -> Result<Spot, AllocError> {
+        let folder = self.folder_id(rt, folder_of(path).as_str())?;
+        match path.file_name() {
+            Some(name) if folder != FileId::NONE => spot_named(rt.alloc(), folder, name),
+            _ => spot_named(rt.alloc(), FileId::NONE, path.as_str()),
         }
     }
 
-    /// Takes a file, if no text before has it.
-    fn take_file(&mut self, file: String) -> Result<(), &'static str> {
-        if insert(&mut self.files, file)? {
-            Ok(())
-        } else {
-            Err("another of these texts has its file")
+    /// Which folder has a name, asked once.
+    fn folder_id(&mut self, rt: &HostRuntime, name: &str) -> Result<FileId, AllocError> {
+        if let Some(id) = self.folders.get(name) {
+            return Ok(*id);
         }
+        let id = match fs::metadata(rt, name) {
+            Ok(found) => FileId::of(&found),
+            Err(_) => return Ok(FileId::NONE),
+        };
+        let name = String::from_str(rt.alloc(), name)?;
+        self.folders.insert(name, id)?;
+        Ok(id)
     }
 }
 
-/// The real path of the file at a place; `-` for standard output that is no file, and none for a
-/// device or a pipe.
-fn file_at(rt: &HostRuntime, place: &Place) -> Result<Option<String>, &'static str> {
-    match place {
-        Place::Inside(path) => open_file(rt, path.as_path()),
-        Place::Stream => match open_file(rt, Path::new("/dev/stdout"))? {
-            Some(file) => Ok(Some(file)),
-            None => Ok(Some(owned(rt, Path::new("-"))?)),
-        },
-        Place::Beside(path) => Ok(Some(real_name(rt, path.as_path())?)),
-    }
-}
-
-/// The real path of what a process has open, if that is a file.
-fn open_file(rt: &HostRuntime, path: Path<'_>) -> Result<Option<String>, &'static str> {
-    if path.is_file(rt) {
-        real_path(rt, path.as_str())
-    } else {
-        Ok(None)
-    }
-}
-
-/// Adds a path to a set, and answers whether it is new there.
-fn insert(set: &mut BTreeSet<String>, path: String) -> Result<bool, &'static str> {
-    match set.insert(path) {
-        Ok(is_new) => Ok(is_new),
-        Err(_) => Err(NO_MEMORY),
-    }
-}
-
-/// The same path with a list of its own.
-fn owned(rt: &HostRuntime, path: Path<'_>) -> Result<String, &'static str> {
-    made(String::from_str(rt.alloc(), path.as_str()))
-}
-
-/// The real path of what has a name, if anything has; of standard input, that of the file which it
-/// is, if it is one.
-fn real_path(rt: &HostRuntime, name: &str) -> Result<Option<String>, &'static str> {
-    let name = if name == "-" { "/dev/stdin" } else { name };
-    match fs::canonicalize(rt, name) {
-        Ok(path) => Ok(Some(owned(rt, path.as_path())?)),
-        Err(e) if e.kind() == ErrorKind::OutOfMemory => Err(NO_MEMORY),
-        Err(_) => Ok(None),
-    }
-}
-
-/// The real path of a file that may not be there yet: that of its folder, and its name.
-fn real_name(rt: &HostRuntime, path: Path<'_>) -> Result<String, &'static str> {
-    let folder = real_path(rt, folder_of(path).as_str())?;
-    match (folder, path.file_name()) {
-        (Some(folder), Some(name)) => {
-            let whole = made(Path::new(folder.as_str()).join(rt.alloc(), name))?;
-            owned(rt, whole.as_path())
-        }
-        _ => owned(rt, path),
-    }
+/// The place of a name in a folder.
+fn spot_named(alloc: Global, folder: FileId, name: &str) -> Result<Spot, AllocError> {
+    let name = String::from_str(alloc, name)?;
+    Ok(Spot { folder, name })
 }

@@ -7,9 +7,24 @@ use resb_diagnostics::location_of;
 use resb_icu_files::{
     FileNamed, FilesError, TakenIn, TextFile, files_taken, may_take_files, with_files,
 };
+use resb_words::FileWords;
 use std::alloc::{AllocError, Global};
-use std::fmt;
-use std::path::Path;
+use std::collections::BTreeMap;
+use std::path::{Path, PathBuf};
+use std::{fmt, fs};
+
+/// How many missing files are named that a text depends on; of the others the number is said.
+const MOST_MISSING: usize = 20;
+
+/// The most files that a text takes in.
+const MOST_FILES: usize = 1000;
+
+/// A text with the files written into it that it takes in, and the paths of these.
+#[derive(Drop)]
+pub(crate) struct WithFiles {
+    taken: TakenIn,
+    pub(crate) paths: Vec<String>,
+}
 
 /// A text, and what it is taken in as, if it takes other files in.
 #[derive(Clone, Copy)]
@@ -19,8 +34,12 @@ pub(crate) struct SourceText<'s> {
 }
 
 impl<'s> SourceText<'s> {
-    /// A text as it was read, and what it is taken in as.
-    pub(crate) fn new(read: &'s str, taken: Option<&'s TakenIn>) -> SourceText<'s> {
+    /// A text as it was read, and with the files that it takes in.
+    pub(crate) fn new(read: &'s str, whole: Option<&'s WithFiles>) -> SourceText<'s> {
+        let taken = match whole {
+            Some(whole) => Some(&whole.taken),
+            None => None,
+        };
         SourceText { read, taken }
     }
 
@@ -53,21 +72,47 @@ impl<'s> SourceText<'s> {
         }
     }
 
-    /// Says which of the files that the text depends on aren't in a folder.
-    pub(crate) fn warn_of_missing(&self, rt: &HostRuntime, name: &str, folder: &str) {
+    /// Says which of the files that the text depends on aren't in a folder, and answers whether
+    /// there are such. The first are named; of the others the number is said.
+    pub(crate) fn warn_of_missing(&self, rt: &HostRuntime, name: &str, folder: &str) -> bool {
         let Some(taken) = self.taken else {
-            return;
+            return false;
         };
+        let mut missing = 0usize;
         for file in taken.dependencies() {
             let Ok(path) = path_in(rt.alloc(), folder, file.name.as_str()) else {
                 complain(rt, name, "its dependencies are not known: out of memory");
-                return;
+                return true;
             };
             let path = path.as_str();
-            if !Path::new(path).exists(rt) {
+            if Path::new(path).exists(rt) {
+                continue;
+            }
+            if missing < MOST_MISSING {
                 let at = location_of(self.read.as_bytes(), file.place);
                 say_at(rt, name, at, NoDependency(path));
             }
+            missing = missing.saturating_add(1);
+        }
+        if missing > MOST_MISSING {
+            complain(rt, name, MoreMissing(missing - MOST_MISSING));
+        }
+        missing > 0
+    }
+}
+
+/// What is said of the files that a text depends on, that aren't there, and that aren't named.
+#[derive(Clone, Copy)]
+struct MoreMissing(usize);
+
+impl fmt::Display for MoreMissing {
+    fn fmt<W: fmt::Write>(&self, f: &mut fmt::Formatter<W>) -> fmt::Result {
+        match self.0 {
+            1 => f.write_str("warning: 1 more file is missing, on which this depends"),
+            more => write!(
+                f,
+                "warning: {more} more files are missing, on which this depends"
+            ),
         }
     }
 }
@@ -90,6 +135,10 @@ enum Cause {
     Unread(InputError),
     /// With it the text may have more bytes than this, which is the most.
     Larger(u64),
+    /// With it the text takes in more files than it may.
+    TooMany,
+    /// It isn't in the folder whose files the text takes in.
+    Outside,
     /// It is no text.
     NotUtf8,
     /// Its rules have an escape that says no character.
@@ -114,6 +163,16 @@ impl fmt::Display for NotTaken<'_> {
                 f,
                 "this takes in {path}, so that the text may have more than {most} bytes"
             ),
+            Cause::TooMany => {
+                write!(
+                    f,
+                    "this takes in {path}, and {MOST_FILES} other files before it"
+                )
+            }
+            Cause::Outside => {
+                write!(f, "this takes in {path}, which is outside of its folder;")?;
+                f.write_str(" --include-outside allows that")
+            }
             Cause::NotUtf8 => write!(f, "this takes in the text of {path}, which is no UTF-8"),
             Cause::NoRules => {
                 write!(
@@ -132,41 +191,49 @@ impl fmt::Display for NotTaken<'_> {
     }
 }
 
-/// A text that takes other files in, and the folder of those, if it isn't the text's own.
+/// A text that takes other files in, and how it may.
 #[derive(Clone, Copy)]
 struct Taking<'t> {
     name: &'t str,
     text: &'t str,
+    /// The folder of the files, if it isn't the text's own.
     folder: Option<&'t str>,
+    /// Whether they may be outside of that folder.
+    may_leave: bool,
+}
+
+/// The files that a text takes in, each once.
+#[derive(Drop)]
+struct Found {
+    files: Vec<TextFile>,
+    /// Their paths.
+    paths: Vec<String>,
+    /// How many bytes the file of a name has.
+    lengths: BTreeMap<String, usize>,
 }
 
 /// What the text of a name is taken in as, if it may take other files in; or the status, once it is
-/// said which of them isn't had. They are in this folder, or in the text's own.
+/// said which of them isn't had. They are in the folder that the words say, or in the text's own.
 pub(crate) fn taken_in(
     rt: &HostRuntime,
     name: &str,
     text: &str,
-    folder: Option<&str>,
+    wanted: &FileWords<'_>,
     limit: Option<u64>,
-) -> Result<Option<TakenIn>, u8> {
+) -> Result<Option<WithFiles>, u8> {
     if !may_take_files(text) {
         return Ok(None);
     }
-    let taking = Taking { name, text, folder };
-    let files = taking.files(rt, limit)?;
-    match with_files(rt.alloc(), text, files.as_slice()) {
-        Ok(taken) => Ok(Some(taken)),
-        Err(FilesError::NotUtf8(file)) => Err(taking.refuse(rt, &file, Cause::NotUtf8)),
-        Err(FilesError::NoRules(file)) => Err(taking.refuse(rt, &file, Cause::NoRules)),
-        Err(FilesError::NoCollationRules(file)) => {
-            Err(taking.refuse(rt, &file, Cause::NoCollationRules))
-        }
-        Err(FilesError::Missing(file)) => {
-            let cause = Cause::Unread(InputError::Failed("no such file"));
-            Err(taking.refuse(rt, &file, cause))
-        }
-        Err(FilesError::OutOfMemory) => Err(refuse_memory(rt, name)),
-    }
+    let taking = Taking {
+        name,
+        text,
+        folder: wanted.takes_from,
+        may_leave: wanted.includes_outside,
+    };
+    let found = taking.files(rt, limit)?;
+    let taken = taking.whole(rt, found.files.as_slice())?;
+    let paths = found.paths;
+    Ok(Some(WithFiles { taken, paths }))
 }
 
 /// The path of a file in a folder.
@@ -175,75 +242,140 @@ fn path_in(alloc: Global, folder: &str, name: &str) -> Result<String, AllocError
 }
 
 impl Taking<'_> {
-    /// The path of a file that the text takes in.
-    fn path_of(&self, alloc: Global, file: &str) -> Result<String, AllocError> {
+    /// The text with these files.
+    fn whole(&self, rt: &HostRuntime, files: &[TextFile]) -> Result<TakenIn, u8> {
+        let (file, cause) = match with_files(rt.alloc(), self.text, files) {
+            Ok(taken) => return Ok(taken),
+            Err(FilesError::NotUtf8(file)) => (file, Cause::NotUtf8),
+            Err(FilesError::NoRules(file)) => (file, Cause::NoRules),
+            Err(FilesError::NoCollationRules(file)) => (file, Cause::NoCollationRules),
+            Err(FilesError::Missing(file)) => {
+                (file, Cause::Unread(InputError::Failed("no such file")))
+            }
+            Err(FilesError::OutOfMemory) => return Err(refuse_memory(rt, self.name)),
+        };
+        Err(self.refuse(rt, &file, cause))
+    }
+
+    /// The folder in which the files are.
+    fn files_folder(&self) -> &str {
         match (self.folder, self.name.rsplit_once('/')) {
-            (Some(folder), _) | (None, Some((folder, _))) => path_in(alloc, folder, file),
-            (None, None) => path_in(alloc, ".", file),
+            (Some(folder), _) => folder,
+            (None, Some((folder, _))) => folder,
+            (None, None) => ".",
         }
     }
 
     /// The files that the text takes in, each once. The text with them has no more bytes than a
     /// text may have.
-    fn files(&self, rt: &HostRuntime, limit: Option<u64>) -> Result<Vec<TextFile>, u8> {
+    fn files(&self, rt: &HostRuntime, limit: Option<u64>) -> Result<Found, u8> {
         let Ok(named) = files_taken(rt.alloc(), self.text) else {
             return Err(refuse_memory(rt, self.name));
         };
+        let inside = self.inside(rt);
         let most = most_bytes(limit);
         let mut length = self.text.len() as u64;
-        let mut files = Vec::new(rt.alloc());
+        let mut found = Found {
+            files: Vec::new(rt.alloc()),
+            paths: Vec::new(rt.alloc()),
+            lengths: BTreeMap::new(rt.alloc()),
+        };
         for file in named {
-            let known = length_named(files.as_slice(), file.name.as_str());
+            let known = found.lengths.get(file.name.as_str()).copied();
             let bytes = match known {
                 Some(_) => Vec::new(rt.alloc()),
-                None => self.bytes(rt, &file, limit)?,
+                None if found.files.len() == MOST_FILES => {
+                    return Err(self.refuse(rt, &file, Cause::TooMany));
+                }
+                None => self.bytes(rt, &file, &inside, limit)?,
             };
             length = length.saturating_add(longest(known.unwrap_or(bytes.len())));
             if length > most {
                 return Err(self.refuse(rt, &file, Cause::Larger(most)));
             }
-            let name = file.name;
-            if known.is_none() && files.push(TextFile { name, bytes }).is_err() {
+            if known.is_none() && self.keep(rt, &mut found, file, bytes).is_err() {
                 return Err(refuse_memory(rt, self.name));
             }
         }
-        Ok(files)
+        Ok(found)
+    }
+
+    /// Keeps the bytes of a file.
+    fn keep(
+        &self,
+        rt: &HostRuntime,
+        found: &mut Found,
+        file: FileNamed,
+        bytes: Vec<u8>,
+    ) -> Result<(), AllocError> {
+        let name = file.name;
+        found
+            .paths
+            .push(path_in(rt.alloc(), self.files_folder(), name.as_str())?)?;
+        let again = String::from_str(rt.alloc(), name.as_str())?;
+        found.lengths.insert(again, bytes.len())?;
+        found.files.push(TextFile { name, bytes })?;
+        Ok(())
+    }
+
+    /// The real path of the folder that no file may leave, if there is one.
+    fn inside(&self, rt: &HostRuntime) -> Option<PathBuf> {
+        if self.may_leave {
+            return None;
+        }
+        let folder = self.files_folder();
+        fs::canonicalize(rt, if folder.is_empty() { "/" } else { folder }).ok()
     }
 
     /// The bytes of a file that the text takes in.
-    fn bytes(&self, rt: &HostRuntime, file: &FileNamed, limit: Option<u64>) -> Result<Vec<u8>, u8> {
-        let Ok(path) = self.path_of(rt.alloc(), file.name.as_str()) else {
+    fn bytes(
+        &self,
+        rt: &HostRuntime,
+        file: &FileNamed,
+        inside: &Option<PathBuf>,
+        limit: Option<u64>,
+    ) -> Result<Vec<u8>, u8> {
+        let Ok(path) = path_in(rt.alloc(), self.files_folder(), file.name.as_str()) else {
             return Err(refuse_memory(rt, self.name));
         };
+        if let Some(cause) = barred(rt, path.as_str(), inside) {
+            return Err(self.refuse(rt, file, cause));
+        }
         match read_input(rt, path.as_str(), limit) {
             Ok(bytes) => Ok(bytes),
-            Err(cause) => {
-                self.refuse(rt, file, Cause::Unread(cause));
-                Err(cause.status())
-            }
+            Err(cause) => Err(self.refuse(rt, file, Cause::Unread(cause))),
         }
     }
 
     /// Says why a file isn't taken in, at the place of its group, and gives the status of that.
     fn refuse(&self, rt: &HostRuntime, file: &FileNamed, cause: Cause) -> u8 {
-        let Ok(path) = self.path_of(rt.alloc(), file.name.as_str()) else {
+        let Ok(path) = path_in(rt.alloc(), self.files_folder(), file.name.as_str()) else {
             return refuse_memory(rt, self.name);
         };
         let path = path.as_str();
         let at = location_of(self.text.as_bytes(), file.place);
         say_at(rt, self.name, at, NotTaken { path, cause });
-        1
+        match cause {
+            Cause::Unread(e) => e.status(),
+            _ => 1,
+        }
     }
 }
 
-/// How many bytes the file of this name has, if it is among these.
-fn length_named(files: &[TextFile], name: &str) -> Option<usize> {
-    for file in files {
-        if file.name.as_str() == name {
-            return Some(file.bytes.len());
+/// Why a file of a path isn't taken in, if it is there: it is outside of the folder that none may
+/// leave, or a device or a pipe, which may never end.
+fn barred(rt: &HostRuntime, path: &str, inside: &Option<PathBuf>) -> Option<Cause> {
+    if let (Some(folder), Ok(real)) = (inside, fs::canonicalize(rt, path)) {
+        if !real.as_path().starts_with(folder.as_path()) {
+            return Some(Cause::Outside);
         }
     }
-    None
+    match fs::metadata(rt, path) {
+        Ok(found) if !found.is_file() && !found.is_dir() => Some(Cause::Unread(InputError::Failed(
+            "this is a device or a pipe",
+        ))),
+        _ => None,
+    }
 }
 
 /// The most bytes that are written for a file of so many: an escape has six.

@@ -3,6 +3,7 @@
 //! `icu_command`.
 use crate::described::{Argument, Described, FLAG, VALUE, WORD, WORDS, command_of};
 use crate::icu_command::{COLLATION, DERB, GENRB};
+use crate::writing::{DEPFILE, IF_CHANGED, INCLUDE_OUTSIDE, SYNC};
 use clap::Command;
 use std::alloc::{AllocError, Global};
 
@@ -128,9 +129,13 @@ const COMPILE: Described<'static> = Described {
         Argument {
             id: "strict",
             option: Some("strict"),
-            help: "Ends with status 1 where a text has a warning; its file is written",
+            help: "Refuses a text that has a warning: no file is written, and the status is 1",
             ..FLAG
         },
+        INCLUDE_OUTSIDE,
+        IF_CHANGED,
+        SYNC,
+        DEPFILE,
     ],
 };
 

@@ -1,6 +1,7 @@
 //! The words of ICU's own tools, `genrb` and `derb`, as commands of the program.
 //! What is read from such words is in `icu_request`.
 use crate::described::{Argument, Described, FLAG, Takes, VALUE, WORDS, command_of};
+use crate::writing::{DEPFILE, IF_CHANGED, INCLUDE_OUTSIDE, SYNC};
 use clap::Command;
 use std::alloc::{AllocError, Global};
 
@@ -200,6 +201,16 @@ pub(crate) const GENRB: Described<'static> = Described {
             help: "2 or 3: files of the other version are refused",
             ..VALUE
         },
+        Argument {
+            id: "strict-warnings",
+            option: Some("strict-warnings"),
+            help: "Refuses a text that has a warning: no file is written, and the status is 3",
+            ..FLAG
+        },
+        INCLUDE_OUTSIDE,
+        IF_CHANGED,
+        SYNC,
+        DEPFILE,
         Argument {
             id: "write-java",
             letter: Some('j'),

@@ -4,6 +4,7 @@ use crate::collation::asked_collation;
 use crate::error::WordsError;
 use crate::icu_command::{IcuTool, NOT_DONE};
 use crate::request::{FileWords, Request, names};
+use crate::writing::{WritingWords, asked_writing};
 use clap::ArgMatches;
 use std::alloc::Global;
 use std::path::Path;
@@ -21,8 +22,12 @@ pub struct GenrbWords<'w> {
     pub written_pool: Option<&'w str>,
     /// How each file is made.
     pub file: FileWords<'w>,
+    /// How the files are written.
+    pub writing: WritingWords<'w>,
     /// Whether warnings are left unsaid.
     pub is_quiet: bool,
+    /// Whether a text with a warning is refused.
+    pub is_strict: bool,
 }
 
 /// The rules by which parts are left out of the files of texts.
@@ -104,8 +109,11 @@ fn genrb<'w>(alloc: Global, matches: &ArgMatches<'w>) -> Result<Request<'w>, Wor
             is_compact: matches.get_flag("compact"),
             version,
             takes_from: source_said(matches),
+            includes_outside: matches.get_flag("include-outside"),
         },
+        writing: asked_writing(matches),
         is_quiet: matches.get_flag("quiet"),
+        is_strict: matches.get_flag("strict-warnings"),
     }))
 }
 

@@ -9,6 +9,7 @@ mod error;
 mod icu_command;
 mod icu_request;
 mod request;
+mod writing;
 
 pub use collation::Collation;
 pub use error::WordsError;
@@ -17,3 +18,4 @@ pub use request::{
     CheckWords, CompileWords, DiffWords, DumpWords, ExtractWords, FileWords, GetWords, Request,
     request_of,
 };
+pub use writing::WritingWords;

@@ -6,6 +6,7 @@ use crate::command::program;
 use crate::error::WordsError;
 use crate::icu_command::{IcuTool, tool_itself};
 use crate::icu_request::{DerbWords, Filters, GenrbWords, asked_of, called_tool};
+use crate::writing::{WritingWords, asked_writing};
 use clap::ArgMatches;
 use std::alloc::Global;
 
@@ -49,13 +50,15 @@ pub struct CompileWords<'w> {
     pub limit: Option<u64>,
     /// How each file is made.
     pub file: FileWords<'w>,
+    /// How each file is written.
+    pub writing: WritingWords<'w>,
     /// The folder where the files should be that texts depend on, if these are looked for.
     pub dependencies: Option<&'w str>,
     /// Whether no file is written.
     pub is_check: bool,
     /// Whether warnings and progress are left unsaid.
     pub is_quiet: bool,
-    /// Whether a warning makes the status 1.
+    /// Whether a text with a warning is refused.
     pub is_strict: bool,
 }
 
@@ -76,6 +79,8 @@ pub struct FileWords<'w> {
     pub version: Option<u8>,
     /// The folder of the files that the text takes in, if it isn't that of the text.
     pub takes_from: Option<&'w str>,
+    /// Whether these may be outside of that folder.
+    pub includes_outside: bool,
 }
 
 /// What is asked of files that are checked.
@@ -204,7 +209,9 @@ fn compile<'w>(alloc: Global, matches: &ArgMatches<'w>) -> Result<Request<'w>, W
             is_compact,
             version: None,
             takes_from: None,
+            includes_outside: matches.get_flag("include-outside"),
         },
+        writing: asked_writing(matches),
         dependencies: None,
         is_check: matches.get_flag("check"),
         is_quiet: matches.get_flag("quiet"),

@@ -12,7 +12,7 @@ use crate::show::settled;
 use crate::streams::{made, read_input};
 use crate::taken::Taken;
 use crate::texts::{SourceText, taken_in};
-use crate::warn::warn;
+use crate::warn::{warn, warn_of_name};
 use crate::words::{NO_UTF8, is_marked};
 use resb_compile::compile_with_pool;
 use resb_pool_bundle::PoolBundle;
@@ -264,6 +264,8 @@ fn warned(rt: &HostRuntime, name: &str, text: SourceText<'_>, wanted: &CompileWo
     if wanted.is_quiet && !wanted.is_strict {
         return 0;
     }
+    let is_misnamed = is_named_by_text(name, wanted)
+        && warn_of_name(rt, name, text, wanted.is_icu, wanted.is_quiet);
     if may_pass(text.whole().len(), wanted.limit) {
         if !wanted.is_quiet {
             complain(
@@ -275,9 +277,14 @@ fn warned(rt: &HostRuntime, name: &str, text: SourceText<'_>, wanted: &CompileWo
         return u8::from(wanted.is_strict);
     }
     match warn(rt, name, text, wanted.is_icu, wanted.is_quiet) {
-        Ok(is_warned) => u8::from(is_warned && wanted.is_strict),
+        Ok(is_warned) => u8::from((is_misnamed || is_warned) && wanted.is_strict),
         Err(status) => status,
     }
+}
+
+/// Whether the text of a name has a file of that name.
+fn is_named_by_text(name: &str, wanted: &CompileWords<'_>) -> bool {
+    wanted.output.is_none() && !wanted.is_by_name && name != "-"
 }
 
 /// Whether the warnings of a text of so many bytes may take more than a limit: they take up to

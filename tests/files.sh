@@ -52,12 +52,12 @@ fresh() {
   number=$((number + 1))
   mkdir "$work/$number"
   cd "$work/$number" || exit 3
-  printf 'b{a{"x"} c:intvector{1,2}}' > t.txt
+  printf 't{a{"x"} c:intvector{1,2}}' > t.txt
 }
 number=0
 
 [ -x "$program" ] || { echo "$program isn't built"; echo '0 passed, 1 failed'; exit 1; }
-printf 'b{a{"x"} c:intvector{1,2}}' > t.txt
+printf 't{a{"x"} c:intvector{1,2}}' > t.txt
 ends 0 '' compile t.txt -o want
 want=$work/want
 
@@ -196,7 +196,7 @@ fresh
 for ((length = 244; length <= 255; length++)); do
   stem=$(printf '%*s' $((length - 4)) '' | tr ' ' n)
   cp t.txt "$stem.txt"
-  ends 0 '' compile "$stem.txt"
+  ends 0 '' compile --quiet "$stem.txt"
   holds "a name of $length bytes" cmp -s "$stem.res" "$want"
 done
 ends 2 "n$stem.res: file name too long" compile t.txt -o "n$stem.res"
@@ -233,10 +233,10 @@ ends 2 ': this is no name of a file' compile t.txt -o ''
 # strange names
 fresh
 cp t.txt ..txt
-ends 0 '' compile ..txt
+ends 0 '' compile --quiet ..txt
 holds 'the file of ..txt' cmp -s ..res "$want"
 mkdir into
-ends 0 '' compile ..txt -d into
+ends 0 '' compile --quiet ..txt -d into
 holds 'that in a folder' cmp -s into/..res "$want"
 printf kept > -
 resb compile - < t.txt > got

@@ -42,7 +42,7 @@ holds() {
 [ -x "$program" ] || { echo "$program isn't built"; echo '0 passed, 1 failed'; exit 1; }
 
 # each part goes on in the folder of those before it
-for part in files refusals icu several scripts genrb writing; do
+for part in files refusals icu several scripts genrb mistakes writing; do
   # shellcheck disable=SC1090
   . "$top/tests/sessions/$part.bash"
 done

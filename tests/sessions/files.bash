@@ -59,7 +59,7 @@ printf x > broken.res
 told 1 'names.res: 8 resources, format 2.0, fallback, largest table 5' \
   'broken.res: Invalid resource bundle data: input is too short to contain file header' \
   check names.res broken.res
-printf 'b:table(nofallback){a{"x"}}' > off.txt
+printf 'off:table(nofallback){a{"x"}}' > off.txt
 told 0 '' '' compile off.txt
 told 0 'off.res: 2 resources, format 2.0, no fallback, largest table 1' '' check off.res
 # the attributes are the sixth field of the index: bit 1 says that the file is a pool bundle, which

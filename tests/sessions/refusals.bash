@@ -3,34 +3,36 @@
 # It is read by tests/resb.sh, behind the parts that stand before it there.
 # where a text is refused: line and column in characters, the line, and a mark
 printf 'b{\n\ta{"x"} \303\251{"y"}}' > bad.txt
-told 1 '' $'bad.txt:2:9: expected \'}\'\n a{"x"} \303\251{"y"}}\n        ^' compile bad.txt
+told 1 '' $'bad.txt:2:9: \'\303\251\' stands in a string with quotes alone
+ a{"x"} \303\251{"y"}}\n        ^' compile bad.txt
 printf 'b{\n a{"x"}' > open.txt
 told 1 '' $'open.txt:1:2: expected \'}\' before the text ends inside this\nb{\n ^' compile open.txt
 printf 'b{a{"x\377"}}' > bytes.txt
 told 1 '' $'bytes.txt:1:7: this is no UTF-8\nb{a{"x?"}}\n      ^' compile bytes.txt
 printf 'b{a:float{"x"}}' > type.txt
 types='the types are array, bin, binary, int, integer, intvector, string, table'
-told 1 '' $'type.txt:1:4: expected a type\nb{a:float{"x"}}\n   ^\n'"type.txt: $types" \
+told 1 '' $'type.txt:1:4: there is no type \'float\'\nb{a:float{"x"}}\n   ^\n'"type.txt: $types" \
   compile type.txt
 printf 'b{a:int{x}}' > number.txt
 told 1 '' $'number.txt:1:9: expected a number\nb{a:int{x}}\n        ^' compile number.txt
 printf 'b{a:bin{"0"}}' > digits.txt
-told 1 '' $'digits.txt:1:9: expected pairs of hex digits\nb{a:bin{"0"}}\n        ^' \
+told 1 '' $'digits.txt:1:9: an odd number of hex digits\nb{a:bin{"0"}}\n        ^' \
   compile digits.txt
 printf 'b{a{:int}}' > brace.txt
 told 1 '' $'brace.txt:1:9: expected \'{\'\nb{a{:int}}\n        ^' compile brace.txt
 printf 'b{a{,}}' > item.txt
 told 1 '' $'item.txt:1:5: expected a resource\nb{a{,}}\n    ^' compile item.txt
 printf 'b{}c' > end.txt
-told 1 '' $'end.txt:1:4: expected the end of the text\nb{}c\n   ^' compile end.txt
+told 1 '' $'end.txt:1:4: the bundle ends before this, and a text has only one\nb{}c\n   ^' \
+  compile end.txt
 printf '{}' > string.txt
-told 1 '' $'string.txt:1:1: expected a string\n{}\n^' compile string.txt
+told 1 '' $'string.txt:1:1: the bundle has no name\n{}\n^' compile string.txt
 
-# each message of the page GRAMMAR by a text that shows it, on its third line: column, message, text
+# each refusal of the page GRAMMAR by a text that shows it, on its third line: what is said first
 while IFS=@ read -r column message text; do
   printf '\n\n%s' "$text" > case.txt
   (exec -a resb "$program" compile case.txt) > out 2> err
-  if [ "$?" = 1 ] && [ "$(head -n 1 err)" = "case.txt:3:$column: expected $message" ]; then
+  if [ "$?" = 1 ] && [ "$(head -n 1 err)" = "case.txt:3:$column: $message" ]; then
     passed=$((passed + 1))
   else
     failed=$((failed + 1))
@@ -38,29 +40,29 @@ while IFS=@ read -r column message text; do
     head -n 1 err
   fi
 done << 'END'
-1@a string@
-12@a string@b{a:string{}}
-5@a string@b{a{"x
-3@'{'@b x
-6@'{'@b{"x"}
-9@'{'@b:table (nofallback){}
-2@'}' before the text ends inside this@b{
-11@'}'@b{a:int{1 2}}
-15@'}'@b{v:intvector{x}}
-16@'}'@b{v:intvector{,1}}
-17@'}'@b{v:intvector{1 2}}
-17@'}'@b{v:intvector{1,,}}
-4@a type@b{a:import{"x"}}
-4@a type@b{a: int{1}}
-2@a type@b:array{}
-9@a number@b{i:int{x}}
-9@a number@b{i:int{4294967296}}
-9@pairs of hex digits@b{d:bin{"0"}}
-9@pairs of hex digits@b{d:bin{"00 ff"}}
-5@a resource@b{a{,}}
-9@a resource@b{a{"x",,}}
-4@the end of the text@b{}x
-4@the end of the text@b{}/*
+1@expected a string@
+12@expected a string@b{a:string{}}
+5@nothing closes this quote@b{a{"x
+3@expected '{'@b x
+6@expected '{'@b{"x"}
+9@expected '{'@b:table (nofallback){}
+2@expected '}' before the text ends inside this@b{
+11@expected '}'@b{a:int{1 2}}
+15@expected '}'@b{v:intvector{x}}
+16@expected '}'@b{v:intvector{,1}}
+17@a comma is missing before this number@b{v:intvector{1 2}}
+17@expected '}'@b{v:intvector{1,,}}
+4@there is no type 'import'@b{a:import{"x"}}
+5@there is no blank between ':' and a type@b{a: int{1}}
+2@the root is a table: its type is table, if it has one@b:array{}
+9@expected a number@b{i:int{x}}
+9@an integer has 28 bits: -134217728 to 268435455@b{i:int{4294967296}}
+9@an odd number of hex digits@b{d:bin{"0"}}
+12@' ' is no hex digit@b{d:bin{"00 ff"}}
+5@expected a resource@b{a{,}}
+9@expected a resource@b{a{"x",,}}
+4@the bundle ends before this, and a text has only one@b{}x
+4@this comment has no end@b{}/*
 END
 printf 'b{"k\0"{"x"}}' > nul.txt
 told 1 '' 'nul.txt: Unexpected error: key contains U+0000' compile nul.txt
@@ -68,72 +70,71 @@ told 1 '' 'nul.txt: Unexpected error: key contains U+0000' compile nul.txt
 # what is said beside a refusal: what was meant, and where to look
 for word in integre:integer integr:integer strnig:string inte:int INT:int; do
   printf 'b{a:%s{5}}' "${word%:*}" > type.txt
-  told 1 '' "type.txt:1:4: expected a type
+  told 1 '' "type.txt:1:4: there is no type '${word%:*}'; is ${word#*:} meant?
 b{a:${word%:*}{5}}
    ^
-type.txt: $types; is ${word#*:} meant?" compile type.txt
+type.txt: $types" compile type.txt
 done
 printf 'b{a:strin{"x"}}' > type.txt
-told 1 '' "type.txt:1:4: expected a type
+told 1 '' "type.txt:1:4: there is no type 'strin'; is string meant?
 b{a:strin{\"x\"}}
    ^
-type.txt: the types are alias,${types#the types are}; is string meant?" compile --icu type.txt
+type.txt: the types are alias,${types#the types are}" compile --icu type.txt
 printf 'b:array{}' > root.txt
-told 1 '' 'root.txt:1:2: expected a type
+told 1 '' 'root.txt:1:2: the root is a table: its type is table, if it has one
 b:array{}
- ^
-root.txt: the root is a table: its type is table, if it has one' compile root.txt
+ ^' compile root.txt
 printf 'b{a:int{4294967296}}' > range.txt
-told 1 '' 'range.txt:1:9: expected a number
+for form in '' --icu; do
+  # shellcheck disable=SC2086
+  told 1 '' 'range.txt:1:9: an integer has 28 bits: -134217728 to 268435455
 b{a:int{4294967296}}
-        ^
-range.txt: a number lies from -2147483648 to 4294967295' compile range.txt
+        ^' compile $form range.txt
+done
 printf 'b{a:int{3.5}}' > point.txt
-told 1 '' "point.txt:1:10: expected '}'
+told 1 '' "point.txt:1:10: numbers are whole
 b{a:int{3.5}}
-         ^
-point.txt: numbers are whole" compile point.txt
-told 1 '' "point.txt:1:9: expected a number
+         ^" compile point.txt
+told 1 '' "point.txt:1:9: numbers are whole
 b{a:int{3.5}}
-        ^
-point.txt: numbers are whole" compile --icu point.txt
-told 1 '' 'range.txt:1:9: expected a number
-b{a:int{4294967296}}
-        ^
-range.txt: a number lies from -2147483648 to 4294967295' compile --icu range.txt
+        ^" compile --icu point.txt
 printf 'b{a:alias{"/c"}}' > alias.txt
-told 1 '' 'alias.txt:1:4: expected a type
-b{a:alias{"/c"}}
+told 1 '' "alias.txt:1:4: there is no type 'alias'
+b{a:alias{\"/c\"}}
    ^
-alias.txt: texts of ICU'"'"'s own form are read with --icu' compile alias.txt
+alias.txt: texts of ICU's own form are read with --icu" compile alias.txt
 printf 'b{a{"x"} ,c{"y"}}' > comma.txt
-told 1 '' "comma.txt:1:10: expected '}'
-b{a{\"x\"} ,c{\"y\"}}
-         ^
-comma.txt: entries of a table have no commas" compile comma.txt
-told 1 '' "comma.txt:1:10: expected a key or '}'
-b{a{\"x\"} ,c{\"y\"}}
-         ^
-comma.txt: entries of a table have no commas" compile --icu comma.txt
+for form in '' --icu; do
+  # shellcheck disable=SC2086
+  told 1 '' 'comma.txt:1:10: entries of a table have no commas
+b{a{"x"} ,c{"y"}}
+         ^' compile $form comma.txt
+done
 printf 'b{a{"x\\"y"}}' > escape.txt
-told 1 '' 'escape.txt:1:10: expected a string
+told 1 '' 'escape.txt:1:10: a quote is missing where this string begins
 b{a{"x\"y"}}
          ^
 escape.txt: texts of ICU'"'"'s own form are read with --icu' compile escape.txt
 printf 'b{\n  a{"x}\n  c{"y"}\n}\n' > quote.txt
-told 1 '' 'quote.txt:3:7: expected a string
-  c{"y"}
-      ^
-quote.txt:2:5: the last string before that which spans lines begins here' compile quote.txt
+told 1 '' 'quote.txt:2:5: the quote that closes this string may be missing in its line
+  a{"x}
+    ^
+quote.txt:3:7: expected a string' compile quote.txt
 printf 'b{\n  // }\n  a{\n    x{"{"}\n\n  c{"2"}\n  d{"3"}\n}\n' > outdent.txt
 for form in : '--icu:a key or '; do
   # shellcheck disable=SC2086
-  told 1 '' "outdent.txt:1:2: expected ${form#*:}'}' before the text ends inside this
-b{
- ^
-outdent.txt:6:3: this line is indented too little for the group it stands in" \
+  told 1 '' "outdent.txt:6:3: a '}' may be missing before this line, which is indented too little \
+for its group
+  c{\"2\"}
+  ^
+outdent.txt:1:2: expected ${form#*:}'}' before the text ends inside this" \
     compile ${form%%:*} outdent.txt
 done
+# where no line is indented, none is
+printf 'b{\na{\nx{"1"}\n' > flat.txt
+told 1 '' "flat.txt:2:2: expected '}' before the text ends inside this
+a{
+ ^" compile flat.txt
 
 # texts in UTF-16, by their mark
 printf 'b{a{"\303\251\360\237\230\200"}}' > eight.txt
@@ -141,9 +142,9 @@ for order in LE BE; do
   printf '\376\377' > sixteen.txt
   [ $order = BE ] || printf '\377\376' > sixteen.txt
   iconv -f UTF-8 -t UTF-16$order eight.txt >> sixteen.txt
-  told 0 '' '' compile eight.txt sixteen.txt
+  told 0 '' '' compile --quiet eight.txt sixteen.txt
   same eight.res sixteen.res
-  told 0 '' '' compile --icu sixteen.txt
+  told 0 '' '' compile --icu --quiet sixteen.txt
   same eight.res sixteen.res
 done
 printf '\377\376b\0{\0}' > odd.txt
@@ -154,16 +155,17 @@ half.txt: this begins as UTF-16, and is none' compile odd.txt half.txt
 # warnings change nothing
 printf 'b{a{"x\\y"}a{"z"}l:array{"p" "q"}}' > warn.txt
 told 0 '' "warn.txt:1:7: warning: this backslash is a character here, and an escape for genrb
-warn.txt:1:11: warning: the key \"a\" stands at 1:3 too; genrb refuses that
+warn.txt:1:11: warning: duplicate key 'a', first at column 3; genrb refuses that
 warn.txt:1:29: warning: this string is an item of its own here; genrb joins it to the one before" \
-  compile warn.txt
+  compile warn.txt -o warn.res
 # a key is named with its hidden characters, and cut where it is long
 printf 'b{"a\033"{x}"a\033"{y}}' > hidden.txt
-told 0 '' 'hidden.txt:1:10: warning: the key "a\u{1b}" stands at 1:3 too; genrb refuses that' \
-  compile hidden.txt
+told 0 '' \
+  "hidden.txt:1:10: warning: duplicate key 'a\u{1b}', first at column 3; genrb refuses that" \
+  compile hidden.txt -o hidden.res
 printf 'b{%02000d{x}%02000d{y}}' 0 0 > doubled.txt
-told 0 '' "doubled.txt:1:2006: warning: the key \"$(printf '%0500d..%0500d' 0 0)\" stands at 1:3 \
-too; genrb refuses that" compile doubled.txt
+told 0 '' "doubled.txt:1:2006: warning: duplicate key '$(printf '%0500d..%0500d' 0 0)', first at \
+column 3; genrb refuses that" compile doubled.txt -o doubled.res
 # nor do those of what would be lost without a word
 printf 'b{a{}i:int{300000000}o:intvector{010,-07,0}c{x{"1"},y{"2"},}n:int{-200000000}' > lost.txt
 printf 'q{k{"1"}lone}z:table{}}' >> lost.txt
@@ -173,7 +175,7 @@ lost.txt:1:34: warning: this number is decimal here; genrb takes its 0 for that 
 lost.txt:1:52: warning: pairs with commas are an Array; genrb refuses this
 lost.txt:1:67: warning: this number has more than 28 bits; 68435456 is kept
 lost.txt:1:86: warning: this string has no group, so that all are an Array; genrb refuses this" \
-  compile lost.txt
+  compile lost.txt -o lost.res
 lost='{"a":{},"c":["x","1","y","2"],"i":31564544,"n":68435456,"o":[10,-7,0],'
 lost+='"q":["k","1","lone"],"z":{}}'
 told 0 "$lost" '' \
@@ -198,7 +200,7 @@ told 1 '' 'names.res: the tree takes 2589 bytes, more than the limit of 10' \
   dump --limit 10 names.res
 told 2 '' 'resb: --limit is a number of bytes' dump --limit ten names.res
 # nor may the keys of its entries together, its text, or its JSON
-printf 'b{%02000d{x}}' 0 > key.txt
+printf 'key{%02000d{x}}' 0 > key.txt
 told 0 '' '' compile key.txt
 told 1 '' 'key.res: the keys of its entries take 2000 bytes, more than the limit of 1999' \
   dump --limit 1999 key.res
@@ -207,7 +209,7 @@ told 1 '' 'key.res: its text takes 2017 bytes, more than the limit of 2016' \
 told 1 '' "key.res: its text in ICU's form takes 2017 bytes, more than the limit of 2016" \
   dump --icu --limit 2016 key.res
 told 0 "$(printf 'key{\n    %02000d{"x"}\n}' 0)" '' dump --limit 2017 key.res
-printf 'b{b:bin{"%06000d"}}' 0 > long.txt
+printf 'long{b:bin{"%06000d"}}' 0 > long.txt
 told 0 '' '' compile long.txt
 told 0 "$(printf '{"b":{"binary":"%06000d"}}' 0)" '' dump --json --limit 6019 long.res
 told 1 '' 'long.res: its JSON takes 6019 bytes, more than the limit of 6018' \
@@ -225,7 +227,7 @@ told 1 '' 'long.res: its JSON takes at least 6000 bytes, more than the limit of 
 
 # so may the reading of a text
 printf 'b{k{v}}' > small.txt
-told 0 '' '' compile small.txt --limit 470
+told 0 '' '' compile small.txt --limit 470 -o small.res
 told 0 'v' '' get small.res k
 told 1 '' 'small.txt: reading this text takes more than the limit of 469 bytes' \
   compile --limit 469 small.txt
@@ -238,7 +240,7 @@ told 1 '' $'vector.txt:1:17: expected \'}\'\nb{v:intvector{1,x\n                
 told 2 '' 'resb: --limit is a number of bytes' compile small.txt --limit ten
 
 # where no text holds a string, the path to it is said
-printf 'b{zones{Pole{list{"first","other"} note{"plain"}}}}' > path.txt
+printf 'path{zones{Pole{list{"first","other"} note{"plain"}}}}' > path.txt
 told 0 '' '' compile path.txt
 python3 - << 'END'
 data = open("path.res", "rb").read()

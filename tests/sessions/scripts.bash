@@ -5,8 +5,10 @@
 mkdir alone
 told 0 '' '' compile --quiet warn.txt -d alone
 holds alone warn.res
-warned="warn.txt:1:7: warning: this backslash is a character here, and an escape for genrb
-warn.txt:1:11: warning: the key \"a\" stands at 1:3 too; genrb refuses that
+warned="warn.txt:1:1: warning: the bundle is named 'b', but this makes warn.res: what looks for \
+b.res won't find it
+warn.txt:1:7: warning: this backslash is a character here, and an escape for genrb
+warn.txt:1:11: warning: duplicate key 'a', first at column 3; genrb refuses that
 warn.txt:1:29: warning: this string is an item of its own here; genrb joins it to the \
 one before"
 rm alone/warn.res
@@ -14,16 +16,17 @@ told 1 '' "$warned" compile --strict warn.txt -d alone
 holds alone ''
 told 1 '' '' compile --quiet --strict warn.txt -d alone
 holds alone ''
-told 0 '' '' compile --strict names.txt small.txt -d alone
-holds alone 'names.res small.res'
-told 0 '' '' compile --strict --icu icu.txt -d alone
+printf 'bare{k{v}}' > bare.txt
+told 0 '' '' compile --strict names.txt bare.txt -d alone
+holds alone 'bare.res names.res'
+told 0 '' '' compile --strict --icu bare.txt -d alone
 rm alone/*
 
 # the warnings of ICU's form: of strings that are joined over a line's end to a member of an array,
 # which a comma, a group before or `:array` shows; those that are all of a group are one string, and
 # so are those in one line; unquoted ones are joined as pieces are, a comment between them or not
 cat > joined.txt <<'END'
-b{
+joined{
   one{"a"
     "b"}
   two{"a\"" // "x"
@@ -70,7 +73,7 @@ joined.txt:32:5: warning: this string is joined to the one before; a comma would
 told 0 '' "$joined" compile --icu joined.txt
 # of an integer that 28 bits don't hold, with or without a sign: what is kept
 cat > bits.txt <<'END'
-b{
+bits{
   a:int{300000000} b:integer{ /* : */ -200000000 } c:int{+268435456}
   d:int{268435455} e:int{-134217728} f:intvector{300000000} g{300000000}
 }
@@ -81,7 +84,7 @@ bits.txt:2:58: warning: this number has more than 28 bits; 0 is kept"
 told 0 '' "$bits" compile --icu bits.txt
 # of one digit in braces with which a group begins, or behind the one word before it
 cat > braces.txt <<'END'
-b{
+braces{
   a{{0} of {1}} b{"{0} of {1}"} c{ { 2 }, {3}} d{x{0} y{1}}
   e:array{{0}} f{{00}} g{{"0"}} h{{0, 1}}
   i{Hello {0}} j{k{Hello { 1 }}} l:table{x{0}} m{"x"{0}} n{x{00}} o{x{"0"}} q{x{0, 1}}
@@ -97,9 +100,9 @@ braces.txt:4:26: $of_its_own
 braces.txt:6:9: $of_its_own
 braces.txt:6:41: $of_its_own"
 told 0 '' "$braces" compile --icu braces.txt
-printf 'b:table{x{0}}' > root.txt
+printf 'root:table{x{0}}' > root.txt
 told 0 '' '' compile --icu root.txt
-printf '"b"{x{0}}' > root.txt
+printf '"root"{x{0}}' > root.txt
 told 0 '' '' compile --icu root.txt
 mkdir icu_texts
 cp joined.txt bits.txt icu_texts
@@ -111,7 +114,7 @@ told 1 '' '' compile --icu --quiet --strict --check bits.txt -d alone
 told 0 '' "$bits" compile --icu --by-name bits.txt -d alone
 told 0 '' "${bits//bits.txt/icu_texts/bits.txt}
 ${joined//joined.txt/icu_texts/joined.txt}" compile --icu icu_texts -d alone
-printf 'b{k{"%0300d"}}' 0 > long.txt
+printf 'long{k{"%0300d"}}' 0 > long.txt
 told 0 '' 'long.txt: its warnings may take more than the limit: none is looked for' \
   compile --icu --limit 3000 long.txt
 rm -r alone/* icu_texts
@@ -125,7 +128,7 @@ input=names.txt
 told 0 '' '' compile --check -
 input=
 holds alone ''
-{ printf 'b{l:array{'; printf '"s" %.0s' {1..23}; printf '}}'; } > many.txt
+{ printf 'many{l:array{'; printf '"s" %.0s' {1..23}; printf '}}'; } > many.txt
 (exec -a resb "$program" compile many.txt) 2> err
 [ "$(grep -c warning: err)" = 20 ] && [ "$(tail -n 1 err)" = 'many.txt: 2 more warnings' ] \
   && passed=$((passed + 1)) || { failed=$((failed + 1)); cat err; }
@@ -217,7 +220,7 @@ told 2 '{"path":"a.res","ok":false,"kind":"pool bundle","message":"its pool bund
 
 # several paths, in their order; keys with a slash or a tilde
 printf 'k{"a/b":table{"~":table{"~1"{x} "~0"{y} "0"{z}} 1{s}} l:array{"p","q"} "m~n"{t}}' > key.txt
-told 0 '' '' compile key.txt
+told 0 '' '' compile key.txt -o key.res
 told 0 $'x\ny\nz\nz\ns\nt\nt' '' get key.res a~1b/~/~01 a~1b/~0/~00 a~1b/~/0 a~1b/~0/0 a~1b/1 \
   m~n m~0n
 told 1 $'q\n["p","q"]\np' $'key.res: nothing stands at l/2\nkey.res: nothing stands at a/b/1' \
@@ -229,7 +232,7 @@ told 1 $'hello\n-5' "$outside" get cut.res hi list list n
 told 1 '' "$outside" get --check cut.res hi n
 mkdir next
 sed 's/{z}/{"w"}/' key.txt > next/key.txt
-told 0 '' '' compile next/key.txt
+told 0 '' '' compile next/key.txt -o next/key.res
 told 1 '~ a~1b/~/0 "z" -> "w"' '' diff key.res next/key.res
 told 1 '{"path":"a~1b/~/0","old":"z","new":"w"}' '' diff --json key.res next/key.res
 told 0 'w' '' get next/key.res a~1b/~/0

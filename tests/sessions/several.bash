@@ -25,7 +25,7 @@ same names.res kept.res
 # JSON of any depth
 deep() { printf 'b{a%s%s}' "$(printf ':array{%.0s' $(seq "$1"))" "$(printf '}%.0s' $(seq "$1"))"; }
 deep 50000 > deep.txt
-told 0 '' '' compile deep.txt
+told 0 '' '' compile deep.txt -o deep.res
 told 0 "{\"a\":$(printf '[%.0s' $(seq 50000))$(printf ']%.0s' $(seq 50000))}" '' \
   dump --json deep.res
 
@@ -78,8 +78,8 @@ told 2 '' 'none.dat: no such file' extract none.dat a.res
 
 # what differs between two files: the words of each line follow from the texts
 mkdir -p old
-printf 'b{a{"x"}c:intvector{1,-2}l{"p","q"}t{k{"1"}z:int{5}}}' > old/d.txt
-printf 'b{a{"y"}c:intvector{1,-2}l{"p","q","r"}n:bin{"00ff"}t{z:alias{"/q"}}}' > d.txt
+printf 'd{a{"x"}c:intvector{1,-2}l{"p","q"}t{k{"1"}z:int{5}}}' > old/d.txt
+printf 'd{a{"y"}c:intvector{1,-2}l{"p","q","r"}n:bin{"00ff"}t{z:alias{"/q"}}}' > d.txt
 told 0 '' '' compile --icu old/d.txt d.txt
 told 1 $'~ a "x" -> "y"\n+ l/2 "r"\n+ n {"binary":"00ff"}\n- t/k "1"\n~ t/z 5 -> {"alias":"/q"}' \
   '' diff old/d.res d.res
@@ -108,18 +108,18 @@ file('deep.res', 0x80000008, 7, 8, end, end, 0, 0, 8, *deep, 1, 0x70000005)
 told 1 '~ 5 -> 6' '' diff five.res six.res
 told 1 '{"path":null,"old":5,"new":6}' '' diff --json five.res six.res
 told 1 "~ $(printf '[%.0s' $(seq 200))5$(printf ']%.0s' $(seq 200)) -> 6" '' diff deep.res six.res
-printf 'b{"":table{"":int{1} k:int{2}}}' > old/e.txt
-printf 'b{"":table{"":int{3} k:int{4}}}' > e.txt
+printf 'e{"":table{"":int{1} k:int{2}}}' > old/e.txt
+printf 'e{"":table{"":int{3} k:int{4}}}' > e.txt
 told 0 '' '' compile old/e.txt e.txt
 told 1 $'~ / 1 -> 3\n~ /k 2 -> 4' '' diff old/e.res e.res
 told 0 4 '' get e.res /k
 key=$(printf 'k%.0s' {1..1000})
-printf "b{$key:table{$(printf 'm%d:int{1} ' {0..9})}}" > old/k.txt
-printf "b{$key:table{$(printf 'm%d:int{2} ' {0..9})}}" > k.txt
+printf "k{$key:table{$(printf 'm%d:int{1} ' {0..9})}}" > old/k.txt
+printf "k{$key:table{$(printf 'm%d:int{2} ' {0..9})}}" > k.txt
 told 0 '' '' compile old/k.txt k.txt
 told 2 '' 'k.res: its list of differences takes at least 9018 bytes, more than the limit of 9000' \
   diff --limit 9000 old/k.res k.res
-printf 'b{a{"x"}}' > s.txt
-printf 'b:table(nofallback){a{"x"}}' > t.txt
+printf 's{a{"x"}}' > s.txt
+printf 't:table(nofallback){a{"x"}}' > t.txt
 told 0 '' '' compile s.txt t.txt
 told 0 '' '' diff s.res t.res

@@ -15,7 +15,7 @@ use crate::shown::Shown;
 use crate::streams::{NO_MEMORY, made, read_input};
 use crate::taken::Taken;
 use crate::texts::{SourceText, taken_in};
-use crate::warn::warn;
+use crate::warn::{warn, warn_of_name};
 use crate::words::{NO_UTF8, is_marked};
 use resb_compile::compile_with_pool;
 use resb_pool_bundle::PoolBundle;
@@ -441,12 +441,15 @@ fn file_at_once<'t>(
 
 /// The status of a text's warnings, once they are said.
 fn warned(rt: &HostRuntime, name: &str, text: SourceText<'_>, wanted: &CompileWords<'_>) -> u8 {
-    if let (Some(folder), false) = (wanted.dependencies, wanted.is_quiet) {
-        text.warn_of_missing(rt, name, folder);
-    }
     if wanted.is_quiet && !wanted.is_strict {
         return 0;
     }
+    let lacks_files = match wanted.dependencies {
+        Some(folder) => text.warn_of_missing(rt, name, folder, wanted.is_quiet),
+        None => false,
+    };
+    let is_misnamed = is_named_by_text(name, wanted)
+        && warn_of_name(rt, name, text, wanted.is_icu, wanted.is_quiet);
     if may_pass(text.whole().len(), wanted.limit) {
         if !wanted.is_quiet {
             complain(
@@ -458,9 +461,14 @@ fn warned(rt: &HostRuntime, name: &str, text: SourceText<'_>, wanted: &CompileWo
         return u8::from(wanted.is_strict);
     }
     match warn(rt, name, text, wanted.is_icu, wanted.is_quiet) {
-        Ok(is_warned) => u8::from(is_warned && wanted.is_strict),
+        Ok(is_warned) => { u8::from((lacks_files || is_misnamed || is_warned) && wanted.is_strict) }
         Err(status) => status,
     }
+}
+
+/// Whether the text of a name has a file of that name.
+fn is_named_by_text(name: &str, wanted: &CompileWords<'_>) -> bool {
+    wanted.output.is_none() && !wanted.is_by_name && name != "-"
 }
 
 /// Whether the warnings of a text of so many bytes may take more than a limit: they take up to

@@ -1,6 +1,6 @@
-//! What is said beside a refusal of a text, where what stands at its place tells more.
-//! What is expected there is said in `say`; which places are to blame is told by `resb_program` and
-//! `resb_diagnostics`.
+//! What is said in a line more of a text that is refused, and which type a word is near to.
+//! Which mistake is at a place is told by `mistaken`; what is expected there is said in `say`.
+use crate::mistakes::{Mistake, What};
 use resb_compile::{CompileError, IcuCompileError};
 use resb_grammar::Expected;
 use resb_icu_grammar::IcuExpected;
@@ -10,7 +10,7 @@ use std::fmt;
 use strsim::osa_distance;
 
 /// The types of groups in the plain form, by their names.
-const TYPES: [&str; 8] = [
+pub(crate) const TYPES: [&str; 8] = [
     "array",
     "bin",
     "binary",
@@ -22,7 +22,7 @@ const TYPES: [&str; 8] = [
 ];
 
 /// Those in ICU's form.
-const ICU_TYPES: [&str; 9] = [
+pub(crate) const ICU_TYPES: [&str; 9] = [
     "alias",
     "array",
     "bin",
@@ -43,171 +43,101 @@ const LONGEST_WORD: usize = 16;
 /// What is said.
 #[derive(Clone, Copy)]
 pub(crate) enum Hint {
-    /// Which types there are, and the one that is nearest to the word that stands there.
-    Types {
-        names: &'static [&'static str],
-        nearest: Option<&'static str>,
-    },
-    RootType,
-    Range,
-    Whole,
-    NoCommas,
+    /// Which types there are.
+    Types(&'static [&'static str]),
     IcuForm,
+    Backslash,
 }
 
 impl fmt::Display for Hint {
     fn fmt<W: fmt::Write>(&self, f: &mut fmt::Formatter<W>) -> fmt::Result {
         match self {
-            Hint::Types { names, nearest } => {
+            Hint::Types(names) => {
                 f.write_str("the types are")?;
                 for (number, name) in names.iter().enumerate() {
                     f.write_str(if number == 0 { " " } else { ", " })?;
                     f.write_str(name)?;
                 }
-                match nearest {
-                    Some(name) => write!(f, "; is {name} meant?"),
-                    None => Ok(()),
-                }
+                Ok(())
             }
-            Hint::RootType => f.write_str("the root is a table: its type is table, if it has one"),
-            Hint::Range => f.write_str("a number lies from -2147483648 to 4294967295"),
-            Hint::Whole => f.write_str("numbers are whole"),
-            Hint::NoCommas => f.write_str("entries of a table have no commas"),
             Hint::IcuForm => f.write_str("texts of ICU's own form are read with --icu"),
+            Hint::Backslash => f.write_str("a backslash itself is written as \\\\"),
         }
     }
 }
 
-/// What is said beside a refusal at a place, if there is anything.
+/// What is said beside a refusal at a place, if there is anything, where this mistake was found.
 pub(crate) fn hint_at(
-    alloc: Global,
     source: &[u8],
     place: usize,
     error: &SourceError,
-) -> Result<Option<Hint>, AllocError> {
-    let Some((before, behind)) = source.split_at_checked(place) else {
-        return Ok(None);
-    };
+    mistake: Option<Mistake<'_>>,
+) -> Option<Hint> {
+    let (before, behind) = source.split_at_checked(place)?;
     match error {
         SourceError::Refused(CompileError::Reading(e)) => {
-            let hint = plain_hint(alloc, before, behind, e.expected())?;
-            Ok(hint.or(if may_be_icu(source, before, behind) {
+            if !is_fraction(mistake) && may_be_icu(source, before, behind) {
                 Some(Hint::IcuForm)
+            } else if e.expected() == Expected::TypeName && asks_for_types(mistake) {
+                Some(Hint::Types(&TYPES))
             } else {
                 None
-            }))
+            }
         }
-        SourceError::IcuRefused(IcuCompileError::Reading(e)) => {
-            icu_hint(alloc, behind, e.expected())
-        }
-        _ => Ok(None),
+        SourceError::IcuRefused(IcuCompileError::Reading(e)) => match e.expected() {
+            IcuExpected::Escape => Some(Hint::Backslash),
+            IcuExpected::GroupType if asks_for_types(mistake) => Some(Hint::Types(&ICU_TYPES)),
+            _ => None,
+        },
+        _ => None,
     }
 }
 
-/// What is said of a text of the plain form.
-fn plain_hint(
-    alloc: Global,
-    before: &[u8],
-    behind: &[u8],
-    expected: Expected,
-) -> Result<Option<Hint>, AllocError> {
-    Ok(match expected {
-        Expected::TypeName if !before.contains(&b'{') => Some(Hint::RootType),
-        Expected::TypeName if behind.starts_with(b":alias") => Some(Hint::IcuForm),
-        Expected::TypeName => Some(types(alloc, &TYPES, behind)?),
-        Expected::Number if is_number(behind) => Some(Hint::Range),
-        Expected::RightBrace if is_fraction(before, behind) => Some(Hint::Whole),
-        Expected::RightBrace if behind.starts_with(b",") && ends_group(before) => {
-            Some(Hint::NoCommas)
-        }
-        _ => None,
-    })
+/// Whether a person may look for the types there are, where a type is to stand.
+fn asks_for_types(mistake: Option<Mistake<'_>>) -> bool {
+    match mistake {
+        Some(mistake) => matches!(mistake.what, What::UnknownType(..)),
+        None => true,
+    }
 }
 
-/// What is said of a text of ICU's form.
-fn icu_hint(
-    alloc: Global,
-    behind: &[u8],
-    expected: IcuExpected,
-) -> Result<Option<Hint>, AllocError> {
-    Ok(match expected {
-        IcuExpected::GroupType => Some(types(alloc, &ICU_TYPES, behind)?),
-        IcuExpected::Number | IcuExpected::NumberOrRightBrace => number_hint(behind),
-        IcuExpected::Entry if behind.starts_with(b",") => Some(Hint::NoCommas),
-        _ => None,
-    })
+/// Whether the mistake is a number with a point.
+fn is_fraction(mistake: Option<Mistake<'_>>) -> bool {
+    match mistake {
+        Some(mistake) => matches!(mistake.what, What::Fraction),
+        None => false,
+    }
 }
 
 /// Whether a text that is refused looks like one of ICU's own form: it begins with a byte order
-/// mark, a character that only ICU's words have stands where it is refused, or it has a backslash
-/// before that.
+/// mark, a character that only ICU's words have or its type `alias` stands where it is refused, or
+/// it has a backslash before that.
 fn may_be_icu(source: &[u8], before: &[u8], behind: &[u8]) -> bool {
     source.starts_with(b"\xEF\xBB\xBF")
         || matches!(behind.first(), Some(b'_' | b'%' | b'.' | b'+'))
+        || behind.starts_with(b":alias")
         || before.contains(&b'\\')
 }
 
-/// What is said of a word of ICU's form that is no number: it has a point between digits, or is a
-/// number that is too large.
-fn number_hint(behind: &[u8]) -> Option<Hint> {
-    for at in 0..behind.len() {
-        match behind[at] {
-            b'0'..=b'9' | b'+' | b'-' => {}
-            b'.' if at > 0 => return Some(Hint::Whole),
-            b' ' | b',' | b'}' if is_number(behind) && behind[0] != b'0' => {
-                return Some(Hint::Range);
-            }
-            _ => return None,
-        }
-    }
-    None
+/// Whether a word is the name of a type.
+pub(crate) fn is_type(word: &str) -> bool {
+    ICU_TYPES.contains(&word)
 }
 
-/// Whether digits stand there, maybe behind a sign.
-fn is_number(bytes: &[u8]) -> bool {
-    match bytes {
-        [b'-' | b'+', digit, ..] | [digit, ..] => digit.is_ascii_digit(),
-        [] => false,
-    }
-}
-
-/// Whether a point stands there between two digits.
-fn is_fraction(before: &[u8], behind: &[u8]) -> bool {
-    match (before, behind) {
-        ([.., left], [b'.', right, ..]) => left.is_ascii_digit() && right.is_ascii_digit(),
-        _ => false,
-    }
-}
-
-/// Whether the last of these bytes that is no blank is the `}` of a group.
-fn ends_group(bytes: &[u8]) -> bool {
-    bytes.trim_ascii_end().ends_with(b"}")
-}
-
-/// Which types there are, and the one that is nearest to the word behind the colon.
-fn types(alloc: Global, names: &'static [&'static str], behind: &[u8]) -> Result<Hint, AllocError> {
-    let nearest = match word_behind(behind) {
-        Some(word) => nearest(alloc, names, word)?,
-        None => None,
-    };
-    Ok(Hint::Types { names, nearest })
-}
-
-/// The word behind a colon, or its beginning, if it is longer than any name.
-fn word_behind(bytes: &[u8]) -> Option<&str> {
-    let word = bytes.strip_prefix(b":")?;
-    let most = word.len().min(LONGEST_WORD);
+/// The word with which bytes begin, or its beginning, if it is longer than any type's name.
+pub(crate) fn word_of_type(bytes: &[u8]) -> &str {
+    let most = bytes.len().min(LONGEST_WORD);
     for at in 0..most {
-        if !word[at].is_ascii_alphanumeric() {
-            return str::from_utf8(&word[..at]).ok();
+        if !bytes[at].is_ascii_alphanumeric() {
+            return str::from_utf8(&bytes[..at]).unwrap_or("");
         }
     }
-    str::from_utf8(&word[..most]).ok()
+    str::from_utf8(&bytes[..most]).unwrap_or("")
 }
 
 /// The first of the names to which the fewest edits lead from a word, if few do: a letter more,
 /// less or another, or two that change places.
-fn nearest(
+pub(crate) fn nearest(
     alloc: Global,
     names: &[&'static str],
     word: &str,

@@ -1,87 +1,31 @@
-//! A key that stands in its table before: where, how it is spelled, and what is said of it.
-//! Which keys those are is told by `resb_diagnostics`.
-use crate::shown::Shown;
-use resb_compile::IcuCompileError;
-use resb_diagnostics::{Location, Reason, Warning, first_icu_word, repeated_icu_keys};
+//! The key of a text that stands in its table before, and how a key is spelled.
+//! Which keys those are is told by `resb_diagnostics`, and what is said of them by `mistakes`.
+use crate::mistakes::{Mistake, Repeated, Spot, What};
+use resb_diagnostics::{Reason, first_icu_word, location_of, repeated_icu_keys};
 use resb_grammar::is_word;
-use resb_icu_grammar::IcuExpected;
-use resb_program::SourceError;
 use std::alloc::{AllocError, Global};
-use std::fmt;
-
-/// A key of a text of ICU's form that stands in its table before.
-#[derive(Clone, Copy)]
-pub(crate) struct RepeatedKey {
-    /// Where it stands the second time.
-    pub(crate) place: usize,
-    /// Where it stands first.
-    pub(crate) first: usize,
-}
-
-impl RepeatedKey {
-    /// What is said of it in its text, where the line and column are known at which it stands
-    /// first.
-    pub(crate) fn told<'s>(self, source: &'s [u8], first: Location) -> Repeated<'s> {
-        let key = key_at(source, self.place, true);
-        Repeated { key, first }
-    }
-}
-
-/// A key that stands a second time, as it is said.
-#[derive(Clone, Copy)]
-pub(crate) struct Repeated<'k> {
-    /// How it is spelled.
-    pub(crate) key: &'k str,
-    /// Where it stands first.
-    pub(crate) first: Location,
-}
-
-impl fmt::Display for Repeated<'_> {
-    fn fmt<W: fmt::Write>(&self, f: &mut fmt::Formatter<W>) -> fmt::Result {
-        let (key, line, column) = (Shown(self.key), self.first.line, self.first.column);
-        write!(f, "the key \"{key}\" stands at {line}:{column} too")
-    }
-}
 
 /// The first key that stands in its table before, where a text of ICU's form is refused for that at
 /// the table's end.
-pub(crate) fn repeated_key(
+pub(crate) fn repeated_key<'s>(
     alloc: Global,
-    source: &[u8],
-    end: usize,
-    error: &SourceError,
-) -> Result<Option<RepeatedKey>, AllocError> {
-    let Some((before, _)) = source.split_at_checked(end) else {
+    spot: &Spot<'s>,
+) -> Result<Option<Mistake<'s>>, AllocError> {
+    let found = repeated_icu_keys(alloc, spot.before)?;
+    let Some(warning) = found.first() else {
         return Ok(None);
     };
-    if !is_of_keys(error) {
-        return Ok(None);
-    }
-    match repeated_icu_keys(alloc, before)?.first() {
-        Some(repeated) => Ok(again_of(*repeated)),
-        None => Ok(None),
-    }
-}
-
-/// The two places of which a warning tells, where it is of a key.
-fn again_of(repeated: Warning) -> Option<RepeatedKey> {
-    match repeated.reason {
-        Reason::RepeatedKey(first) => Some(RepeatedKey {
-            place: repeated.place,
-            first,
+    Ok(match warning.reason {
+        Reason::RepeatedKey(first) => Some(Mistake {
+            place: warning.place,
+            what: What::Repeated(Repeated {
+                key: key_at(spot.source, warning.place, true),
+                first: location_of(spot.source, first),
+                line: location_of(spot.source, warning.place).line,
+            }),
         }),
         _ => None,
-    }
-}
-
-/// Whether a text of ICU's form is refused for a key that stands twice in a table.
-fn is_of_keys(error: &SourceError) -> bool {
-    match error {
-        SourceError::IcuRefused(IcuCompileError::Reading(e)) => {
-            e.expected() == IcuExpected::KeysOnce
-        }
-        _ => false,
-    }
+    })
 }
 
 /// The key that begins at a place of a text, as it is spelled there: what its quotes have inside,

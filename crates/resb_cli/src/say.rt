@@ -1,17 +1,16 @@
 //! What is said on standard error: the place, the cause, and the line round it.
 //! What the causes are called is theirs to print; warnings are said in `warn`.
 use crate::hints::hint_at;
+use crate::mistaken::mistake_at;
+use crate::mistaken_values::last_long_string;
+use crate::mistakes::{Mistake, What};
 use crate::paths::Name;
-use crate::repeated::repeated_key;
 use crate::show::Form;
 use crate::shown::Shown;
 use crate::streams::{InputError, NO_MEMORY};
 use crate::texts::SourceText;
 use resb_compile::{CompileError, IcuCompileError};
-use resb_diagnostics::{
-    Location, first_icu_outdent, first_outdent, location_of, long_icu_string_before,
-    long_string_before, pointed_line,
-};
+use resb_diagnostics::{Location, first_icu_outdent, first_outdent, location_of, pointed_line};
 use resb_grammar::Expected;
 use resb_icu_grammar::IcuExpected;
 use resb_print::PathStep;
@@ -22,8 +21,9 @@ use std::fmt::{self, Display};
 /// What is said of the last string that spans lines before the place of a refusal.
 const LONG_STRING: &str = "the last string before that which spans lines begins here";
 
-/// What is said of a line that a missing `}` may have left in a group.
-const OUTDENT: &str = "this line is indented too little for the group it stands in";
+/// What is said of a line before which a `}` may be missing.
+const OUTDENT: &str =
+    "a '}' may be missing before this line, which is indented too little for its group";
 
 /// Says one line.
 pub(crate) fn complain<R: Eprint, C: Display + Drop>(rt: &R, name: &str, cause: C) {
@@ -164,18 +164,43 @@ fn tell<R: Eprint + AllocGlobal>(
         Blame::Nowhere if wants_memory(error) => complain(rt, name, NO_MEMORY),
         Blame::Nowhere => complain(rt, name, error),
         Blame::At(place) => refuse_at(rt, name, source, place, error),
-        Blame::Open(place) => {
-            say_at(rt, name, location_of(source, place), Unclosed(error));
-            point(rt, name, source, place);
-            if let Some(line) = or_no_memory(rt, name, outdent(rt.alloc(), source, error)) {
-                say_at(rt, name, location_of(source, line), OUTDENT);
-            }
-        }
+        Blame::Open(place) => refuse_open(rt, name, source, place, error),
     }
     1
 }
 
-/// Says why a text is refused at a place, and what else may be the cause.
+/// Says which brace is open where the text ends, behind the line at which another one may be
+/// missing, if that is known.
+fn refuse_open<R: Eprint + AllocGlobal>(
+    rt: &R,
+    name: &str,
+    source: &[u8],
+    place: usize,
+    error: &SourceError,
+) {
+    match or_no_memory(rt, name, outdent(rt.alloc(), source, error)) {
+        Some(line) if !opens_before(source, line) => {
+            say_at(rt, name, location_of(source, line), OUTDENT);
+            point(rt, name, source, line);
+            say_at(rt, name, location_of(source, place), Unclosed(error));
+        }
+        _ => {
+            say_at(rt, name, location_of(source, place), Unclosed(error));
+            point(rt, name, source, place);
+        }
+    }
+}
+
+/// Whether a group opens right before a place: all lines of a text may be indented as little.
+fn opens_before(source: &[u8], place: usize) -> bool {
+    match source.split_at_checked(place) {
+        Some((before, _)) => before.trim_ascii_end().ends_with(b"{"),
+        None => false,
+    }
+}
+
+/// Says which mistake a text is refused for, or what was expected at its place, and what else may
+/// be the cause.
 fn refuse_at<R: Eprint + AllocGlobal>(
     rt: &R,
     name: &str,
@@ -183,22 +208,31 @@ fn refuse_at<R: Eprint + AllocGlobal>(
     place: usize,
     error: &SourceError,
 ) {
-    say_at(rt, name, location_of(source, place), error);
-    point(rt, name, source, place);
-    if let Some(hint) = or_no_memory(rt, name, hint_at(rt.alloc(), source, place, error)) {
+    let mistake = or_no_memory(rt, name, mistake_at(rt.alloc(), source, place, error));
+    match mistake {
+        Some(Mistake { place, what }) => {
+            say_at(rt, name, location_of(source, place), what);
+            point(rt, name, source, place);
+        }
+        None => {
+            say_at(rt, name, location_of(source, place), error);
+            point(rt, name, source, place);
+        }
+    }
+    if let Some(hint) = hint_at(source, place, error, mistake) {
         complain(rt, name, hint);
     }
-    if let Some(quote) = long_string(source, place, error) {
-        say_at(rt, name, location_of(source, quote), LONG_STRING);
-    }
-    if let Some(key) = or_no_memory(rt, name, repeated_key(rt.alloc(), source, place, error)) {
-        let first = location_of(source, key.first);
-        say_at(
-            rt,
-            name,
-            location_of(source, key.place),
-            key.told(source, first),
-        );
+    match mistake {
+        Some(
+            Mistake {
+                what: What::LongString,
+                ..
+            },
+        ) => {
+            say_at(rt, name, location_of(source, place), error);
+        }
+        Some(_) => {}
+        None => say_long_string(rt, name, source, place, error),
     }
 }
 
@@ -217,11 +251,24 @@ fn or_no_memory<R: Eprint, T: Drop>(
     }
 }
 
+/// Says where the last string that spans lines begins before a place at which a text is refused.
+fn say_long_string<R: Eprint>(
+    rt: &R,
+    name: &str,
+    source: &[u8],
+    place: usize,
+    error: &SourceError,
+) {
+    if let Some(quote) = long_string(source, place, error) {
+        say_at(rt, name, location_of(source, quote), LONG_STRING);
+    }
+}
+
 /// The last string that spans lines before a place at which a text is refused.
 fn long_string(source: &[u8], place: usize, error: &SourceError) -> Option<usize> {
     match error {
-        SourceError::Refused(_) => long_string_before(source, place),
-        SourceError::IcuRefused(_) => long_icu_string_before(source, place),
+        SourceError::Refused(_) => last_long_string(source, place, false),
+        SourceError::IcuRefused(_) => last_long_string(source, place, true),
         _ => None,
     }
 }

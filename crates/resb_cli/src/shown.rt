@@ -29,6 +29,16 @@ impl fmt::Display for Shown<'_> {
     }
 }
 
+/// A character in a message, shown as in a text.
+#[derive(Clone, Copy)]
+pub(crate) struct ShownCharacter(pub(crate) char);
+
+impl fmt::Display for ShownCharacter {
+    fn fmt<W: fmt::Write>(&self, f: &mut fmt::Formatter<W>) -> fmt::Result {
+        write_character(f, self.0)
+    }
+}
+
 /// Writes a character, or what stands for one that is hidden.
 fn write_character<W: fmt::Write>(f: &mut fmt::Formatter<W>, c: char) -> fmt::Result {
     if c == MARK {

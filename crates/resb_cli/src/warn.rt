@@ -1,12 +1,16 @@
 //! What is said on standard error of a text that is compiled, though something in it may not be
 //! meant so.
 //! Where a warning is due is told by `resb_diagnostics`; refusals are said in `say`.
-use crate::repeated::{Repeated, key_at};
+use crate::compile::is_file_name;
+use crate::mistakes::Repeated;
+use crate::names::name_in;
+use crate::repeated::key_at;
 use crate::say::{fail, say_at};
 use crate::shown::Shown;
 use crate::texts::SourceText;
-use resb_diagnostics::{Location, Locations, Reason, Warning, icu_warnings, warnings};
+use resb_diagnostics::{Location, Locations, Reason, Warning, icu_warnings, location_of, warnings};
 use std::fmt;
+use std::path::Path;
 
 /// The most warnings that are said of one text.
 const MOST_WARNINGS: usize = 20;
@@ -35,6 +39,48 @@ pub(crate) fn warn<R: Eprint + AllocGlobal>(
     Ok(!found.is_empty())
 }
 
+/// Answers whether a text's bundle isn't named as the text, by whose name its file is made, and
+/// says so unless this is to be quiet.
+pub(crate) fn warn_of_name<R: Eprint>(
+    rt: &R,
+    name: &str,
+    text: SourceText<'_>,
+    is_icu: bool,
+    is_quiet: bool,
+) -> bool {
+    let Some(stem) = Path::new(name).file_stem() else {
+        return false;
+    };
+    let source = text.read().as_bytes();
+    let (place, bundle) = name_in(source, is_icu);
+    if bundle == stem || !is_file_name(bundle) {
+        return false;
+    }
+    if !is_quiet {
+        let at = location_of(source, place);
+        say_at(rt, name, at, OtherName { bundle, stem });
+    }
+    true
+}
+
+/// A bundle whose name isn't that of its text, as it is said.
+#[derive(Clone, Copy)]
+struct OtherName<'n> {
+    bundle: &'n str,
+    stem: &'n str,
+}
+
+impl fmt::Display for OtherName<'_> {
+    fn fmt<W: fmt::Write>(&self, f: &mut fmt::Formatter<W>) -> fmt::Result {
+        let (bundle, stem) = (Shown(self.bundle), Shown(self.stem));
+        write!(
+            f,
+            "warning: the bundle is named '{bundle}', but this makes {stem}.res: what looks for"
+        )?;
+        write!(f, " {bundle}.res won't find it")
+    }
+}
+
 /// Says the first of the warnings of a text, and how many more there are.
 fn say_warnings<R: Eprint>(rt: &R, name: &str, text: SourceText<'_>, found: &[Warning]) {
     let source = text.read().as_bytes();
@@ -52,7 +98,18 @@ fn say_warnings<R: Eprint>(rt: &R, name: &str, text: SourceText<'_>, found: &[Wa
             ),
             _ => ("", at),
         };
-        say_at(rt, name, at, Told { reason, key, first });
+        let line = at.line;
+        say_at(
+            rt,
+            name,
+            at,
+            Told {
+                reason,
+                key,
+                first,
+                line,
+            },
+        );
     }
     if found.len() > MOST_WARNINGS {
         let (name, more) = (Shown(name), found.len() - MOST_WARNINGS);
@@ -68,14 +125,16 @@ struct Told<'s> {
     key: &'s str,
     /// Where a repeated key stands first; of others, their own place.
     first: Location,
+    /// Its own line.
+    line: usize,
 }
 
 impl fmt::Display for Told<'_> {
     fn fmt<W: fmt::Write>(&self, f: &mut fmt::Formatter<W>) -> fmt::Result {
         match self.reason {
             Reason::RepeatedKey(_) => {
-                let (key, first) = (self.key, self.first);
-                let repeated = Repeated { key, first };
+                let (key, first, line) = (self.key, self.first, self.line);
+                let repeated = Repeated { key, first, line };
                 write!(f, "warning: {repeated}; genrb refuses that")
             }
             Reason::Backslash => f.write_str(

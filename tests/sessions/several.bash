@@ -40,13 +40,13 @@ same names.txt own.txt
 
 # a file that standard output is counts too; a text that is refused takes no file
 cp names.txt two.txt
-(exec -a resb "$program" compile - two.txt) < own.txt > two.res 2> err
+(exec -a resb "$program" compile --quiet - two.txt) < own.txt > two.res 2> err
 [ $? = 2 ] && [ "$(cat err)" = 'two.txt: its file two.res is that of - too' ] \
   && passed=$((passed + 1)) || { failed=$((failed + 1)); cat err; }
 same names.res two.res
 cp names.txt open.two
 told 1 '' $'open.txt:1:2: expected \'}\' before the text ends inside this\nb{\n ^' \
-  compile open.txt open.two
+  compile --quiet open.txt open.two
 same names.res open.res
 
 # a package's items, by their names with the package's own before them and without it

@@ -68,6 +68,8 @@ done << 'END'
 @1:10@expected '{'@b{a{x} c }
 @2:1@expected '{'@b{a{x} c\nd{y}}
 @1:8@this value has no key@b{a{x} {y}}
+@1:3@this value has no key@b{{x}}
+@1:3@'\303\251' stands in a string with quotes alone@b{\303\251{y}}
 @1:7@entries of a table have no commas@b{a{x},c{y}}
 @1:7@entries of a table have no semicolons@b{a{x};c{y}}
 @1:1@the bundle has no name@{a{x}}

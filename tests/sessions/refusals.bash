@@ -132,7 +132,7 @@ outdent.txt:1:2: expected ${form#*:}'}' before the text ends inside this" \
 done
 # where no line is indented, none is
 printf 'b{\na{\nx{"1"}\n' > flat.txt
-told 1 '' "flat.txt:2:2: expected '}' before the text ends inside this
+told 1 '' "flat.txt:2:2: expected a resource before the text ends inside this
 a{
  ^" compile flat.txt
 

@@ -7,8 +7,9 @@ use crate::mistaken_keys::{
     Role, icu_key_mistake, plain_brace_mistake, quoted_character, type_mistake,
 };
 use crate::mistaken_values::{
-    comment_mistake, digits_mistake, end_mistake, icu_number_mistake, one_value_mistake,
-    open_group_mistake, plain_number_mistake, plain_value_mistake, quote_mistake,
+    comment_mistake, digits_mistake, end_mistake, icu_number_mistake, is_in_vector,
+    one_value_mistake, open_group_mistake, plain_number_mistake, plain_value_mistake,
+    quote_mistake,
 };
 use crate::mistakes::{Mistake, Spot, What};
 use crate::repeated::repeated_key;
@@ -94,17 +95,27 @@ fn plain_quote_mistake<'s>(spot: &Spot<'s>) -> Option<Mistake<'s>> {
 
 /// What is wrong where an entry, a member or a value of the plain form ends or begins.
 fn plain_group_mistake<'s>(spot: &Spot<'s>, expected: Expected) -> Option<Mistake<'s>> {
-    let is_behind_group = spot.before.trim_ascii_end().ends_with(b"}");
+    let is_at_entry = may_begin_entry(spot.before);
     match (expected, spot.behind) {
         (Expected::LeftBrace, _) => plain_brace_mistake(spot),
-        (Expected::RightBrace, [b',', ..]) if is_behind_group => spot.here(What::Comma),
-        (Expected::RightBrace, [b';', ..]) if is_behind_group => spot.here(What::Semicolon),
-        (Expected::RightBrace, [b'{', ..]) if is_behind_group => spot.here(What::NoKey),
-        (Expected::RightBrace, _) if is_behind_group => quoted_character(spot),
+        (Expected::RightBrace, [b',', ..]) if is_at_entry => spot.here(What::Comma),
+        (Expected::RightBrace, [b';', ..]) if is_at_entry => spot.here(What::Semicolon),
+        (Expected::RightBrace, [b'{', ..]) if is_at_entry => spot.here(What::NoKey),
+        (Expected::RightBrace, _) if is_at_entry => quoted_character(spot),
         (Expected::RightBrace, _) => plain_value_mistake(spot),
         (Expected::Text, [b'{', ..]) if spot.before.is_empty() => spot.here(What::NoName),
         (Expected::Item | Expected::Text, _) => quoted_character(spot),
         _ => None,
+    }
+}
+
+/// Whether an entry of the plain form may begin behind these bytes, where a `}` is expected too: at
+/// a table's start, or behind another entry.
+fn may_begin_entry(before: &[u8]) -> bool {
+    match before.trim_ascii_end().last() {
+        Some(b'}') => true,
+        Some(b'{') => !is_in_vector(before),
+        _ => false,
     }
 }
 

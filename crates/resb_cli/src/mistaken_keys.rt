@@ -45,8 +45,10 @@ impl Role {
 /// What is wrong where a key or a name of ICU's form is to stand.
 pub(crate) fn icu_key_mistake<'s>(spot: &Spot<'s>, role: Role) -> Option<Mistake<'s>> {
     match spot.behind {
-        [b',', ..] => spot.here(What::Comma),
-        [b';', b' ' | b'\t' | b'\r' | b'\n', ..] => spot.here(What::Semicolon),
+        [b',', ..] if role == Role::Key => spot.here(What::Comma),
+        [b';', b' ' | b'\t' | b'\r' | b'\n', ..] if role == Role::Key => {
+            spot.here(What::Semicolon)
+        }
         [b'#', b' ', ..] => spot.here(What::NoComment),
         [b'{', ..] if role == Role::Key => spot.here(What::NoKey),
         [b'{', ..] => spot.here(What::NoName),

@@ -94,7 +94,7 @@ pub(crate) fn plain_number_mistake<'s>(spot: &Spot<'s>) -> Option<Mistake<'s>> {
 }
 
 /// Whether the last group that opens in these bytes is a vector.
-fn is_in_vector(bytes: &[u8]) -> bool {
+pub(crate) fn is_in_vector(bytes: &[u8]) -> bool {
     for at in 0..bytes.len() {
         let at = bytes.len() - 1 - at;
         if bytes[at] == b'{' {

@@ -5,7 +5,7 @@ Each block marked `rust` stands in a source of crates/, so that the gate proves 
 that is shown with its answer (a line that begins with `$`) is run, and answers that. The table of
 docs/TRUST.md is the one that trust.py makes, and every definition has its words.
 
-Refused is a page that has more words than its limit, or no limit; a date, but in the rows of a
+Refused are more words than README and all pages together may have; a date, but in the rows of a
 table of runs; a line of prose that is too long; a name of code that no source has; and a file that
 isn't there.
 """
@@ -18,16 +18,8 @@ import tempfile
 TOP = pathlib.Path(__file__).resolve().parent.parent
 TESTS = TOP / "tests"
 
-# the most words of each page, by `wc -w`, and of all pages together
-LIMITS = {
-    "README.md": 1000, "CHANGELOG.md": 300, "CONTRIBUTING.md": 1600, "bench/README.md": 2000,
-    "docs/ARCHITECTURE.md": 1600, "docs/DECISIONS.md": 3000, "docs/DIFFERENCES.md": 2000,
-    "docs/FORMAT.md": 1400, "docs/GATE.md": 400, "docs/GRAMMAR.md": 1500,
-    "docs/ICU_FILES.md": 680, "docs/ICU_TEXTS.md": 2150, "docs/PROGRAM.md": 2870,
-    "docs/PROOFS.md": 1000,
-    "docs/PROVED.md": 2500, "docs/READING.md": 2500, "docs/REVIEW.md": 450,
-    "docs/TESTED.md": 1000, "docs/TRUST.md": 500, "docs/WRITING.md": 930, "docs/ZONEINFO.md": 600,
-}
+# the most words of README, by `wc -w`, and of all pages together
+README_WORDS = 1000
 ALL_WORDS = 30000
 LONGEST_LINE = 300
 
@@ -132,13 +124,10 @@ def refusals(page, text, known):
     """What a page is refused for, a list for each rule, named."""
     shown = list(prose(text))
     count = len(text.split())
-    limit = LIMITS.get(page)
     allowed = page in PAGES_OF_RUNS
-    if limit is None:
-        yield "words", [f"{page}: LIMITS has no number of words for it"]
-    else:
-        yield "words", [f"{page}: {count} words, and at most {limit} are allowed"
-                        ] if count > limit else []
+    if page == "README.md":
+        yield "words", [f"{page}: {count} words, and at most {README_WORDS} are allowed"
+                        ] if count > README_WORDS else []
     yield "dates", [f"{page}:{number}: a date: {line.strip()[:60]}"
                     for number, line in enumerate(text.split("\n"), 1)
                     if DATE.search(line) and not (allowed and line.startswith("|"))]

@@ -1,7 +1,7 @@
 //! The command `check`: what is said of each file, as a line or as an object of JSON.
 //! What a file is, and why it isn't read, is in `resb_program`.
 use crate::folders::{BUNDLES, Named, named_files};
-use crate::input::{Beside, Input, Opened};
+use crate::input::{Beside, Input, Opened, Pools};
 use crate::progress::Progress;
 use crate::refusal::{Refusal, refuse};
 use crate::say::{fail, refuse_memory};
@@ -41,16 +41,17 @@ pub(crate) fn check(rt: &HostRuntime, wanted: &CheckWords<'_>) -> u8 {
     }
 }
 
-/// The same of these files.
+/// Says of each of these files what it is.
 fn check_each(rt: &HostRuntime, files: &[Named], wanted: &CheckWords<'_>) -> u8 {
     let mut status = 0;
     let mut progress = Progress::new(rt, files.len());
     let mut before = None;
+    let mut pools = Pools::new(wanted.pool, None);
     for file in files {
         let name = file.name.as_str();
         before = match input_of(rt, file, before) {
             Ok(input) => {
-                status = status.max(check_one(rt, name, &input, wanted));
+                status = status.max(check_one(rt, name, &input, &mut pools, wanted));
                 Some(input)
             }
             Err(e) => {
@@ -81,19 +82,27 @@ fn say_unread(rt: &HostRuntime, name: &str, e: Unread, wanted: &CheckWords<'_>) 
 }
 
 /// Says of one file what it is.
-fn check_one(rt: &HostRuntime, name: &str, input: &Input, wanted: &CheckWords<'_>) -> u8 {
+fn check_one(
+    rt: &HostRuntime,
+    name: &str,
+    input: &Input,
+    pools: &mut Pools<'_>,
+    wanted: &CheckWords<'_>,
+) -> u8 {
     let opened = match input.opened(rt.alloc()) {
         Ok(opened) => opened,
         Err(e) => return say_unread(rt, name, e, wanted),
     };
-    let beside = match opened.pool(rt, name, wanted.pool, None) {
+    let beside = match opened.pool_among(rt, name, pools) {
         Ok(beside) => beside,
         Err(status) => return without_pool(rt, name, status, wanted),
     };
-    check_beside(rt, name, opened, &beside, wanted)
+    let status = check_beside(rt, name, opened, &beside, wanted);
+    pools.keep(beside);
+    status
 }
 
-/// The same, beside the file's pool bundle.
+/// Says of one file what it is, beside its pool bundle.
 fn check_beside(
     rt: &HostRuntime,
     name: &str,

@@ -154,6 +154,59 @@ impl Input {
     }
 }
 
+/// The pool bundles of a call: the one that was said, and the one that was read last.
+#[derive(Drop)]
+pub(crate) struct Pools<'w> {
+    given: Option<&'w str>,
+    limit: Option<u64>,
+    last: Option<(String, Input)>,
+}
+
+impl<'w> Pools<'w> {
+    /// No pool bundle is read yet.
+    pub(crate) fn new(given: Option<&'w str>, limit: Option<u64>) -> Pools<'w> {
+        let last = None;
+        Pools { given, limit, last }
+    }
+
+    /// Keeps the pool bundle of a file for the next one.
+    pub(crate) fn keep(&mut self, beside: Beside<'_>) {
+        if let Beside::File(name, input) = beside {
+            self.last = Some((name, input));
+        }
+    }
+
+    /// The pool bundle of a name: the one that was read last, if it is that.
+    fn read<'f>(&mut self, rt: &HostRuntime, name: &str) -> Result<Beside<'f>, u8> {
+        if let Some((last, input)) = self.last.take() {
+            if last.as_str() == name {
+                return Ok(Beside::File(last, input));
+            }
+        }
+        let input = Input::read(rt, name, self.limit)?;
+        match String::from_str(rt.alloc(), name) {
+            Ok(name) => Ok(Beside::File(name, input)),
+            Err(_) => Err(refuse_memory(rt, name)),
+        }
+    }
+
+    /// The pool bundle in the folder of a file, if anything of its name is there. Standard input
+    /// has no folder.
+    fn beside<'f>(&mut self, rt: &HostRuntime, name: &str) -> Result<Beside<'f>, u8> {
+        let Ok(pool) = pool_name(rt.alloc(), name) else {
+            return Err(refuse_memory(rt, name));
+        };
+        let place = Path::new(pool.as_str());
+        if name == "-" || !place.exists(rt) {
+            return Ok(Beside::Nowhere);
+        }
+        if !place.is_file(rt) {
+            return Err(fail(rt, pool.as_str(), FILE_ALONE));
+        }
+        self.read(rt, pool.as_str())
+    }
+}
+
 impl<'f> Opened<'f> {
     /// Where the pool bundle is that the file uses: the one that was said, or the `pool.res` in the
     /// same folder of files or of the package.
@@ -164,14 +217,25 @@ impl<'f> Opened<'f> {
         given: Option<&str>,
         limit: Option<u64>,
     ) -> Result<Beside<'f>, u8> {
+        self.pool_among(rt, name, &mut Pools::new(given, limit))
+    }
+
+    /// Where the pool bundle is that the file uses, read only where it isn't the one that was read
+    /// last.
+    pub(crate) fn pool_among(
+        &self,
+        rt: &HostRuntime,
+        name: &str,
+        pools: &mut Pools<'_>,
+    ) -> Result<Beside<'f>, u8> {
         if !uses_pool(self.bytes) {
             return Ok(Beside::Nowhere);
         }
-        match (given, &self.folder) {
+        match (pools.given, &self.folder) {
             (Some("-"), _) => Err(fail(rt, "resb", FILE_ALONE)),
-            (Some(given), _) => pool_file(rt, given, limit),
+            (Some(given), _) => pools.read(rt, given),
             (None, Some((package, item))) => pool_item(rt, name, package, item),
-            (None, None) => pool_beside(rt, name, limit),
+            (None, None) => pools.beside(rt, name),
         }
     }
 }
@@ -207,31 +271,6 @@ fn pool_name(alloc: Global, name: &str) -> Result<String, AllocError> {
         Some((folder, _)) => format!(in alloc; "{folder}/{POOL}"),
         None => String::from_str(alloc, POOL),
     }
-}
-
-/// The pool bundle of this name.
-fn pool_file<'f>(rt: &HostRuntime, name: &str, limit: Option<u64>) -> Result<Beside<'f>, u8> {
-    let input = Input::read(rt, name, limit)?;
-    match String::from_str(rt.alloc(), name) {
-        Ok(name) => Ok(Beside::File(name, input)),
-        Err(_) => Err(refuse_memory(rt, name)),
-    }
-}
-
-/// The pool bundle in the folder of a file, if anything of its name is there. Standard input has no
-/// folder.
-fn pool_beside<'f>(rt: &HostRuntime, name: &str, limit: Option<u64>) -> Result<Beside<'f>, u8> {
-    let Ok(pool) = pool_name(rt.alloc(), name) else {
-        return Err(refuse_memory(rt, name));
-    };
-    let place = Path::new(pool.as_str());
-    if name == "-" || !place.exists(rt) {
-        return Ok(Beside::Nowhere);
-    }
-    if !place.is_file(rt) {
-        return Err(fail(rt, pool.as_str(), FILE_ALONE));
-    }
-    pool_file(rt, pool.as_str(), limit)
 }
 
 /// The name of the pool bundle over which files are written: this one, or that in this folder.

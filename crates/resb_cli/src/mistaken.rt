@@ -9,7 +9,7 @@ use crate::mistaken_keys::{
 use crate::mistaken_values::{
     comment_mistake, digits_mistake, end_mistake, icu_number_mistake, is_in_vector,
     one_value_mistake, open_group_mistake, plain_number_mistake, plain_value_mistake,
-    quote_mistake,
+    quote_mistake, slash_mistake,
 };
 use crate::mistakes::{Mistake, Spot, What};
 use crate::repeated::repeated_key;
@@ -104,7 +104,7 @@ fn plain_group_mistake<'s>(spot: &Spot<'s>, expected: Expected) -> Option<Mistak
         (Expected::RightBrace, _) if is_at_entry => quoted_character(spot),
         (Expected::RightBrace, _) => plain_value_mistake(spot),
         (Expected::Text, [b'{', ..]) if spot.before.is_empty() => spot.here(What::NoName),
-        (Expected::Item | Expected::Text, _) => quoted_character(spot),
+        (Expected::Item | Expected::Text, _) => slash_mistake(spot).or(quoted_character(spot)),
         _ => None,
     }
 }
@@ -136,7 +136,10 @@ fn icu_mistake<'s>(
 fn icu_token_mistake<'s>(spot: &Spot<'s>, expected: IcuExpected) -> Option<Mistake<'s>> {
     match expected {
         IcuExpected::Name => icu_key_mistake(spot, Role::Name),
-        IcuExpected::Entry | IcuExpected::Key => icu_key_mistake(spot, Role::Key),
+        IcuExpected::Entry | IcuExpected::Key => {
+            slash_mistake(spot).or(icu_key_mistake(spot, Role::Key))
+        }
+        IcuExpected::String => slash_mistake(spot),
         IcuExpected::Number => icu_number_mistake(spot, What::IntegerRange),
         IcuExpected::NumberOrRightBrace => icu_number_mistake(spot, What::VectorRange),
         IcuExpected::HexPairs => digits_mistake(spot, true),
@@ -147,7 +150,9 @@ fn icu_token_mistake<'s>(spot: &Spot<'s>, expected: IcuExpected) -> Option<Mista
         }
         IcuExpected::RightBrace => quote_mistake(spot, true, false).or(one_value_mistake(spot)),
         IcuExpected::Member if ends_in_comma(spot) => spot.here(What::TwoCommas),
-        IcuExpected::CommaOrMember | IcuExpected::Comma => quote_mistake(spot, true, false),
+        IcuExpected::Member => slash_mistake(spot),
+        IcuExpected::CommaOrMember => slash_mistake(spot).or(quote_mistake(spot, true, false)),
+        IcuExpected::Comma => quote_mistake(spot, true, false),
         IcuExpected::Group if begins_string(spot) => spot.here(What::NoBraceOpen),
         _ => None,
     }

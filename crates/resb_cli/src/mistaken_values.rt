@@ -21,8 +21,16 @@ pub(crate) fn comment_mistake<'s>(spot: &Spot<'s>, is_icu: bool) -> Option<Mista
                 spot.here(What::OpenComment)
             }
         }
-        [b'/', b'/', ..] => None,
-        [b'/', ..] => spot.here(What::NoComment),
+        [b'/', b' ' | b'\t' | b'\r' | b'\n' | b'}', ..] => spot.here(What::NoComment),
+        _ => None,
+    }
+}
+
+/// A string without quotes that begins with a slash.
+pub(crate) fn slash_mistake<'s>(spot: &Spot<'s>) -> Option<Mistake<'s>> {
+    match spot.behind {
+        [b'/', b'/' | b'*', ..] => None,
+        [b'/', ..] => spot.here(What::Slash),
         _ => None,
     }
 }

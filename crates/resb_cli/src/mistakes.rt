@@ -29,6 +29,7 @@ pub(crate) enum What<'s> {
     Repeated(Repeated<'s>),
     OpenComment,
     NoComment,
+    Slash,
     Comma,
     Semicolon,
     NoKey,
@@ -154,6 +155,7 @@ impl What<'_> {
         match self {
             What::OpenComment => "this comment has no end",
             What::NoComment => "a comment begins with '//' or '/*'",
+            What::Slash => "a string that begins with '/' needs quotes",
             What::Comma => "entries of a table have no commas",
             What::Semicolon => "entries of a table have no semicolons",
             What::NoKey => "this value has no key",

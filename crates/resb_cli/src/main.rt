@@ -4,6 +4,7 @@
 #![tactic(auto)]
 
 mod below;
+mod changes;
 mod check;
 mod collation;
 mod compile;
@@ -23,6 +24,8 @@ mod hints;
 mod input;
 mod key_order;
 mod least;
+mod levels;
+mod note;
 mod packages;
 mod paths;
 mod place;

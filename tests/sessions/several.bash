@@ -138,10 +138,10 @@ told 0 '' '' diff --limit 300 many.res many.res
 told 2 '' 'many.res: its binary data takes at least 300 bytes, more than the limit of 299' \
   diff --limit 299 many.res many.res
 # each of 200 levels counts
-told 0 "$(printf '[%.0s' {1..200})5$(printf ']%.0s' {1..200})" '' dump --json --limit 41600 deep.res
-over='deep.res: its depth takes at least 41600 bytes, more than the limit of 41599'
-told 1 '' "$over" dump --json --limit 41599 deep.res
-told 2 '' "$over" diff --limit 41599 deep.res six.res
+told 0 "$(printf '[%.0s' {1..200})5$(printf ']%.0s' {1..200})" '' dump --json --limit 73600 deep.res
+over='deep.res: its depth takes at least 73600 bytes, more than the limit of 73599'
+told 1 '' "$over" dump --json --limit 73599 deep.res
+told 2 '' "$over" diff --limit 73599 deep.res six.res
 printf 'b{a{"x"}}' > s.txt
 printf 'b:table(nofallback){a{"x"}}' > t.txt
 told 0 '' '' compile s.txt t.txt

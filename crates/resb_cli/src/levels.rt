@@ -9,8 +9,8 @@ use resb_walk::{Member, Members, Standing, standing_at};
 use std::alloc::{AllocError, Global};
 
 /// How many bytes are counted for a level that is open while a file is read or printed: what is
-/// kept for it has 104 bytes at most, in a list that is copied where it grows.
-const LEVEL_BYTES: u64 = 208;
+/// kept for it has 184 bytes at most, in a list that is copied where it grows.
+const LEVEL_BYTES: u64 = 368;
 
 /// Refuses a file whose levels take more bytes than the limit: the status, once that is said. A
 /// file that has no tree has none.

@@ -218,11 +218,23 @@ told 1 '{"path":"a.res","ok":false,"kind":"pool bundle","message":"Invalid resou
 told 2 '{"path":"a.res","ok":false,"kind":"pool bundle","message":"its pool bundle isn'"'"'t '\
 'read"}' 'none.res: no such file' check --json a.res --pool none.res
 
-# several paths, in their order; keys with a slash or a tilde
+# a file whose pool bundle isn't there, or is another one: what its head tells
+note="// This file's keys and strings are in a pool bundle that is not here.
+// format 3.0, fallback, largest table 2, 84 bytes
+// the pool bundle's checksum: e31610fa"
+told 0 "$note" '' dump --lenient a.res
+told 0 "$note" '' dump --lenient --icu --pool other.res a.res
+told 0 $'a{\n    alpha{"one two three"}\n    beta{"x"}\n}' '' dump --lenient shared/a.res
+told 2 '' 'none.res: no such file' dump --lenient --pool none.res a.res
+mkdir noted
+told 0 '' '' dump --lenient a.res small.res -d noted
+[ "$(cat noted/a.txt)" = "$note" ] && passed=$((passed + 1)) || { failed=$((failed + 1)); cat noted/a.txt; }
+
+# several paths, in their order; keys with a slash or a tilde; a slash before all of them
 printf 'k{"a/b":table{"~":table{"~1"{x} "~0"{y} "0"{z}} 1{s}} l:array{"p","q"} "m~n"{t}}' > key.txt
 told 0 '' '' compile key.txt -o key.res
-told 0 $'x\ny\nz\nz\ns\nt\nt' '' get key.res a~1b/~/~01 a~1b/~0/~00 a~1b/~/0 a~1b/~0/0 a~1b/1 \
-  m~n m~0n
+told 0 $'x\ny\nz\nz\ns\nt\nt\nx\nt' '' get key.res a~1b/~/~01 a~1b/~0/~00 a~1b/~/0 a~1b/~0/0 \
+  a~1b/1 m~n m~0n /a~1b/~/~01 /m~n
 told 1 $'q\n["p","q"]\np' $'key.res: nothing stands at l/2\nkey.res: nothing stands at a/b/1' \
   get key.res l/1 l/2 l a/b/1 l/0
 told 1 $'hello\nc' 'names.res: nothing stands at nowhere' \

@@ -87,13 +87,26 @@ told 1 $'{"path":"a","old":"x","new":"y"}\n{"path":"l/2","new":"r"}
 {"path":"n","new":{"binary":"00ff"}}\n{"path":"t/k","old":"1"}
 {"path":"t/z","old":5,"new":{"alias":"/q"}}' '' diff --json old/d.res d.res
 told 0 '' '' diff d.res d.res
+# two kinds that read alike: the kinds are said
+printf 'h{a:alias{"/q"}h:array{:int{1} :int{2}}n:bin{"00ff"}v:intvector{1}}' > old/h.txt
+printf 'h{a:table{alias{"/q"}}h:intvector{1,2}n:table{binary{"00ff"}}v:array{:int{3}}}' > h.txt
+told 0 '' '' compile --icu old/h.txt h.txt
+told 1 '~ a {"alias":"/q"} (alias) -> {"alias":"/q"} (table)
+~ h [1,2] (array) -> [1,2] (intvector)
+~ n {"binary":"00ff"} (bin) -> {"binary":"00ff"} (table)
+~ v [1] (intvector) -> [3] (array)' '' diff old/h.res h.res
+told 1 '{"path":"a","old":{"alias":"/q"},"old_kind":"alias","new":{"alias":"/q"},"new_kind":"table"}
+{"path":"h","old":[1,2],"old_kind":"array","new":[1,2],"new_kind":"intvector"}
+{"path":"n","old":{"binary":"00ff"},"old_kind":"bin","new":{"binary":"00ff"},"new_kind":"table"}
+{"path":"v","old":[1],"old_kind":"intvector","new":[3],"new_kind":"array"}' \
+  '' diff --json old/h.res h.res
 input=d.res
 told 0 '' '' diff - d.res
 input=
 told 2 '' 'resb: one of the files alone can be standard input' diff - -
 told 2 '' 'none.res: no such file' diff d.res none.res
 told 2 '' 'resb: standard input is read once alone' check - -
-# two strings as roots; keys without characters; more than a limit; levels, and keys of paths
+# two numbers as roots; keys without characters; more than a limit; levels, and keys of paths
 python3 -c "
 import struct
 def file(name, *words):
@@ -104,6 +117,8 @@ file('six.res', 0x70000006, 7, 8, 8, 8, 0, 0, 8)
 deep = [word for place in range(10, 8 + 2 * 200, 2) for word in (1, 0x80000000 + place)]
 end = 10 + len(deep)
 file('deep.res', 0x80000008, 7, 8, end, end, 0, 0, 8, *deep, 1, 0x70000005)
+many = [100, *[0x01010101] * 25, 3, *[0x10000008] * 3]
+file('many.res', 0x80000000 + 34, 7, 8, 8 + len(many), 8 + len(many), 0, 0, 8, *many)
 "
 told 1 '~ 5 -> 6' '' diff five.res six.res
 told 1 '{"path":null,"old":5,"new":6}' '' diff --json five.res six.res
@@ -111,14 +126,23 @@ told 1 "~ $(printf '[%.0s' $(seq 200))5$(printf ']%.0s' $(seq 200)) -> 6" '' dif
 printf 'e{"":table{"":int{1} k:int{2}}}' > old/e.txt
 printf 'e{"":table{"":int{3} k:int{4}}}' > e.txt
 told 0 '' '' compile old/e.txt e.txt
-told 1 $'~ / 1 -> 3\n~ /k 2 -> 4' '' diff old/e.res e.res
-told 0 4 '' get e.res /k
+told 1 $'~ // 1 -> 3\n~ //k 2 -> 4' '' diff old/e.res e.res
+told 1 4 'e.res: nothing stands at /k' get e.res //k /k
 key=$(printf 'k%.0s' {1..1000})
 printf "k{$key:table{$(printf 'm%d:int{1} ' {0..9})}}" > old/k.txt
 printf "k{$key:table{$(printf 'm%d:int{2} ' {0..9})}}" > k.txt
 told 0 '' '' compile old/k.txt k.txt
 told 2 '' 'k.res: its list of differences takes at least 9018 bytes, more than the limit of 9000' \
   diff --limit 9000 old/k.res k.res
+# three places lead to one binary of 100 bytes, and each is compared
+told 0 '' '' diff --limit 300 many.res many.res
+told 2 '' 'many.res: its binary data takes at least 300 bytes, more than the limit of 299' \
+  diff --limit 299 many.res many.res
+# each of 200 levels counts
+told 0 "$(printf '[%.0s' {1..200})5$(printf ']%.0s' {1..200})" '' dump --json --limit 73600 deep.res
+over='deep.res: its depth takes at least 73600 bytes, more than the limit of 73599'
+told 1 '' "$over" dump --json --limit 73599 deep.res
+told 2 '' "$over" diff --limit 73599 deep.res six.res
 printf 's{a{"x"}}' > s.txt
 printf 't:table(nofallback){a{"x"}}' > t.txt
 told 0 '' '' compile s.txt t.txt

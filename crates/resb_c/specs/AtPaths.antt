@@ -1,4 +1,5 @@
 -- What the calls for C answer of a path in a file, beside the pool bundle of these bytes.
+--     is_separator b          a path is parted by this byte, if it begins with it
 --     names_in path           the names of a path
 --     Leads pool file path o  the path leads to this place, or to none
 --     FailsToLead pool file path fault    why it isn't said where it leads
@@ -12,6 +13,8 @@
 --     GivesKey pool file path number old new r    the same of the key of an entry
 use Rattle.std.specs.Prelude.{◌≡◌, ◌⊎◌, ◌==◌, ℕ, List, [], ◌∷◌, Option, Some, None, Result, Ok, Err}
 use Rattle.std.specs.Prelude.{ℤ, pos, IsUtf8, nat_lt, option_map, if◌then◌else◌}
+use Rattle.std.specs.Prelude.{Bool, ◌&&◌, not}
+use Rattle.std.specs.Char.{is_ascii_alphanumeric}
 use Rattle.std.specs.List.{slice_split}
 use Rattle.resb_tree.specs.Tree.{Tree, binary, string}
 use Rattle.resb_format.specs.Content.{leaf, Member}
@@ -35,13 +38,19 @@ use Rattle.resb_c.specs.declared.fault.Fault.{Fault}
 use Rattle.resb_c.specs.declared.fault.Fault.TheVariants.{NotUtf8, Reading, UsesPool, Pool}
 use Rattle.resb_c.specs.declared.fault.Fault.TheVariants.{NotFound, OtherKind, TooShort}
 
--- The names of a path. The empty path has none, and leads to the root. The first character of any
--- other parts it, if that is of one byte: what stands between it and the same again is a name. A
--- path that begins with another character is one name.
+-- a path that begins with this byte is parted by it: one of ASCII that is no letter and no digit,
+-- nor a percent sign or a low line, with which keys begin too
+abbrev pub is_separator : ℕ → Bool
+is_separator b = nat_lt b 128 && not (is_ascii_alphanumeric b) && not (b == 37) && not (b == 95)
+
+-- The names of a path. The empty path has none, and leads to the root. Any other is parted by its
+-- first character, if that parts paths: what stands between it and the same again is a name. A path
+-- that begins with another character is parted by slashes, so that `a/b` has the names of `/a/b`.
 abbrev pub names_in : List ℕ → List (List ℕ)
 names_in [] = []
 names_in (b ∷ bs) =
-    if nat_lt b 128 then slice_split (λ byte. byte == b) bs else (b ∷ bs) ∷ []
+    if is_separator b then slice_split (λ byte. byte == b) bs
+    else slice_split (λ byte. byte == 47) (b ∷ bs)
 
 -- the path and the pool are right, no check of the file's head fails, and from its root the path
 -- leads to this place in the file's parts, or to none; where the bytes denote a tree, what stands

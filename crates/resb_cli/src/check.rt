@@ -176,7 +176,7 @@ impl fmt::Display for Summary<'_> {
 }
 
 /// The spelling of a version.
-fn spelled(version: FormatVersion) -> &'static str {
+pub(crate) fn spelled(version: FormatVersion) -> &'static str {
     match version {
         FormatVersion::V1_0 => "1.0",
         FormatVersion::V1_1 => "1.1",

@@ -31,6 +31,7 @@ fn dump_files(rt: &HostRuntime, wanted: &DerbWords<'_>, files: &[PathBuf]) -> u8
             folder: wanted.destination,
             is_json: false,
             is_icu: true,
+            is_lenient: false,
             limit: None,
             pool: None,
         },

@@ -1,11 +1,14 @@
 //! The command `dump`: the text of a file to standard output, or of each file to a folder.
 //! What is made of a file is in `show`, and how bytes come to a place in `save`.
 use crate::input::{Beside, Input};
+use crate::note::Note;
 use crate::place::{Place, place_of};
 use crate::progress::Progress;
-use crate::save::{save, saved};
+use crate::save::{Content, save, saved};
 use crate::say::{NoText, fail, or_fail, refuse_memory};
-use crate::show::{Form, Showing, bundle_name, bundle_of, opened_of, say_cause, settled};
+use crate::show::{
+    Form, Showing, bundle_name, bundle_of, opened_of, print_content, say_cause, settled,
+};
 use crate::streams::{NO_MEMORY, made};
 use crate::taken::{Conflict, Taken};
 use crate::unread::Unread;
@@ -42,7 +45,7 @@ pub(crate) fn dump(rt: &HostRuntime, wanted: &DumpWords<'_>) -> u8 {
     dump_each(rt, wanted, &mut taken)
 }
 
-/// The same, where none of the taken files is written over.
+/// Shows each file, and writes over none of those that are taken.
 fn dump_each(rt: &HostRuntime, wanted: &DumpWords<'_>, taken: &mut Taken) -> u8 {
     let mut status = 0;
     let mut progress = Progress::new(rt, wanted.files.len());
@@ -82,10 +85,26 @@ fn dump_one(
         beside: &beside,
         wanted,
     };
+    if wanted.is_lenient
+        && let Some(note) = note_of(rt, name, opened.bytes, &beside)?
+    {
+        return source.send(rt, &note, Form::Text.ending(), taken);
+    }
     if let Some(status) = source.dump_opened(rt, taken)? {
         return Ok(status);
     }
     source.dump_tree(rt, taken)
+}
+
+/// What is known of a file that has no tree for want of its pool bundle, if it is one.
+fn note_of<'f>(
+    rt: &HostRuntime,
+    name: &str,
+    file: &'f [u8],
+    beside: &'f Beside<'f>,
+) -> Result<Option<Note<'f>>, u8> {
+    let pool = beside.bundle(rt, name)?;
+    Ok(Note::of(file, pool))
 }
 
 impl Source<'_> {
@@ -185,13 +204,24 @@ impl Source<'_> {
         showing: &Showing<'s, S>,
         taken: &mut Taken,
     ) -> Result<u8, u8> {
+        showing.check(rt, self.name, self.wanted.limit)?;
+        self.send(rt, showing, showing.form.ending(), taken)
+    }
+
+    /// Prints a content, or writes it to the folder, to a file with this ending.
+    fn send<C: Content>(
+        self,
+        rt: &HostRuntime,
+        content: &C,
+        ending: &str,
+        taken: &mut Taken,
+    ) -> Result<u8, u8> {
         let name = self.name;
-        showing.check(rt, name, self.wanted.limit)?;
         let Some(folder) = self.wanted.folder else {
-            return Ok(showing.print(rt, name));
+            return Ok(print_content(rt, name, content));
         };
-        let (output, place) = target_in(rt, name, showing.form.ending(), folder, taken)?;
-        let done = save(rt, &place, showing);
+        let (output, place) = target_in(rt, name, ending, folder, taken)?;
+        let done = save(rt, &place, content);
         or_fail(rt, output.as_path().as_str(), saved(&place, done))?;
         Ok(0)
     }

@@ -4,6 +4,7 @@
 #![tactic(auto)]
 
 mod below;
+mod changes;
 mod check;
 mod collation;
 mod compile;
@@ -24,11 +25,13 @@ mod hints;
 mod input;
 mod key_order;
 mod least;
+mod levels;
 mod mistaken;
 mod mistaken_keys;
 mod mistaken_values;
 mod mistakes;
 mod names;
+mod note;
 mod packages;
 mod paths;
 mod place;

@@ -1,16 +1,25 @@
 //! Paths as words: names with a slash between two of them, where `~1` in a name stands for a slash,
-//! and `~0` for a tilde. (RFC 6901, section 4.) What stands at a path is in `resb_path`.
+//! and `~0` for a tilde. (RFC 6901, section 4.) One more slash may stand first. What stands at a
+//! path is in `resb_path`.
 use std::alloc::{AllocError, Global};
 use std::fmt;
 
 /// What stands between two names where they are told apart. No key of a file has it inside.
 pub(crate) const BETWEEN: char = '\0';
 
-/// The names of a path, with `BETWEEN` between two of them.
+/// The names of a path, with `BETWEEN` between two of them. A slash that stands first is none
+/// between two names: `/a/b` has the names of `a/b`.
 pub(crate) fn names_of(alloc: Global, path: &str) -> Result<String, AllocError> {
+    let path = path.strip_prefix('/').unwrap_or(path);
     let names = path.replace(alloc, "/", "\0")?;
     let slashed = names.as_str().replace(alloc, "~1", "/")?;
     slashed.as_str().replace(alloc, "~0", "~")
+}
+
+/// Whether a slash stands before a name of a path, of which so many names stand before: also before
+/// a first one that is empty, which the path couldn't begin with otherwise.
+pub(crate) fn has_slash(before: usize, name: &str) -> bool {
+    before > 0 || name.is_empty()
 }
 
 /// A key as a name in a path: a tilde is spelled where it would stand for something else.

@@ -2,7 +2,8 @@
 //! from the opened file. Where that goes is said by the commands, and why a file has no tree in
 //! `refusal`.
 use crate::input::Beside;
-use crate::least::least_bytes;
+use crate::least::uncounted_in;
+use crate::levels::check_levels;
 use crate::refusal::refuse;
 use crate::save::{Bytes, Content, cause_of_printing, print};
 use crate::say::{NoText, complain, fail, refuse_memory, say_no_text};
@@ -111,7 +112,7 @@ impl<'s, S: Shown<'s>> Showing<'s, S> {
     /// that they may be far over the limit: where they and the keys alone are over it, no more is
     /// counted. Else all is made and counted, which is some ten times the limit at most.
     fn length(&self, alloc: Global, limit: u64) -> Result<Length, AllocError> {
-        let least = least_bytes(alloc, self.root)?;
+        let least = uncounted_in(alloc, self.root)?.least();
         if least > limit {
             return Ok(Length::AtLeast(least));
         }
@@ -150,15 +151,6 @@ impl<'s, S: Shown<'s>> Showing<'s, S> {
             Err(_) => refuse_memory(rt, name),
         }
     }
-
-    /// Writes what is shown to standard output, a block at a time.
-    pub(crate) fn print(&self, rt: &HostRuntime, name: &str) -> u8 {
-        match print(rt, self) {
-            Ok(()) => 0,
-            Err(e) if e.kind() == ErrorKind::OutOfMemory => refuse_memory(rt, name),
-            Err(_) => status_of(rt, false),
-        }
-    }
 }
 
 impl<'s, S: Shown<'s>> Content for Showing<'s, S> {
@@ -171,6 +163,16 @@ impl<'s, S: Shown<'s>> Content for Showing<'s, S> {
                 out.write_all(b"\n")
             }
         }
+    }
+}
+
+/// Writes what is shown of a file to standard output, a block at a time, and gives the status of
+/// that.
+pub(crate) fn print_content<C: Content>(rt: &HostRuntime, name: &str, content: &C) -> u8 {
+    match print(rt, content) {
+        Ok(()) => 0,
+        Err(e) if e.kind() == ErrorKind::OutOfMemory => refuse_memory(rt, name),
+        Err(_) => status_of(rt, false),
     }
 }
 
@@ -201,7 +203,8 @@ pub(crate) fn bundle_of<'f>(
 }
 
 /// A file that is opened beside its pool bundle, or the status, once it is said why it isn't. A
-/// limit refuses it for the bytes that its tree would take, as `bundle_of` does.
+/// limit refuses it for the bytes that its tree would take, as `bundle_of` does, and for what is
+/// kept for its levels.
 pub(crate) fn opened_of<'f>(
     rt: &HostRuntime,
     name: &'f str,
@@ -214,7 +217,11 @@ pub(crate) fn opened_of<'f>(
         Some(limit) => open_file_within(rt.alloc(), file, pool, limit),
         None => open_file(rt.alloc(), file, pool),
     };
-    opened.map_err(|e| refuse(rt, name, file, &e, beside.name()))
+    let opened = opened.map_err(|e| refuse(rt, name, file, &e, beside.name()))?;
+    if let Some(limit) = limit {
+        check_levels(rt, name, file, beside, limit)?;
+    }
+    Ok(opened)
 }
 
 /// The status of what was done, or of what kept it from being done.
@@ -274,7 +281,7 @@ pub(crate) fn show_json<'s, S: Shown<'s>>(
         form: Form::Json,
     };
     match showing.check(rt, name, limit) {
-        Ok(()) => showing.print(rt, name),
+        Ok(()) => print_content(rt, name, &showing),
         Err(status) => status,
     }
 }

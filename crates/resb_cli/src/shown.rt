@@ -61,14 +61,18 @@ pub(crate) fn shown_bytes(json: &str) -> u64 {
     bytes
 }
 
-/// JSON without a line feed, in which what is hidden stands as `\u009b`: that is the same JSON. No
-/// hidden character needs more than four digits.
+/// JSON without a line feed, in which what is hidden stands as `\u009b`: that is the same JSON.
 pub(crate) fn shown_json(alloc: Global, json: String) -> Result<String, AllocError> {
     if shown_bytes(json.as_str()) == json.len() as u64 {
         return Ok(json);
     }
+    spelled_json(alloc, json.as_str())
+}
+
+/// A piece of such JSON, anew. No hidden character needs more than four digits.
+pub(crate) fn spelled_json(alloc: Global, json: &str) -> Result<String, AllocError> {
     let mut shown = String::new(alloc);
-    for c in json.as_str().chars() {
+    for c in json.chars() {
         if is_hidden(c) {
             let code = u32::from(c);
             write!(shown, "\\u{code:04x}")?;

@@ -193,6 +193,13 @@ const DUMP: Described<'static> = Described {
             against: Some("json"),
             ..FLAG
         },
+        Argument {
+            id: "lenient",
+            option: Some("lenient"),
+            help: "Prints what is known of a file whose pool bundle is not there, as comments",
+            against: Some("json"),
+            ..FLAG
+        },
         LIMIT,
         POOL,
     ],

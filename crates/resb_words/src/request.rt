@@ -105,6 +105,8 @@ pub struct DumpWords<'w> {
     pub is_json: bool,
     /// Whether the text is printed in ICU's own form.
     pub is_icu: bool,
+    /// Whether what is known of a file is printed where its pool bundle isn't there.
+    pub is_lenient: bool,
     /// The most bytes that the tree of a file, its keys and the output may take.
     pub limit: Option<u64>,
     /// The name of the pool bundle of the files that use one.
@@ -116,7 +118,7 @@ pub struct DumpWords<'w> {
 pub struct GetWords<'w> {
     /// The file's name; `-` is standard input.
     pub file: &'w str,
-    /// Paths of keys and numbers of members, with a slash between two of them.
+    /// Paths of keys and numbers of members, with a slash between two of them. One may stand first.
     pub paths: Vec<&'w str>,
     /// Whether the whole of the file is looked at first.
     pub is_checked: bool,
@@ -241,6 +243,7 @@ fn dump<'w>(alloc: Global, matches: &ArgMatches<'w>) -> Result<Request<'w>, Word
         folder,
         is_json: matches.get_flag("json"),
         is_icu: matches.get_flag("ICU"),
+        is_lenient: matches.get_flag("lenient"),
         limit,
         pool: matches.get_str("POOL"),
     }))

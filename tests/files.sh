@@ -98,7 +98,7 @@ holds 'a file that is open' cmp -s got <(printf before; cat "$want")
 
 ends 2 't.txt: writing /dev/fd/3 would replace t.txt, which this call reads' \
   compile t.txt -o /dev/fd/3 3>> t.txt
-holds 'the text is kept' is "$(cat t.txt)" 'b{a{"x"} c:intvector{1,2}}'
+holds 'the text is kept' is "$(cat t.txt)" 't{a{"x"} c:intvector{1,2}}'
 
 # links stay, and what they lead to is written
 fresh
@@ -258,7 +258,7 @@ mkdir many
 cp t.txt many/a.txt
 cp t.txt "many/$bad.txt"
 cp t.txt many/z.txt
-ends 2 'many/bad\xff\xc3\xa9.txt: this name is no UTF-8' compile many
+ends 2 'many/bad\xff\xc3\xa9.txt: this name is no UTF-8' compile --quiet many
 holds 'the others have their files' is "$(cmp many/a.res "$want" && cmp many/z.res "$want")" ''
 cp t.res "many/$bad.res"
 resb check many > got 2> .err
@@ -272,13 +272,13 @@ holds 'and nothing else is said' is "$(wc -l < got) $(cat .err)" '3 '
 mkdir inside "inside/$bad"
 cp t.txt inside/a.txt
 cp t.txt "inside/$bad/a.txt"
-ends 0 '' compile inside
+ends 0 '' compile --quiet inside
 holds 'the text beside a folder' cmp -s inside/a.res "$want"
 resb check inside > got 2> .err
 holds 'the file beside a folder' is "$? $(wc -l < got) $(cat .err)" '0 1 '
 rm inside/a.res
 mkdir "inside/$bad.txt" "inside/$bad.res"
-ends 2 'inside/bad\xff\xc3\xa9.txt: this name is no UTF-8' compile inside
+ends 2 'inside/bad\xff\xc3\xa9.txt: this name is no UTF-8' compile --quiet inside
 holds 'the text beside a folder with the ending' cmp -s inside/a.res "$want"
 resb check inside > got 2> .err
 holds 'the file beside a folder with the ending' is "$? $(wc -l < got) $(cat .err)" \
@@ -288,7 +288,7 @@ holds 'nothing is written in a folder inside' is "$(ls "inside/$bad")" a.txt
 mkdir pipes
 cp t.txt pipes/z.txt
 mkfifo pipes/m.txt pipes/m.res
-ends 2 'pipes/m.txt: this is a device or a pipe' compile pipes
+ends 2 'pipes/m.txt: this is a device or a pipe' compile --quiet pipes
 holds 'the text beside a pipe' cmp -s pipes/z.res "$want"
 resb check pipes > got 2> .err
 holds 'the file beside a pipe' is "$? $(wc -l < got) $(cat .err)" \
@@ -310,11 +310,11 @@ ln -s one two
 cp t.txt a.txt
 cp t.txt a.foo
 cp t.txt a.res
-ends 2 './a.foo: its file one/a.res is that of a.txt too' compile a.txt ./a.foo -d one
+ends 2 './a.foo: its file one/a.res is that of a.txt too' compile --quiet a.txt ./a.foo -d one
 ends 2 '../'"$number"'/a.foo: its file two/a.res is that of a.txt too' \
-  compile a.txt "../$number/a.foo" -d two
+  compile --quiet a.txt "../$number/a.foo" -d two
 ends 2 $'a.txt: writing a.res would replace a.res, which this call reads
-a.res: writing a.res would replace a.res, which this call reads' compile a.txt a.res
+a.res: writing a.res would replace a.res, which this call reads' compile --quiet a.txt a.res
 holds 'the other text is kept' cmp -s a.res t.txt
 
 # help and the version where standard output fails

@@ -117,7 +117,7 @@ file('six.res', 0x70000006, 7, 8, 8, 8, 0, 0, 8)
 deep = [word for place in range(10, 8 + 2 * 200, 2) for word in (1, 0x80000000 + place)]
 end = 10 + len(deep)
 file('deep.res', 0x80000008, 7, 8, end, end, 0, 0, 8, *deep, 1, 0x70000005)
-many = [100, *[0x01010101] * 25, 3, *[0x10000008] * 3]
+many = [500, *[0x01010101] * 125, 3, *[0x10000008] * 3]
 file('many.res', 0x80000000 + 134, 7, 8, 8 + len(many), 8 + len(many), 0, 0, 8, *many)
 "
 told 1 '~ 5 -> 6' '' diff five.res six.res

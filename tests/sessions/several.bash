@@ -116,8 +116,8 @@ file('six.res', 0x70000006, 7, 8, 8, 8, 0, 0, 8)
 deep = [word for place in range(10, 8 + 2 * 200, 2) for word in (1, 0x80000000 + place)]
 end = 10 + len(deep)
 file('deep.res', 0x80000008, 7, 8, end, end, 0, 0, 8, *deep, 1, 0x70000005)
-many = [100, *[0x01010101] * 25, 3, *[0x10000008] * 3]
-file('many.res', 0x80000000 + 34, 7, 8, 8 + len(many), 8 + len(many), 0, 0, 8, *many)
+many = [200, *[0x01010101] * 50, 3, *[0x10000008] * 3]
+file('many.res', 0x80000000 + 59, 7, 8, 8 + len(many), 8 + len(many), 0, 0, 8, *many)
 "
 told 1 '~ 5 -> 6' '' diff five.res six.res
 told 1 '{"path":null,"old":5,"new":6}' '' diff --json five.res six.res
@@ -133,10 +133,10 @@ printf "b{$key:table{$(printf 'm%d:int{2} ' {0..9})}}" > k.txt
 told 0 '' '' compile old/k.txt k.txt
 told 2 '' 'k.res: its list of differences takes at least 9018 bytes, more than the limit of 9000' \
   diff --limit 9000 old/k.res k.res
-# three places lead to one binary of 100 bytes, and each is compared
-told 0 '' '' diff --limit 300 many.res many.res
-told 2 '' 'many.res: its binary data takes at least 300 bytes, more than the limit of 299' \
-  diff --limit 299 many.res many.res
+# three places lead to one binary of 200 bytes, and each is compared
+told 0 '' '' diff --limit 600 many.res many.res
+told 2 '' 'many.res: its binary data takes at least 600 bytes, more than the limit of 599' \
+  diff --limit 599 many.res many.res
 # each of 200 levels counts
 told 0 "$(printf '[%.0s' {1..200})5$(printf ']%.0s' {1..200})" '' dump --json --limit 73600 deep.res
 over='deep.res: its depth takes at least 73600 bytes, more than the limit of 73599'

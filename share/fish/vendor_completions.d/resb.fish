@@ -34,6 +34,7 @@ complete -c resb -n '__fish_seen_subcommand_from dump' -F
 complete -c resb -n '__fish_seen_subcommand_from dump' -l json -d 'Prints JSON in place of a text'
 complete -c resb -n '__fish_seen_subcommand_from dump' -s d -l directory -x -a '(__fish_complete_directories)' -d 'The folder for the texts, a file for each, in place of standard output'
 complete -c resb -n '__fish_seen_subcommand_from dump' -l icu -d 'Prints the text in ICU\'s own form, which genrb reads'
+complete -c resb -n '__fish_seen_subcommand_from dump' -l lenient -d 'Prints what is known of a file whose pool bundle is not there, as comments'
 complete -c resb -n '__fish_seen_subcommand_from dump' -l limit -x -d 'Refuses a file whose tree, keys or output take more bytes than this'
 complete -c resb -n '__fish_seen_subcommand_from dump' -l pool -r -F -d 'The pool bundle of files that use one, in place of the pool.res beside each'
 complete -c resb -n '__fish_seen_subcommand_from dump' -s h -l help -d 'Print help'

@@ -7,6 +7,7 @@ use Rattle.std.proofs.lemmas.Bool.{cases_lt, false≢true, or_parts}
 use Rattle.std.proofs.lemmas.Bool.Decides.{nat_tests}
 use Rattle.std.proofs.lemmas.Str.{chars-encodes, chars-nil}
 use Rattle.std.specs.List.{flat_map}
+use Rattle.std.specs.Prelude.{Option, option_map}
 use Rattle.std.specs.Char.Escape.{encode_utf16}
 use Rattle.std.specs.Char.Utf16.{is_high_surrogate, is_low_surrogate, lone_unit_char, utf16_chars}
 use Rattle.std.specs.Char.Utf16.{utf16_lossy_chars, surrogate_pair_char, has_unpaired_surrogate}
@@ -15,7 +16,9 @@ use Rattle.resb_format.proofs.TextUnits.{low_char}
 use Rattle.resb_format.specs.Bytes.{units_of, units_as_bytes}
 use Rattle.resb_format.specs.Units.{units}
 use Rattle.resb_read.proofs.UnitsBack.{units_back}
+use Rattle.resb_tree.specs.Tree.{Tree, string, alias}
 use Rattle.resb_walk.specs.Inner.Members.{text_of_bytes, AreUtf16}
+use Rattle.resb_opened.specs.Handles.{text_of}
 
 -- the characters are some, and these are their units
 abbrev Spells : List ℕ → List ℕ → Type 0
@@ -49,7 +52,7 @@ pair_char u v high low = (
 )
 
 -- the characters that well-formed units spell have these units
-pub spelled : (us : List ℕ) → ((k : ℕ) → k < length us → get_or us k 0 < 2 ^ 16)
+spelled : (us : List ℕ) → ((k : ℕ) → k < length us → get_or us k 0 < 2 ^ 16)
     → has_unpaired_surrogate us ≡ false → Spells (utf16_lossy_chars us) us
 unfolding utf16_chars
 spelled [] h p = (refl, refl)
@@ -101,7 +104,7 @@ units_small (a ∷ b ∷ bs) h (suc k) l =
     units_small bs (λ j. h (suc (suc j))) k (omega (arith, l))
 
 -- the bytes are those of the text's units
-pub bytes_of_units : (bs : List ℕ) → AreUtf16 bs → ((k : ℕ) → get_or bs k 0 < 256)
+bytes_of_units : (bs : List ℕ) → AreUtf16 bs → ((k : ℕ) → get_or bs k 0 < 256)
     → bs ≡ units_as_bytes (units (text_of_bytes bs))
 bytes_of_units bs is h =
     let us : List ℕ = units_of bs in
@@ -112,5 +115,21 @@ bytes_of_units bs is h =
     sym (ap units_as_bytes same ∙ units_back bs even h)
 
 -- the empty text has none
-pub no_bytes : [] ≡ units_as_bytes (units [])
+no_bytes : [] ≡ units_as_bytes (units [])
 no_bytes = rw chars-nil refl
+
+-- the bytes that a tree's text has, if it has one
+abbrev bytes_in : Tree → Option (List ℕ)
+bytes_in t = option_map (λ text. units_as_bytes (units text)) (text_of t)
+
+-- what stands at a string or at an alias is just these bytes
+pub string_leaf : (bs : List ℕ) (t : Tree) → AreUtf16 bs → ((k : ℕ) → get_or bs k 0 < 256)
+    → t ≡ string (text_of_bytes bs) → Some bs ≡ bytes_in t
+string_leaf bs t is h e = ap Some (bytes_of_units bs is h) ∙ sym (ap bytes_in e)
+
+pub alias_leaf : (bs : List ℕ) (t : Tree) → AreUtf16 bs → ((k : ℕ) → get_or bs k 0 < 256)
+    → t ≡ alias (text_of_bytes bs) → Some bs ≡ bytes_in t
+alias_leaf bs t is h e = ap Some (bytes_of_units bs is h) ∙ sym (ap bytes_in e)
+
+pub empty_leaf : (t : Tree) → t ≡ string [] → Some [] ≡ bytes_in t
+empty_leaf t e = ap Some no_bytes ∙ sym (ap bytes_in e)

@@ -201,6 +201,11 @@ module _ (p : Place) (type : ℕ) (told : type_at p ≡ Some type) where
     member_answers k said (Err e) h (tree_spot t) (n, d) = no_list h.0 n t d (of_type t n d)
     member_answers k said (Err e) h (number_spot m) is = no_number p m type is told
 
+    -- a list that can't be read is that of no tree
+    pub unread_list : members_at p ≡ None → (s : Spot) → IsAt p s → ⊥
+    unread_list none (tree_spot t) (n, d) = no_list none n t d (of_type t n d)
+    unread_list none (number_spot m) is = no_number p m type is told
+
     unsaid : number_said name ≡ None → (n : ℕ) (t : Tree) → DenPlace p t n → IsTypeOf t type
         → AreFound None (found_inside (tree_spot t) name)
     unsaid said n (array ts) d kind =

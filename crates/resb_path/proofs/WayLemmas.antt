@@ -58,7 +58,8 @@ is_there f o x h none = none_some (ap (option_map f) none) h
 -- a table whose entries were found, and a list whose members were
 module _ (p : Place) (type : ℕ) (told : type_at p ≡ Some type) where
   holds_table : types.is_table type ≡ true → entries_at p ≢ None → Holds p
-  holds_table is there = inr (type, told, (λ t. there), λ list. absurd (false≢true (sym no_list ∙ list)))
+  holds_table is there =
+      inr (type, told, ((λ t. there), λ list. absurd (false≢true (sym no_list ∙ list))))
     where
       no_list : (types.is_array type || type == type_number kind.IntVector) ≡ false
       no_list = let apart = table_apart type is in
@@ -66,7 +67,7 @@ module _ (p : Place) (type : ℕ) (told : type_at p ≡ Some type) where
 
   holds_list : types.is_table type ≡ false → members_at p ≢ None → Holds p
   holds_list no_table there =
-      inr (type, told, (λ t. absurd (false≢true (sym no_table ∙ t))), λ list. there)
+      inr (type, told, ((λ t. absurd (false≢true (sym no_table ∙ t))), λ list. there))
 
   -- a place of another type
   pub holds_other : types.is_table type ≡ false
@@ -75,8 +76,10 @@ module _ (p : Place) (type : ℕ) (told : type_at p ≡ Some type) where
       inr (
         type,
         told,
-        (λ t. absurd (false≢true (sym no_table ∙ t))),
-        λ list. absurd (false≢true (sym no_list ∙ list)),
+        (
+          (λ t. absurd (false≢true (sym no_table ∙ t))),
+          λ list. absurd (false≢true (sym no_list ∙ list)),
+        ),
       )
 
 -- nothing stands inside a number of a vector

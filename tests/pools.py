@@ -227,6 +227,28 @@ def refuse_files():
         refuses(f'{name}: {error}', 'check', name)
 
 
+def read_wide_keys():
+    """Positions of 32 bits: the file's own keys below 2^31, and the pool's from there on."""
+    write('keys/pool.res', file(POOL2, (2, 0)))
+    index = '4 b 1baba403 746c6564 aaaa0061'
+    past = f'{INVALID}unexpected end of data while deserializing key'
+    # its own keys end at byte 2c; the answers are those of a slow model
+    for position, key in (('24', 'delta'), ('80000000', 'alpha'), ('80000006', 'beta')):
+        write('keys/wide.res', file(f'4000000b 8 b e e 1 {index} 1 {position} 70000005', (2, 0)))
+        shows({key: 5}, 'keys/wide.res')
+        says('5\n', 'get', 'keys/wide.res', key)
+    for position, error in (('2c', f'{INVALID}unterminated key string'), ('2d', past),
+                            ('32', past), ('10032', past), ('7fffffff', past),
+                            ('ffffffff', past)):
+        write('keys/wide.res', file(f'4000000b 8 b e e 1 {index} 1 {position} 70000005', (2, 0)))
+        refuses(f'keys/wide.res: {error}', 'check', 'keys/wide.res')
+        refuses(f'keys/wide.res: {error}', 'dump', 'keys/wide.res')
+    # of 16 bits they count on in the pool's keys
+    for position, key in (('24', 'delta'), ('2c', 'alpha'), ('32', 'beta')):
+        write('keys/near.res', file(f'2000000b 8 b d d 1 {index} {position}0001 70000005', (2, 0)))
+        shows({key: 5}, 'keys/near.res')
+
+
 def read_attributes():
     """Heads that say each thing of pools without the others, and checksums of no pool."""
     over = 'format 3.0, fallback, largest table'
@@ -420,8 +442,8 @@ def main():
     with tempfile.TemporaryDirectory() as folder:
         os.chdir(folder)
         for group in (read_beside, check_lines, tell_differences, refuse_pools, refuse_files,
-                      read_attributes, read_older, read_items, read_far, read_hostile,
-                      read_lightly):
+                      read_wide_keys, read_attributes, read_older, read_items, read_far,
+                      read_hostile, read_lightly):
             group()
     print(f'{counts[True]} passed, {counts[False]} failed')
     return counts[False] > 0

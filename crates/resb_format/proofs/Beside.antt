@@ -1,12 +1,14 @@
 -- What a file denotes that uses no pool, it denotes beside an empty pool too.
 use Rattle.std.proofs.Common.{◌≡◌, ℕ, List, Bool, true, false, Option, Some, None, ap}
-use Rattle.std.proofs.Common.{refl, ◌∙◌, subst, inl, inr, ◌≤◌, length, rules, ◌==◌}
+use Rattle.std.proofs.Common.{refl, ◌∙◌, subst, inl, inr, ◌≤◌, ◌<◌, length, rules, ◌==◌, cond}
+use Rattle.std.proofs.Common.{◌+◌, ◌-◌, arith}
 use Rattle.std.specs.Prelude.{◌/◌, ◌%◌, ◌^◌, option_map, if◌then◌else◌}
 use Rattle.std.proofs.lemmas.Bool.{cases_lt, lt-ltb}
+use Rattle.std.proofs.lemmas.Bool.Decides.{nat_tests}
 use Rattle.std.proofs.lemmas.List.{drop_all}
 use Rattle.resb_tree.specs.Tree.{Tree, string}
 use Rattle.resb_format.specs.Lookups.{key_in, text_in, index_in, key_place_by, text_place_by}
-use Rattle.resb_format.specs.Lookups.{index_by}
+use Rattle.resb_format.specs.Lookups.{index_by, position_in, place_behind, wide_position}
 use Rattle.resb_format.specs.Parts.{Parts, Lent, no_pool, beside_no_pool}
 use Rattle.resb_format.specs.Strings.{key_at, text_at}
 use Rattle.resb_format.specs.Types as types
@@ -28,17 +30,25 @@ unfolding index_by
 index_is u = search rules
 
 -- nothing stands behind the own keys
-key_behind : (keys : List ℕ) (k : ℕ) → length keys ≤ k → key_at keys k ≡ None
+pub key_behind : (keys : List ℕ) (k : ℕ) → length keys ≤ k → key_at keys k ≡ None
 unfolding key_at
 key_behind keys k h = rw (drop_all k keys h) refl
 
-key_place_is : (keys : List ℕ) (k : ℕ) (key : List ℕ) → key_at keys k ≡ Some key
-    → key_place_by (Some no_pool) keys k ≡ key_place_by None keys k
+key_place_is : (keys : List ℕ) (n : ℕ) (key : List ℕ) → key_at keys (position_in n) ≡ Some key
+    → key_place_by (Some no_pool) keys n ≡ key_place_by None keys n
 unfolding key_place_by
-key_place_is keys k key e = elim (cases_lt k (length keys)) [
-  | inl h ↦ rw (lt-ltb k (length keys) h) refl
-  | inr h ↦ let none = key_behind keys k h in absurd (cc)
+key_place_is keys n key e = elim (cases_lt (position_in n) (length keys)) [
+  | inl h ↦ ap (λ b. cond b (keys, position_in n) (place_behind no_pool keys n))
+      (lt-ltb (position_in n) (length keys) h)
+  | inr h ↦ let none = key_behind keys (position_in n) h in absurd (cc)
 ]
+
+-- the position that a number is, of 16 and of 32 bits
+pub near_position : (k : ℕ) → k < 2 ^ 16 → position_in k ≡ k
+near_position k h = grind (arith, nat_tests)
+
+pub wide_position_back : (k : ℕ) → position_in (wide_position k) ≡ k
+wide_position_back k = grind (arith, nat_tests)
 
 -- what the first finds, the second finds too
 abbrev Keeps : Option Content → Option Content → Type 0
@@ -136,9 +146,15 @@ denoted_beside p w n t e d =
 
 -- where nothing is said of a pool, keys and texts are looked up among the file's own
 pub looked_up_alone : (p : Parts) (k i : ℕ) → p.lent ≡ None
-    → (key_in p k ≡ key_at p.keys k) × (text_in p i ≡ text_at p.block i)
+    → (k < 2 ^ 16 → key_in p k ≡ key_at p.keys k)
+    × (key_in p (wide_position k) ≡ key_at p.keys k)
+    × (text_in p i ≡ text_at p.block i)
 unfolding key_place_by text_place_by
 looked_up_alone p k i e = (
-  ap (λ l. key_at (key_place_by l p.keys k).0 (key_place_by l p.keys k).1) e,
+  λ near. alone k ∙ ap (key_at p.keys) (near_position k near),
+  alone (wide_position k) ∙ ap (key_at p.keys) (wide_position_back k),
   ap (λ l. text_at (text_place_by l p.block i).0 (text_place_by l p.block i).1) e,
 )
+  where
+    alone : (n : ℕ) → key_in p n ≡ key_at p.keys (position_in n)
+    alone n = ap (λ l. key_at (key_place_by l p.keys n).0 (key_place_by l p.keys n).1) e

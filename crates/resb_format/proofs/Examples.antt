@@ -1,6 +1,6 @@
 -- The definitions at worked examples: what they accept, and what they refuse.
 use Rattle.std.proofs.Common.{◌≡◌, ℕ, zero, suc, ◌+◌, ◌<◌, List, [], ◌∷◌, ◌++◌, Some, None}
-use Rattle.std.proofs.Common.{true, refl, ◌∙◌, ap, subst, arith}
+use Rattle.std.proofs.Common.{true, refl, ◌∙◌, ap, subst, arith, ◌^◌}
 use Rattle.std.specs.Str.{is_utf8, IsAscii}
 use Rattle.std.proofs.lemmas.Str.{is_utf8-from_IsUtf8, IsUtf8-from_ascii}
 use Rattle.std.specs.Char.Utf16.{utf16_chars}
@@ -10,7 +10,8 @@ use Rattle.resb_format.specs.Bytes.{units_of, words_of}
 use Rattle.resb_format.specs.Units.{length_marker}
 use Rattle.resb_format.specs.Strings.{string_at, text_at, key_at}
 use Rattle.resb_format.specs.Parts.{Parts, no_pool}
-use Rattle.resb_format.specs.Lookups.{key_place_by, text_place_by, index_by}
+use Rattle.resb_format.specs.Lookups.{key_place_by, text_place_by, index_by, key_in}
+use Rattle.resb_format.specs.Lookups.{wide_position}
 use Rattle.resb_format.specs.Content.{Member, word, unit, leaf, list, entry_list, content_at}
 use Rattle.resb_format.specs.Denotes.{Den, den_leaf, den_list, den_entries, den_word, den_unit}
 use Rattle.resb_format.specs.Denotes.{DenEach, each_none, each_more, entries_none, entries_more}
@@ -202,6 +203,32 @@ unfolding content_at small words_of units_of key_place_by text_place_by index_by
 table_denotes =
     let key : key_at small.keys 0 ≡ Some (97 ∷ []) = rw (ascii_key 97 (omega arith)) refl in
     den_entries refl (entries_more key (den_unit refl) entries_none)
+
+-- Beside a pool with the key "b" at byte 0, and own keys of 2 bytes, with "a" at byte 0: position 2
+-- is the pool's where it has 16 bits, and nothing where it has 32, and position 2^31 is the pool's.
+lent_key : Parts
+lent_key = record {
+  body = [];
+  keys = 97 ∷ 0 ∷ [];
+  block = [];
+  lent = Some (record { keys = 98 ∷ 0 ∷ []; block = []; limit = 0; short_limit = 0 });
+}
+
+a_lent_key : key_in lent_key 2 ≡ Some (98 ∷ [])
+unfolding key_place_by key_at lent_key
+a_lent_key = rw (ascii_key 98 (omega arith)) refl
+
+a_wide_own_key : key_in lent_key (wide_position 0) ≡ Some (97 ∷ [])
+unfolding key_place_by key_at lent_key
+a_wide_own_key = rw (ascii_key 97 (omega arith)) refl
+
+a_wide_lent_key : key_in lent_key (wide_position (2 ^ 31)) ≡ Some (98 ∷ [])
+unfolding key_place_by key_at lent_key
+a_wide_lent_key = rw (ascii_key 98 (omega arith)) refl
+
+a_wide_gap : (key_in lent_key (wide_position 2) ≡ None) × (key_in lent_key (wide_position 9) ≡ None)
+unfolding key_place_by key_at lent_key
+a_wide_gap = (refl, refl)
 
 -- An array that holds itself denotes nothing.
 looped : Parts

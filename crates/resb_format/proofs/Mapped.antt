@@ -1,14 +1,14 @@
 -- The tables of a tree that a file denotes are maps, and what has no members by its type is a leaf.
 use Rattle.std.proofs.Common.{ℕ, List, [], Bool, true, false, Option, Some, None, subst, ◌==◌}
 use Rattle.std.specs.Prelude.{◌/◌, ◌%◌, ◌^◌, ◌+◌, ◌*◌, option_map, option_and_then, ◌≡◌}
-use Rattle.std.specs.Prelude.{slice_get, if◌then◌else◌}
+use Rattle.std.specs.Prelude.{slice_get, if◌then◌else◌, map}
 use Rattle.resb_tree.specs.Tree.{Tree, string, alias, binary, int_vector}
 use Rattle.resb_tree.specs.Tree.{trees_of}
 use Rattle.resb_tree.specs.Maps.{AreMaps, AreMapsIn}
 use Rattle.resb_tree.specs.Inner.Dropping.{IsNoCollection}
 use Rattle.resb_tree.proofs.MapsLemmas.{AllAreMaps, AreMaps-map_of}
 use Rattle.resb_format.specs.Bytes.{units_of, words_of, part}
-use Rattle.resb_format.specs.Lookups.{text_in}
+use Rattle.resb_format.specs.Lookups.{text_in, wide_position}
 use Rattle.resb_format.specs.Parts.{Parts, reads_older}
 use Rattle.resb_format.specs.Types as types
 use Rattle.resb_format.specs.Descriptor.{type_number}
@@ -74,7 +74,8 @@ plain_placed p type v =
     (plain_if (type == type_number kind.Table) _ _ (plain_counted (units_of p.body) (2 * v) _
     (λ n. plain_paired (part (units_of p.body) (2 * v + 1) n) (words_at p (v + n / 2 + 1) n)))
     (plain_if (type == type_number kind._Table32) _ _ (plain_counted (words_of p.body) v _
-    (λ n. plain_paired (part (words_of p.body) (v + 1) n) (words_at p (v + 1 + n) n)))
+    (λ n. plain_paired (option_map (map wide_position) (part (words_of p.body) (v + 1) n))
+    (words_at p (v + 1 + n) n)))
     (plain_if (type == type_number kind.Table16) _ _ (plain_counted p.block v _
     (λ n. plain_paired (part p.block (v + 1) n) (offsets_at p (v + 1 + n) n)))
     (plain_if (type == type_number kind.StringV2) _ _

@@ -8,7 +8,7 @@ use Rattle.std.specs.Prelude.{option_map, option_and_then, ◌==◌, slice_get, 
 use Rattle.std.specs.List.{zip}
 use Rattle.resb_tree.specs.Tree.{Tree, string, alias, binary, integer, int_vector}
 use Rattle.resb_format.specs.Bytes.{units_of, words_of, part}
-use Rattle.resb_format.specs.Lookups.{text_in}
+use Rattle.resb_format.specs.Lookups.{text_in, wide_position}
 use Rattle.resb_format.specs.Parts.{Parts, reads_older}
 use Rattle.resb_format.specs.Strings.{text_of_units}
 use Rattle.resb_format.specs.Types as types
@@ -25,7 +25,7 @@ pub data Member : Type 0 where
 pub data Content : Type 0 where
   leaf : Tree → Content
   list : List Member → Content
-  -- the key's position, and the member
+  -- the key's position, which says its width too, and the member
   entry_list : List (ℕ × Member) → Content
 
 -- what stands behind the count that is the number at place i, if there is one
@@ -82,7 +82,8 @@ table16_at p u =
 abbrev pub table32_at : Parts → ℕ → Option Content
 table32_at p v =
     behind_count (words_of p.body) v
-    (λ n. paired (part (words_of p.body) (v + 1) n) (words_at p (v + 1 + n) n))
+    (λ n. paired (option_map (map wide_position) (part (words_of p.body) (v + 1) n))
+    (words_at p (v + 1 + n) n))
 
 -- the string that stands at a unit of the 16-bit block, if it is a text
 abbrev pub text_leaf : Parts → ℕ → Option Content

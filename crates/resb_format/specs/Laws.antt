@@ -11,7 +11,7 @@ use Rattle.resb_tree.specs.Tree.{Tree}
 use Rattle.resb_tree.specs.Maps.{AreMaps}
 use Rattle.resb_format.specs.Parts.{Parts, beside_no_pool}
 use Rattle.resb_format.specs.Denotes.{Den, Reaches}
-use Rattle.resb_format.specs.Lookups.{key_in, text_in}
+use Rattle.resb_format.specs.Lookups.{key_in, text_in, wide_position}
 use Rattle.resb_format.specs.Strings.{key_at, text_at}
 use Rattle.resb_format.specs.declared.error.ReadingError.{ReadingError}
 
@@ -29,11 +29,13 @@ abbrev pub DenotedBesideNoPool : Type 0
 DenotedBesideNoPool =
     (p : Parts) (w n : ℕ) (t : Tree) → p.lent ≡ None → Den p w t n → Den (beside_no_pool p) w t n
 
--- where nothing is said of a pool, a position tells a key of the file's own, and an index a text of
--- it
+-- where nothing is said of a pool, a position of 16 or 32 bits tells the file's own key at that
+-- byte, and an index a text of the file's own
 abbrev pub LooksUpAlone : Type 0
 LooksUpAlone = (p : Parts) (k i : ℕ) → p.lent ≡ None
-    → (key_in p k ≡ key_at p.keys k) × (text_in p i ≡ text_at p.block i)
+    → (k < 2 ^ 16 → key_in p k ≡ key_at p.keys k)
+    × (key_in p (wide_position k) ≡ key_at p.keys k)
+    × (text_in p i ≡ text_at p.block i)
 
 -- no more resources are reached than are denoted
 abbrev pub ReachedIsCounted : Type 0

@@ -12,6 +12,7 @@ use Rattle.std.proofs.lemmas.List.{take_at, drop_at}
 use Rattle.std.specs.Str.{IsUtf8}
 use Rattle.resb_tree.specs.Tree.{alias, binary, integer, int_vector}
 use Rattle.resb_format.specs.Bytes.{units_of, words_of, part}
+use Rattle.resb_format.specs.Lookups.{wide_position}
 use Rattle.resb_format.specs.Parts.{Parts, reads_older}
 use Rattle.resb_format.specs.Content.{word, unit, leaf, list, entry_list, behind_count}
 use Rattle.resb_format.specs.Content.{content_at, placed, empty, paired, words_at, offsets_at}
@@ -179,14 +180,16 @@ module _ (p : Parts) (g : Given) (s : Laid) (ps ws : List ℕ) (at : ℕ) (e : h
       ∙ ap (λ l. length ps ∷ (ps ++ l)) (words_read ws stands.bytes_behind small)
       )
 
-  pub wide_found : table32_at p at ≡ Some (entry_list (zip ps (map word ws)))
+  pub wide_found : table32_at p at
+      ≡ Some (entry_list (zip (map wide_position ps) (map word ws)))
   wide_found =
       let f = front_words p g s (wide_table_body ps ws) stands at e in
       let a = first_part (words_of p.body) _ ps _ (length ps) at wide_words f refl in
       let b = second_part (words_of p.body) _ ps ws _ (length ps) at wide_words f refl same in
-      counted_found (words_of p.body) _ (length ps) _ at (λ n. paired (part (words_of p.body) (at
-      + 1) n) (words_at p (at + 1 + n) n)) wide_words f
-      ∙ (λ i. paired (a i) (option_map (map word) (b i)))
+      counted_found (words_of p.body) _ (length ps) _ at
+      (λ n. paired (option_map (map wide_position) (part (words_of p.body) (at + 1) n))
+      (words_at p (at + 1 + n) n)) wide_words f
+      ∙ (λ i. paired (option_map (map wide_position) (a i)) (option_map (map word) (b i)))
 
 pad_even : (n : ℕ) → (2 + 2 * n + length (pad n)) ≡ 4 * (n / 2 + 1)
 pad_even n = grind (arith, nat_tests)

@@ -14,7 +14,7 @@ use Rattle.resb_tree.specs.Tree.{Tree, string, alias, array, table, binary, inte
 use Rattle.resb_tree.specs.Tree.{Trees, no_trees, more_trees, Entries, no_entries, entry, trees_of}
 use Rattle.resb_tree.specs.Tree.{map_of, tree_count, trees_count, entries_count}
 use Rattle.resb_tree.specs.Maps.{keyed_trees, text_cmp}
-use Rattle.resb_format.specs.Lookups.{key_in}
+use Rattle.resb_format.specs.Lookups.{key_in, wide_position}
 use Rattle.resb_format.specs.Parts.{Parts, reads_older}
 use Rattle.resb_format.specs.Content.{Member, word, unit, leaf, list, entry_list, content_at}
 use Rattle.resb_format.specs.Content.{placed, empty}
@@ -204,7 +204,7 @@ module _ (p : Parts) (lent : Option Lends) (g : Given) (read : IsRead p lent g) 
 
   -- the keys stand at their positions
   keys_at : (ks : List (List ℕ)) (ps : List ℕ) → map g.position ks ≡ map Some ps
-      → map (key_in p) ps ≡ map Some ks
+      → map (key_in p) (map wide_position ps) ≡ map Some ks
   keys_at [] [] e = refl
   keys_at [] (q ∷ ps) e = absurd (let no : ⊥ = cc in no)
   keys_at (k ∷ ks) [] e = absurd (let no : ⊥ = cc in no)
@@ -446,7 +446,7 @@ module _ (p : Parts) (lent : Option Lends) (g : Given) (read : IsRead p lent g)
       (nears_many lent ps ∙ same) i)
       (long (parts_stood (by_bytes s (near_table_body qs ws)) i))
   table_denoted s es ps ws e w u (wide_table at near f l n a) i q same small long short =
-      as_table (0x4000_0000 + at) ps (map word ws) es q.ascend
+      as_table (0x4000_0000 + at) (map wide_position ps) (map word ws) es q.ascend
       (keys_at p lent g read (entry_keys es) ps q.positions)
       (word_of_table32 p at (some_here s at f) l
       ∙ wide_found p g s ps ws at f (each_below (2 ^ 32) ps a) small n same i)

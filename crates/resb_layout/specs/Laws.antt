@@ -9,7 +9,7 @@ use Rattle.std.specs.Prelude.{◌≡◌, ℕ, ◌+◌, ◌*◌, ◌%◌, ◌<◌
 use Rattle.std.specs.Prelude.{◌⊎◌, None, true, false}
 use Rattle.resb_tree.specs.Tree.{Tree, tree_count}
 use Rattle.resb_tree.specs.Aliases.{has_alias}
-use Rattle.resb_format.specs.Lookups.{text_in, key_in, index_in}
+use Rattle.resb_format.specs.Lookups.{text_in, key_in, index_in, wide_position}
 use Rattle.resb_format.specs.Parts.{Parts, reads_older}
 use Rattle.resb_format.specs.Denotes.{Den}
 use Rattle.resb_tree.specs.LayingOrder.{laying_order}
@@ -24,10 +24,11 @@ OneLayout =
     (lent : Option Lends) (g : Given) (s a b : Laid) (t : Tree) (v w : ℕ) → LaysBy lent g s t a v
     → LaysBy lent g s t b w → (a ≡ b) × (v ≡ w)
 
--- the blocks read back what is given: each key at its position, each string at its offset, and both
--- as 16 bits tell them, where 16 bits can
+-- the blocks read back what is given: each key at its position of 32 bits, each string at its
+-- offset, and both as 16 bits tell them, where 16 bits can
 pub record IsRead (p : Parts) (lent : Option Lends) (g : Given) : Type 0 where
-  pub keys : (k : List ℕ) (at : ℕ) → g.position k ≡ Some at → key_in p at ≡ Some k
+  pub keys : (k : List ℕ) (at : ℕ) → g.position k ≡ Some at
+      → key_in p (wide_position at) ≡ Some k
   pub near_keys : (k : List ℕ) (at : ℕ) → g.position k ≡ Some at → near_by lent at ≤ 65535
       → key_in p (near_by lent at) ≡ Some k
   pub texts : (s : List ℕ) (k : ℕ) → g.offset s ≡ Some k → text_in p k ≡ Some s

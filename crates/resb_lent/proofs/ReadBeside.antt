@@ -8,8 +8,9 @@ use Rattle.std.specs.Str.{IsUtf8}
 use Rattle.std.proofs.lemmas.Bool.{lt-ltb, cases_lt}
 use Rattle.std.proofs.lemmas.Bool.Decides.{nat_tests}
 use Rattle.std.proofs.lemmas.Option.{slice_get-map}
-use Rattle.resb_format.specs.Lookups.{key_in, key_place_by, lent_position, text_in, index_in}
-use Rattle.resb_format.specs.Lookups.{index_by}
+use Rattle.resb_format.specs.Lookups.{key_in, key_place_by, text_in, index_in, index_by}
+use Rattle.resb_format.specs.Lookups.{position_in, wide_position, place_behind}
+use Rattle.resb_format.proofs.Beside.{near_position, wide_position_back}
 use Rattle.resb_format.specs.Parts.{Parts, Lent}
 use Rattle.resb_format.specs.Strings.{key_at, text_at}
 use Rattle.resb_layout.specs.Laid.{Given, Lends, near_by, short_by}
@@ -51,28 +52,32 @@ zero_own : (l : Lent) → l.short_limit ≡ 0 → index_by (Some l) 0 ≡ l.limi
 unfolding index_by
 zero_own l h = grind (arith, nat_tests)
 
-own_place : (l : Lent) (keys : List ℕ) (at : ℕ) → at < length keys
-    → key_place_by (Some l) keys at ≡ (keys, at)
+own_place : (l : Lent) (keys : List ℕ) (n : ℕ) → position_in n < length keys
+    → key_place_by (Some l) keys n ≡ (keys, position_in n)
 unfolding key_place_by
-own_place l keys at h =
-    ap (λ b. cond b (keys, at) (l.keys, lent_position keys at)) (lt-ltb at (length keys) h)
+own_place l keys n h =
+    ap (λ b. cond b (keys, position_in n) (place_behind l keys n))
+    (lt-ltb (position_in n) (length keys) h)
 
 module _ (p : Parts) (l : Lent) (g : Given) (lent : p.lent ≡ Some l) (few : length p.keys ≤ 2 ^ 31)
     (stand : KeysStand p l g.position) where
-  own_key : (k : List ℕ) (at : ℕ) → at < length p.keys → key_at p.keys at ≡ Some k
-      → key_in p at ≡ Some k
-  own_key k at h e =
-      let place : key_place_by p.lent p.keys at ≡ (p.keys, at) =
-      ap (λ o. key_place_by o p.keys at) lent ∙ own_place l p.keys at h in
-      ap (λ r. key_at r.0 r.1) place ∙ e
+  -- a number that is an own position tells the key there
+  own_key : (k : List ℕ) (n at : ℕ) → position_in n ≡ at → at < length p.keys
+      → key_at p.keys at ≡ Some k → key_in p n ≡ Some k
+  own_key k n at is h e =
+      let place : key_place_by p.lent p.keys n ≡ (p.keys, position_in n) =
+      ap (λ o. key_place_by o p.keys n) lent ∙ own_place l p.keys n (omega (arith, is, h)) in
+      ap (λ r. key_at r.0 r.1) place ∙ ap (key_at p.keys) is ∙ e
 
-  key_read : (k : List ℕ) (at : ℕ) → g.position k ≡ Some at → key_in p at ≡ Some k
+  key_read : (k : List ℕ) (at : ℕ) → g.position k ≡ Some at → key_in p (wide_position at) ≡ Some k
   key_read k at e = by (stand k at e)
     where
       by : ((at < length p.keys) × (key_at p.keys at ≡ Some k))
-          ⊎ ((n : ℕ) × (at ≡ n + 2 ^ 31) × (key_at l.keys n ≡ Some k)) → key_in p at ≡ Some k
-      by (inl o) = own_key k at o.0 o.1
-      by (inr (n, f, w)) = ap (key_in p) f ∙ (told_there p l k n lent few w).0
+          ⊎ ((n : ℕ) × (at ≡ n + 2 ^ 31) × (key_at l.keys n ≡ Some k))
+          → key_in p (wide_position at) ≡ Some k
+      by (inl o) = own_key k (wide_position at) at (wide_position_back at) o.0 o.1
+      by (inr (n, f, w)) = ap (λ m. key_in p (wide_position m)) f
+          ∙ (told_there p l k n lent few w).0
 
   near_read : (k : List ℕ) (at : ℕ) → g.position k ≡ Some at
       → near_by (Some (lends_to p l)) at ≤ 65535
@@ -82,8 +87,11 @@ module _ (p : Parts) (l : Lent) (g : Given) (lent : p.lent ≡ Some l) (few : le
       by : ((at < length p.keys) × (key_at p.keys at ≡ Some k))
           ⊎ ((n : ℕ) × (at ≡ n + 2 ^ 31) × (key_at l.keys n ≡ Some k))
           → key_in p (near_by (Some (lends_to p l)) at) ≡ Some k
-      by (inl o) = ap (key_in p) (near_own (lends_to p l) at (omega (arith, o.0, few)))
-          ∙ own_key k at o.0 o.1
+      by (inl o) =
+          let own : near_by (Some (lends_to p l)) at ≡ at =
+          near_own (lends_to p l) at (omega (arith, o.0, few)) in
+          ap (key_in p) own
+          ∙ own_key k at at (near_position at (omega (arith, own, near))) o.0 o.1
       by (inr (n, f, w)) =
           let told : near_by (Some (lends_to p l)) at ≡ n + length p.keys =
           ap (near_by (Some (lends_to p l))) f ∙ near_lent (lends_to p l) n in

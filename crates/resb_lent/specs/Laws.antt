@@ -12,7 +12,7 @@
 use Rattle.std.specs.Prelude.{◌≡◌, ℕ, ◌+◌, ◌*◌, ◌%◌, ◌<◌, ◌≤◌, ◌^◌, List, ◌++◌, length, map, All}
 use Rattle.std.specs.Prelude.{Option, Some, ◌⊎◌}
 use Rattle.std.specs.Str.{IsUtf8}
-use Rattle.resb_format.specs.Lookups.{key_in, text_in}
+use Rattle.resb_format.specs.Lookups.{key_in, text_in, wide_position}
 use Rattle.resb_format.specs.Parts.{Parts, Lent}
 use Rattle.resb_format.specs.Strings.{text_at, key_at}
 use Rattle.resb_format.specs.Bytes.{units_as_bytes}
@@ -29,14 +29,14 @@ use Rattle.resb_lent.specs.HeadWithPool.{IsHead, head_bytes, parts_behind}
 use Rattle.resb_lent.specs.declared.head_with_pool.HeadWithPool.{HeadWithPool}
 
 -- Beside a pool, a file whose own keys have positions of 31 bits tells a key that stands whole at a
--- place of the pool's keys by the place and 2^31, and by the place counted from the end of its own
--- keys, where that is below 2^31.
+-- place of the pool's keys by a position of 32 bits, the place and 2^31, and by one of 16 bits, the
+-- place counted from the end of its own keys, where 16 bits hold that.
 abbrev pub LentKeyIsTold : Type 0
 LentKeyIsTold =
     (p : Parts) (l : Lent) (key : List ℕ) (at : ℕ) → p.lent ≡ Some l → length p.keys ≤ 2 ^ 31
     → StandsWhole l.keys key at
-    → (key_in p (at + 2 ^ 31) ≡ Some key)
-    × (at + length p.keys < 2 ^ 31 → key_in p (at + length p.keys) ≡ Some key)
+    → (key_in p (wide_position (at + 2 ^ 31)) ≡ Some key)
+    × (at + length p.keys < 2 ^ 16 → key_in p (at + length p.keys) ≡ Some key)
 
 -- at the index that a text has in a pool, reading the pool's block gives just this text
 abbrev pub LentTextIsRead : Type 0

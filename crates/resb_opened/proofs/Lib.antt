@@ -8,3 +8,4 @@ mod StandingLemmas
 mod AsciiLemmas
 mod TextLemmas
 mod TypedLemmas
+mod Utf16Lemmas

@@ -1,23 +1,10 @@
--- The text of no units, and which numbers a vector has.
-use Rattle.std.proofs.Common.{◌≡◌, ◌≤◌, ◌<◌, ℕ, zero, suc, List, [], ◌∷◌, None, refl, arith}
+-- Which numbers a vector has.
+use Rattle.std.proofs.Common.{◌≡◌, ◌≤◌, ◌<◌, ℕ, zero, suc, List, [], ◌∷◌, None, arith}
 use Rattle.std.proofs.Common.{length, slice_get, slice_index}
-use Rattle.std.specs.Char.Utf16.{utf16_chars, utf16_lossy_chars}
 use Rattle.std.proofs.lemmas.Option.{slice_get_past}
 use Rattle.resb_format.proofs.Spelled.{words_length}
-use Rattle.resb_format.specs.Bytes.{units_of, words_of}
+use Rattle.resb_format.specs.Bytes.{words_of}
 use Rattle.resb_shown.specs.Shown.{AreWords}
-use Rattle.resb_walk.specs.Inner.Members.{text_of_bytes}
-
-no_units : units_of [] ≡ []
-unfolding units_of
-no_units = refl
-
-no_chars : utf16_lossy_chars [] ≡ []
-unfolding utf16_chars
-no_chars = refl
-
-pub empty_text : text_of_bytes [] ≡ []
-empty_text = rw (no_units, no_chars) refl
 
 -- the words of bytes are below 2 ^ 32
 pub words_small : (bytes : List ℕ) → ((k : ℕ) → k < length bytes → slice_index bytes k < 256)

@@ -3,6 +3,8 @@
 ghost use Rattle.std.specs.Prelude.{◌≡◌, ◌==◌, ◌<◌, ◌++◌, IfOk, IfSome, option_map, slice_get};
 ghost use Rattle.std.specs.List.{list_any};
 ghost use Rattle.std.specs.String.{string_bytes};
+ghost use Rattle.resb_format.specs.Bytes.{units_as_bytes};
+ghost use Rattle.resb_format.specs.Units.{units};
 ghost use Rattle.resb_walk.specs.Inner.Members.{text_of_bytes};
 ghost use Rattle.resb_shown.specs.Shown as shown;
 ghost use Rattle.resb_opened.specs.Handles as seen;
@@ -76,12 +78,13 @@ impl<'a> Handle<'a> {
         }
     }
 
-    #[tactic(auto, using(crate::proofs::TextLemmas::empty_text))]
     /// The UTF-16 units of a string, or of an alias's path: two bytes for each unit, the lower one
     /// first.
+    #[tactic(auto, using(crate::proofs::Utf16Lemmas::string_leaf, crate::proofs::Utf16Lemmas::alias_leaf,
+        crate::proofs::Utf16Lemmas::empty_leaf))]
     pub fn utf16(self) -> Option<&'a [u8]>
-        ensures { option_map (λ units. text_of_bytes units.now) result
-            ≡ seen.text_of (tree_at self.entry) }
+        ensures { option_map (λ bytes. bytes.now) result
+            ≡ option_map (λ text. units_as_bytes (units text)) (seen.text_of (tree_at self.entry)) }
     {
         match self.standing() {
             Standing::Leaf(Leaf::Text(units) | Leaf::Alias(units)) => Some(units),

@@ -45,7 +45,7 @@ found_number : (p : Parts) (o : Option ℕ)
 found_number p (Some m) = refl
 found_number p None = tt
 
-none_some : {A : Type 0} {x : A} {o : Option A} → o ≡ None → o ≡ Some x → ⊥
+pub none_some : {A : Type 0} {x : A} {o : Option A} → o ≡ None → o ≡ Some x → ⊥
 none_some {A} {x} h k = subst IsNone (sym h ∙ k) tt
   where
     IsNone : Option A → Type 0
@@ -63,7 +63,7 @@ IsApart type = (types.is_array type ≡ false) × ((type == type_number kind.Int
 apart_at : (type number : ℕ) → (type == number) ≡ true → IsApart number → IsApart type
 apart_at type number h is = subst IsApart (sym (eqb-true type number h)) is
 
-table_apart : (type : ℕ) → types.is_table type ≡ true → IsApart type
+pub table_apart : (type : ℕ) → types.is_table type ≡ true → IsApart type
 table_apart type h =
     by (or_cases (type == type_number kind.Table || type == type_number kind._Table32) _ h)
   where
@@ -200,6 +200,11 @@ module _ (p : Place) (type : ℕ) (told : type_at p ≡ Some type) where
     member_answers k said (Ok c) h (number_spot m) is = absurd (no_number p m type is told)
     member_answers k said (Err e) h (tree_spot t) (n, d) = no_list h.0 n t d (of_type t n d)
     member_answers k said (Err e) h (number_spot m) is = no_number p m type is told
+
+    -- a list that can't be read is that of no tree
+    pub unread_list : members_at p ≡ None → (s : Spot) → IsAt p s → ⊥
+    unread_list none (tree_spot t) (n, d) = no_list none n t d (of_type t n d)
+    unread_list none (number_spot m) is = no_number p m type is told
 
     unsaid : number_said name ≡ None → (n : ℕ) (t : Tree) → DenPlace p t n → IsTypeOf t type
         → AreFound None (found_inside (tree_spot t) name)

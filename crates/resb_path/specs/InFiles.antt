@@ -1,12 +1,14 @@
 -- What stands at a path in a file, without its tree.
 --     place_inside p name     where what has a name inside a place stands
 --     place_at p names        where a path leads
+--     Holds p, HoldsOnWay p names     a place can be gone into, and so can each on the way of a path
 --     FailsAt p e, FailsOnWay p names e   why nothing is said of a place, and of a path
+--     OneAnswerOfAPath        a path isn't both followed and refused
 --     IsAt p s                what a path leads to in a tree stands at this place
 --     AreFound p s            the one stands at the other, or there is neither
 --     LeadsOn p names r, LeadsOnWith w names r    what is answered for a path in a file
 --     AnswersPath denotes names r     that it is what stands in the tree, where one is denoted
-use Rattle.std.specs.Prelude.{◌≡◌, ◌==◌, ◌||◌, ◌⊎◌, ℕ, List, [], ◌∷◌, Option, Some, None, Result}
+use Rattle.std.specs.Prelude.{◌≡◌, ◌≢◌, ◌==◌, ◌||◌, ◌⊎◌, ℕ, List, [], ◌∷◌, Option, Some, None, Result}
 use Rattle.std.specs.Prelude.{true, Ok, Err, MatchResult, option_map, slice_get, if◌then◌else◌}
 use Rattle.std.specs.Option.{option_and_then}
 use Rattle.resb_tree.specs.Tree.{Tree}
@@ -46,6 +48,25 @@ abbrev pub place_at : Place → List (List ℕ) → Option Place
 place_at p [] = Some p
 place_at p (name ∷ names) = option_and_then (λ q. place_at q names) (place_inside p name)
 
+-- in a place of this type, a table's entries lie inside the file, and so do the members of an array
+-- or a vector; nothing is inside a place of another type
+abbrev pub HoldsInside : ℕ → Place → Type 0
+HoldsInside type p =
+    (types.is_table type ≡ true → entries_at p ≢ None)
+    × ((types.is_array type || type == type_number kind.IntVector) ≡ true → members_at p ≢ None)
+
+-- a number of a vector stands at a place, or a resource whose type is read, and what is inside it
+-- lies inside the file
+abbrev pub Holds : Place → Type 0
+Holds p =
+    IsWordSpot p.at ⊎ ((type : ℕ) × (type_at p ≡ Some type) × HoldsInside type p)
+
+-- so it is with each place on the way of a path, into which a name of it leads
+abbrev pub HoldsOnWay : Place → List (List ℕ) → Type 0
+HoldsOnWay p [] = Unit {0}
+HoldsOnWay p (name ∷ names) =
+    Holds p × ((q : Place) → place_inside p name ≡ Some q → HoldsOnWay q names)
+
 -- the entries of a table, or the members of an array or a vector, lie outside the file
 abbrev pub FailsInside : ℕ → Place → ReadingError → Type 0
 FailsInside type p e =
@@ -65,21 +86,28 @@ FailsOnWay p [] e = ⊥
 FailsOnWay p (name ∷ names) e =
     FailsAt p e ⊎ ((q : Place) × (place_inside p name ≡ Some q) × FailsOnWay q names e)
 
--- where a path leads, or why that isn't said
+-- a path on whose way each place holds has none there that fails
+abbrev pub OneAnswerOfAPath : Type 0
+OneAnswerOfAPath =
+    (p : Place) (names : List (List ℕ)) (e : ReadingError) → HoldsOnWay p names
+    → FailsOnWay p names e → ⊥
+
+-- where a path leads, if no place on its way fails; else why that isn't said
 abbrev pub LeadsOn : Place → List (List ℕ) → Result (Option Cursor) ReadingError → Type 0
-LeadsOn p names (Ok c) = option_map place_of c ≡ place_at p names
+LeadsOn p names (Ok c) = (option_map place_of c ≡ place_at p names) × HoldsOnWay p names
 LeadsOn p names (Err e) = FailsOnWay p names e
 
 -- what a step of a path is answered
 abbrev pub LeadsIn : Place → List ℕ → Result (Option Cursor) ReadingError → Type 0
-LeadsIn p name (Ok c) = option_map place_of c ≡ place_inside p name
+LeadsIn p name (Ok c) = (option_map place_of c ≡ place_inside p name) × Holds p
 LeadsIn p name (Err e) = FailsAt p e
 
 -- the first check of the head that fails; or where a path leads from the root of a file beside the
--- pool bundle that is given, if one is, or why that isn't said
+-- pool bundle that is given, if one is, if no place on its way fails; or why that isn't said
 abbrev pub LeadsOnWith : Whole → List (List ℕ) → Result (Option Cursor) ReadingError → Type 0
 LeadsOnWith w names (Ok c) =
     (w.refusal ≡ None) × (option_map place_of c ≡ place_at (place_of_root w) names)
+    × HoldsOnWay (place_of_root w) names
 LeadsOnWith w names (Err e) =
     (w.refusal ≡ Some (refusal_of e))
     ⊎ ((w.refusal ≡ None) × FailsOnWay (place_of_root w) names e)

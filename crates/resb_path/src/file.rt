@@ -21,8 +21,9 @@ use resb_read::Cursor;
 /// Where that stands in a file to which a path of names and numbers leads from a place, if it
 /// leads to anything: in a table to the last entry of a name. Where the place denotes a tree, that
 /// is what stands in the tree, and nothing is refused. Elsewhere the way alone counts: it is
-/// refused where a type on it isn't read, or where what is inside lies outside the file. Of each
-/// key on the way at most one byte more than the name has is looked at.
+/// refused exactly where the type of a place that a name leads into isn't read, or what is inside
+/// that place lies outside the file. Of each key on the way at most one byte more than the name has
+/// is looked at.
 pub fn find_in<'de>(
     root: Cursor<'de>,
     path: &[&str],
@@ -76,7 +77,11 @@ fn step<'de>(at: Cursor<'de>, name: &str) -> Result<Option<Cursor<'de>>, BinaryD
     }
     match number_of(name) {
         Some(number) => at.member(number),
-        None => Ok(None),
+        None => {
+            // what can't be read is refused, whatever the name
+            at.member(0)?;
+            Ok(None)
+        }
     }
 }
 

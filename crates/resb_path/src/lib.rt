@@ -4,6 +4,7 @@
 #![tactic(auto)]
 
 mod file;
+pub mod laws;
 mod names;
 mod tree;
 

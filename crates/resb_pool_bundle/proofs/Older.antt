@@ -2,7 +2,7 @@
 -- the older form and to no alias, they denote the same without a pool.
 use Rattle.std.proofs.Common.{◌≡◌, ℕ, List, [], ◌∷◌, Bool, true, false, Option, Some, None, ap}
 use Rattle.std.proofs.Common.{refl, sym, ◌∙◌, subst, ◌⊎◌, inl, inr, ◌<◌, length, rules, ◌==◌}
-use Rattle.std.proofs.Common.{zero, suc, arith}
+use Rattle.std.proofs.Common.{zero, suc, arith, ◌≤◌, ◌-◌, cond, nat_lt}
 use Rattle.std.specs.Prelude.{◌/◌, ◌%◌, ◌^◌, option_map, if◌then◌else◌, slice_index_or}
 use Rattle.std.specs.List.{Contains}
 use Rattle.std.proofs.lemmas.Bool.{cases_lt, lt-ltb, le-ltb}
@@ -14,13 +14,13 @@ use Rattle.resb_format.specs.Denotes.{Den, den_leaf, den_list, den_entries, DenM
 use Rattle.resb_format.specs.Denotes.{den_unit, DenEach, each_none, each_more, DenEntries}
 use Rattle.resb_format.specs.Denotes.{entries_none, entries_more}
 use Rattle.resb_format.specs.Lookups.{key_in, text_in, index_in, key_place_by, text_place_by}
-use Rattle.resb_format.specs.Lookups.{index_by, lent_position}
+use Rattle.resb_format.specs.Lookups.{index_by, position_in, place_behind}
 use Rattle.resb_format.specs.Parts.{Parts, Lent, no_pool, beside_no_pool}
 use Rattle.resb_format.specs.Strings.{key_at, text_at}
 use Rattle.resb_format.specs.Types as types
 use Rattle.resb_format.specs.Descriptor.{type_number}
 use Rattle.resb_format.specs.declared.repr_type.ResourceReprType.TheVariants as kind
-use Rattle.resb_format.proofs.Beside.{denoted_beside}
+use Rattle.resb_format.proofs.Beside.{denoted_beside, key_behind}
 use Rattle.resb_head.specs.File.{parts_of, root_word, Denotes}
 use Rattle.resb_head.proofs.FileSteps.{bundle_file_passes}
 use Rattle.resb_pool_bundle.specs.Laws.{OwnFilesDenoteWithoutOlder}
@@ -50,22 +50,40 @@ no_key : (k : ℕ) → key_at [] k ≡ None
 unfolding key_at
 no_key k = rw (drop_all {X = ℕ} k [] (omega arith)) refl
 
+-- none stands behind the own keys and in an empty pool
+none_behind : (keys : List ℕ) (n : ℕ) → length keys ≤ position_in n
+    → key_at (place_behind no_pool keys n).0 (place_behind no_pool keys n).1 ≡ None
+none_behind keys n h = elim (cases_lt n (2 ^ 16)) [
+  | inl near ↦ rw (lt-ltb n (2 ^ 16) near) (no_key (n - length keys))
+  | inr wide ↦
+      let is : position_in n ≡ n - 2 ^ 16 = rw (le-ltb n (2 ^ 16) wide) refl in
+      rw (le-ltb n (2 ^ 16) wide) (either (nat_lt (n - 2 ^ 16) (2 ^ 31)) (omega (arith, h, is)))
+]
+  where
+    either : (b : Bool) → length keys ≤ n - 2 ^ 16
+        → key_at (cond {A = List ℕ × ℕ} b (keys, n - 2 ^ 16) ([], n - 2 ^ 16 - 2 ^ 31)).0
+        (cond {A = List ℕ × ℕ} b (keys, n - 2 ^ 16) ([], n - 2 ^ 16 - 2 ^ 31)).1 ≡ None
+    either true far = key_behind keys (n - 2 ^ 16) far
+    either false far = no_key (n - 2 ^ 16 - 2 ^ 31)
+
 -- a key beside an empty pool is the file's own
-key_place_is : (keys : List ℕ) (k : ℕ) (key : List ℕ)
-    → key_at (key_place_by (Some no_pool) keys k).0 (key_place_by (Some no_pool) keys k).1
+key_place_is : (keys : List ℕ) (n : ℕ) (key : List ℕ)
+    → key_at (key_place_by (Some no_pool) keys n).0 (key_place_by (Some no_pool) keys n).1
     ≡ Some key
-    → key_at keys k ≡ Some key
+    → key_at keys (position_in n) ≡ Some key
 unfolding key_place_by
-key_place_is keys k key e = elim (cases_lt k (length keys)) [
+key_place_is keys n key e = elim (cases_lt (position_in n) (length keys)) [
   | inl h ↦
-      let place : key_place_by (Some no_pool) keys k ≡ (keys, k) =
-      rw (lt-ltb k (length keys) h) refl in
+      let place : key_place_by (Some no_pool) keys n ≡ (keys, position_in n) =
+      ap (λ b. cond b (keys, position_in n) (place_behind no_pool keys n))
+      (lt-ltb (position_in n) (length keys) h) in
       ap (λ r. key_at r.0 r.1) (sym place) ∙ e
   | inr h ↦
-      let place : key_place_by (Some no_pool) keys k ≡ ([], lent_position keys k) =
-      rw (le-ltb k (length keys) h) refl in
+      let place : key_place_by (Some no_pool) keys n ≡ place_behind no_pool keys n =
+      ap (λ b. cond b (keys, position_in n) (place_behind no_pool keys n))
+      (le-ltb (position_in n) (length keys) h) in
       let none : None ≡ Some key =
-      sym (no_key (lent_position keys k)) ∙ ap (λ r. key_at r.0 r.1) (sym place) ∙ e in
+      sym (none_behind keys n h) ∙ ap (λ r. key_at r.0 r.1) (sym place) ∙ e in
       absurd (cc)
 ]
 

@@ -11,7 +11,7 @@ use Rattle.resb_format.specs.declared.error.ReadingError.{ReadingError}
 use Rattle.resb_head.specs.File.{root_word}
 use Rattle.resb_head.specs.declared.checked_file.CheckedFile.{CheckedFile}
 use Rattle.resb_pool_bundle.specs.Checks.{pool_refusal, refusal_with}
-use Rattle.resb_pool_bundle.specs.Pool.{Pool, pool_of, pool_in, parts_with}
+use Rattle.resb_pool_bundle.specs.Pool.{Pool, pool_of, pool_in, block_in, block_bytes, parts_with}
 use Rattle.resb_pool_bundle.specs.declared.pool_bundle.PoolBundle.{PoolBundle}
 
 -- no check of a pool bundle fails
@@ -28,9 +28,12 @@ pub record DenotesWith (pool : Option Pool) (bytes : List ℕ) (t : Tree) (n : �
   pub head : IsFileWith pool bytes
   pub root : Den (parts_with pool bytes) (root_word bytes) t n
 
--- what reading a pool bundle answers: what it lends, or the first check that fails
+-- what reading a pool bundle answers: what it lends, with the bytes of the file's 16-bit block, or
+-- the first check that fails
 abbrev pub ReadsPool : List ℕ → Result PoolBundle ReadingError → Type 0
-ReadsPool bytes = ReadsUnless (pool_refusal bytes) (λ p. pool_in p ≡ pool_of bytes)
+ReadsPool bytes =
+    ReadsUnless (pool_refusal bytes)
+    (λ p. (pool_in p ≡ pool_of bytes) × (block_in p ≡ block_bytes bytes))
 
 -- the file's parts and its root's word where no check fails, else the refusal of the first that
 -- does

@@ -1,7 +1,7 @@
 -- What a pool bundle lends, and the parts of a file beside one. (ICU's `uresdata.h`: pool bundles.)
 --     Pool                    keys, units and the checksum of a pool bundle
 --     pool_of bytes           those of a file that is one
---     pool_in p               those that a value of the code shows
+--     pool_in p, block_in p   those that a value of the code shows, and its block's bytes
 --     parts_with pool bytes   the parts of a file, of which aliases and strings of the older form
 --                             are read too
 use Rattle.std.specs.Prelude.{ℕ, ◌+◌, ◌-◌, ◌*◌, ◌&&◌, List, [], take, drop, nat_le, Option}
@@ -33,6 +33,10 @@ pool_of bytes = record {
   block = units_of (block_bytes bytes);
   checksum = unwrap_or (checksum_in bytes) 0;
 }
+
+-- the bytes of the 16-bit block that a value of the code holds
+abbrev pub block_in : PoolBundle → List ℕ
+block_in p = p.block.now
 
 -- what a value of the code shows
 abbrev pub pool_in : PoolBundle → Pool

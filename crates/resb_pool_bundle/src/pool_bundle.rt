@@ -18,10 +18,9 @@ pub struct PoolBundle<'a> {
 
 impl<'a> PoolBundle<'a> {
     ghost use Rattle.std.specs.Prelude.{◌≡◌, ◌==◌};
-    ghost use Rattle.resb_format.specs.Bytes.{units_of};
     ghost use Rattle.resb_pool_bundle.specs.Checksum.{checksum_of};
     ghost use Rattle.resb_pool_bundle.specs.FileWith.{ReadsPool};
-    ghost use Rattle.resb_pool_bundle.specs.Pool.{pool_in};
+    ghost use Rattle.resb_pool_bundle.specs.Pool.{pool_in, block_in};
 
     /// What the pool bundle in these bytes lends. The checks of its head are made in their order,
     /// and the first that fails answers. No key and no string is looked at, so that the time is the
@@ -39,9 +38,9 @@ impl<'a> PoolBundle<'a> {
         self.keys
     }
 
-    /// Its 16-bit block, two bytes for each unit.
+    /// The bytes of its 16-bit block as the file has them, two for each unit, the lower one first.
     pub fn block(&self) -> &'a [u8]
-        ensures { units_of result.now ≡ (pool_in self.now).block }
+        ensures { result.now ≡ block_in self.now }
     {
         self.block
     }

@@ -2,19 +2,19 @@
 -- another are left, in which the name stands, if anywhere.
 use Rattle.std.proofs.Common.{ℕ, List, [], ◌∷◌, ◌++◌, ◌≡◌, ◌+◌, ◌<◌, ◌≤◌, Some, None, true}
 use Rattle.std.proofs.Common.{zero, suc, refl, sym, ◌∙◌, ap, subst, map, take, drop, length, get_or}
-use Rattle.std.proofs.Common.{arith}
+use Rattle.std.proofs.Common.{arith, ◌^◌}
 use Rattle.std.specs.List.{zip}
 use Rattle.std.specs.Ordering.{nat_cmp}
 use Rattle.std.specs.Cmp.Lexicographic.{slice_cmp}
 use Rattle.std.specs.declared.cmp.Ordering.{Ordering}
 use Rattle.std.specs.declared.cmp.Ordering.TheVariants.{Less, Equal, Greater}
 use Rattle.std.proofs.lemmas.List.{take_all, drop_all, take-append-drop, drop_more, length-map}
-use Rattle.std.proofs.lemmas.List.{get_or_default, length-take}
+use Rattle.std.proofs.lemmas.List.{get_or_default, length-take, get_or-map}
 use Rattle.std.proofs.lemmas.Slice.Zip.{length-zip}
 use Rattle.resb_format.proofs.Spelled.{units_length, words_length}
 use Rattle.resb_format.specs.Content.{Member}
 use Rattle.resb_format.specs.Content as at
-use Rattle.resb_format.specs.Lookups.{key_in}
+use Rattle.resb_format.specs.Lookups.{key_in, wide_position}
 use Rattle.resb_format.specs.Parts.{Parts}
 use Rattle.resb_read.specs.Places.{Place, spot_of}
 use Rattle.resb_read.specs.Leaves.{key_from}
@@ -50,6 +50,11 @@ window_split (y ∷ ys) (suc low) (suc middle) (suc high) x a b c g =
 
 -- how many units or words there are, and how many members are made of them
 pub ruleset lengths = (length-map, words_length, units_length)
+
+-- a position of 32 bits, as an entry has it
+pub wide_there : (ws : List ℕ) (n : ℕ) → n < length ws
+    → 2 ^ 16 + get_or ws n 0 ≡ get_or (map wide_position ws) n 0
+wide_there ws n h = sym (get_or-map wide_position ws n 0 0 h)
 
 -- what is made of the pair with a number
 pair_there : {C M : Type 0} (f : ℕ × M → C) (ks : List ℕ) (ms : List M) (n k : ℕ) (m : M)

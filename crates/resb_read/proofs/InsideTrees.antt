@@ -16,7 +16,7 @@ use Rattle.resb_tree.specs.Tree.{Tree, string, alias, array, table, binary, inte
 use Rattle.resb_tree.specs.Tree.{Entries, no_entries, put, put_all, trees_of}
 use Rattle.resb_tree.proofs.MapsLemmas.{get-put}
 use Rattle.resb_format.specs.Bytes.{units_of, words_of, part}
-use Rattle.resb_format.specs.Lookups.{key_in, text_in}
+use Rattle.resb_format.specs.Lookups.{key_in, text_in, wide_position}
 use Rattle.resb_format.specs.Parts.{Parts, reads_older}
 use Rattle.resb_format.specs.Types as types
 use Rattle.resb_format.specs.Descriptor.{type_number}
@@ -209,7 +209,8 @@ typed_placed p type v =
     (λ n. typed_paired p type (first_so a b c h) (part (units_of p.body) (2 * v + 1) n)
     (words_at p (v + n / 2 + 1) n)))
     (typed_if p type b _ _ (λ h. typed_counted p type (words_of p.body) v _
-    (λ n. typed_paired p type (second_so a b c h) (part (words_of p.body) (v + 1) n)
+    (λ n. typed_paired p type (second_so a b c h)
+    (option_map (map wide_position) (part (words_of p.body) (v + 1) n))
     (words_at p (v + 1 + n) n)))
     (typed_if p type c _ _ (λ h. typed_counted p type p.block v _
     (λ n. typed_paired p type (third_so a b c h) (part p.block (v + 1) n)

@@ -10,7 +10,7 @@ mod Trees
 pub mod Rooted
 mod Each
 mod PlainLists
-mod UnitsBack
+pub mod UnitsBack
 mod Entering
 mod Failing
 mod Viewing

@@ -19,7 +19,7 @@ use crate::elements::spot_of;
 use crate::keys::{is_key, order_of};
 use resb_format::bytes::{unit_at, word_at};
 use resb_format::{BinaryDeserializerError, FileBlocks, ReadingError};
-use resb_walk::{Member, Members, Positions, TableParts, Walk};
+use resb_walk::{Member, Members, Positions, TableParts, WIDE, Walk};
 use std::alloc::Global;
 use std::cmp::Ordering;
 
@@ -137,15 +137,15 @@ fn last_of<'de>(file: FileBlocks<'de>, entries: TableParts<'de>, name: &str) -> 
     found
 }
 
-/// The position with this number.
-#[tactic(auto, using(crate::proofs::Halving::lengths))]
+/// The position with this number, as an entry has it.
+#[tactic(auto, using(crate::proofs::Halving::lengths, crate::proofs::Halving::wide_there))]
 fn position_at(keys: Positions<'_>, number: usize) -> usize
     requires { number < length (positions_of keys) }
     ensures { result ≡ slice_index (positions_of keys.entry) number }
 {
     match keys {
         Positions::Halves(bytes) => usize::from(unit_at(bytes, number)),
-        Positions::Wholes(bytes) => word_at(bytes, number) as usize,
+        Positions::Wholes(bytes) => WIDE + word_at(bytes, number) as usize,
     }
 }
 

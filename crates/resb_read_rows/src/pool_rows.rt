@@ -23,6 +23,18 @@ const OVER_POOL: &str = "\
     50000011 8 9 14 14 2 4 14 1baba403 780000 6f0000 65006e 740020 6f0077 740020 720068 650065 \
     20000 60000 10003";
 
+/// Tables of one position of 32 bits over that pool, whose own key `delta` stands from byte 24 to
+/// byte 2b; a key; and whether it is the table's. Position 32 would be `beta` with 16 bits.
+const WIDE_TABLES: [(&str, &str, bool); 4] = [
+    ("4000000b 8 b e e 1 4 b 1baba403 746c6564 aaaa0061 1 24 70000005", "delta", true),
+    ("4000000b 8 b e e 1 4 b 1baba403 746c6564 aaaa0061 1 80000006 70000005", "beta", true),
+    ("4000000b 8 b e e 1 4 b 1baba403 746c6564 aaaa0061 1 32 70000005", "beta", false),
+    ("4000000b 8 b e e 1 4 b 1baba403 746c6564 aaaa0061 1 2c 70000005", "alpha", false),
+];
+
+/// A table of `alpha` over that pool, whose value is an array outside the file.
+const CUT_ARRAY: &str = "2000000b 8 b d d 1 4 b 1baba403 746c6564 aaaa0061 2c0001 80000fff";
+
 /// The bytes that its tree takes: three resources, 14 bytes of text, a table and two entries.
 const TREE_BYTES: u64 = 3 * 72 + 14 * 3 + 1024 + 2 * 192;
 
@@ -134,12 +146,54 @@ fn is_read(alloc: Global, pool: &[u8], file: &[u8]) -> Result<bool, BinaryDeseri
     )
 }
 
-/// Whether a file over a pool bundle is read in each way.
-pub(crate) fn answer_over_pool(alloc: Global, _: &str) -> Answer {
-    let (pool, file) = (file_of(alloc, POOL)?, file_of(alloc, OVER_POOL)?);
-    let is_read = is_read(alloc, &pool, &file)?;
-    Ok(format!(in alloc; "{is_read}")?)
+/// Whether a file has this key, as a path and a count of its resources find it.
+fn has_key(
+    alloc: Global,
+    pool: PoolBundle<'_>,
+    words: &str,
+    key: &str,
+) -> Result<bool, BinaryDeserializerError> {
+    let file = file_of(alloc, words)?;
+    let is_counted = count_resources_with_pool(alloc, &file, Some(pool)).is_ok();
+    let is_led = find_with_pool(&file, Some(pool), &[key])?.is_some();
+    Ok(is_counted && is_led)
 }
 
-/// The row of them all.
-pub(crate) const OVER_POOLS: &str = "a file over its pool bundle => true;\n";
+/// Whether positions of 32 bits tell own keys below 2^31, and the pool's from there on.
+fn are_wide(alloc: Global, pool: PoolBundle<'_>) -> Result<bool, BinaryDeserializerError> {
+    for (words, key, is_its) in WIDE_TABLES {
+        if has_key(alloc, pool, words, key)? != is_its {
+            return Ok(false);
+        }
+    }
+    Ok(true)
+}
+
+/// Whether a path into an array outside the file is refused, whatever its last name is, and one
+/// that ends there is not.
+fn is_cut(alloc: Global, pool: PoolBundle<'_>) -> Result<bool, BinaryDeserializerError> {
+    let file = file_of(alloc, CUT_ARRAY)?;
+    let ends = find_with_pool(&file, Some(pool), &["alpha"])?.is_some();
+    let by_number = find_with_pool(&file, Some(pool), &["alpha", "0"]).is_err();
+    let by_name = find_with_pool(&file, Some(pool), &["alpha", "x"]).is_err();
+    Ok(ends && by_number && by_name)
+}
+
+/// Whether files over a pool bundle are read, and what isn't theirs is not.
+pub(crate) fn answer_over_pool(alloc: Global, input: &str) -> Answer {
+    let (bytes, file) = (file_of(alloc, POOL)?, file_of(alloc, OVER_POOL)?);
+    let pool = PoolBundle::read(&bytes)?;
+    let is_so = match input {
+        "positions of 32 bits" => are_wide(alloc, pool)?,
+        "paths into an array outside the file" => is_cut(alloc, pool)?,
+        _ => is_read(alloc, &bytes, &file)?,
+    };
+    Ok(format!(in alloc; "{is_so}")?)
+}
+
+/// The rows of them all.
+pub(crate) const OVER_POOLS: &str = "\
+a file over its pool bundle => true;
+positions of 32 bits => true;
+paths into an array outside the file => true;
+";

@@ -29,6 +29,11 @@ unfolding text_at
 text_unpaired block u bs e h =
     let g : has_unpaired_surrogate (units_of bs) ≡ true = not-false _ (sym h) in rw (e, g) refl
 
+-- units that are found to be well-formed
+pub paired : (bs : List ℕ) → true ≡ not (has_unpaired_surrogate (units_of bs))
+    → has_unpaired_surrogate (units_of bs) ≡ false
+paired bs h = not-true _ (sym h)
+
 pub text_none : (block : List ℕ) (u : ℕ) → string_at block u ≡ None → text_at block u ≡ None
 unfolding text_at
 text_none block u e = rw e refl

@@ -18,7 +18,7 @@ use Rattle.resb_format.specs.Bytes.{units_of, part}
 use Rattle.resb_format.specs.Strings.{text_at, string_at, before_zero, is_no_marker}
 use Rattle.resb_format.proofs.Spelled.{units_drop}
 use Rattle.resb_format.proofs.StringsIn.{ends_at_zero}
-use Rattle.resb_walk.specs.Inner.Members.{text_of_bytes}
+use Rattle.resb_walk.specs.Inner.Members.{text_of_bytes, AreUtf16}
 use Rattle.resb_walk.proofs.Placed.{text_some}
 use Rattle.resb_walk.proofs.Surrogates.{char_alone, plain_unit_first}
 use Rattle.resb_walk.proofs.Surrogates.{nothing_is_unpaired}
@@ -115,6 +115,19 @@ plain_text_is block from bs u n is few inside h g e cut =
     rw cut (below_paired (take n (units_of from))
     (front_below (units_of from) n 0xd800 (lit< tt) g)) in
     text_some (units_of block) u bs (stands ∙ ap Some spelled) (rw paired refl)
+
+-- none of the units before it is a surrogate
+pub plain_form : (from bs : List ℕ) (n : ℕ) → part (units_of from) 0 n ≡ Some (units_of bs)
+    → length bs ≡ 2 * n
+    → ((k : ℕ) → k < n
+    → (0 < get_or (units_of from) k 0) × (get_or (units_of from) k 0 < 0xd800))
+    → AreUtf16 bs
+plain_form from bs n cut long h =
+    let front = (cond_some (nat_le (0 + n) (length (units_of from))) _ _ cut).1 in (
+      omega (arith, long),
+      rw (sym front) (below_paired (take n (units_of from))
+          (front_below (units_of from) n 0xd800 (lit< tt) (λ k l. (h k l).1))),
+    )
 
 -- the number behind those so far
 pub plain_more : (us : List ℕ) (n most found : ℕ) → found ≡ get_or us n 0 → 0 < found

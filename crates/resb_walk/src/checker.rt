@@ -13,7 +13,7 @@ use crate::faults::not_utf16;
 use crate::known::{Known, KnownTexts, SHORT_STRING};
 use crate::leads::{Glance, Lead, glance_at, lead_at};
 use crate::members::{Member, Rest, Standing};
-use crate::places::{Place, key_spot, text_place, text_spot};
+use crate::places::{Place, key_spot, position_in, text_place, text_spot};
 use crate::standing::{counted_units, is_plain_key, is_plain_text, key_at, text_at};
 use crate::units::is_well_formed;
 use resb_blocks::SHORT_TAIL;
@@ -94,7 +94,8 @@ impl<'a> Checker<'a> {
         ensures looks { LooksKey (parts_in self.old.file) at result }
         ensures file { self.new.file ≡ self.old.file }
     {
-        if at < self.file.keys.len() && is_plain_key(self.file.keys, at) {
+        let byte = position_in(at);
+        if byte < self.file.keys.len() && is_plain_key(self.file.keys, byte) {
             return Ok(());
         }
         self.any_key(alloc, at)

@@ -28,7 +28,7 @@ mod weigh;
 
 pub use count::{count_string_at, count_word};
 pub use make::Make;
-pub use members::{Leaf, Member, Members, Positions, Rest, Standing, TableParts};
+pub use members::{Leaf, Member, Members, Positions, Rest, Standing, TableParts, WIDE};
 pub use read::{read_checked, read_string_at, read_word};
 pub use standing::{counted_text_at, key_at, standing_at, text_at};
 pub use sums::Sums;

@@ -41,6 +41,9 @@ pub enum Members<'a> {
     Units(&'a [u8]),
 }
 
+/// What a position of 32 bits is more in an entry, so that it isn't taken for one of 16 bits.
+pub const WIDE: usize = 0x1_0000;
+
 /// Positions of keys that are still to come.
 #[derive(Clone, Copy)]
 pub enum Positions<'a> {
@@ -155,7 +158,7 @@ impl<'a> Positions<'a> {
         }
     }
 
-    /// The first position, and those after it.
+    /// The first position, as an entry has it, and those after it.
     pub fn split(self) -> Option<(usize, Positions<'a>)>
         ensures { MatchOption result (positions_of self.entry ≡ [])
             (λ r. positions_of self.entry ≡ r.0 ∷ positions_of r.1) }
@@ -167,7 +170,7 @@ impl<'a> Positions<'a> {
             }
             Positions::Wholes(bytes) => {
                 let (word, rest) = first_word(bytes)?;
-                Some((word as usize, Positions::Wholes(rest)))
+                Some((WIDE + word as usize, Positions::Wholes(rest)))
             }
         }
     }

@@ -7,6 +7,7 @@ ghost use Rattle.resb_format.specs.Lookups as lookups;
 ghost use Rattle.resb_format.specs.Lookups.{index_in};
 ghost use Rattle.resb_walk.specs.Inner.Places.{TellsKey, TellsText};
 
+use crate::members::WIDE;
 use resb_format::{FileBlocks, PoolBlocks};
 
 /// A byte of a key block or a unit of a 16-bit block: in the file's own, or in that of its pool.
@@ -16,25 +17,40 @@ pub(crate) enum Place<'a> {
     Lent(PoolBlocks<'a>, usize),
 }
 
-/// The byte that a position tells, and whose key block it is in.
+/// The position that an entry has, without what one of 32 bits is more.
+#[inline(always)]
+pub(crate) fn position_in(position: usize) -> usize
+    ensures { result ≡ lookups.position_in position }
+{
+    if position < WIDE {
+        return position;
+    }
+    position - WIDE
+}
+
+/// The byte that an entry's position tells, and whose key block it is in.
 #[inline(always)]
 #[tactic(auto, unfolding(resb_format::specs::Lookups::key_place_by))]
 pub(crate) fn key_spot(file: FileBlocks<'_>, position: usize) -> Place<'_>
     ensures { TellsKey file.entry position result }
 {
-    if position < file.keys.len() {
-        return Place::Own(position);
+    let byte = position_in(position);
+    if byte < file.keys.len() {
+        return Place::Own(byte);
     }
     let Some(pool) = file.pool else {
-        return Place::Own(position);
+        return Place::Own(byte);
     };
-    if position >= 0x8000_0000 {
-        return Place::Lent(pool, position - 0x8000_0000);
+    if position < WIDE {
+        return Place::Lent(pool, position - file.keys.len());
     }
-    Place::Lent(pool, position - file.keys.len())
+    if byte < 0x8000_0000 {
+        return Place::Own(byte);
+    }
+    Place::Lent(pool, byte - 0x8000_0000)
 }
 
-/// The key block and the byte of it that a position tells.
+/// The key block and the byte of it that an entry's position tells.
 #[inline(always)]
 pub fn key_place(file: FileBlocks<'_>, position: usize) -> (&[u8], usize)
     ensures { lookups.key_place (parts_in file.entry) position ≡ (result.0.now, result.1) }

@@ -2,6 +2,7 @@
 //! Bytes are looked at in `resb_format::bytes` alone.
 ghost use Rattle.std.specs.Prelude.{◌≡◌, ◌≢◌, ◌<◌, ◌^◌, ◌/◌, ◌%◌, Some, None, true};
 ghost use Rattle.std.specs.Prelude.{MatchOption, MatchResult, IfErr, IfOk, IfSome, IsTrue, ℕ, List};
+ghost use Rattle.std.specs.Prelude.{length};
 ghost use Rattle.resb_format.specs.Bytes.{units_of};
 ghost use Rattle.resb_format.specs.Strings as strings;
 ghost use Rattle.resb_format.specs.Descriptor.{type_number};
@@ -15,6 +16,7 @@ ghost use Rattle.resb_format.specs.Parts.{parts_in};
 ghost use Rattle.resb_format.specs.Lookups.{key_in, text_in};
 ghost use Rattle.resb_walk.specs.BlockRefusals.{key_refusal_in, text_refusal_in};
 ghost use Rattle.resb_walk.specs.Inner.Members.{content_of, text_of_bytes, member_of};
+ghost use Rattle.resb_walk.specs.Inner.Members.{AreUtf16, HasUtf16};
 ghost use Rattle.resb_walk.specs.Inner.MemberContent.{member_content, content_refusal, IsPartOf};
 ghost use Rattle.resb_walk.specs.Refusals.{IsFault};
 
@@ -33,8 +35,9 @@ use resb_format::{BinaryDeserializerError, FileBlocks, MAX_UNMARKED, ResourceRep
 /// have: one look at each unit finds the 0 behind it and that it is a text.
 #[inline(always)]
 pub(crate) fn plain_text(block: &[u8], unit: usize) -> Option<&[u8]>
-    ensures { let units = units_of block.now in
+    ensures text { let units = units_of block.now in
         IfSome result (λ v. strings.text_at units unit ≡ Some (text_of_bytes v.now)) }
+    ensures form { IfSome result (λ v. AreUtf16 v.now) }
 {
     if unit > block.len() / 2 {
         return None;
@@ -123,7 +126,7 @@ fn any_key(keys: &[u8], at: usize) -> Result<&str, BinaryDeserializerError>
     str::from_utf8(front).map_err(|_| key_not_utf8())
 }
 
-/// The key at a position, in bytes from the body's start, or of the pool.
+/// The key at an entry's position, the file's own or of the pool.
 #[inline(always)]
 pub fn key_at(file: FileBlocks<'_>, position: usize) -> Result<&str, BinaryDeserializerError>
     ensures stands { let p = parts_in file.entry in
@@ -141,6 +144,7 @@ fn block_text(units: &[u8], unit: usize) -> Result<&[u8], BinaryDeserializerErro
     ensures stands { let block = units_of units.now in
         MatchResult result (λ v. strings.text_at block unit ≡ Some (text_of_bytes v.now))
         (λ e. (strings.text_at block unit ≡ None) × IsFault e) }
+    ensures form { IfOk result (λ v. AreUtf16 v.now) }
     ensures says { IfErr result (Says (block_text_refusal (units_of units.now) unit)) }
 {
     match plain_text(units, unit) {
@@ -150,12 +154,14 @@ fn block_text(units: &[u8], unit: usize) -> Result<&[u8], BinaryDeserializerErro
 }
 
 /// The same of a string with a marker or surrogates too: first it is found, and then tested.
-#[tactic(auto, using(crate::proofs::Placed::text_some, crate::proofs::Placed::text_unpaired))]
+#[tactic(auto, using(crate::proofs::Placed::text_some, crate::proofs::Placed::text_unpaired,
+    crate::proofs::Placed::paired))]
 #[inline(never)]
 fn any_text(units: &[u8], unit: usize) -> Result<&[u8], BinaryDeserializerError>
     ensures stands { let block = units_of units.now in
         MatchResult result (λ v. strings.text_at block unit ≡ Some (text_of_bytes v.now))
         (λ e. (strings.text_at block unit ≡ None) × IsFault e) }
+    ensures form { IfOk result (λ v. AreUtf16 v.now) }
     ensures says { IfErr result (Says (block_text_refusal (units_of units.now) unit)) }
 {
     let text = string_at(units, unit)?;
@@ -172,6 +178,7 @@ pub fn text_at(file: FileBlocks<'_>, index: usize) -> Result<&[u8], BinaryDeseri
     ensures stands { let p = parts_in file.entry in
         MatchResult result (λ v. text_in p index ≡ Some (text_of_bytes v.now))
         (λ e. (text_in p index ≡ None) × IsFault e) }
+    ensures form { IfOk result (λ v. AreUtf16 v.now) }
     ensures says { IfErr result (Says (text_refusal_in (parts_in file.entry) index)) }
 {
     let (units, unit) = text_place(file, index);
@@ -188,6 +195,7 @@ pub(crate) fn counted_units(
         MatchResult result (λ v. found ≡ Some (units_of v.now))
         (λ e. (found ≡ None) × IsFault e) }
     ensures place { IfOk result (λ v. IsPartOf file.entry.body.now word v.now) }
+    ensures even { IfOk result (λ v. length v.now % 2 ≡ 0) }
     ensures says { IfErr result (Says reading.end_of_input) }
 {
     let count = some_word(file.body, word).ok_or(past_end())?;
@@ -196,11 +204,13 @@ pub(crate) fn counted_units(
 }
 
 /// The units behind the count at a word of the body, which are a text.
+#[tactic(auto, using(crate::proofs::Placed::paired))]
 pub fn counted_text_at(file: FileBlocks<'_>, word: usize) -> Result<&[u8], BinaryDeserializerError>
     requires { word < 2 ^ 28 }
     ensures stands { let found = at.counted_text (parts_in file.entry) word in
         MatchResult result (λ v. found ≡ Some (text_of_bytes v.now))
         (λ e. (found ≡ None) × IsFault e) }
+    ensures form { IfOk result (λ v. AreUtf16 v.now) }
     ensures says { IfErr result (Says (counted_refusal (parts_in file.entry) word)) }
 {
     let units = counted_units(file, word)?;
@@ -217,6 +227,7 @@ pub fn standing_at(file: FileBlocks<'_>, word: u32) -> Result<Standing<'_>, Bina
     ensures stands { let p = parts_in file.entry in
         MatchResult result (λ s. content_at p word ≡ Some (content_of s))
         (λ e. (content_at p word ≡ None) × IsFault e) }
+    ensures form { IfOk result HasUtf16 }
     ensures says { IfErr result (Says (word_refusal (parts_in file.entry) word)) }
 {
     let (kind, value) = readable(file, word)?;
@@ -238,6 +249,7 @@ pub(crate) fn standing_of(
     ensures stands { let p = parts_in file.entry in
         MatchResult result (λ s. content_at p word ≡ Some (content_of s))
         (λ e. (content_at p word ≡ None) × IsFault e) }
+    ensures form { IfOk result HasUtf16 }
     ensures says { IfErr result (Says (word_refusal (parts_in file.entry) word)) }
 {
     match (kind, value) {
@@ -282,6 +294,7 @@ fn placed(
     ensures stands { let found = at.placed (parts_in file.entry) (type_number kind) value in
         MatchResult result (λ s. found ≡ Some (content_of s))
         (λ e. (found ≡ None) × IsFault e) }
+    ensures form { IfOk result HasUtf16 }
     ensures says { IfErr result
         (Says (refusals.value_refusal (parts_in file.entry) (type_number kind) value)) }
 {
@@ -308,8 +321,9 @@ fn placed(
 /// A count of bytes, and the bytes.
 fn binary_at(file: FileBlocks<'_>, value: usize) -> Option<Standing<'_>>
     requires { value < 2 ^ 28 }
-    ensures { let found = at.binary_at (parts_in file.entry) value in
+    ensures stands { let found = at.binary_at (parts_in file.entry) value in
         MatchOption result (found ≡ None) (λ s. found ≡ Some (content_of s)) }
+    ensures form { IfSome result HasUtf16 }
 {
     let count = some_word(file.body, value)?;
     let bytes = some_bytes(file.body, 4 * value + 4, count as usize)?;
@@ -319,8 +333,9 @@ fn binary_at(file: FileBlocks<'_>, value: usize) -> Option<Standing<'_>>
 /// A count of numbers, and the numbers.
 fn int_vector_at(file: FileBlocks<'_>, value: usize) -> Option<Standing<'_>>
     requires { value < 2 ^ 28 }
-    ensures { let found = at.int_vector_at (parts_in file.entry) value in
+    ensures stands { let found = at.int_vector_at (parts_in file.entry) value in
         MatchOption result (found ≡ None) (λ s. found ≡ Some (content_of s)) }
+    ensures form { IfSome result HasUtf16 }
 {
     let count = some_word(file.body, value)?;
     let numbers = some_words(file.body, value + 1, count as usize)?;
@@ -330,8 +345,9 @@ fn int_vector_at(file: FileBlocks<'_>, value: usize) -> Option<Standing<'_>>
 /// A count of descriptors, and the descriptors.
 fn array_at(file: FileBlocks<'_>, value: usize) -> Option<Standing<'_>>
     requires { value < 2 ^ 28 }
-    ensures { let found = at.array_at (parts_in file.entry) value in
+    ensures stands { let found = at.array_at (parts_in file.entry) value in
         MatchOption result (found ≡ None) (λ s. found ≡ Some (content_of s)) }
+    ensures form { IfSome result HasUtf16 }
 {
     let count = some_word(file.body, value)?;
     let members = some_words(file.body, value + 1, count as usize)?;
@@ -341,8 +357,9 @@ fn array_at(file: FileBlocks<'_>, value: usize) -> Option<Standing<'_>>
 /// A count of offsets, and the offsets.
 fn array16_at(file: FileBlocks<'_>, value: usize) -> Option<Standing<'_>>
     requires { value < 2 ^ 28 }
-    ensures { let found = at.array16_at (parts_in file.entry) value in
+    ensures stands { let found = at.array16_at (parts_in file.entry) value in
         MatchOption result (found ≡ None) (λ s. found ≡ Some (content_of s)) }
+    ensures form { IfSome result HasUtf16 }
 {
     let count = some_unit(file.block, value)?;
     let members = some_units(file.block, value + 1, usize::from(count))?;
@@ -352,8 +369,9 @@ fn array16_at(file: FileBlocks<'_>, value: usize) -> Option<Standing<'_>>
 /// A 16-bit count of entries, 16-bit key positions, padding up to a word, and descriptors.
 fn table_at(file: FileBlocks<'_>, value: usize) -> Option<Standing<'_>>
     requires { value < 2 ^ 28 }
-    ensures { let found = at.table_at (parts_in file.entry) value in
+    ensures stands { let found = at.table_at (parts_in file.entry) value in
         MatchOption result (found ≡ None) (λ s. found ≡ Some (content_of s)) }
+    ensures form { IfSome result HasUtf16 }
 {
     let count = some_unit(file.body, 2 * value)?;
     let count = usize::from(count);
@@ -368,8 +386,9 @@ fn table_at(file: FileBlocks<'_>, value: usize) -> Option<Standing<'_>>
 /// A count of entries, key positions and offsets, all of 16 bits.
 fn table16_at(file: FileBlocks<'_>, value: usize) -> Option<Standing<'_>>
     requires { value < 2 ^ 28 }
-    ensures { let found = at.table16_at (parts_in file.entry) value in
+    ensures stands { let found = at.table16_at (parts_in file.entry) value in
         MatchOption result (found ≡ None) (λ s. found ≡ Some (content_of s)) }
+    ensures form { IfSome result HasUtf16 }
 {
     let count = some_unit(file.block, value)?;
     let count = usize::from(count);
@@ -384,8 +403,9 @@ fn table16_at(file: FileBlocks<'_>, value: usize) -> Option<Standing<'_>>
 /// A count of entries, key positions and descriptors, all of 32 bits, without padding.
 fn table32_at(file: FileBlocks<'_>, value: usize) -> Option<Standing<'_>>
     requires { value < 2 ^ 28 }
-    ensures { let found = at.table32_at (parts_in file.entry) value in
+    ensures stands { let found = at.table32_at (parts_in file.entry) value in
         MatchOption result (found ≡ None) (λ s. found ≡ Some (content_of s)) }
+    ensures form { IfSome result HasUtf16 }
 {
     let count = some_word(file.body, value)?;
     let count = count as usize;
@@ -402,7 +422,8 @@ fn table32_at(file: FileBlocks<'_>, value: usize) -> Option<Standing<'_>>
 fn empty(file: FileBlocks<'_>, kind: ResourceReprType) -> Standing<'_>
     requires read { reads_type (parts_in file) (type_number kind) ≡ true }
     requires no_number { kind ≢ ResourceReprType.Int }
-    ensures { at.empty (parts_in file.entry) (type_number kind) ≡ Some (content_of result) }
+    ensures stands { at.empty (parts_in file.entry) (type_number kind) ≡ Some (content_of result) }
+    ensures form { HasUtf16 result }
 {
     match kind {
         ResourceReprType::Binary => Standing::Leaf(Leaf::Binary(&[])),

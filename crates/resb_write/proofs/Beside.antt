@@ -3,8 +3,8 @@ use Rattle.std.proofs.Common.{◌≡◌, ℕ, ◌<◌, List, length, Some, None,
 use Rattle.std.proofs.Common.{option_and_then, inl, inr, sym, ◌∙◌, ap, rules}
 use Rattle.std.proofs.lemmas.Bool.{cases_lt, lt-ltb}
 use Rattle.std.proofs.lemmas.List.{drop_all}
-use Rattle.resb_format.specs.Lookups.{key_place_by, text_place_by, index_by, lent_position}
-use Rattle.resb_format.specs.Lookups.{key_in, text_in}
+use Rattle.resb_format.specs.Lookups.{key_place_by, text_place_by, index_by, place_behind}
+use Rattle.resb_format.specs.Lookups.{key_in, text_in, position_in, wide_position}
 use Rattle.resb_format.specs.Parts.{Parts, no_pool, beside_no_pool}
 use Rattle.resb_format.specs.Strings.{key_at, before_zero, if_utf8, text_at}
 use Rattle.resb_layout.specs.Laid.{Given, Laid}
@@ -22,11 +22,12 @@ key_inside keys at k e = elim (cases_lt at (length keys)) [
 ]
 
 -- the place of a position, and that of an index, beside an empty pool
-own_place : (keys : List ℕ) (at : ℕ) → at < length keys
-    → key_place_by (Some no_pool) keys at ≡ (keys, at)
+own_place : (keys : List ℕ) (n : ℕ) → position_in n < length keys
+    → key_place_by (Some no_pool) keys n ≡ (keys, position_in n)
 unfolding key_place_by
-own_place keys at h =
-    ap (λ b. cond b (keys, at) (no_pool.keys, lent_position keys at)) (lt-ltb at (length keys) h)
+own_place keys n h =
+    ap (λ b. cond b (keys, position_in n) (place_behind no_pool keys n))
+    (lt-ltb (position_in n) (length keys) h)
 
 own_text : (block : List ℕ) (i : ℕ) → text_place_by (Some no_pool) block i ≡ (block, i)
 unfolding text_place_by
@@ -40,11 +41,10 @@ module _ (body keys block : List ℕ) (g : Given) where
   abbrev alone : Parts
   alone = record { body = body; keys = keys; block = block; lent = None }
 
-  own_key : (k : List ℕ) (at : ℕ) → key_at keys at ≡ Some k
-      → key_in (beside_no_pool alone) at ≡ Some k
+  own_key : (k : List ℕ) (n : ℕ) → key_in alone n ≡ Some k → key_in (beside_no_pool alone) n ≡ Some k
   unfolding key_place_by
-  own_key k at here =
-      ap (λ p. key_at p.0 p.1) (own_place keys at (key_inside keys at k here)) ∙ here
+  own_key k n here =
+      ap (λ p. key_at p.0 p.1) (own_place keys n (key_inside keys (position_in n) k here)) ∙ here
 
   own_text_in : (s : List ℕ) (k : ℕ) → text_in alone k ≡ Some s
       → text_in (beside_no_pool alone) k ≡ Some s
@@ -54,8 +54,8 @@ module _ (body keys block : List ℕ) (g : Given) where
   pub read_beside : IsRead alone None g → IsRead (beside_no_pool alone) None g
   unfolding key_place_by index_by
   read_beside r = record {
-    keys = λ k at e. own_key k at (r.keys k at e);
-    near_keys = λ k at e near. own_key k at (r.keys k at e);
+    keys = λ k at e. own_key k (wide_position at) (r.keys k at e);
+    near_keys = λ k at e near. own_key k at (r.near_keys k at e near);
     texts = λ s k e. own_text_in s k (r.texts s k e);
     short_texts = λ s k e short. ap (text_in (beside_no_pool alone)) (own_index k)
         ∙ own_text_in s k (r.texts s k e);

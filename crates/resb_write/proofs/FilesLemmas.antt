@@ -23,6 +23,7 @@ use Rattle.resb_pool.proofs.ReadBack.{text_at-zero}
 use Rattle.resb_layout.specs.Laid.{Given, Laid, LaysBy, fill}
 use Rattle.resb_format.specs.Bytes.{units_as_bytes}
 use Rattle.resb_format.specs.Lookups.{key_place_by, text_place_by, index_by, text_in}
+use Rattle.resb_format.proofs.Beside.{near_position, wide_position_back}
 use Rattle.resb_layout.specs.Laws.{IsRead, StandsIn, ReadsOlderOf}
 use Rattle.resb_layout.proofs.BytesLemmas.{EachBelow, halves_len}
 use Rattle.resb_layout.proofs.Grows.{grows}
@@ -248,8 +249,9 @@ module _ (q : Packing) (t : Tree) (ks : List (List ℕ)) (m : Made q t ks) (larg
   is_read : IsRead parts None given
   unfolding key_place_by text_place_by index_by
   is_read = record {
-    keys = key_is_read;
-    near_keys = λ k at e near. key_is_read k at e;
+    keys = λ k at e. ap (key_at parts.keys) (wide_position_back at) ∙ key_is_read k at e;
+    near_keys = λ k at e near. ap (key_at parts.keys) (near_position at (omega (arith, near)))
+        ∙ key_is_read k at e;
     texts = text_is_read;
     short_texts = λ s k e short. text_is_read s k e;
     empty = only_empty;

@@ -5,9 +5,9 @@ use Rattle.std.proofs.lemmas.Result.{err_from_is_err_and}
 use Rattle.resb_read.specs.Places.{place_of}
 use Rattle.std.specs.Prelude.{option_map}
 use Rattle.resb_path.specs.Finding.{tree_spot, found_at}
-use Rattle.resb_path.specs.InFiles.{place_at, FailsOnWay}
+use Rattle.resb_path.specs.InFiles.{place_at, FailsOnWay, HoldsOnWay}
 use Rattle.resb_path.proofs.StepLemmas.{goes_on}
-use Rattle.resb_path.proofs.WayLemmas.{way_on, fails_on, fails_first}
+use Rattle.resb_path.proofs.WayLemmas.{way_on, fails_on, fails_first, holds_on}
 use Rattle.resb_path.proofs.file.find_in.Goals as goal
 
 abbrev texts : List (Bor (List ℕ)) → List (List ℕ)
@@ -15,7 +15,7 @@ texts names = map (λ (name : Bor (List ℕ)). name.now) names
 
 pub loop-name-init : goal.loop-name-init
 loop-name-init c =
-    record { way = refl; fails = λ e h. h; tree = λ t n d. (tree_spot t, (n, d), refl) }
+    record { way = refl; fails = λ e h. h; holds = λ h. h; tree = λ t n d. (tree_spot t, (n, d), refl) }
 
 pub returns-in_err-inside-clause-leads : goal.returns-in_err-inside-clause-leads
 returns-in_err-inside-clause-leads c =
@@ -36,12 +36,15 @@ loop-name-preserved c =
     let q = place_of c.in-Some.inside in
     let rest = texts (drop (i + 1) path) in
     let split = drop_more path i _ (omega (arith, c.loop-name-test.true)) in
-    let leads = sym (ap (option_map place_of) c.in-Some.is) ∙ c.in_ok-inside.ensures.leads in
+    let leads = sym (ap (option_map place_of) c.in-Some.is) ∙ c.in_ok-inside.ensures.leads.0 in
     record {
       way = way_on p q _ rest leads ∙ ap (λ l. place_at p (texts l)) (sym split)
           ∙ c.loop-name.invariant.way;
       fails = λ e h. c.loop-name.invariant.fails e
           (subst (λ l. FailsOnWay p (texts l) e) (sym split) (fails_on p q _ rest e leads h));
+      holds = λ h. c.loop-name.invariant.holds
+          (subst (λ l. HoldsOnWay p (texts l)) (sym split)
+          (holds_on p q _ rest leads c.in_ok-inside.ensures.leads.1 h));
       tree = λ t n d.
           let (s, is, e) = c.loop-name.invariant.tree t n d in
           goes_on q _ s _ rest _ (ap (option_map place_of) c.in-Some.is)

@@ -4,7 +4,7 @@ use Rattle.resb_format.specs.declared.error.ReadingError.{ReadingError}
 use Rattle.resb_read.specs.Places.{place_of}
 use Rattle.resb_read.specs.Resources.{DenPlace}
 use Rattle.resb_path.specs.Finding.{Spot, tree_spot, found_at}
-use Rattle.resb_path.specs.InFiles.{IsAt, place_at, FailsOnWay}
+use Rattle.resb_path.specs.InFiles.{IsAt, place_at, FailsOnWay, HoldsOnWay}
 use Rattle.resb_path.proofs.file.find_in.Given as goal
 
 abbrev pub invariant-loop-name : goal.invariant-loop-name
@@ -14,6 +14,8 @@ invariant-loop-name l = record {
   fails : (e : ReadingError)
       → FailsOnWay (place_of l.found) (map (λ name. name.now) (drop l.name-index l.path)) e
       → FailsOnWay (place_of l.root) (map (λ name. name.now) l.path) e;
+  holds : HoldsOnWay (place_of l.found) (map (λ name. name.now) (drop l.name-index l.path))
+      → HoldsOnWay (place_of l.root) (map (λ name. name.now) l.path);
   tree : (t : Tree) (n : ℕ) → DenPlace (place_of l.root) t n
       → (s : Spot) × IsAt (place_of l.found) s
       × (found_at s (map (λ name. name.now) (drop l.name-index l.path))

@@ -3,7 +3,8 @@ use Rattle.resb_format.specs.Descriptor.{type_number}
 use Rattle.resb_read.specs.Places.{place_of}
 use Rattle.resb_path.proofs.StepLemmas.{entry_answers, member_answers, no_number_said}
 use Rattle.resb_path.proofs.StepLemmas.{nothing_inside, untyped, has_none, no_number_here}
-use Rattle.resb_path.proofs.WayLemmas.{entry_leads, member_leads}
+use Rattle.resb_path.proofs.StepLemmas.{unread_list}
+use Rattle.resb_path.proofs.WayLemmas.{entry_leads, member_leads, no_number_leads, nothing_leads}
 use Rattle.resb_path.proofs.file.step.Goals as goal
 
 pub returns-in_err-kind-clause-tree : goal.returns-in_err-kind-clause-tree
@@ -21,6 +22,11 @@ pub returns-then-has_entries-clause-tree : goal.returns-then-has_entries-clause-
 returns-then-has_entries-clause-tree c =
     entry_answers (place_of c.args.at) (type_number c.in_ok-kind.kind) c.in_ok-kind.ensures
     (sym c.if-has_entries.ensures) c.args.name.now c.entry.result c.entry.ensures
+
+pub returns-then-not-has_members-clause-leads : goal.returns-then-not-has_members-clause-leads
+returns-then-not-has_members-clause-leads c =
+    nothing_leads (place_of c.args.at) (type_number c.in_ok-kind.kind) c.in_ok-kind.ensures
+    c.args.name.now (sym c.if-has_entries.ensures) (sym c.if-not-has_members.ensures)
 
 pub returns-then-not-has_members-clause-tree : goal.returns-then-not-has_members-clause-tree
 returns-then-not-has_members-clause-tree c =
@@ -41,8 +47,20 @@ returns-in-Some-clause-tree c =
     (sym c.if-not-has_members.ensures) (sym c.if-has_entries.ensures) c.args.name.now
     c.in-Some.number (sym c.in-Some.ensures) c.member.result c.member.ensures
 
-pub returns-in-None-clause-tree : goal.returns-in-None-clause-tree
-returns-in-None-clause-tree c =
+pub returns-in_ok-member-in-None-clause-leads : goal.returns-in_ok-member-in-None-clause-leads
+returns-in_ok-member-in-None-clause-leads c =
+    no_number_leads (place_of c.args.at) (type_number c.in_ok-kind.kind) c.in_ok-kind.ensures
+    c.args.name.now (sym c.if-has_entries.ensures) (sym c.if-not-has_members.ensures)
+    (sym c.in-None.ensures) 0 _ c.in_ok-member-in-None.ensures
+
+pub returns-in_err-member-in-None-clause-tree : goal.returns-in_err-member-in-None-clause-tree
+returns-in_err-member-in-None-clause-tree c = λ s is.
+    absurd (unread_list (place_of c.args.at) (type_number c.in_ok-kind.kind) c.in_ok-kind.ensures
+    (sym c.if-not-has_members.ensures) (sym c.if-has_entries.ensures) c.args.name.now
+    c.in_err-member-in-None.ensures.0 s is)
+
+pub returns-in_ok-member-in-None-clause-tree : goal.returns-in_ok-member-in-None-clause-tree
+returns-in_ok-member-in-None-clause-tree c =
     no_number_said (place_of c.args.at) (type_number c.in_ok-kind.kind) c.in_ok-kind.ensures
     (sym c.if-not-has_members.ensures) (sym c.if-has_entries.ensures) c.args.name.now
     (sym c.in-None.ensures)

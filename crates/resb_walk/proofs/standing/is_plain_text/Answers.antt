@@ -12,5 +12,6 @@ found us u None e t = absurd cc
 found us u (Some v) e t = (text_of_bytes v.now, e)
 
 pub returns : goal.returns
-returns c h = found (units_of c.args.block.now) c.args.unit c.plain_text.result c.plain_text.ensures
+returns c h = found (units_of c.args.block.now) c.args.unit c.plain_text.result
+    c.plain_text.ensures.text
     (sym c.is_some.ensures ∙ h)

@@ -40,9 +40,12 @@ returns c =
     let checksum = c.unwrap_or.ensures ∙ ap (λ o. unwrap_or o 0) c.checksum.ensures in (
       pool_holds bs c.args.self.passes (sym c.is_pool.ensures ∙ c.if-not-is_pool.false)
           (omega (arith, c.if-self-index_end.false, i.counted, i.keys_said)),
-      λ j. record {
-        keys = keys j;
-        block = units_of (c.block.ensures j);
-        checksum = checksum j;
-      },
+      (
+        λ j. record {
+          keys = keys j;
+          block = units_of (c.block.ensures j);
+          checksum = checksum j;
+        },
+        c.block.ensures,
+      ),
     )

@@ -80,8 +80,7 @@ impl<'a> Handle<'a> {
 
     /// The UTF-16 units of a string, or of an alias's path: two bytes for each unit, the lower one
     /// first.
-    #[tactic(auto, using(crate::proofs::Utf16Lemmas::string_leaf, crate::proofs::Utf16Lemmas::alias_leaf,
-        crate::proofs::Utf16Lemmas::empty_leaf))]
+    #[tactic(auto, using(crate::proofs::Utf16Lemmas::string_leaf, crate::proofs::Utf16Lemmas::alias_leaf, crate::proofs::Utf16Lemmas::empty_leaf))]
     pub fn utf16(self) -> Option<&'a [u8]>
         ensures { option_map (λ bytes. bytes.now) result
             ≡ option_map (λ text. units_as_bytes (units text)) (seen.text_of (tree_at self.entry)) }

@@ -26,10 +26,26 @@ const OVER_POOL: &str = "\
 /// Tables of one position of 32 bits over that pool, whose own key `delta` stands from byte 24 to
 /// byte 2b; a key; and whether it is the table's. Position 32 would be `beta` with 16 bits.
 const WIDE_TABLES: [(&str, &str, bool); 4] = [
-    ("4000000b 8 b e e 1 4 b 1baba403 746c6564 aaaa0061 1 24 70000005", "delta", true),
-    ("4000000b 8 b e e 1 4 b 1baba403 746c6564 aaaa0061 1 80000006 70000005", "beta", true),
-    ("4000000b 8 b e e 1 4 b 1baba403 746c6564 aaaa0061 1 32 70000005", "beta", false),
-    ("4000000b 8 b e e 1 4 b 1baba403 746c6564 aaaa0061 1 2c 70000005", "alpha", false),
+    (
+        "4000000b 8 b e e 1 4 b 1baba403 746c6564 aaaa0061 1 24 70000005",
+        "delta",
+        true,
+    ),
+    (
+        "4000000b 8 b e e 1 4 b 1baba403 746c6564 aaaa0061 1 80000006 70000005",
+        "beta",
+        true,
+    ),
+    (
+        "4000000b 8 b e e 1 4 b 1baba403 746c6564 aaaa0061 1 32 70000005",
+        "beta",
+        false,
+    ),
+    (
+        "4000000b 8 b e e 1 4 b 1baba403 746c6564 aaaa0061 1 2c 70000005",
+        "alpha",
+        false,
+    ),
 ];
 
 /// A table of `alpha` over that pool, whose value is an array outside the file.

@@ -1,6 +1,7 @@
 -- The bytes of well-formed UTF-16 are those of the units of the text that it spells.
 use Rattle.std.proofs.Common.{◌≡◌, ◌<◌, ◌*◌, ◌^◌, ℕ, suc, List, [], ◌∷◌, ◌++◌, Bool, Some}
-use Rattle.std.proofs.Common.{None, true, false, ◌||◌, ◌&&◌, not, is_some, length, get_or, refl, zero}
+use Rattle.std.proofs.Common.{None, true, false, ◌||◌, ◌&&◌, not, is_some, length, get_or, refl}
+use Rattle.std.proofs.Common.{zero}
 use Rattle.std.proofs.Common.{sym, ap, ◌∙◌, arith, inl, inr}
 use Rattle.std.proofs.Math.Utf8.{scalar, scalars}
 use Rattle.std.proofs.lemmas.Bool.{cases_lt, false≢true, or_parts}

@@ -1,6 +1,6 @@
 -- A character of ASCII in a text is a byte of its own, and a unit of its own in UTF-16.
-use Rattle.std.proofs.Common.{◌≡◌, ◌≤◌, ◌<◌, ◌⊎◌, inl, inr, ℕ, suc, List, [], ◌∷◌, ◌++◌, Bool}
-use Rattle.std.proofs.Common.{true, false, ◌||◌, ◌&&◌, length, get_or, nat_eq, refl, sym, ap, ◌∙◌}
+use Rattle.std.proofs.Common.{◌≡◌, ◌≤◌, ◌<◌, ◌⊎◌, inl, inr, ℕ, suc, List, [], ◌∷◌, Bool}
+use Rattle.std.proofs.Common.{true, false, ◌&&◌, length, get_or, nat_eq, refl, sym, ◌∙◌}
 use Rattle.std.proofs.Common.{arith, append-nil, encode_utf8_all, unwrap_or, ◌/◌}
 use Rattle.std.proofs.Math.Bool.{or-false}
 use Rattle.std.proofs.Math.Utf8.{encode}

@@ -1,7 +1,8 @@
 -- The bytes of well-formed UTF-16 are those of the units of the text that it spells.
-use Rattle.std.proofs.Common.{◌≡◌, ◌<◌, ◌≤◌, ◌*◌, ◌^◌, ℕ, suc, List, [], ◌∷◌, ◌++◌, Bool, Some}
-use Rattle.std.proofs.Common.{None, true, false, ◌||◌, ◌&&◌, not, is_some, length, get_or, refl, zero}
-use Rattle.std.proofs.Common.{sym, ap, ◌∙◌, arith, inl, inr, ◌/◌, ◌%◌, ◌+◌, ◌-◌}
+use Rattle.std.proofs.Common.{◌≡◌, ◌<◌, ◌*◌, ◌^◌, ℕ, suc, List, [], ◌∷◌, ◌++◌, Bool, Some}
+use Rattle.std.proofs.Common.{None, true, false, ◌||◌, ◌&&◌, not, is_some, length, get_or, refl}
+use Rattle.std.proofs.Common.{zero}
+use Rattle.std.proofs.Common.{sym, ap, ◌∙◌, arith, inl, inr}
 use Rattle.std.proofs.Math.Utf8.{scalar, scalars}
 use Rattle.std.proofs.lemmas.Bool.{cases_lt, false≢true, or_parts}
 use Rattle.std.proofs.lemmas.Bool.Decides.{nat_tests}
@@ -104,7 +105,7 @@ units_small (a ∷ b ∷ bs) h (suc k) l =
     units_small bs (λ j. h (suc (suc j))) k (omega (arith, l))
 
 -- the bytes are those of the text's units
-bytes_of_units : (bs : List ℕ) → AreUtf16 bs → ((k : ℕ) → get_or bs k 0 < 256)
+pub bytes_of_units : (bs : List ℕ) → AreUtf16 bs → ((k : ℕ) → get_or bs k 0 < 256)
     → bs ≡ units_as_bytes (units (text_of_bytes bs))
 bytes_of_units bs is h =
     let us : List ℕ = units_of bs in
@@ -123,13 +124,13 @@ abbrev bytes_in : Tree → Option (List ℕ)
 bytes_in t = option_map (λ text. units_as_bytes (units text)) (text_of t)
 
 -- what stands at a string or at an alias is just these bytes
-pub string_leaf : (bs : List ℕ) (t : Tree) → AreUtf16 bs → ((k : ℕ) → get_or bs k 0 < 256)
+pub string_leaf : (bs : List ℕ) (t : Tree) → bs ≡ units_as_bytes (units (text_of_bytes bs))
     → t ≡ string (text_of_bytes bs) → Some bs ≡ bytes_in t
-string_leaf bs t is h e = ap Some (bytes_of_units bs is h) ∙ sym (ap bytes_in e)
+string_leaf bs t is e = ap Some is ∙ sym (ap bytes_in e)
 
-pub alias_leaf : (bs : List ℕ) (t : Tree) → AreUtf16 bs → ((k : ℕ) → get_or bs k 0 < 256)
+pub alias_leaf : (bs : List ℕ) (t : Tree) → bs ≡ units_as_bytes (units (text_of_bytes bs))
     → t ≡ alias (text_of_bytes bs) → Some bs ≡ bytes_in t
-alias_leaf bs t is h e = ap Some (bytes_of_units bs is h) ∙ sym (ap bytes_in e)
+alias_leaf bs t is e = ap Some is ∙ sym (ap bytes_in e)
 
 pub empty_leaf : (t : Tree) → t ≡ string [] → Some [] ≡ bytes_in t
 empty_leaf t e = ap Some no_bytes ∙ sym (ap bytes_in e)

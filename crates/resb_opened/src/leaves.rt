@@ -5,7 +5,7 @@ ghost use Rattle.std.specs.List.{list_any};
 ghost use Rattle.std.specs.String.{string_bytes};
 ghost use Rattle.resb_format.specs.Bytes.{units_as_bytes};
 ghost use Rattle.resb_format.specs.Units.{units};
-ghost use Rattle.resb_walk.specs.Inner.Members.{text_of_bytes};
+ghost use Rattle.resb_walk.specs.Inner.Members.{text_of_bytes, AreUtf16};
 ghost use Rattle.resb_shown.specs.Shown as shown;
 ghost use Rattle.resb_opened.specs.Handles as seen;
 ghost use Rattle.resb_opened.specs.Handles.{tree_at, kind_of};
@@ -28,6 +28,15 @@ fn has_unit(units: &[u8], character: u8) -> bool
         }
     }
     false
+}
+
+/// Bytes of UTF-16, which are those of the units of the text that they spell.
+fn spelled(bytes: &[u8]) -> &[u8]
+    requires { AreUtf16 bytes.now }
+    ensures is { result.now ≡ bytes.entry.now }
+    ensures units { result.now ≡ units_as_bytes (units (text_of_bytes result.now)) }
+{
+    bytes
 }
 
 impl<'a> Handle<'a> {
@@ -80,13 +89,14 @@ impl<'a> Handle<'a> {
 
     /// The UTF-16 units of a string, or of an alias's path: two bytes for each unit, the lower one
     /// first.
-    #[tactic(auto, using(crate::proofs::Utf16Lemmas::string_leaf, crate::proofs::Utf16Lemmas::alias_leaf, crate::proofs::Utf16Lemmas::empty_leaf))]
+    #[tactic(auto, using(crate::proofs::Utf16Lemmas::empty_leaf))]
     pub fn utf16(self) -> Option<&'a [u8]>
         ensures { option_map (λ bytes. bytes.now) result
             ≡ option_map (λ text. units_as_bytes (units text)) (seen.text_of (tree_at self.entry)) }
     {
         match self.standing() {
-            Standing::Leaf(Leaf::Text(units) | Leaf::Alias(units)) => Some(units),
+            Standing::Leaf(Leaf::Text(units)) => Some(spelled(units)),
+            Standing::Leaf(Leaf::Alias(path)) => Some(spelled(path)),
             Standing::Leaf(Leaf::Empty) => Some(&[]),
             _ => None,
         }

@@ -1,14 +1,15 @@
 -- What stands at a path in a file, without its tree.
 --     place_inside p name     where what has a name inside a place stands
 --     place_at p names        where a path leads
---     Holds p, HoldsOnWay p names     a place can be gone into, and so can each on the way of a path
+--     Holds p, HoldsOnWay p names     a place can be gone into, and each on a path's way can
 --     FailsAt p e, FailsOnWay p names e   why nothing is said of a place, and of a path
 --     OneAnswerOfAPath        a path isn't both followed and refused
 --     IsAt p s                what a path leads to in a tree stands at this place
 --     AreFound p s            the one stands at the other, or there is neither
 --     LeadsOn p names r, LeadsOnWith w names r    what is answered for a path in a file
 --     AnswersPath denotes names r     that it is what stands in the tree, where one is denoted
-use Rattle.std.specs.Prelude.{◌≡◌, ◌≢◌, ◌==◌, ◌||◌, ◌⊎◌, ℕ, List, [], ◌∷◌, Option, Some, None, Result}
+use Rattle.std.specs.Prelude.{◌≡◌, ◌==◌, ◌||◌, ◌⊎◌, ℕ, List, [], ◌∷◌, Option, Some, None, Result}
+use Rattle.std.specs.Prelude.{◌≢◌}
 use Rattle.std.specs.Prelude.{true, Ok, Err, MatchResult, option_map, slice_get, if◌then◌else◌}
 use Rattle.std.specs.Option.{option_and_then}
 use Rattle.resb_tree.specs.Tree.{Tree}

@@ -60,6 +60,9 @@ string_fails block u e h = either (nat_lt u (length block) && is_no_marker (slic
               (let h : 117 ≡ 114 = ap (λ xs. get_or xs 0 0) (sym i.message_is ∙ m) in omega arith);
         }
 
+-- whether units are a text
+pub ruleset texts = (text_some, text_unpaired, paired)
+
 pub ruleset lengths = (length-map, words_length, units_length)
 
 -- the words and units of bytes behind some

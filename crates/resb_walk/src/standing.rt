@@ -154,7 +154,7 @@ fn block_text(units: &[u8], unit: usize) -> Result<&[u8], BinaryDeserializerErro
 }
 
 /// The same of a string with a marker or surrogates too: first it is found, and then tested.
-#[tactic(auto, using(crate::proofs::Placed::text_some, crate::proofs::Placed::text_unpaired, crate::proofs::Placed::paired))]
+#[tactic(auto, using(crate::proofs::Placed::texts))]
 #[inline(never)]
 fn any_text(units: &[u8], unit: usize) -> Result<&[u8], BinaryDeserializerError>
     ensures stands { let block = units_of units.now in

@@ -41,7 +41,8 @@ module _ (body keys block : List ℕ) (g : Given) where
   abbrev alone : Parts
   alone = record { body = body; keys = keys; block = block; lent = None }
 
-  own_key : (k : List ℕ) (n : ℕ) → key_in alone n ≡ Some k → key_in (beside_no_pool alone) n ≡ Some k
+  own_key : (k : List ℕ) (n : ℕ) → key_in alone n ≡ Some k
+      → key_in (beside_no_pool alone) n ≡ Some k
   unfolding key_place_by
   own_key k n here =
       ap (λ p. key_at p.0 p.1) (own_place keys n (key_inside keys (position_in n) k here)) ∙ here

@@ -15,7 +15,12 @@ texts names = map (λ (name : Bor (List ℕ)). name.now) names
 
 pub loop-name-init : goal.loop-name-init
 loop-name-init c =
-    record { way = refl; fails = λ e h. h; holds = λ h. h; tree = λ t n d. (tree_spot t, (n, d), refl) }
+    record {
+      way = refl;
+      fails = λ e h. h;
+      holds = λ h. h;
+      tree = λ t n d. (tree_spot t, (n, d), refl);
+    }
 
 pub returns-in_err-inside-clause-leads : goal.returns-in_err-inside-clause-leads
 returns-in_err-inside-clause-leads c =

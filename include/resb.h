@@ -265,8 +265,8 @@ uint32_t resb_dump_json_with_pool(const uint8_t *file, size_t file_length, const
  *
  * A path is UTF-8 of path_length bytes. The empty path leads to the root. Any other is names with a
  * slash between two, and one slash may stand first: "names/greeting" and "/names/greeting" say the
- * same, as for the program's `resb get`. A character of ASCII that stands first and is no letter, no
- * digit, '%' or '_' takes the slash's place: "|a/b|c" has a name with a slash.
+ * same, as for the program's `resb get`. Another ASCII character that stands first and is no
+ * letter, no digit, '%' or '_' takes the slash's place: "|a/b|c" has a name with a slash.
  * A name leads into a table, to the last entry of that name, and a number from 0 into an array or a
  * vector, such as "list/0". An alias is not followed. */
 

@@ -6,6 +6,9 @@
  *
  * Link with libresb_c.a and with the toolchain's liblibc_c.a, in this order.
  *
+ * Texts, names and paths are UTF-8 of a given length, without a zero at their end, and may hold
+ * zeros: they are uint8_t, as all bytes here are, and not char. A char pointer is cast.
+ *
  * Nothing is allocated for the caller, so there is nothing to free. A call asks malloc for memory
  * of its own, and frees it before it returns. There are no globals: calls with buffers of their own
  * may run side by side. No call may be made from a signal handler.
@@ -19,7 +22,8 @@
  *   - an input doesn't change while the call runs.
  *
  * To ask how long an answer is, pass a length of 0 with any pointer that isn't null: the call does
- * its whole work, and answers RESB_TOO_SHORT.
+ * its whole work, and answers RESB_TOO_SHORT, or RESB_OK where the answer is empty, as an empty
+ * string is.
  *
  * A file that is looked into more than once is best opened: resb_open checks it as a whole, and
  * what comes after goes from resource to resource without another check. */
@@ -76,6 +80,17 @@ uint32_t resb_version(void);
 /* The zone has a fault, which the message names: its link leads nowhere, its numbers don't fit each
  * other, or its final rule is none. */
 #define RESB_NOT_A_ZONE 14u
+
+/* The name of an answer, as "RESB_OK", for messages and logs; "RESB_UNKNOWN" for a number that this
+ * header has none for. The header alone has it: it's no call of the library. */
+static inline const char *resb_status_name(uint32_t status) {
+  static const char *const names[] = {
+      "RESB_OK",        "RESB_TOO_SHORT",   "RESB_NOT_UTF8",  "RESB_NOT_A_BUNDLE",
+      "RESB_NO_FILE",   "RESB_NOT_A_FILE",  "RESB_UNSUPPORTED", "RESB_NOT_PRINTABLE",
+      "RESB_NO_MEMORY", "RESB_USES_POOL",   "RESB_OVER_LIMIT", "RESB_NOT_A_POOL",
+      "RESB_NOT_FOUND", "RESB_OTHER_KIND",  "RESB_NOT_A_ZONE"};
+  return status < sizeof names / sizeof *names ? names[status] : "RESB_UNKNOWN";
+}
 
 /* Why a call failed. Each call writes all of it: after RESB_OK it holds zeros alone. */
 typedef struct resb_error {
@@ -248,13 +263,12 @@ uint32_t resb_dump_json_with_pool(const uint8_t *file, size_t file_length, const
  * a file that is broken elsewhere is answered. A stranger's file may be given: no tree is made of
  * it.
  *
- * A path is UTF-8 of path_length bytes. The empty path leads to the root. Any other begins with its
- * separator, which is an ASCII character, and has a name between two separators and behind the
- * last: "/names/greeting" and "|names|greeting" say the same, and "|a/b|c" has a name with a slash.
- * So it isn't written as for the program's `resb get`, where it begins with a name.
+ * A path is UTF-8 of path_length bytes. The empty path leads to the root. Any other is names with a
+ * slash between two, and one slash may stand first: "names/greeting" and "/names/greeting" say the
+ * same, as for the program's `resb get`. Another ASCII character that stands first and is no
+ * letter, no digit, '%' or '_' takes the slash's place: "|a/b|c" has a name with a slash.
  * A name leads into a table, to the last entry of that name, and a number from 0 into an array or a
- * vector, such as "/list/0". A path that begins with a character that is not ASCII is one name as
- * it stands. An alias is not followed. */
+ * vector, such as "list/0". An alias is not followed. */
 
 /* What stands at a path. */
 #define RESB_STRING 1u

@@ -113,3 +113,11 @@ told 0 '' '' genrb -q -s named -d named app.txt
 holds named 'app.res app.txt other.res web.res'
 printf '\357\273\277/* {*/ /* */// }\n web :table{a{x}}' > named/web.txt
 told 0 '' '' compile --icu --strict named/web.txt
+# a bundle of another name than its text, for which make waits in vain
+mkdir -p named/out
+told 0 '' "named/app.txt:2:1: warning: the bundle is named 'web', so this makes web.res, and no app.res" \
+  genrb -s named -d named/out app.txt
+holds named/out web.res
+told 3 '' "named/app.txt:2:1: warning: the bundle is named 'web', so this makes web.res, and no app.res" \
+  genrb --strict-warnings -s named -d named/out app.txt
+told 0 '' '' genrb -q -s named -d named/out app.txt

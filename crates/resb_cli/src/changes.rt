@@ -1,6 +1,6 @@
 //! The lines of what differs between two trees, written a block at a time and never kept.
 //! What a difference is, is in `resb_diff`; which files are compared is in `diff`.
-use crate::paths::{Name, has_slash};
+use crate::paths::{Step, push_step};
 use crate::shown::{Shown, shown_bytes, spelled_json};
 use resb_diff::{Change, ChangeAt, Differences, PathStep};
 use resb_json::write_json;
@@ -229,16 +229,11 @@ fn write_path(alloc: Global, sink: &mut Sink, path: &[PathStep<'_>]) -> io::Resu
 fn path_text(alloc: Global, path: &[PathStep<'_>]) -> Result<String, AllocError> {
     let mut text = String::new(alloc);
     for (before, step) in path.iter().enumerate() {
-        match step {
-            PathStep::Key(key) => {
-                let (slash, name) = (if has_slash(before, key) { "/" } else { "" }, Name(key));
-                write!(text, "{slash}{name}")?;
-            }
-            PathStep::Number(number) => {
-                let slash = if before > 0 { "/" } else { "" };
-                write!(text, "{slash}{number}")?;
-            }
-        }
+        let step = match step {
+            PathStep::Key(key) => Step::Key(key),
+            PathStep::Number(number) => Step::Number(*number),
+        };
+        push_step(&mut text, before, step)?;
     }
     Ok(text)
 }

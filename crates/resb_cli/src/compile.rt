@@ -448,8 +448,7 @@ fn warned(rt: &HostRuntime, name: &str, text: SourceText<'_>, wanted: &CompileWo
         Some(folder) => text.warn_of_missing(rt, name, folder, wanted.is_quiet),
         None => false,
     };
-    let is_misnamed = is_named_by_text(name, wanted)
-        && warn_of_name(rt, name, text, wanted.is_icu, wanted.is_quiet);
+    let is_misnamed = has_wanted_name(name, wanted) && warn_of_name(rt, name, text, wanted);
     if may_pass(text.whole().len(), wanted.limit) {
         if !wanted.is_quiet {
             complain(
@@ -466,9 +465,11 @@ fn warned(rt: &HostRuntime, name: &str, text: SourceText<'_>, wanted: &CompileWo
     }
 }
 
-/// Whether the text of a name has a file of that name.
-fn is_named_by_text(name: &str, wanted: &CompileWords<'_>) -> bool {
-    wanted.output.is_none() && !wanted.is_by_name && name != "-"
+/// Whether a file of the text's own name may be looked for: where the words name no file, nor ask
+/// for the bundle's name. ICU's compiler goes by that unasked.
+fn has_wanted_name(name: &str, wanted: &CompileWords<'_>) -> bool {
+    let asks_for_name = wanted.is_by_name && wanted.dependencies.is_none();
+    wanted.output.is_none() && !asks_for_name && name != "-"
 }
 
 /// Whether the warnings of a text of so many bytes may take more than a limit: they take up to

@@ -16,10 +16,30 @@ pub(crate) fn names_of(alloc: Global, path: &str) -> Result<String, AllocError> 
     slashed.as_str().replace(alloc, "~0", "~")
 }
 
-/// Whether a slash stands before a name of a path, of which so many names stand before: also before
-/// a first one that is empty, which the path couldn't begin with otherwise.
-pub(crate) fn has_slash(before: usize, name: &str) -> bool {
-    before > 0 || name.is_empty()
+/// A step of a path.
+#[derive(Clone, Copy)]
+pub(crate) enum Step<'k> {
+    Key(&'k str),
+    Number(usize),
+}
+
+/// Adds a step to a path of so many steps, spelled as `get` takes it. A slash stands before each but
+/// the first, and before a first name that is empty, since a path's own first slash counts for none.
+pub(crate) fn push_step(
+    path: &mut String,
+    before: usize,
+    step: Step<'_>,
+) -> Result<(), AllocError> {
+    if before > 0 || matches!(step, Step::Key("")) {
+        path.push('/')?;
+    }
+    match step {
+        Step::Key(key) => {
+            let name = Name(key);
+            write!(path, "{name}")
+        }
+        Step::Number(number) => write!(path, "{number}"),
+    }
 }
 
 /// A key as a name in a path: a tilde is spelled where it would stand for something else.

@@ -4,7 +4,7 @@ use crate::hints::hint_at;
 use crate::mistaken::mistake_at;
 use crate::mistaken_values::last_long_string;
 use crate::mistakes::{Mistake, What};
-use crate::paths::Name;
+use crate::paths::{Step, push_step};
 use crate::show::Form;
 use crate::shown::Shown;
 use crate::streams::{InputError, NO_MEMORY};
@@ -111,17 +111,12 @@ pub(crate) fn say_no_text<R: Eprint + AllocGlobal, C: Display + Drop>(
 /// The keys and numbers of a path, as `get` takes it.
 fn path_text(alloc: Global, path: &[PathStep<'_>]) -> Result<String, AllocError> {
     let mut text = String::new(alloc);
-    for (number, step) in path.iter().enumerate() {
-        if number > 0 {
-            text.push_str("/")?;
-        }
-        match step {
-            PathStep::Key(key) => {
-                let name = Name(key);
-                write!(text, "{name}")?;
-            }
-            PathStep::Member(number) => write!(text, "{number}")?,
-        }
+    for (before, step) in path.iter().enumerate() {
+        let step = match step {
+            PathStep::Key(key) => Step::Key(key),
+            PathStep::Member(number) => Step::Number(*number),
+        };
+        push_step(&mut text, before, step)?;
     }
     Ok(text)
 }

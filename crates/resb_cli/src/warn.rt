@@ -9,6 +9,7 @@ use crate::say::{fail, say_at};
 use crate::shown::Shown;
 use crate::texts::SourceText;
 use resb_diagnostics::{Location, Locations, Reason, Warning, icu_warnings, location_of, warnings};
+use resb_words::CompileWords;
 use std::fmt;
 use std::path::Path;
 
@@ -45,20 +46,25 @@ pub(crate) fn warn_of_name<R: Eprint>(
     rt: &R,
     name: &str,
     text: SourceText<'_>,
-    is_icu: bool,
-    is_quiet: bool,
+    wanted: &CompileWords<'_>,
 ) -> bool {
     let Some(stem) = Path::new(name).file_stem() else {
         return false;
     };
     let source = text.read().as_bytes();
-    let (place, bundle) = name_in(source, is_icu);
+    let (place, bundle) = name_in(source, wanted.is_icu);
     if bundle == stem || !is_file_name(bundle) {
         return false;
     }
-    if !is_quiet {
+    if !wanted.is_quiet {
         let at = location_of(source, place);
-        say_at(rt, name, at, OtherName { bundle, stem });
+        let is_by_name = wanted.is_by_name;
+        let told = OtherName {
+            bundle,
+            stem,
+            is_by_name,
+        };
+        say_at(rt, name, at, told);
     }
     true
 }
@@ -68,16 +74,21 @@ pub(crate) fn warn_of_name<R: Eprint>(
 struct OtherName<'n> {
     bundle: &'n str,
     stem: &'n str,
+    /// Whether the file has the bundle's name.
+    is_by_name: bool,
 }
 
 impl fmt::Display for OtherName<'_> {
     fn fmt<W: fmt::Write>(&self, f: &mut fmt::Formatter<W>) -> fmt::Result {
         let (bundle, stem) = (Shown(self.bundle), Shown(self.stem));
+        write!(f, "warning: the bundle is named '{bundle}', ")?;
+        if self.is_by_name {
+            return write!(f, "so this makes {bundle}.res, and no {stem}.res");
+        }
         write!(
             f,
-            "warning: the bundle is named '{bundle}', but this makes {stem}.res: what looks for"
-        )?;
-        write!(f, " {bundle}.res won't find it")
+            "but this makes {stem}.res: what looks for {bundle}.res won't find it"
+        )
     }
 }
 

@@ -116,7 +116,9 @@ told 0 '' "source/coll.txt: the rules of collation 'standard' have no binary for
 collator by them" compile --icu --no-binary-collation source/coll.txt -o one.res
 same one.res wanted.res
 told 1 '' "source/coll.txt: the rules of collation 'standard' have no binary form: ICU opens no \
-collator by them" compile --icu --no-binary-collation --strict source/coll.txt -o one.res
+collator by them
+source/coll.txt: no file is written, since this has warnings" \
+  compile --icu --no-binary-collation --strict source/coll.txt -o one.res
 told 3 '' "built/de.res: the rules of collation 'standard' have no binary form here" \
   genrb -q -s source -d built --collation built coll.txt
 mkdir -p forms

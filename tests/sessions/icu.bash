@@ -12,7 +12,7 @@ icu.txt: texts of ICU\'s own form are read with --icu' compile icu.txt
 # the character that only ICU's words have says so, another one doesn't
 for character in _ % . +; do
   printf '%s' "b$character{}" > word.txt
-  told 1 '' "word.txt:1:2: '$character' stands in a string with quotes alone
+  told 1 '' "word.txt:1:2: '$character' needs quotes round its string
 b$character{}
  ^
 word.txt: texts of ICU's own form are read with --icu" compile word.txt

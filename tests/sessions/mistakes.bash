@@ -64,15 +64,15 @@ done << 'END'
 @1:3@this comment has no end@b{/*/}
 @1:8@a comment begins with '//' or '/*'@b{a{x} / y }
 @1:5@a string that begins with '/' needs quotes@b{a{/c}}
-@1:8@'$' stands in a string with quotes alone@b{a{x} $c{y}}
-@1:9@'_' stands in a string with quotes alone@b{a{x} c_d{y}}
-@1:5@'\303\251' stands in a string with quotes alone@b{a{\303\251}}
+@1:8@'$' needs quotes round its string@b{a{x} $c{y}}
+@1:9@'_' needs quotes round its string@b{a{x} c_d{y}}
+@1:5@'\303\251' needs quotes round its string@b{a{\303\251}}
 @1:10@a key of several words needs quotes@b{a{x} c d{y}}
 @1:10@expected '{'@b{a{x} c }
 @2:1@expected '{'@b{a{x} c\nd{y}}
 @1:8@this value has no key@b{a{x} {y}}
 @1:3@this value has no key@b{{x}}
-@1:3@'\303\251' stands in a string with quotes alone@b{\303\251{y}}
+@1:3@'\303\251' needs quotes round its string@b{\303\251{y}}
 @1:7@entries of a table have no commas@b{a{x},c{y}}
 @1:7@entries of a table have no semicolons@b{a{x};c{y}}
 @1:1@the bundle has no name@{a{x}}
@@ -105,8 +105,10 @@ what looks for web.res won't find it"
 told 0 '' "$named" compile named/app.txt
 told 0 '' "$named" compile --icu named/app.txt
 told 0 '' "$named" compile --check named/app.txt -d .
-told 1 '' "$named" compile --check --strict named/app.txt
-told 1 '' '' compile --check --strict --quiet named/app.txt
+told 1 '' "$named
+named/app.txt: no file is written, since this has warnings" compile --check --strict named/app.txt
+told 1 '' 'named/app.txt: no file is written, since this has warnings' \
+  compile --check --strict --quiet named/app.txt
 told 0 '' '' compile --strict named/app.txt -o named/other.res
 told 0 '' '' compile --strict --by-name named/app.txt
 told 0 '' '' genrb -q -s named -d named app.txt
@@ -118,6 +120,7 @@ mkdir -p named/out
 told 0 '' "named/app.txt:2:1: warning: the bundle is named 'web', so this makes web.res, and no app.res" \
   genrb -s named -d named/out app.txt
 holds named/out web.res
-told 3 '' "named/app.txt:2:1: warning: the bundle is named 'web', so this makes web.res, and no app.res" \
+told 3 '' "named/app.txt:2:1: warning: the bundle is named 'web', so this makes web.res, and no app.res
+named/app.txt: no file is written, since this has warnings" \
   genrb --strict-warnings -s named -d named/out app.txt
 told 0 '' '' genrb -q -s named -d named/out app.txt

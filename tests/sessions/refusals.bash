@@ -3,7 +3,7 @@
 # It is read by tests/resb.sh, behind the parts that stand before it there.
 # where a text is refused: line and column in characters, the line, and a mark
 printf 'b{\n\ta{"x"} \303\251{"y"}}' > bad.txt
-told 1 '' $'bad.txt:2:9: \'\303\251\' stands in a string with quotes alone
+told 1 '' $'bad.txt:2:9: \'\303\251\' needs quotes round its string
  a{"x"} \303\251{"y"}}\n        ^' compile bad.txt
 printf 'b{\n a{"x"}' > open.txt
 told 1 '' $'open.txt:1:2: expected \'}\' before the text ends inside this\nb{\n ^' compile open.txt

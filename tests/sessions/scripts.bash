@@ -12,9 +12,11 @@ warn.txt:1:11: warning: duplicate key 'a', first at column 3; genrb refuses that
 warn.txt:1:29: warning: this string is an item of its own here; genrb joins it to the \
 one before"
 rm alone/warn.res
-told 1 '' "$warned" compile --strict warn.txt -d alone
+told 1 '' "$warned
+warn.txt: no file is written, since this has warnings" compile --strict warn.txt -d alone
 holds alone ''
-told 1 '' '' compile --quiet --strict warn.txt -d alone
+told 1 '' 'warn.txt: no file is written, since this has warnings' \
+  compile --quiet --strict warn.txt -d alone
 holds alone ''
 printf 'bare{k{v}}' > bare.txt
 told 0 '' '' compile --strict names.txt bare.txt -d alone
@@ -106,11 +108,13 @@ printf '"root"{x{0}}' > root.txt
 told 0 '' '' compile --icu root.txt
 mkdir icu_texts
 cp joined.txt bits.txt icu_texts
-told 1 '' "$bits" compile --icu --strict bits.txt -d alone
+told 1 '' "$bits
+bits.txt: no file is written, since this has warnings" compile --icu --strict bits.txt -d alone
 holds alone ''
 told 0 '' "$bits" compile --icu --check bits.txt -d alone
 told 0 '' '' compile --icu --quiet --check bits.txt joined.txt braces.txt -d alone
-told 1 '' '' compile --icu --quiet --strict --check bits.txt -d alone
+told 1 '' 'bits.txt: no file is written, since this has warnings' \
+  compile --icu --quiet --strict --check bits.txt -d alone
 told 0 '' "$bits" compile --icu --by-name bits.txt -d alone
 told 0 '' "${bits//bits.txt/icu_texts/bits.txt}
 ${joined//joined.txt/icu_texts/joined.txt}" compile --icu icu_texts -d alone
@@ -119,7 +123,8 @@ told 0 '' 'long.txt: its warnings may take more than the limit: none is looked f
   compile --icu --limit 3000 long.txt
 rm -r alone/* icu_texts
 told 0 '' "$warned" compile --check warn.txt -d alone
-told 1 '' "$warned" compile --check --strict warn.txt -d alone
+told 1 '' "$warned
+warn.txt: no file is written, since this has warnings" compile --check --strict warn.txt -d alone
 told 1 '' $'open.txt:1:2: expected \'}\' before the text ends inside this\nb{\n ^' \
   compile --check --quiet open.txt names.txt -d alone
 told 2 '' 'two/a.txt: its file alone/a.res is that of one/a.txt too' \
@@ -219,8 +224,13 @@ told 2 '{"path":"a.res","ok":false,"kind":"pool bundle","message":"its pool bund
 'read"}' 'none.res: no such file' check --json a.res --pool none.res
 
 # a file whose pool bundle isn't there, or is another one: what its head tells
+contents=$(python3 -c "
+hash = 0xcbf29ce484222325
+for byte in open('a.res', 'rb').read():
+    hash = (hash ^ byte) * 0x100000001b3 % 2 ** 64
+print(f'{hash:016x}')")
 note="// This file's keys and strings are in a pool bundle that is not here.
-// format 3.0, fallback, largest table 2, 84 bytes
+// format 3.0, fallback, largest table 2, 84 bytes, contents $contents
 // the pool bundle's checksum: e31610fa"
 told 0 "$note" '' dump --lenient a.res
 told 0 "$note" '' dump --lenient --icu --pool other.res a.res
@@ -263,7 +273,7 @@ six.res: this has no text, since the root is no table; its JSON is written" \
 holds shown 'key.txt path.json six.json small.res small.txt'
 told 0 '' '' dump --json small.res -d shown
 [ "$(cat shown/small.json)" = '{"k":"v"}' ] && passed=$((passed + 1)) || failed=$((failed + 1))
-told 2 '' 'shown/small.res: its text would take the place of one of these files or of their texts' \
+told 2 '' 'shown/small.res: its file shown/small.txt is that of small.res too' \
   dump small.res shown/small.res -d shown
 told 2 '' 'nowhere/small.txt: no such folder' dump small.res -d nowhere
 told 2 '' 'resb: the texts of several files go to a folder, named by --directory' \

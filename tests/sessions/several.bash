@@ -71,7 +71,7 @@ told 0 '' '' extract p.dat a.res -o a.item
 [ "$(cat a.item)" = one ] && passed=$((passed + 1)) || { failed=$((failed + 1)); cat a.item; }
 told 1 '' 'p.dat: no item is named c.res' extract p.dat c.res
 cp p.dat kept.dat
-told 2 '' 'p.dat: the item would take the place of its package' extract p.dat a.res -o p.dat
+told 2 '' 'p.dat: writing p.dat would replace p.dat, which this call reads' extract p.dat a.res -o p.dat
 same p.dat kept.dat
 told 1 '' 'names.res: not a package, but another kind of ICU data' list names.res
 told 2 '' 'none.dat: no such file' extract none.dat a.res

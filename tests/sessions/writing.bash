@@ -6,9 +6,11 @@ mkdir -p w/in w/out w/sub
 printf 'warned{a{"x","y"\n "z"}}' > w/in/warned.txt
 printf 'clean{a{"x"}}' > w/in/clean.txt
 told 3 '' 'w/in/warned.txt:2:2: warning: this string is joined to the one before; a comma '\
-'would part them' genrb --strict-warnings -s w/in -d w/out warned.txt clean.txt
+'would part them
+w/in/warned.txt: no file is written, since this has warnings' genrb --strict-warnings -s w/in -d w/out warned.txt clean.txt
 holds w/out clean.res
-told 3 '' '' genrb -q --strict-warnings -s w/in -d w/out warned.txt
+told 3 '' 'w/in/warned.txt: no file is written, since this has warnings' \
+  genrb -q --strict-warnings -s w/in -d w/out warned.txt
 told 0 '' '' genrb -q -s w/in -d w/out warned.txt
 holds w/out 'clean.res warned.res'
 rm w/out/*
@@ -54,7 +56,7 @@ rm w/out/*
 # .. a package and a pool bundle, by a text that is made of a file
 cp small.res w/sub/b.res
 cp small.res w/sub/b.txt
-told 2 '' 'w/sub/b.res: its text would take the place of one of these files or of their texts' \
+told 2 '' 'w/sub/b.res: writing w/sub/b.txt would replace w/sub/b.txt, which this call reads' \
   dump w/sub/b.res --pool w/sub/b.txt -d w/sub
 same w/sub/b.txt small.res
 rm -r w/sub/*
@@ -63,7 +65,23 @@ printf 'n{a{"x"}}' > w/in/n.txt
 printf 'j{a:import{"n.res"}}' > w/in/j.txt
 told 2 '' 'w/in/j.txt: this reads w/in/n.res, which this call wrote for w/in/n.txt' \
   compile --icu w/in/n.txt w/in/j.txt
-rm w/in/n.res
+# .. and one that a later text takes in stays
+printf 'precious' > w/in/n.res
+told 2 '' 'w/in/n.txt: writing w/in/n.res would replace w/in/n.res, which this call reads' \
+  compile --icu w/in/n.txt w/in/j.txt
+[ "$(cat w/in/n.res)" = precious ] && passed=$((passed + 1)) || { failed=$((failed + 1)); }
+[ "$(ls -A w/in | grep -c part)" = 0 ] && passed=$((passed + 1)) || { failed=$((failed + 1)); }
+told 0 '{"a":{"binary":"70726563696f7573"}}' '' dump --json w/in/j.res
+rm w/in/n.res w/in/j.res
+# .. and the pool bundle that is found beside a file
+told 0 '' '' genrb -q -s w/in -d w/out --writePoolBundle -k k.txt
+told 0 '' '' genrb -q -s w/in -d w/out --usePoolBundle w/out k.txt
+cp w/out/pool.res w/kept.res
+ln -s ../out/pool.res w/sub/k.txt
+told 2 '' 'w/out/k.res: writing w/sub/../out/pool.res would replace w/out/pool.res, which this call'\
+' reads' dump w/out/k.res -d w/sub
+same w/out/pool.res w/kept.res
+rm w/sub/k.txt w/out/*
 
 # what is taken in stays inside of the text's folder, and is a file
 printf 'far' > w/far.txt
@@ -131,6 +149,19 @@ printf 'w/out/k.res: \\\n  w/in/k.txt \\\n  w/sub/k.txt \\\n  w/sub/pool.res\n' 
 same w/k.d wanted.d
 told 2 '' 'w/in/k.txt: writing w/in/k.txt would replace w/in/k.txt, which this call reads' \
   compile --icu w/in/k.txt -d w/out --depfile w/in/k.txt
+# the rules stay where a text is refused, and where nothing is written
+printf 'i{a:include{"nowhere.txt"}}' > w/in/i.txt
+told 2 '' 'w/in/i.txt:1:4: this takes in w/in/nowhere.txt: no such file' \
+  compile --icu w/in/i.txt -d w/out --depfile w/k.d
+told 0 '' '' compile --icu --check w/in/k.txt -d w/out --depfile w/k.d
+same w/k.d wanted.d
+printf 'k{a{"y"}}' > 'w/in/k #$:%.txt'
+told 0 '' '' compile --icu --quiet 'w/in/k #$:%.txt' -d w/out --depfile w/k.d
+printf 'w/out/k\\ \\#$$\\:\\%%.res: \\\n  w/in/k\\ \\#$$\\:%%.txt\n' > wanted.d
+same w/k.d wanted.d
+printf 'k{a{"y"}}' > 'w/in/k=.txt'
+told 2 '' "w/out/k=.res: --depfile can't say this name to make" \
+  compile --icu --quiet 'w/in/k=.txt' -d w/out --depfile w/k.d
 
 # a folder of more names than the system gives at a time
 mkdir w/many

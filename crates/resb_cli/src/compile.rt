@@ -1,6 +1,6 @@
 //! The command `compile`: each text to a file of its own.
 //! What a text's file is, and why it has none, is in `resb_program`.
-use crate::depfile::add_rule;
+use crate::depfile::{add_rule, can_be_spelled};
 use crate::drafted::drafted_file;
 use crate::encoding::utf8_of;
 use crate::filter::rules_name;
@@ -8,7 +8,9 @@ use crate::folders::{Named, TEXTS, named_files};
 use crate::input::{Input, lending_name};
 use crate::place::{Place, place_of};
 use crate::progress::Progress;
-use crate::save::{Bytes, Until, save, save_until, saved, stands_there};
+use crate::save::{
+    Bytes, Manner, Part, Until, cause_of_writing, save, save_until, saved, stands_there,
+};
 use crate::say::{complain, fail, fail_input, or_fail, refuse, refuse_memory, refuse_source};
 use crate::show::settled;
 use crate::shown::Shown;
@@ -24,6 +26,7 @@ use resb_program::{SourceError, bundle_name, compile_source, compile_source_with
 use resb_words::CompileWords;
 use std::alloc::{AllocError, Global};
 use std::cell::RefCell;
+use std::mem;
 use std::path::{Path, PathBuf};
 
 /// What is said of a text whose file has no name.
@@ -47,8 +50,8 @@ pub(crate) struct BundleFile<'t> {
     pub(crate) bytes: Vec<u8>,
     /// The name of the text's bundle, if the text is in ICU's own form.
     pub(crate) bundle: Option<&'t str>,
-    /// The name of the file from which it has binary forms of rules of collation, if it has some.
-    pub(crate) forms: Option<String>,
+    /// The names of the files from which it has binary forms of rules of collation.
+    pub(crate) forms: Vec<String>,
     /// The status of what is said of the text.
     pub(crate) status: u8,
 }
@@ -70,6 +73,18 @@ pub(crate) struct Call {
     pool: Option<String>,
     /// The rules for `make` of the files that were written.
     rules: String,
+    /// Whether there are several texts.
+    has_several: bool,
+    /// The files that wait until all texts are read.
+    waiting: Vec<Waiting>,
+}
+
+/// A file that is written beside one that it is to replace. A later text may take that one in.
+#[derive(Drop)]
+struct Waiting {
+    /// The name of its text.
+    name: String,
+    part: Part,
 }
 
 impl Call {
@@ -79,16 +94,52 @@ impl Call {
             taken: Taken::new(rt),
             pool: None,
             rules: String::new(rt.alloc()),
+            has_several: false,
+            waiting: Vec::new(rt.alloc()),
         }
     }
 
-    /// Writes the rules for `make`, if they are asked for, and gives the status of that.
+    /// Has a file that was made of the text of a name wait.
+    fn wait(&mut self, rt: &HostRuntime, name: &str, part: Part) -> Result<(), u8> {
+        let Ok(text) = String::from_str(rt.alloc(), name) else {
+            part.remove(rt);
+            return Err(refuse_memory(rt, name));
+        };
+        self.waiting
+            .push(Waiting { name: text, part })
+            .map_err(|_| refuse_memory(rt, name))
+    }
+
+    /// Moves the files that wait into their places, but those that would replace what was read; and
+    /// gives the status of that.
+    fn settle(&mut self, rt: &HostRuntime) -> u8 {
+        let waiting = mem::replace(&mut self.waiting, Vec::new(rt.alloc()));
+        let mut status = 0;
+        for Waiting { name, part } in waiting {
+            status = status.max(match self.taken.check_again(rt, part.path()) {
+                Ok(()) => match part.settle(rt) {
+                    Ok(()) => 0,
+                    Err(e) => fail(rt, name.as_str(), cause_of_writing(&e)),
+                },
+                Err(conflict) => {
+                    part.remove(rt);
+                    complain(rt, name.as_str(), conflict);
+                    2
+                }
+            });
+        }
+        status
+    }
+
+    /// Ends a call in which nothing failed: writes the rules for `make`, if they are asked for and
+    /// files are written; or gives the status, once it is said why they aren't. Where something
+    /// failed, the rules of the last call stay, so that `make` forgets none.
     pub(crate) fn end(&mut self, rt: &HostRuntime, wanted: &CompileWords<'_>) -> Result<(), u8> {
-        let Some(name) = wanted.writing.depfile else {
+        let (Some(name), false) = (wanted.writing.depfile, wanted.is_check) else {
             return Ok(());
         };
         let place = or_fail(rt, name, place_of(rt, name))?;
-        self.take(rt, name, &place)?;
+        self.taken.take_or_say(rt, name, &place)?;
         let done = save(rt, &place, &Bytes(self.rules.as_bytes()));
         or_fail(rt, name, saved(&place, done))
     }
@@ -111,25 +162,15 @@ impl Call {
         }
         add_rule(&mut self.rules, file, sources.as_slice())
     }
-
-    /// Takes the place of the file that is written for what has a name; or the status, once it is
-    /// said what stands against it.
-    pub(crate) fn take(&mut self, rt: &HostRuntime, name: &str, place: &Place) -> Result<(), u8> {
-        match self.taken.take(rt, name, place) {
-            Ok(()) => Ok(()),
-            Err(conflict) => {
-                complain(rt, name, conflict);
-                Err(2)
-            }
-        }
-    }
 }
 
 /// Compiles each text. One that fails doesn't stop the others; the status says whether one did.
 pub(crate) fn compile(rt: &HostRuntime, wanted: &CompileWords<'_>) -> u8 {
     let mut call = Call::new(rt);
-    let status = compile_into(rt, wanted, None, &mut call);
-    status.max(settled(call.end(rt, wanted).map(|()| 0)))
+    match compile_into(rt, wanted, None, &mut call) {
+        0 => settled(call.end(rt, wanted).map(|()| 0)),
+        status => status,
+    }
 }
 
 /// Compiles each text, and adds its bundle to those of which a pool bundle is made, if one is.
@@ -192,6 +233,7 @@ fn compile_texts(rt: &HostRuntime, work: Work<'_, '_, '_>, call: &mut Call) -> u
             return fail(rt, "resb", NO_MEMORY);
         }
     }
+    call.has_several = texts.len() > 1;
     compile_each(rt, work, texts.as_slice(), call)
 }
 
@@ -209,7 +251,7 @@ fn compile_each(rt: &HostRuntime, work: Work<'_, '_, '_>, texts: &[Named], call:
         progress.one_more(rt);
     }
     progress.end(rt);
-    status
+    status.max(call.settle(rt))
 }
 
 /// Compiles a text, and answers its status, or that of what kept it from being compiled. Where its
@@ -301,17 +343,21 @@ impl Target {
     ) -> Result<u8, u8> {
         let Made { name, file, others } = made;
         if file.status != 0 {
+            complain(rt, name, "no file is written, since this has warnings");
             return Ok(file.status);
         }
         let sources = sources_of(rt, name, others, file.forms, wanted)?;
         for source in sources.iter() {
             note_source(rt, name, source.as_str(), call)?;
         }
-        call.take(rt, name, &self.place)?;
+        call.taken.take_or_say(rt, name, &self.place)?;
         if wanted.is_check {
             return Ok(0);
         }
-        self.write(rt, file.bytes.as_slice(), wanted)?;
+        if wanted.writing.depfile.is_some() {
+            self.check_spelled(rt, name, sources.as_slice())?;
+        }
+        self.write(rt, name, file.bytes.as_slice(), wanted, call)?;
         if wanted.writing.depfile.is_some() {
             let output = self.output.as_path().as_str();
             call.add_rule(rt.alloc(), output, name, sources)
@@ -320,8 +366,31 @@ impl Target {
         Ok(0)
     }
 
-    /// Writes bytes there, or says why they aren't written and gives the status of that.
-    fn write(&self, rt: &HostRuntime, bytes: &[u8], wanted: &CompileWords<'_>) -> Result<(), u8> {
+    /// Refuses a text for whose rule `make` has no spelling: of the file, of the text, or of another
+    /// of which that is made.
+    fn check_spelled(&self, rt: &HostRuntime, name: &str, others: &[String]) -> Result<(), u8> {
+        let own = [self.output.as_path().as_str(), name];
+        let others = others.iter().map(|other| other.as_str());
+        match own
+            .into_iter()
+            .chain(others)
+            .find(|name| !can_be_spelled(name))
+        {
+            Some(name) => Err(fail(rt, name, "--depfile can't say this name to make")),
+            None => Ok(()),
+        }
+    }
+
+    /// Writes bytes there, or says why they aren't written and gives the status of that. What would
+    /// replace a file that a later text may take in waits for that text.
+    fn write(
+        &self,
+        rt: &HostRuntime,
+        name: &str,
+        bytes: &[u8],
+        wanted: &CompileWords<'_>,
+        call: &mut Call,
+    ) -> Result<(), u8> {
         let writing = &wanted.writing;
         if writing.is_if_changed && stands_there(rt, &self.place, bytes) {
             return Ok(());
@@ -331,8 +400,17 @@ impl Target {
         } else {
             Until::Given
         };
+        let output = self.output.as_path().as_str();
+        let waits = wanted.is_icu && call.has_several;
+        if let (Place::Beside(path, Some(old)), true) = (&self.place, waits) {
+            let number = call.waiting.len();
+            let manner = Manner { until, number };
+            let part = Part::write(rt, path.as_path(), Some(old), &Bytes(bytes), manner);
+            let part = or_fail(rt, output, part.map_err(|e| cause_of_writing(&e)))?;
+            return call.wait(rt, name, part);
+        }
         let done = save_until(rt, &self.place, &Bytes(bytes), until);
-        or_fail(rt, self.output.as_path().as_str(), saved(&self.place, done))
+        or_fail(rt, output, saved(&self.place, done))
     }
 }
 
@@ -354,12 +432,12 @@ fn note_source(rt: &HostRuntime, name: &str, source: &str, call: &mut Call) -> R
 }
 
 /// The names of the files beside a text of which its file is made: those that the text takes in, its
-/// rules, and the file of binary forms.
+/// rules, and the files of binary forms.
 fn sources_of(
     rt: &HostRuntime,
     name: &str,
     others: &[String],
-    forms: Option<String>,
+    forms: Vec<String>,
     wanted: &CompileWords<'_>,
 ) -> Result<Vec<String>, u8> {
     let mut sources = copied(rt.alloc(), others).map_err(|_| refuse_memory(rt, name))?;
@@ -367,8 +445,8 @@ fn sources_of(
         let rules = rules_name(rt.alloc(), name, filters).map_err(|_| refuse_memory(rt, name))?;
         sources.push(rules).map_err(|_| refuse_memory(rt, name))?;
     }
-    if let Some(forms) = forms {
-        sources.push(forms).map_err(|_| refuse_memory(rt, name))?;
+    for file in forms {
+        sources.push(file).map_err(|_| refuse_memory(rt, name))?;
     }
     Ok(sources)
 }
@@ -432,7 +510,7 @@ fn file_at_once<'t>(
         Ok(bytes) => Ok(BundleFile {
             bytes,
             bundle: None,
-            forms: None,
+            forms: Vec::new(rt.alloc()),
             status: 0,
         }),
         Err(e) => Err(refuse_source(rt, name, text, &e)),

@@ -9,7 +9,7 @@ use crate::compile::{BundleFile, NO_FILE_NAME, Work, is_file_name};
 use crate::filter::{draft_of, filtered, refuse_text, without_rules};
 use crate::format_version::check_version;
 use crate::forms::{Built, Forms, why_lacking, with_forms};
-use crate::input::Input;
+use crate::input::{Beside, Input};
 use crate::key_order::{ReadKeys, laid_keys};
 use crate::say::{complain, or_fail, refuse_memory};
 use crate::show::opened_of;
@@ -21,7 +21,7 @@ use resb_pool_maker::PoolMaker;
 use resb_tree::Key;
 use resb_words::Collation;
 use resb_write::Serializer;
-use std::alloc::Global;
+use std::alloc::{AllocError, Global};
 use std::cell::RefCell;
 
 /// A text and its name.
@@ -43,7 +43,7 @@ pub(crate) fn drafted_file<'t>(
     let bundle_name = bundle.name;
     let (bytes, forms, status) = if work.wanted.file.collation == Collation::Unbuilt {
         let (bytes, status) = file_without_forms(rt, name, bundle, keys, work)?;
-        (bytes, None, status)
+        (bytes, Vec::new(rt.alloc()), status)
     } else {
         let (bytes, forms) = file_with_forms(rt, Source { name, text }, bundle, keys, work)?;
         (bytes, forms, 0)
@@ -86,7 +86,7 @@ fn file_with_forms<'t>(
     bundle: DraftBundle<'t>,
     keys: ReadKeys<'t>,
     work: Work<'_, '_, '_>,
-) -> Result<(Vec<u8>, Option<String>), u8>
+) -> Result<(Vec<u8>, Vec<String>), u8>
     requires { is_ready bundle.root ≡ true }
 {
     let name = source.name;
@@ -96,13 +96,12 @@ fn file_with_forms<'t>(
     let bundle = filtered(rt, name, bundle, work.wanted.file.filters)?;
     let needed = formed_in(rt, name, &bundle.root, types.as_slice())?;
     match (needed.as_slice(), work.wanted.file.collation) {
-        ([], _) => Ok((written(rt, name, bundle, keys, work)?, None)),
+        ([], _) => Ok((written(rt, name, bundle, keys, work)?, Vec::new(rt.alloc()))),
         (needed, Collation::From(folder)) => {
             // it is read once more
             drop(bundle);
             let path = or_fail(rt, name, forms_file(rt.alloc(), folder, bundle_name))?;
-            let bytes = built_file(rt, source, needed, path.as_str(), work)?;
-            Ok((bytes, Some(path)))
+            built_file(rt, source, needed, path, work)
         }
         ([key, ..], _) => Err(refuse_form(rt, name, key, Said::Refused)),
     }
@@ -136,15 +135,16 @@ pub(crate) fn forms_file(
     made(format!(in alloc; "{folder}/{bundle}.res"))
 }
 
-/// The bytes of a text's file with the binary forms that the file of a name has for these types.
+/// The bytes of a text's file with the binary forms that the file of a name has for these types, and
+/// the names of that file and of the pool bundle that it uses.
 fn built_file(
     rt: &HostRuntime,
     source: Source<'_, '_>,
     needed: &[&str],
-    file: &str,
+    path: String,
     work: Work<'_, '_, '_>,
-) -> Result<Vec<u8>, u8> {
-    let limit = work.wanted.limit;
+) -> Result<(Vec<u8>, Vec<String>), u8> {
+    let (file, limit) = (path.as_str(), work.wanted.limit);
     let input = Input::read(rt, file, limit)?;
     let opened = input.open(rt, file)?;
     let beside = opened.pool(rt, file, None, limit)?;
@@ -152,13 +152,27 @@ fn built_file(
     let root = built.root();
     // taken apart, so that the text is lent for as long as the forms
     let Source { name, text } = source;
-    collated_file(
+    let bytes = collated_file(
         rt,
         Source { name, text },
         Built { name: file, root },
         needed,
         work,
-    )
+    )?;
+    match forms_names(rt.alloc(), file, &beside) {
+        Ok(names) => Ok((bytes, names)),
+        Err(_) => Err(refuse_memory(rt, name)),
+    }
+}
+
+/// The names of a file of binary forms and of its pool bundle, if that is a file of its own.
+fn forms_names(alloc: Global, file: &str, beside: &Beside<'_>) -> Result<Vec<String>, AllocError> {
+    let mut names = Vec::new(alloc);
+    names.push(String::from_str(alloc, file)?)?;
+    if let Beside::File(pool, _) = beside {
+        names.push(String::from_str(alloc, pool.as_str())?)?;
+    }
+    Ok(names)
 }
 
 /// The same, where that file is open. The text is read once more: its draft and the forms are lent

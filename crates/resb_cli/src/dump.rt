@@ -10,7 +10,7 @@ use crate::show::{
     Form, Showing, bundle_name, bundle_of, opened_of, print_content, say_cause, settled,
 };
 use crate::streams::{NO_MEMORY, made};
-use crate::taken::{Conflict, Taken};
+use crate::taken::Taken;
 use crate::unread::Unread;
 use resb_opened::Ascending;
 use resb_pool_bundle::FileHead;
@@ -78,7 +78,11 @@ fn dump_one(
     taken: &mut Taken,
 ) -> Result<u8, u8> {
     let opened = input.open(rt, name)?;
-    let beside = opened.pool(rt, name, wanted.pool, wanted.limit)?;
+    let beside = match opened.pool(rt, name, wanted.pool, wanted.limit) {
+        Err(_) if wanted.is_lenient && wanted.pool.is_none() => Beside::Nowhere,
+        beside => beside?,
+    };
+    note_pool(rt, name, &beside, taken)?;
     let source = Source {
         name,
         bytes: opened.bytes,
@@ -86,7 +90,7 @@ fn dump_one(
         wanted,
     };
     if wanted.is_lenient
-        && let Some(note) = note_of(rt, name, opened.bytes, &beside)?
+        && let Some(note) = note_of(rt, name, opened.bytes, &beside)
     {
         return source.send(rt, &note, Form::Text.ending(), taken);
     }
@@ -96,15 +100,35 @@ fn dump_one(
     source.dump_tree(rt, taken)
 }
 
-/// What is known of a file that has no tree for want of its pool bundle, if it is one.
+/// Notes a pool bundle that is read, if it is a file of its own.
+fn note_pool(
+    rt: &HostRuntime,
+    name: &str,
+    beside: &Beside<'_>,
+    taken: &mut Taken,
+) -> Result<(), u8> {
+    match beside {
+        Beside::File(pool, _) => {
+            taken
+                .add_input(rt, pool.as_str())
+                .map_err(|_| refuse_memory(rt, name))
+        }
+        Beside::Item(_, _) | Beside::Nowhere => Ok(()),
+    }
+}
+
+/// What is known of a file that has no tree for want of its pool bundle, if it is one; what is wrong
+/// with a pool bundle that is there is said.
 fn note_of<'f>(
     rt: &HostRuntime,
     name: &str,
     file: &'f [u8],
     beside: &'f Beside<'f>,
-) -> Result<Option<Note<'f>>, u8> {
-    let pool = beside.bundle(rt, name)?;
-    Ok(Note::of(file, pool))
+) -> Option<Note<'f>> {
+    match beside.bundle(rt, name) {
+        Ok(pool) => Note::of(file, pool),
+        Err(_) => Note::of(file, None),
+    }
 }
 
 impl Source<'_> {
@@ -246,7 +270,7 @@ fn target_in(
     let path = or_fail(rt, name, path_in(rt.alloc(), name, ending, folder))?;
     let output = path.as_path().as_str();
     let place = or_fail(rt, output, place_of(rt, output))?;
-    or_fail(rt, name, take(rt, name, &place, taken))?;
+    taken.take_or_say(rt, name, &place)?;
     Ok((path, place))
 }
 
@@ -255,18 +279,4 @@ fn path_in(alloc: Global, name: &str, ending: &str, folder: &str) -> Result<Path
     let bundle = bundle_name(name);
     let file = made(format!(in alloc; "{bundle}{ending}"))?;
     made(Path::new(folder).join(alloc, file.as_str()))
-}
-
-/// Takes the place of what is shown of a file, or says what stands against it.
-fn take(
-    rt: &HostRuntime,
-    name: &str,
-    place: &Place,
-    taken: &mut Taken,
-) -> Result<(), &'static str> {
-    match taken.take(rt, name, place) {
-        Ok(()) => Ok(()),
-        Err(Conflict::Memory) => Err(NO_MEMORY),
-        Err(_) => Err("its text would take the place of one of these files or of their texts"),
-    }
 }

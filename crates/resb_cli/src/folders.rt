@@ -97,10 +97,10 @@ fn add_folder(
     Ok(())
 }
 
-/// Why what has a name in a folder isn't read, if it is there and no file: a pipe may never end.
-fn pipe_fault(rt: &HostRuntime, name: &str) -> Option<&'static str> {
+/// Why what has a name isn't read, if it is a device or a pipe, which may never end.
+pub(crate) fn pipe_fault(rt: &HostRuntime, name: &str) -> Option<&'static str> {
     match fs::metadata(rt, name) {
-        Ok(found) if !found.is_file() => Some("this is a device or a pipe"),
+        Ok(found) if !found.is_file() && !found.is_dir() => Some("this is a device or a pipe"),
         _ => None,
     }
 }

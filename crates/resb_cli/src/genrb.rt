@@ -54,13 +54,14 @@ fn make_all(rt: &HostRuntime, wanted: &GenrbWords<'_>) -> Result<u8, u8> {
     let mut call = Call::new(rt);
     let shared = wanted.written_pool.map(|_| &maker);
     let status = compile_into(rt, &words, shared, &mut call);
-    if status == 0 {
-        if let Some(folder) = wanted.written_pool {
-            write_pool(rt, wanted, &maker, folder, &mut call)?;
-        }
+    if status != 0 {
+        return Ok(status);
+    }
+    if let Some(folder) = wanted.written_pool {
+        write_pool(rt, wanted, &maker, folder, &mut call)?;
     }
     call.end(rt, &words)?;
-    Ok(status)
+    Ok(0)
 }
 
 /// What is asked of texts of these names.
@@ -93,7 +94,7 @@ fn write_pool(
     let name = path.as_path().as_str();
     let pool = pool_of(rt, name, wanted, maker)?;
     let place = or_fail(rt, name, place_of(rt, name))?;
-    call.take(rt, name, &place)?;
+    call.taken.take_or_say(rt, name, &place)?;
     let done = save(rt, &place, &Bytes(pool.as_slice()));
     or_fail(rt, name, saved(&place, done))
 }

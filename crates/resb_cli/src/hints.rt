@@ -126,13 +126,15 @@ pub(crate) fn is_type(word: &str) -> bool {
 
 /// The word with which bytes begin, or its beginning, if it is longer than any type's name.
 pub(crate) fn word_of_type(bytes: &[u8]) -> &str {
-    let most = bytes.len().min(LONGEST_WORD);
-    for at in 0..most {
-        if !bytes[at].is_ascii_alphanumeric() {
+    for at in 0..bytes.len() {
+        if matches!(
+            bytes[at],
+            b' ' | b'\t' | b'\r' | b'\n' | b'{' | b'}' | b'"' | b',' | b'(' | b':'
+        ) {
             return str::from_utf8(&bytes[..at]).unwrap_or("");
         }
     }
-    str::from_utf8(&bytes[..most]).unwrap_or("")
+    str::from_utf8(bytes).unwrap_or("")
 }
 
 /// The first of the names to which the fewest edits lead from a word, if few do: a letter more,
@@ -142,6 +144,9 @@ pub(crate) fn nearest(
     names: &[&'static str],
     word: &str,
 ) -> Result<Option<&'static str>, AllocError> {
+    if word.len() > LONGEST_WORD {
+        return Ok(None);
+    }
     let mut found = None;
     let mut least = word.len().min(MOST_EDITS + 1);
     for name in names.iter().copied() {

@@ -132,7 +132,7 @@ fn icu_mistake<'s>(
     }
 }
 
-/// The same where it is told by one token.
+/// What is wrong with a text of ICU's form, where one token tells it.
 fn icu_token_mistake<'s>(spot: &Spot<'s>, expected: IcuExpected) -> Option<Mistake<'s>> {
     match expected {
         IcuExpected::Name => icu_key_mistake(spot, Role::Name),

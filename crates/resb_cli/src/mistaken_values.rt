@@ -77,7 +77,8 @@ fn what_of_digits<'s>(word: &[u8], range: What<'s>) -> What<'s> {
         match word[at] {
             b'0'..=b'9' => {}
             b'.' => has_point = true,
-            _ => return What::LeadingZero,
+            _ if word.starts_with(b"0") => return What::LeadingZero,
+            _ => return What::NotDecimal,
         }
     }
     if has_point {

@@ -124,7 +124,7 @@ impl fmt::Display for What<'_> {
             What::Repeated(repeated) => write!(f, "{repeated}"),
             What::KeyCharacter(c) => write_of(f, *c, "can't stand in a key"),
             What::NameCharacter(c) => write_of(f, *c, "can't stand in the bundle's name"),
-            What::QuotedCharacter(c) => write_of(f, *c, "stands in a string with quotes alone"),
+            What::QuotedCharacter(c) => write_of(f, *c, "needs quotes round its string"),
             What::NoDigit(c) => write_of(f, *c, "is no hex digit"),
             What::NoBrace(word) => {
                 let word = Shown(word);
@@ -176,7 +176,7 @@ impl What<'_> {
         }
     }
 
-    /// The same where it is of a number or a string.
+    /// What is said of a mistake in a number or a string.
     fn words_of_value(&self) -> &'static str {
         match self {
             What::NotDecimal => "a number is decimal",

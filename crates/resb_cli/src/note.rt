@@ -19,6 +19,7 @@ pub(crate) struct Note<'f> {
     head: FileHead<'f>,
     bytes: usize,
     checksum: u32,
+    contents: u64,
 }
 
 impl<'f> Note<'f> {
@@ -32,8 +33,18 @@ impl<'f> Note<'f> {
             head,
             bytes: file.len(),
             checksum: checksum_of(file)?,
+            contents: fingerprint_of(file),
         })
     }
+}
+
+/// A number that two files with other bytes hardly share: their FNV-1a hash of 64 bits.
+fn fingerprint_of(file: &[u8]) -> u64 {
+    let mut hash = 0xcbf2_9ce4_8422_2325u64;
+    for byte in file {
+        hash = (hash ^ u64::from(*byte)).wrapping_mul(0x0000_0100_0000_01b3);
+    }
+    hash
 }
 
 /// The checksum that a file says its pool bundle has.
@@ -47,6 +58,7 @@ fn checksum_of(file: &[u8]) -> Option<u32> {
 impl Content for Note<'_> {
     fn write_to<W: Write>(&self, alloc: Global, out: &mut W) -> io::Result<()> {
         let (head, bytes, checksum) = (&self.head, self.bytes, self.checksum);
+        let contents = self.contents;
         let (version, largest) = (spelled(head.version()), head.largest_table());
         let fallback = if head.has_fallback() {
             "fallback"
@@ -56,8 +68,9 @@ impl Content for Note<'_> {
         let mut text = String::from_str(alloc, NO_TREE)?;
         write!(
             text,
-            "// format {version}, {fallback}, largest table {largest}, {bytes} bytes\n"
+            "// format {version}, {fallback}, largest table {largest}, {bytes} bytes, contents "
         )?;
+        write!(text, "{contents:016x}\n")?;
         write!(text, "// the pool bundle's checksum: {checksum:08x}\n")?;
         out.write_all(text.as_str().as_bytes())
     }

@@ -1,13 +1,13 @@
 //! The commands `list` and `extract`: the items of a package of ICU's data.
 //! What a package is, is in `resb_package`.
 use crate::input::bytes_of;
-use crate::place::{Place, place_of};
+use crate::place::place_of;
 use crate::save::{Bytes, save, saved};
 use crate::say::{complain, or_fail, refuse_memory};
 use crate::show::{settled, show};
 use crate::shown::Shown;
-use crate::streams::{NO_MEMORY, made};
-use crate::taken::{Conflict, Taken};
+use crate::streams::made;
+use crate::taken::Taken;
 use resb_package::{Package, PackageError};
 use resb_words::ExtractWords;
 use std::alloc::{AllocError, Global};
@@ -85,22 +85,13 @@ fn extract_item(rt: &HostRuntime, wanted: &ExtractWords<'_>) -> Result<u8, u8> {
     let file = bytes_of(rt, name, None)?;
     let package = package_of(rt, name, file.as_slice())?;
     let bytes = item_of(rt, &package, name, wanted.item)?;
-    let place = or_fail(rt, output, free_place(rt, name, output))?;
+    let place = or_fail(rt, output, place_of(rt, output))?;
+    let mut taken = Taken::new(rt);
+    or_fail(rt, name, made(taken.add_read(rt.alloc(), name)))?;
+    taken.take_or_say(rt, name, &place)?;
     let done = save(rt, &place, &Bytes(bytes));
     or_fail(rt, output, saved(&place, done))?;
     Ok(0)
-}
-
-/// The place of the item's file, which isn't that of its package.
-fn free_place(rt: &HostRuntime, package: &str, output: &str) -> Result<Place, &'static str> {
-    let place = place_of(rt, output)?;
-    let mut taken = Taken::new(rt);
-    made(taken.add_read(rt.alloc(), package))?;
-    match taken.take(rt, package, &place) {
-        Ok(()) => Ok(place),
-        Err(Conflict::Memory) => Err(NO_MEMORY),
-        Err(_) => Err("the item would take the place of its package"),
-    }
 }
 
 /// The bytes of an item, or the status, once it is said that there is none of this name.

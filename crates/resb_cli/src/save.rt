@@ -10,7 +10,7 @@ use std::path::{Path, PathBuf};
 use std::process;
 
 /// The most names that are tried for the file that is written beside.
-const MOST_NAMES: u8 = 100;
+const MOST_NAMES: usize = 100;
 
 /// What is written to a place.
 pub(crate) trait Content {
@@ -53,11 +53,8 @@ pub(crate) fn save_until<C: Content>(
         Place::Stream => print(rt, content),
         Place::Inside(path) => write_inside(rt, path.as_path(), content),
         Place::Beside(path, old) => {
-            replace(rt, path.as_path(), old.as_ref(), content, until)?;
-            match until {
-                Until::Given => Ok(()),
-                Until::OnDisk => sync(&fs::open(rt, folder_of(path.as_path()))?),
-            }
+            let manner = Manner { until, number: 0 };
+            Part::write(rt, path.as_path(), old.as_ref(), content, manner)?.settle(rt)
         }
     }
 }
@@ -98,7 +95,7 @@ pub(crate) fn cause_of_printing(e: &io::Error) -> &'static str {
 }
 
 /// What a failed call on a file that is written is called.
-fn cause_of_writing(e: &io::Error) -> &'static str {
+pub(crate) fn cause_of_writing(e: &io::Error) -> &'static str {
     match e.kind() {
         ErrorKind::OutOfMemory => NO_MEMORY,
         ErrorKind::NotFound => "no such folder",
@@ -120,49 +117,91 @@ fn write_inside<C: Content>(rt: &HostRuntime, path: Path<'_>, content: &C) -> io
     content.write_to(rt.alloc(), &mut file)
 }
 
-/// Writes a content to a file beside this path, and moves it there.
-fn replace<C: Content>(
-    rt: &HostRuntime,
-    path: Path<'_>,
-    old: Option<&Metadata>,
-    content: &C,
-    until: Until,
-) -> io::Result<()> {
-    let (mut file, beside) = new_file(rt, path, old.is_some())?;
-    let mut filled = fill(rt, &mut file, old, content);
-    if until == Until::OnDisk && filled.is_ok() {
-        filled = sync(&file);
-    }
-    moved(rt, filled, beside.as_path(), path)
+/// How a file is written beside its place.
+#[derive(Clone, Copy)]
+pub(crate) struct Manner {
+    pub(crate) until: Until,
+    /// The first of the numbers by which its name is free.
+    pub(crate) number: usize,
 }
 
-/// Moves a file to its place, if it was filled, and else removes it.
-fn moved(
-    rt: &HostRuntime,
-    filled: io::Result<()>,
-    beside: Path<'_>,
-    path: Path<'_>,
-) -> io::Result<()> {
-    let moved = match filled {
-        Ok(()) => fs::rename(rt, beside, path),
-        Err(e) => Err(e),
-    };
-    if moved.is_err() {
-        let _ = fs::remove_file(rt, beside);
+/// A file that is written beside its place, and not moved there yet.
+#[derive(Drop)]
+pub(crate) struct Part {
+    beside: PathBuf,
+    path: PathBuf,
+    until: Until,
+}
+
+impl Part {
+    /// Writes a content beside a path, at which the old file stands, if there is one.
+    pub(crate) fn write<C: Content>(
+        rt: &HostRuntime,
+        path: Path<'_>,
+        old: Option<&Metadata>,
+        content: &C,
+        manner: Manner,
+    ) -> io::Result<Part> {
+        let Manner { until, number } = manner;
+        let place = PathBuf::from_str(rt.alloc(), path.as_str())?;
+        let (mut file, beside) = new_file(rt, path, old.is_some(), number)?;
+        let mut filled = fill(rt, &mut file, old, content);
+        if until == Until::OnDisk && filled.is_ok() {
+            filled = sync(&file);
+        }
+        let part = Part {
+            beside,
+            path: place,
+            until,
+        };
+        match filled {
+            Ok(()) => Ok(part),
+            Err(e) => {
+                part.remove(rt);
+                Err(e)
+            }
+        }
     }
-    moved
+
+    /// The path of its place.
+    pub(crate) fn path(&self) -> Path<'_> {
+        self.path.as_path()
+    }
+
+    /// Moves it to its place, or removes it where that fails.
+    pub(crate) fn settle(self, rt: &HostRuntime) -> io::Result<()> {
+        let moved = fs::rename(rt, self.beside.as_path(), self.path());
+        if moved.is_err() {
+            self.remove(rt);
+            return moved;
+        }
+        match self.until {
+            Until::Given => Ok(()),
+            Until::OnDisk => sync(&fs::open(rt, folder_of(self.path()))?),
+        }
+    }
+
+    /// Removes it.
+    pub(crate) fn remove(&self, rt: &HostRuntime) {
+        let _ = fs::remove_file(rt, self.beside.as_path());
+    }
 }
 
 /// A new file beside this path, and its name. Nobody else may read it, where it is to take the
 /// place of one that has a mode.
-fn new_file(rt: &HostRuntime, path: Path<'_>, is_private: bool) -> io::Result<(File, PathBuf)> {
+fn new_file(
+    rt: &HostRuntime,
+    path: Path<'_>,
+    is_private: bool,
+    first: usize,
+) -> io::Result<(File, PathBuf)> {
     let mut options = OpenOptions::new();
     options
         .write(true)
         .create_new(true)
         .mode(if is_private { 0o600 } else { 0o666 });
     for number in 0..MOST_NAMES {
-        let name = name_beside(rt, path, number)?;
+        let name = name_beside(rt, path, first.saturating_add(number))?;
         match options.open(rt, name.as_path()) {
             Ok(file) => return Ok((file, name)),
             Err(e) if e.kind() == ErrorKind::AlreadyExists => {}
@@ -173,7 +212,7 @@ fn new_file(rt: &HostRuntime, path: Path<'_>, is_private: bool) -> io::Result<(F
 }
 
 /// A name in the folder of this path.
-fn name_beside(rt: &HostRuntime, path: Path<'_>, number: u8) -> io::Result<PathBuf> {
+fn name_beside(rt: &HostRuntime, path: Path<'_>, number: usize) -> io::Result<PathBuf> {
     let id = process::id(rt.process());
     let name = format!(in rt.alloc(); ".resb-{id}-{number}.part")?;
     Ok(path.with_file_name(rt.alloc(), name.as_str())?)

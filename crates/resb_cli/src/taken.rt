@@ -3,6 +3,7 @@
 //! spelling of its name and through any link. Where the bytes for a name go is in `place`.
 use crate::input::split_package;
 use crate::place::{Place, folder_of, place_of};
+use crate::say::complain;
 use crate::shown::Shown;
 use crate::streams::NO_MEMORY;
 use std::alloc::{AllocError, Global};
@@ -86,9 +87,9 @@ pub(crate) struct Taken {
     read: BTreeMap<FileId, String>,
     /// Which folders are known by these names.
     folders: BTreeMap<String, FileId>,
-    /// For what a file was written at each place.
-    written: BTreeMap<Spot, String>,
-    /// The same of files that were open already.
+    /// For what a file is written at each place, and whether none stood there before.
+    written: BTreeMap<Spot, (String, bool)>,
+    /// For what each file is written that was open already.
     open: BTreeMap<FileId, String>,
 }
 
@@ -122,12 +123,7 @@ impl Taken {
 
     /// Takes the place of the file that is written for what has a name, or says what stands against
     /// it.
-    pub(crate) fn take(
-        &mut self,
-        rt: &HostRuntime,
-        name: &str,
-        place: &Place,
-    ) -> Result<(), Conflict> {
+    fn take(&mut self, rt: &HostRuntime, name: &str, place: &Place) -> Result<(), Conflict> {
         match place {
             Place::Inside(path) => self.take_open(rt, name, path.as_path()),
             Place::Stream if Path::new("/dev/stdout").is_file(rt) => {
@@ -135,7 +131,7 @@ impl Taken {
             }
             Place::Stream => {
                 let spot = spot_named(rt.alloc(), FileId::NONE, "-")?;
-                self.take_spot(rt.alloc(), name, "-", spot)
+                self.take_spot(rt.alloc(), name, "-", (spot, true))
             }
             Place::Beside(path, old) => {
                 let path = path.as_path();
@@ -143,12 +139,39 @@ impl Taken {
                     self.check(rt, path.as_str(), FileId::of(old))?;
                 }
                 let spot = self.spot_of(rt, path)?;
-                self.take_spot(rt.alloc(), name, path.as_str(), spot)
+                self.take_spot(rt.alloc(), name, path.as_str(), (spot, old.is_none()))
             }
         }
     }
 
-    /// For what the file of a name was written by this call, if it was.
+    /// Takes the place of the file that is written for what has a name; or gives the status, once it
+    /// is said what stands against it.
+    pub(crate) fn take_or_say(
+        &mut self,
+        rt: &HostRuntime,
+        name: &str,
+        place: &Place,
+    ) -> Result<(), u8> {
+        match self.take(rt, name, place) {
+            Ok(()) => Ok(()),
+            Err(conflict) => {
+                complain(rt, name, conflict);
+                Err(2)
+            }
+        }
+    }
+
+    /// Refuses again to write over the file that a path has now, which may have been read since its
+    /// place was taken.
+    pub(crate) fn check_again(&mut self, rt: &HostRuntime, path: Path<'_>) -> Result<(), Conflict> {
+        match fs::symlink_metadata(rt, path) {
+            Ok(found) => self.check(rt, path.as_str(), FileId::of(&found)),
+            Err(_) => Ok(()),
+        }
+    }
+
+    /// For what the file of a name was written by this call, if it was, where none stood before. One
+    /// that stood there stays until all is read.
     pub(crate) fn written_for(
         &mut self,
         rt: &HostRuntime,
@@ -161,7 +184,10 @@ impl Taken {
             return Ok(None);
         };
         let spot = self.spot_of(rt, path.as_path())?;
-        Ok(self.written.get(&spot).map(|text| text.as_str()))
+        match self.written.get(&spot) {
+            Some((text, true)) => Ok(Some(text.as_str())),
+            _ => Ok(None),
+        }
     }
 
     /// Takes what is open already, if it is a file: a device and a pipe may be written by many.
@@ -198,13 +224,14 @@ impl Taken {
         alloc: Global,
         name: &str,
         path: &str,
-        spot: Spot,
+        (spot, is_new): (Spot, bool),
     ) -> Result<(), Conflict> {
-        if let Some(other) = self.written.get(&spot) {
+        if let Some((other, _)) = self.written.get(&spot) {
             let other = String::from_str(alloc, other.as_str())?;
             return Err(Conflict::IsWritten(String::from_str(alloc, path)?, other));
         }
-        match self.written.insert(spot, String::from_str(alloc, name)?) {
+        let name = String::from_str(alloc, name)?;
+        match self.written.insert(spot, (name, is_new)) {
             Ok(_) => Ok(()),
             Err(_) => Err(Conflict::Memory),
         }

@@ -1,5 +1,6 @@
 //! Texts as they stand in their files, and as they are compiled where they take other files in.
 //! What a text is taken in as is said in `resb_icu_files`; how it is compiled is in `compile`.
+use crate::folders::pipe_fault;
 use crate::say::{complain, refuse_memory, say_at};
 use crate::shown::Shown;
 use crate::streams::{InputError, most_bytes, read_input};
@@ -10,6 +11,7 @@ use resb_icu_files::{
 use resb_words::FileWords;
 use std::alloc::{AllocError, Global};
 use std::collections::BTreeMap;
+use std::io::ErrorKind;
 use std::path::{Path, PathBuf};
 use std::{fmt, fs};
 
@@ -209,6 +211,16 @@ struct Taking<'t> {
     may_leave: bool,
 }
 
+/// Where the files may be that a text takes in.
+#[derive(Drop)]
+enum Bounds {
+    Anywhere,
+    /// Below the folder of this real path.
+    Below(PathBuf),
+    /// Nowhere, since the real path of their folder isn't known.
+    Unknown,
+}
+
 /// The files that a text takes in, each once.
 #[derive(Drop)]
 struct Found {
@@ -279,7 +291,7 @@ impl Taking<'_> {
         let Ok(named) = files_taken(rt.alloc(), self.text) else {
             return Err(refuse_memory(rt, self.name));
         };
-        let inside = self.inside(rt);
+        let bounds = self.bounds(rt);
         let most = most_bytes(limit);
         let mut length = self.text.len() as u64;
         let mut found = Found {
@@ -294,7 +306,7 @@ impl Taking<'_> {
                 None if found.files.len() == MOST_FILES => {
                     return Err(self.refuse(rt, &file, Cause::TooMany));
                 }
-                None => self.bytes(rt, &file, &inside, limit)?,
+                None => self.bytes(rt, &file, &bounds, limit)?,
             };
             length = length.saturating_add(longest(known.unwrap_or(bytes.len())));
             if length > most {
@@ -325,13 +337,19 @@ impl Taking<'_> {
         Ok(())
     }
 
-    /// The real path of the folder that no file may leave, if there is one.
-    fn inside(&self, rt: &HostRuntime) -> Option<PathBuf> {
+    /// Where the files may be.
+    fn bounds(&self, rt: &HostRuntime) -> Bounds {
         if self.may_leave {
-            return None;
+            return Bounds::Anywhere;
         }
-        let folder = self.files_folder();
-        fs::canonicalize(rt, if folder.is_empty() { "/" } else { folder }).ok()
+        let folder = match self.files_folder() {
+            "" => "/",
+            folder => folder,
+        };
+        match fs::canonicalize(rt, folder) {
+            Ok(real) => Bounds::Below(real),
+            Err(_) => Bounds::Unknown,
+        }
     }
 
     /// The bytes of a file that the text takes in.
@@ -339,13 +357,13 @@ impl Taking<'_> {
         &self,
         rt: &HostRuntime,
         file: &FileNamed,
-        inside: &Option<PathBuf>,
+        bounds: &Bounds,
         limit: Option<u64>,
     ) -> Result<Vec<u8>, u8> {
         let Ok(path) = path_in(rt.alloc(), self.files_folder(), file.name.as_str()) else {
             return Err(refuse_memory(rt, self.name));
         };
-        if let Some(cause) = barred(rt, path.as_str(), inside) {
+        if let Some(cause) = barred(rt, path.as_str(), bounds) {
             return Err(self.refuse(rt, file, cause));
         }
         match read_input(rt, path.as_str(), limit) {
@@ -369,20 +387,29 @@ impl Taking<'_> {
     }
 }
 
-/// Why a file of a path isn't taken in, if it is there: it is outside of the folder that none may
-/// leave, or a device or a pipe, which may never end.
-fn barred(rt: &HostRuntime, path: &str, inside: &Option<PathBuf>) -> Option<Cause> {
-    if let (Some(folder), Ok(real)) = (inside, fs::canonicalize(rt, path)) {
-        if !real.as_path().starts_with(folder.as_path()) {
-            return Some(Cause::Outside);
-        }
+/// What is said where it isn't known what a path leads to.
+const NO_REAL_PATH: &str = "its real path is not known";
+
+/// Why a file of a path isn't taken in, whatever it has: it is outside of the bounds, or a device or
+/// a pipe, which may never end.
+fn barred(rt: &HostRuntime, path: &str, bounds: &Bounds) -> Option<Cause> {
+    let folder = match bounds {
+        Bounds::Anywhere => return pipe_cause(rt, path),
+        Bounds::Below(folder) => folder,
+        Bounds::Unknown => return Some(Cause::Unread(InputError::Failed(NO_REAL_PATH))),
+    };
+    match fs::canonicalize(rt, path) {
+        Ok(real) if real.as_path().starts_with(folder.as_path()) => pipe_cause(rt, path),
+        Ok(_) => Some(Cause::Outside),
+        Err(e) if e.kind() == ErrorKind::NotFound => None,
+        Err(_) => Some(Cause::Unread(InputError::Failed(NO_REAL_PATH))),
     }
-    match fs::metadata(rt, path) {
-        Ok(found) if !found.is_file() && !found.is_dir() => Some(Cause::Unread(InputError::Failed(
-            "this is a device or a pipe",
-        ))),
-        _ => None,
-    }
+}
+
+/// Why what has a path isn't taken in, if it is a device or a pipe.
+fn pipe_cause(rt: &HostRuntime, path: &str) -> Option<Cause> {
+    let cause = pipe_fault(rt, path)?;
+    Some(Cause::Unread(InputError::Failed(cause)))
 }
 
 /// The most bytes that are written for a file of so many: an escape has six.

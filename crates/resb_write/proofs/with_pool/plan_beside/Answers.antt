@@ -1,6 +1,7 @@
 -- The strings over the records of the pool's block.
 use Rattle.std.proofs.Common.{subst, ap}
 use Rattle.std.proofs.lemmas.Result.{err_from_is_err_and}
+use Rattle.resb_format.specs.Bytes.{units_of}
 use Rattle.resb_pool.specs.Plan.{nows}
 use Rattle.resb_pool_bundle.specs.Pool.{pool_in}
 use Rattle.resb_pool.specs.declared.error.PlanError.TheVariants.{OutOfMemory}
@@ -20,5 +21,5 @@ returns-clause-ok c =
     subst (λ S. IsPlanWithBy c.args.over.now.packing block S p.units.items p.indexes.items p.limit
     p.short_limit)
     (ap nows c.deref.ensures.value)
-    (c.in_ok-by.ensures.ok _ (subst (LendsTexts c.in_ok-lent.lent) c.block.ensures
-    c.in_ok-lent.ensures))
+    (c.in_ok-by.ensures.ok _ (subst (LendsTexts c.in_ok-lent.lent)
+    (ap units_of c.block.ensures) c.in_ok-lent.ensures))

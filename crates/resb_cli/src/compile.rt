@@ -366,8 +366,8 @@ impl Target {
         Ok(0)
     }
 
-    /// Refuses a text for whose rule `make` has no spelling: of the file, of the text, or of another
-    /// of which that is made.
+    /// Refuses a text for whose rule `make` has no spelling: of the file, of the text, or of
+    /// another of which that is made.
     fn check_spelled(&self, rt: &HostRuntime, name: &str, others: &[String]) -> Result<(), u8> {
         let own = [self.output.as_path().as_str(), name];
         let others = others.iter().map(|other| other.as_str());
@@ -431,8 +431,8 @@ fn note_source(rt: &HostRuntime, name: &str, source: &str, call: &mut Call) -> R
     }
 }
 
-/// The names of the files beside a text of which its file is made: those that the text takes in, its
-/// rules, and the files of binary forms.
+/// The names of the files beside a text of which its file is made: those that the text takes in,
+/// its rules, and the files of binary forms.
 fn sources_of(
     rt: &HostRuntime,
     name: &str,
@@ -496,7 +496,7 @@ fn file_of<'t>(
     Ok(file)
 }
 
-/// The same, but for warnings. A text in ICU's own form is compiled by its draft.
+/// A text's file, and nothing is said of warnings. A text in ICU's own form is compiled by its draft.
 fn file_at_once<'t>(
     rt: &HostRuntime,
     name: &str,

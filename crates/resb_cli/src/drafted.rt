@@ -77,8 +77,8 @@ fn file_without_forms<'t>(
     Ok((bytes, status))
 }
 
-/// The file of a bundle whose rules of collation need binary forms, if there are such rules, and the
-/// name of the file that has the forms. Each gets an empty form first: a form that rules of the
+/// The file of a bundle whose rules of collation need binary forms, if there are such rules, and
+/// the name of the file that has the forms. Each gets an empty form first: a form that rules of the
 /// filter leave out isn't needed.
 fn file_with_forms<'t>(
     rt: &HostRuntime,
@@ -135,8 +135,8 @@ pub(crate) fn forms_file(
     made(format!(in alloc; "{folder}/{bundle}.res"))
 }
 
-/// The bytes of a text's file with the binary forms that the file of a name has for these types, and
-/// the names of that file and of the pool bundle that it uses.
+/// The bytes of a text's file with the binary forms that the file of a name has for these types,
+/// and the names of that file and of the pool bundle that it uses.
 fn built_file(
     rt: &HostRuntime,
     source: Source<'_, '_>,

@@ -117,8 +117,8 @@ fn note_pool(
     }
 }
 
-/// What is known of a file that has no tree for want of its pool bundle, if it is one; what is wrong
-/// with a pool bundle that is there is said.
+/// What is known of a file that has no tree for want of its pool bundle, if it is one; what is
+/// wrong with a pool bundle that is there is said.
 fn note_of<'f>(
     rt: &HostRuntime,
     name: &str,

@@ -23,8 +23,9 @@ pub(crate) enum Step<'k> {
     Number(usize),
 }
 
-/// Adds a step to a path of so many steps, spelled as `get` takes it. A slash stands before each but
-/// the first, and before a first name that is empty, since a path's own first slash counts for none.
+/// Adds a step to a path of so many steps, spelled as `get` takes it. A slash stands before each
+/// but the first, and before a first name that is empty, since a path's own first slash counts for
+/// none.
 pub(crate) fn push_step(
     path: &mut String,
     before: usize,

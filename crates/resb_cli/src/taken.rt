@@ -144,8 +144,8 @@ impl Taken {
         }
     }
 
-    /// Takes the place of the file that is written for what has a name; or gives the status, once it
-    /// is said what stands against it.
+    /// Takes the place of the file that is written for what has a name; or gives the status, once
+    /// it is said what stands against it.
     pub(crate) fn take_or_say(
         &mut self,
         rt: &HostRuntime,
@@ -170,8 +170,8 @@ impl Taken {
         }
     }
 
-    /// For what the file of a name was written by this call, if it was, where none stood before. One
-    /// that stood there stays until all is read.
+    /// For what the file of a name was written by this call, if it was, where none stood before.
+    /// One that stood there stays until all is read.
     pub(crate) fn written_for(
         &mut self,
         rt: &HostRuntime,

@@ -390,8 +390,8 @@ impl Taking<'_> {
 /// What is said where it isn't known what a path leads to.
 const NO_REAL_PATH: &str = "its real path is not known";
 
-/// Why a file of a path isn't taken in, whatever it has: it is outside of the bounds, or a device or
-/// a pipe, which may never end.
+/// Why a file of a path isn't taken in, whatever it has: it is outside of the bounds, or a device
+/// or a pipe, which may never end.
 fn barred(rt: &HostRuntime, path: &str, bounds: &Bounds) -> Option<Cause> {
     let folder = match bounds {
         Bounds::Anywhere => return pipe_cause(rt, path),

@@ -134,8 +134,8 @@ impl Call {
     /// Ends a call in which nothing failed: writes the rules for `make`, if they are asked for and
     /// files are written; or gives the status, once it is said why they aren't. Where something
     /// failed, the rules of the last call stay, so that `make` forgets none.
-    pub(crate) fn end(&mut self, rt: &HostRuntime, wanted: &CompileWords<'_>) -> Result<(), u8> {
-        let (Some(name), false) = (wanted.writing.depfile, wanted.is_check) else {
+    pub(crate) fn end(&mut self, rt: &HostRuntime, depfile: Option<&str>) -> Result<(), u8> {
+        let Some(name) = depfile else {
             return Ok(());
         };
         let place = or_fail(rt, name, place_of(rt, name))?;
@@ -167,10 +167,11 @@ impl Call {
 /// Compiles each text. One that fails doesn't stop the others; the status says whether one did.
 pub(crate) fn compile(rt: &HostRuntime, wanted: &CompileWords<'_>) -> u8 {
     let mut call = Call::new(rt);
-    match compile_into(rt, wanted, None, &mut call) {
-        0 => settled(call.end(rt, wanted).map(|()| 0)),
-        status => status,
+    let status = compile_into(rt, wanted, None, &mut call);
+    if status != 0 || wanted.is_check {
+        return status;
     }
+    settled(call.end(rt, wanted.writing.depfile).map(|()| 0))
 }
 
 /// Compiles each text, and adds its bundle to those of which a pool bundle is made, if one is.

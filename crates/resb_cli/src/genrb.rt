@@ -7,12 +7,13 @@ use crate::format_version::check_version;
 use crate::input::pool_in;
 use crate::place::place_of;
 use crate::save::{Bytes, save, saved};
-use crate::say::{complain, or_fail, refuse_memory};
+use crate::say::{complain, fail, or_fail, refuse_memory};
 use crate::show::settled;
-use crate::streams::made;
+use crate::streams::{NO_MEMORY, made};
 use resb_pool_maker::PoolMaker;
 use resb_words::{CompileWords, GenrbWords};
 use std::cell::RefCell;
+use std::path::PathBuf;
 
 /// What is said to fail where no text does.
 const NAME: &str = "genrb";
@@ -48,38 +49,54 @@ fn make_all(rt: &HostRuntime, wanted: &GenrbWords<'_>) -> Result<u8, u8> {
         NAME,
         made(all_below(rt.alloc(), wanted.source, names, None)),
     )?;
-    let texts = or_fail(rt, NAME, made(as_names(rt.alloc(), texts.as_slice())))?;
     let maker = RefCell::new(PoolMaker::new(rt.alloc()));
-    let words = compile_words(wanted, texts);
     let mut call = Call::new(rt);
-    let shared = wanted.written_pool.map(|_| &maker);
-    let status = compile_into(rt, &words, shared, &mut call);
+    let status = compile_texts(rt, wanted, texts.as_slice(), &maker, &mut call);
     if status != 0 {
         return Ok(status);
     }
     if let Some(folder) = wanted.written_pool {
         write_pool(rt, wanted, &maker, folder, &mut call)?;
     }
-    call.end(rt, &words)?;
+    call.end(rt, wanted.writing.depfile)?;
     Ok(0)
 }
 
-/// What is asked of texts of these names.
-fn compile_words<'w>(wanted: &GenrbWords<'w>, texts: Vec<&'w str>) -> CompileWords<'w> {
-    CompileWords {
-        texts,
-        output: None,
-        folder: Some(wanted.destination),
-        is_by_name: true,
-        is_icu: true,
-        limit: None,
-        file: wanted.file,
-        writing: wanted.writing,
-        dependencies: Some(wanted.destination),
-        is_check: false,
-        is_quiet: wanted.is_quiet,
-        is_strict: wanted.is_strict,
-    }
+/// Compiles texts of these names, and adds their bundles to those of which a pool bundle is made, if
+/// one is.
+fn compile_texts(
+    rt: &HostRuntime,
+    wanted: &GenrbWords<'_>,
+    texts: &[PathBuf],
+    maker: &RefCell<PoolMaker>,
+    call: &mut Call,
+) -> u8 {
+    let Ok(texts) = as_names(rt.alloc(), texts) else {
+        return fail(rt, NAME, NO_MEMORY);
+    };
+    let maker = match wanted.written_pool {
+        Some(_) => Some(maker),
+        None => None,
+    };
+    compile_into(
+        rt,
+        &CompileWords {
+            texts,
+            output: None,
+            folder: Some(wanted.destination),
+            is_by_name: true,
+            is_icu: true,
+            limit: None,
+            file: wanted.file,
+            writing: wanted.writing,
+            dependencies: Some(wanted.destination),
+            is_check: false,
+            is_quiet: wanted.is_quiet,
+            is_strict: wanted.is_strict,
+        },
+        maker,
+        call,
+    )
 }
 
 /// Writes the pool bundle of what texts share into a folder.

@@ -88,7 +88,7 @@ pub(crate) fn unbuilt_in<'t>(
     unbuilt(rt.alloc(), draft).map_err(|_| refuse_memory(rt, name))
 }
 
-/// The same, and nothing is said.
+/// Finds the keys of such types, and says nothing.
 fn unbuilt<'a>(alloc: Global, draft: &Draft<'a>) -> Result<Vec<&'a str>, AllocError> {
     let mut unbuilt = Vec::new(alloc);
     let types = value_at(draft, draft.root, COLLATIONS);

@@ -497,7 +497,8 @@ fn file_of<'t>(
     Ok(file)
 }
 
-/// A text's file, and nothing is said of warnings. A text in ICU's own form is compiled by its draft.
+/// A text's file, and nothing is said of warnings. A text in ICU's own form is compiled by its
+/// draft.
 fn file_at_once<'t>(
     rt: &HostRuntime,
     name: &str,

@@ -19,7 +19,7 @@ pub(crate) fn derb(rt: &HostRuntime, wanted: &DerbWords<'_>) -> u8 {
     dump_files(rt, wanted, files.as_slice())
 }
 
-/// The same, where the files' names are known.
+/// Writes the texts of files of these paths.
 fn dump_files(rt: &HostRuntime, wanted: &DerbWords<'_>, files: &[PathBuf]) -> u8 {
     let Ok(files) = as_names(rt.alloc(), files) else {
         return fail(rt, NAME, NO_MEMORY);

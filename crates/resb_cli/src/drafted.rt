@@ -175,8 +175,8 @@ fn forms_names(alloc: Global, file: &str, beside: &Beside<'_>) -> Result<Vec<Str
     Ok(names)
 }
 
-/// The same, where that file is open. The text is read once more: its draft and the forms are lent
-/// for one time.
+/// The bytes of a text's file with binary forms of an open file. The text is read once more: its
+/// draft and the forms are lent for one time.
 fn collated_file<'s>(
     rt: &HostRuntime,
     source: Source<'_, 's>,

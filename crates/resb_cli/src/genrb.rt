@@ -62,8 +62,8 @@ fn make_all(rt: &HostRuntime, wanted: &GenrbWords<'_>) -> Result<u8, u8> {
     Ok(0)
 }
 
-/// Compiles texts of these names, and adds their bundles to those of which a pool bundle is made, if
-/// one is.
+/// Compiles texts of these names, and adds their bundles to those of which a pool bundle is made,
+/// if one is.
 fn compile_texts(
     rt: &HostRuntime,
     wanted: &GenrbWords<'_>,

@@ -65,7 +65,7 @@ pub(crate) fn get(rt: &HostRuntime, wanted: &GetWords<'_>) -> u8 {
     settled(get_found(rt, wanted))
 }
 
-/// The same: the status, or that of a file that isn't read.
+/// Prints what stands there: the status, or that of a file that isn't read.
 fn get_found(rt: &HostRuntime, wanted: &GetWords<'_>) -> Result<u8, u8> {
     let (name, limit) = (wanted.file, wanted.limit);
     let input = Input::read(rt, name, limit)?;

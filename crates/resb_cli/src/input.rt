@@ -75,7 +75,7 @@ impl Input {
         }
     }
 
-    /// The same, and nothing is said.
+    /// Reads the file or the package, and says nothing.
     fn take(rt: &HostRuntime, name: &str, limit: Option<u64>) -> Result<Input, Unread> {
         let Some((package, item)) = split_package(rt, name) else {
             let bytes = read_input(rt, name, limit).map_err(Unread::Input)?;
@@ -134,7 +134,7 @@ impl Input {
         }
     }
 
-    /// The same, and nothing is said.
+    /// The file, or why there is none, of which nothing is said.
     pub(crate) fn opened(&self, alloc: Global) -> Result<Opened<'_>, Unread> {
         let bytes = self.bytes.as_slice();
         let Some(item) = &self.item else {

@@ -17,7 +17,7 @@ pub(crate) fn list(rt: &HostRuntime, name: &str) -> u8 {
     settled(list_items(rt, name))
 }
 
-/// The same: the status, or that of a file that is no package.
+/// Prints the names: the status, or that of a file that is no package.
 fn list_items(rt: &HostRuntime, name: &str) -> Result<u8, u8> {
     let file = bytes_of(rt, name, None)?;
     let package = package_of(rt, name, file.as_slice())?;
@@ -79,7 +79,7 @@ pub(crate) fn extract(rt: &HostRuntime, wanted: &ExtractWords<'_>) -> u8 {
     settled(extract_item(rt, wanted))
 }
 
-/// The same: the status, or that of what kept it from being written.
+/// Writes the item: the status, or that of what kept it from being written.
 fn extract_item(rt: &HostRuntime, wanted: &ExtractWords<'_>) -> Result<u8, u8> {
     let (name, output) = (wanted.file, wanted.output.unwrap_or("-"));
     let file = bytes_of(rt, name, None)?;

@@ -33,7 +33,7 @@ enum Cause<'e> {
     Words(&'static str),
     /// What the library says.
     Error(&'e FileError),
-    /// The same, and the name of the pool bundle.
+    /// What the library says, and the name of the pool bundle.
     OfPool(&'e FileError, &'e str),
 }
 

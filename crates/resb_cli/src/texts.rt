@@ -152,7 +152,7 @@ enum Cause {
     NotUtf8,
     /// Its rules have an escape that says no character.
     NoRules,
-    /// The same of rules of collation, or they end in a comment or in brackets.
+    /// Its rules of collation have such an escape, or end in a comment or in brackets.
     NoCollationRules,
 }
 

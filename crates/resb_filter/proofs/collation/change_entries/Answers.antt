@@ -1,4 +1,4 @@
-use Rattle.std.proofs.Common.{◌≡◌, IfOk, refl, sym, subst, arith, rules, get_or, Bor, List, ℕ}
+use Rattle.std.proofs.Common.{IfOk, refl, sym, subst, arith, rules, get_or, Bor, List, ℕ}
 use Rattle.std.proofs.lemmas.List.{take_all}
 use Rattle.std.specs.Prelude.{Some}
 use Rattle.resb_tree.specs.Tree.{Tree}

@@ -32,7 +32,7 @@ pub fn read_icu_filtered<'t>(
     rules: &Rules<'_>,
 ) -> Result<(DraftBundle<'t>, Vec<Key<'t>>), IcuCompileError>
     ensures ok { IfOk result (λ r. IsFilteredBundle (rules_of rules.now) text.now
-        (draft_tree r.0.root) r.0.is_locale_fallback_enabled r.1.items) }
+        r.0.name.now (draft_tree r.0.root) r.0.is_locale_fallback_enabled r.1.items) }
     ensures ready { IfOk result (λ r. is_ready r.0.root ≡ true) }
     ensures err { IfErr result (IsUnfiltered text.now) }
 {

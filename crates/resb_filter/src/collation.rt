@@ -50,7 +50,8 @@ pub fn with_collation_forms<'a>(
 
 /// The first form that is listed for each type.
 fn form_index<'a>(alloc: Global, forms: &[CollationForm<'a>]) -> Result<FormIndex<'a>, NoMemory>
-    ensures { IfOk result (λ m. (key : List ℕ) → form_in m key ≡ form_of (forms_view forms.now) key) }
+    ensures { IfOk result (λ m. (key : List ℕ)
+        → form_in m key ≡ form_of (forms_view forms.now) key) }
 {
     let mut index = IndexMap::new(alloc);
     for at in (0..forms.len()).rev() {

@@ -1,6 +1,6 @@
 //! What rules leave of a draft. What stays whole keeps its piece; a table on the path of a rule is
-//! put anew behind the others. Which rules decide of an entry is in `remaining`, and what is left of
-//! a table so far in `open_tables`.
+//! put anew behind the others. Which rules decide of an entry is in `remaining`, and what is left
+//! of a table so far in `open_tables`.
 ghost use Rattle.std.specs.Prelude.{◌≡◌, ◌+◌, ◌≤◌, true, map, length, slice_range};
 ghost use Rattle.std.specs.Prelude.{IfOk, OnOk, MatchOption};
 ghost use Rattle.std.specs.List.{zip};

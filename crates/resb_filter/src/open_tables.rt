@@ -8,7 +8,8 @@ ghost use Rattle.resb_draft.specs.Drafts.{tree_at, is_whole, IsMade};
 ghost use Rattle.resb_draft.specs.declared.draft.Draft.{Draft};
 ghost use Rattle.resb_filter.specs.View.{rules_left};
 ghost use Rattle.resb_filter.specs.Inner.Entries.{IsNoTable};
-ghost use Rattle.resb_filter.specs.Inner.Open.{Opens, IsOpen, Waits, StepsTo, weight, weight_behind};
+ghost use Rattle.resb_filter.specs.Inner.Open.{Opens, IsOpen, Waits, StepsTo};
+ghost use Rattle.resb_filter.specs.Inner.Open.{weight, weight_behind};
 
 use crate::filtering::entries_of;
 use crate::remaining::{Remaining, Verdict, decide, rules_at};

@@ -20,7 +20,7 @@ use Rattle.resb_icu_files.specs.Stretches.{Passes, Stretch, Ends, nothing, more,
 use Rattle.resb_icu_files.specs.Stretches.{quoted, other, at_the_end, no_string, open_comment}
 use Rattle.resb_icu_files.specs.TakenIn.{Taken, ends, group, FaultFrom, here, later, with_group}
 use Rattle.resb_icu_files.specs.TakenIn.{ended, FirstFault, HasNoFileGroup}
-use Rattle.resb_icu_files.specs.Ways.{FileGroup}
+use Rattle.resb_icu_files.specs.Ways.{FileGroup, bytes_named}
 use Rattle.resb_icu_files.specs.Writing.{Output, no_output, Fault, HasFault, Written, a_dependency}
 use Rattle.resb_icu_files.specs.Writing.{a_text, some_bytes, behind_mark, said_of, not_there}
 use Rattle.resb_icu_files.specs.Writing.{not_a_text, not_rules}
@@ -196,15 +196,45 @@ fault_written files inside name a kind fault (not_a_text t wrong g never) (some_
 fault_written files inside name a kind fault (not_a_text t takes g never)
     (a_text _ s r also f u l) =
     let e : s ≡ t = cc in never (subst (λ (l : List ℕ). IsUtf8 (behind_mark l)) e u)
-fault_written files inside name a kind fault (not_rules t wrong g nothing_left) a_dependency =
+fault_written files inside name a kind fault (not_rules t wrong g whole nothing_left) a_dependency =
     false≢true wrong
-fault_written files inside name a kind fault (not_rules t wrong g nothing_left) (some_bytes s f) =
+fault_written files inside name a kind fault (not_rules t wrong g whole nothing_left) (some_bytes s f) =
     false≢true wrong
-fault_written files inside name a kind fault (not_rules t takes g nothing_left)
+fault_written files inside name a kind fault (not_rules t takes g whole nothing_left)
     (a_text _ s r also f u l) =
     let e : s ≡ t = cc in
     let h : None ≡ Some r =
     sym nothing_left ∙ (ap (λ b. said_of kind (behind_mark b)) (sym e) ∙ l) in cc
+
+-- a file that isn't there has no bytes
+lacks_bytes : (files : List TextFile) (name bytes : List ℕ) → bytes_named files name ≡ None
+    → bytes_named files name ≡ Some bytes → ⊥
+lacks_bytes files name bytes n f = cc
+
+-- a text that is no UTF-8 isn't one
+never_text : (files : List TextFile) (name s t : List ℕ) → bytes_named files name ≡ Some s
+    → bytes_named files name ≡ Some t → (IsUtf8 (behind_mark s) → ⊥) → IsUtf8 (behind_mark t) → ⊥
+never_text files name s t f g never u =
+    let e : t ≡ s = cc in never (subst (λ (l : List ℕ). IsUtf8 (behind_mark l)) e u)
+
+-- a group has one fault
+Fault-one : (files : List TextFile) (name : List ℕ) (kind : Way) (a b : Fault)
+    → HasFault files name kind a → HasFault files name kind b → a ≡ b
+Fault-one files name kind a b (not_there _ _) (not_there _ _) = refl
+Fault-one files name kind a b (not_there _ n) (not_a_text t _ g _) =
+    absurd (lacks_bytes files name t n g)
+Fault-one files name kind a b (not_there _ n) (not_rules t _ g _ _) =
+    absurd (lacks_bytes files name t n g)
+Fault-one files name kind a b (not_a_text s _ f _) (not_there _ n) =
+    absurd (lacks_bytes files name s n f)
+Fault-one files name kind a b (not_a_text _ _ _ _) (not_a_text _ _ _ _) = refl
+Fault-one files name kind a b (not_a_text s _ f never) (not_rules t _ g u _) =
+    absurd (never_text files name s t f g never u)
+Fault-one files name kind a b (not_rules s _ f _ _) (not_there _ n) =
+    absurd (lacks_bytes files name s n f)
+Fault-one files name kind a b (not_rules s _ f u _) (not_a_text t _ g never) =
+    absurd (never_text files name t s g f never u)
+Fault-one files name kind a b (not_rules _ _ _ _ _) (not_rules _ _ _ _ _) = refl
 
 -- the two groups that stretches from a place come to are one
 record Meet (text : List ℕ) (at at' : ℕ) (kind kind' : Way) (brace brace' last last' : ℕ)
@@ -322,6 +352,57 @@ faulty_taken files text fault at name from m a (later _ mid brace last closer ki
 pub never_both : (files : List TextFile) (text : List ℕ) (fault : Fault) (at : ℕ) (name : List ℕ)
     (a : Output) → FirstFault files text fault at name → Taken files text 0 no_output a → ⊥
 never_both files text fault at name a m t = faulty_taken files text fault at name 0 no_output a m t
+
+-- a group with a fault and one that is written don't meet
+fault_meet : (files : List TextFile) (text : List ℕ) (at at' : ℕ) (kind kind' : Way)
+    (brace brace' last last' : ℕ) (name name' w : List ℕ) (fault : Fault)
+    → Meet text at at' kind kind' brace brace' last last' name name'
+    → HasFault files name kind fault
+    → Written files (slice_range text (brace' + 1) last') name' kind' w → ⊥
+fault_meet files text at at' kind kind' brace brace' last last' name name' w fault meet l p =
+    fault_written files (slice_range text (brace' + 1) last') name' w kind' fault
+    (subst (λ (k : Way). HasFault files name' k fault) meet.group.kinds
+    (subst (λ (n : List ℕ). HasFault files n kind fault) meet.group.names l)) p
+
+-- from a place on one group is the first with a fault, and it has one
+Faulty-one : (files : List TextFile) (text : List ℕ) (a b : Fault) (at at' : ℕ)
+    (name name' : List ℕ) (from : ℕ) → FaultFrom files text a at name from
+    → FaultFrom files text b at' name' from → (a ≡ b) × (at ≡ at') × (name ≡ name')
+Faulty-one files text a b at at' name name' from (here _ brace last closer kind s g l)
+    (here _ brace' last' closer' kind' t h m) =
+    let meet = groups_meet text from at at' closer closer' kind kind' brace brace' last last' name
+    name' s t g h in (
+      Fault-one files name kind a b l
+          (subst (λ (k : Way). HasFault files name k b) (sym meet.group.kinds)
+          (subst (λ (n : List ℕ). HasFault files n kind' b) (sym meet.group.names) m)),
+      meet.places,
+      meet.group.names,
+    )
+Faulty-one files text a b at at' name name' from (here _ brace last closer kind s g l)
+    (later _ mid brace' last' closer' kind' named w t h p r) =
+    let meet = groups_meet text from at mid closer closer' kind kind' brace brace' last last' name
+    named s t g h in
+    absurd (fault_meet files text at mid kind kind' brace brace' last last' name named w a meet l p)
+Faulty-one files text a b at at' name name' from
+    (later _ mid brace last closer kind named w s g p r)
+    (here _ brace' last' closer' kind' t h m) =
+    let meet = groups_meet text from at' mid closer' closer kind' kind brace' brace last' last name'
+    named t s h g in
+    absurd (fault_meet files text at' mid kind' kind brace' brace last' last name' named w b meet m
+    p)
+Faulty-one files text a b at at' name name' from
+    (later _ mid brace last closer kind named w s g p r)
+    (later _ mid' brace' last' closer' kind' named' w' t h q u) =
+    let meet = groups_meet text from mid mid' closer closer' kind kind' brace brace' last last'
+    named named' s t g h in
+    Faulty-one files text a b at at' name name' (last + 1) r
+    (subst (λ (i : ℕ). FaultFrom files text b at' name' (i + 1)) (sym meet.group.lasts) u)
+
+pub one_fault : (files : List TextFile) (text : List ℕ) (a b : Fault) (at at' : ℕ)
+    (name name' : List ℕ) → FirstFault files text a at name → FirstFault files text b at' name'
+    → (a ≡ b) × (at ≡ at') × (name ≡ name')
+one_fault files text a b at at' name name' h k =
+    Faulty-one files text a b at at' name name' 0 h k
 
 -- the whole of a text
 slice_whole : (text : List ℕ) → [] ++ slice_range text 0 (length text) ≡ text

@@ -36,10 +36,11 @@ said_written files inside name bytes text said out kind takes found is left same
 
 -- a file has no rules
 pub rules_lack : (files : List TextFile) (name bytes text : List ℕ) (kind : Way)
-    → takes_text kind ≡ true → bytes_named files name ≡ Some bytes → text ≡ behind_mark bytes
-    → None ≡ said_of kind text → HasFault files name kind (fault_of kind)
-rules_lack files name bytes text kind takes found same none =
-    not_rules bytes takes found (sym (none ∙ ap (λ l. said_of kind l) same))
+    → takes_text kind ≡ true → bytes_named files name ≡ Some bytes
+    → (text ≡ behind_mark bytes) × IsUtf8 (behind_mark bytes) → None ≡ said_of kind text
+    → HasFault files name kind (fault_of kind)
+rules_lack files name bytes text kind takes found is none =
+    not_rules bytes takes found is.1 (sym (none ∙ ap (λ l. said_of kind l) is.0))
 
 -- which is said by the error of the group's type
 pub rules_fail : (files : List TextFile) (name : List ℕ) (kind : Way) (at : ℕ) (file : FileNamed)

@@ -17,6 +17,13 @@ LackingIsNotTaken =
     (files : List TextFile) (text : List ℕ) (fault : Fault) (at : ℕ) (name : List ℕ) (a : Output)
     → FirstFault files text fault at name → Taken files text 0 no_output a → ⊥
 
+-- a text has one fault: two that come first are the same one, of the same group
+abbrev pub OneFault : Type 0
+OneFault =
+    (files : List TextFile) (text : List ℕ) (a b : Fault) (at at' : ℕ) (name name' : List ℕ)
+    → FirstFault files text a at name → FirstFault files text b at' name'
+    → (a ≡ b) × (at ≡ at') × (name ≡ name')
+
 -- places keep their order: of two of the new text, the first stood no further behind in the old
 -- one. In memory a place and a text's length are less than 2 ^ 64
 abbrev pub PlacesKeepOrder : Type 0

@@ -106,12 +106,13 @@ fault_of way.CollationRules = no_collation_rules
 fault_of _ = no_rules
 
 -- a group can't be written: no file has its name, which is no dependency's; or the file whose text
--- it takes is no UTF-8; or nothing is left of the rules in it, since an escape says no character
--- or, in collation rules, something has no end
+-- it takes is no UTF-8; or it is, and nothing is left of the rules in it, since an escape says no
+-- character or, in collation rules, something has no end
 pub data HasFault (files : List TextFile) (name : List ℕ) (kind : Way) : Fault → Type 0 where
   not_there : takes_file kind ≡ true → bytes_named files name ≡ None
       → HasFault files name kind no_file
   not_a_text : (bytes : List ℕ) → takes_text kind ≡ true → bytes_named files name ≡ Some bytes
       → (IsUtf8 (behind_mark bytes) → ⊥) → HasFault files name kind no_text
   not_rules : (bytes : List ℕ) → takes_text kind ≡ true → bytes_named files name ≡ Some bytes
-      → said_of kind (behind_mark bytes) ≡ None → HasFault files name kind (fault_of kind)
+      → IsUtf8 (behind_mark bytes) → said_of kind (behind_mark bytes) ≡ None
+      → HasFault files name kind (fault_of kind)

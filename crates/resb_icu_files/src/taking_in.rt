@@ -27,7 +27,7 @@ use std::alloc::Global;
 /// where they stand.
 ///
 /// Refused are the first group whose file isn't among these, or isn't UTF-8 where its text is
-/// taken, or has no rules, and want of memory.
+/// taken, or is UTF-8 and has no rules, and want of memory.
 pub fn with_files(alloc: Global, text: &str, files: &[TextFile]) -> Result<TakenIn, FilesError>
     ensures ok { IfOk result (IsTakenIn files.now text.now) }
     ensures err { IfErr result (FilesFail files.now text.now) }

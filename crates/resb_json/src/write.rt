@@ -1,10 +1,10 @@
 //! The calls that write JSON, and that look how long it is.
 //! What is written, and in which order, is said in `text`.
-ghost use Rattle.std.specs.Prelude.{◌≡◌, ◌<◌, ◌≤◌, OnOk, OnErr, IfOk, MatchOption, length};
+ghost use Rattle.std.specs.Prelude.{◌≡◌, ◌<◌, ◌≤◌, OnOk, OnErr, IfOk, IfErr, MatchOption, length};
 ghost use Rattle.std.specs.String.{string_bytes};
 ghost use Rattle.std.specs.Io.KnownBytes.{Appends};
 ghost use Rattle.serde_json.specs.Written.{compact_text};
-ghost use Rattle.resb_shown.specs.Sink.{AppendsPart, IsLengthWithin};
+ghost use Rattle.resb_shown.specs.Sink.{AppendsPart, FailsWriting, IsLengthWithin};
 ghost use Rattle.resb_json.specs.Json.{json_of};
 
 use crate::text::JsonText;
@@ -14,8 +14,9 @@ use std::io;
 use std::io::Write;
 
 /// Writes the JSON of what is shown, without blanks and in blocks, however deep it nests. Where
-/// the writer fails or memory is wanted, a part of it from its start was written. The writer isn't
-/// flushed.
+/// the writer fails or memory is wanted, a part of it from its start was written. The error is of
+/// the kind `OutOfMemory`, or else some of the text wasn't written and it is one of
+/// `resb_shown::write_whole`. The writer isn't flushed.
 pub fn write_json<'s, S: Shown<'s>, W: Write>(
     alloc: Global,
     writer: &mut W,
@@ -25,6 +26,8 @@ pub fn write_json<'s, S: Shown<'s>, W: Write>(
         OnOk result (Appends (W.contents writer.old) (W.contents writer.new) text) }
     ensures part { let text = compact_text (json_of (S.tree shown)) in
         OnErr result (AppendsPart (W.contents writer.old) (W.contents writer.new) text) }
+    ensures cause { let text = compact_text (json_of (S.tree shown)) in
+        IfErr result (FailsWriting (W.contents writer.old) (W.contents writer.new) text) }
 {
     let mut text = JsonText::new(alloc, shown)?;
     write_blocks(alloc, writer, &mut text)

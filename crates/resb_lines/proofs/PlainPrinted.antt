@@ -44,7 +44,7 @@ says_cause name t path x e =
 
 -- where nothing is found, the lines are the text of the bundle
 module _ (name : List ℕ) (f : Bool) (t : Tree) (e : None ≡ first_found plain_tests name t) where
-  none : first_cause plain_tests name t ≡ None
+  pub none : first_cause plain_tests name t ≡ None
   none = ap (option_map (λ f. f.1)) (sym e)
 
   rooted : (es : Entries) × (t ≡ table es)

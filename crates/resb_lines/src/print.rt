@@ -1,7 +1,7 @@
 //! Prints a tree's bundle as a text of the plain form, or says what keeps it from having one.
 //! How it is printed is said in `text`, and how the cause is found in `causes`.
 ghost use Rattle.std.specs.Prelude.{◌≡◌, ◌≤◌, ◌⊎◌, ℕ, List, length};
-ghost use Rattle.std.specs.Prelude.{IfOk, IfErr, IfSome, MatchOption};
+ghost use Rattle.std.specs.Prelude.{IfOk, IfErr, OnOk, IfSome, MatchOption, None};
 ghost use Rattle.std.specs.String.{string_bytes};
 ghost use Rattle.resb_tree.specs.Bundle.{name_of, root_of};
 ghost use Rattle.resb_grammar.specs.BundleText.{BundleText};
@@ -50,9 +50,8 @@ pub fn print_text(alloc: Global, bundle: &ResourceBundle<'_>) -> Result<String, 
 /// The text of a bundle as `print_text` gives it, where it has no more bytes than the limit, and
 /// `None` where it would have more. Before an entry or item is written, the bytes of its key and of
 /// its string or path, and two for each byte of its binary, have to be within the limit, so that
-/// what is written beyond it is at most a line without them. Where the text would have more bytes
-/// than the limit before the first cause that keeps it from being one, `None` or the cause may be
-/// answered.
+/// what is written beyond it is at most a line without them. A cause that keeps the bundle from
+/// having a text is answered whatever the limit is.
 pub fn print_text_within(
     alloc: Global,
     bundle: &ResourceBundle<'_>,
@@ -70,6 +69,8 @@ pub fn print_text_within(
         IfSome found (λ text. length (string_bytes text) ≤ limit)) }
     ensures size { IfOk result (λ found. IfSome found (λ text.
         length (string_bytes text) ≤ text_limit 1 (name_of bundle.now) (root_of bundle.now))) }
+    ensures no_cause { OnOk result
+        (first_cause plain_tests (name_of bundle.now) (root_of bundle.now) ≡ None) }
     ensures refusal { IfErr result (λ e.
         SaysCause e (first_cause plain_tests (name_of bundle.now) (root_of bundle.now))) }
     ensures none { IfErr result (λ e. (e ≡ PrintError.OutOfMemory)

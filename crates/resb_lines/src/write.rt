@@ -1,10 +1,10 @@
 //! The calls that write the lines of a bundle, make a text of them, and look how long they are.
 //! What is written, and in which order, is said in `text`.
-ghost use Rattle.std.specs.Prelude.{◌≡◌, ◌<◌, ◌≤◌, OnOk, OnErr, IfOk, MatchBool, length};
+ghost use Rattle.std.specs.Prelude.{◌≡◌, ◌<◌, ◌≤◌, OnOk, OnErr, IfOk, IfErr, MatchBool, length};
 ghost use Rattle.std.specs.Io.KnownBytes.{Appends};
 ghost use Rattle.resb_tree.specs.Bundle.{name_of, root_of};
 ghost use Rattle.resb_tree.specs.View.{tree_of};
-ghost use Rattle.resb_shown.specs.Sink.{AppendsPart, IsLengthWithin};
+ghost use Rattle.resb_shown.specs.Sink.{AppendsPart, FailsWriting, IsLengthWithin};
 ghost use Rattle.resb_lines.specs.Lines.{lines_of, IsTextWithin};
 
 use crate::form::Form;
@@ -44,7 +44,9 @@ impl<'t, 'a> ShownBundle<'t, &'t Resource<'a>> {
 
 /// Writes the lines of a bundle in a form, in blocks, however deep it nests. These are its text of
 /// the form where it has one; a root that is no table has no lines. Where the writer fails or
-/// memory is wanted, a part of them from their start was written. The writer isn't flushed.
+/// memory is wanted, a part of them from their start was written. The error is of the kind
+/// `OutOfMemory`, or else some of the lines weren't written and it is one of
+/// `resb_shown::write_whole`. The writer isn't flushed.
 pub fn write_lines<'s, F: Form, S: Shown<'s>, W: Write>(
     alloc: Global,
     writer: &mut W,
@@ -57,6 +59,9 @@ pub fn write_lines<'s, F: Form, S: Shown<'s>, W: Write>(
     ensures part { let text = lines_of F.spelling bundle.entry.name.now
         bundle.entry.is_locale_fallback_enabled (S.tree bundle.entry.root) in
         OnErr result (AppendsPart (W.contents writer.old) (W.contents writer.new) text) }
+    ensures cause { let text = lines_of F.spelling bundle.entry.name.now
+        bundle.entry.is_locale_fallback_enabled (S.tree bundle.entry.root) in
+        IfErr result (FailsWriting (W.contents writer.old) (W.contents writer.new) text) }
 {
     let Node::Table(entries) = bundle.root.node() else {
         return Ok(());

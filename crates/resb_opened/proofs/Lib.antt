@@ -1,5 +1,7 @@
--- What crates above may cite: what ascends inside a collection, and which member has a name.
+-- What crates above may cite: what ascends inside a collection, which member has a name, and the
+-- bytes of well-formed UTF-16.
 mod AheadLemmas
+mod FoundLemmas
 mod InsideLemmas
 pub mod NamedLemmas
 mod OpeningLemmas
@@ -8,4 +10,4 @@ mod StandingLemmas
 mod AsciiLemmas
 mod TextLemmas
 mod TypedLemmas
-mod Utf16Lemmas
+pub mod Utf16Lemmas

@@ -6,7 +6,6 @@ use Rattle.std.proofs.lemmas.Bool.{false≢true}
 use Rattle.std.proofs.lemmas.Option.{same_Some}
 use Rattle.std.proofs.Props.{props}
 use Rattle.std.specs.Prelude.{◌||◌, option_map, if◌then◌else◌}
-use Rattle.std.specs.List.{zip}
 use Rattle.resb_tree.specs.Tree.{Tree, string, array, table, Trees, Entries}
 use Rattle.resb_format.specs.Content.{Member, word, unit, leaf, list, entry_list}
 use Rattle.resb_format.specs.Lookups.{text_in, index_in}
@@ -107,13 +106,6 @@ module _ (p : Parts) where
   each_of_two [] ns h = (each_none, h)
   each_of_two (m ∷ ms) ns (each_more o os) =
       let (a, b) = each_of_two ms ns os in (each_more o a, b)
-
-  -- entries have the values of their members
-  pub each_zipped : (ks : List ℕ) (ms : List Member) → OrderedEach p ms
-      → OrderedEach p (map (λ e. e.1) (zip ks ms))
-  each_zipped [] ms h = each_none
-  each_zipped (k ∷ ks) [] h = each_none
-  each_zipped (k ∷ ks) (m ∷ ms) (each_more o os) = each_more o (each_zipped ks ms os)
 
   -- one more that is pending
   pub pushed : (ws : List ℕ) (w : ℕ) → OrderedEach p (map (λ x. word x) (ws ++ w ∷ []))

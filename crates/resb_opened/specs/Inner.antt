@@ -1,2 +1,3 @@
 -- The words of private functions.
 pub mod Holding
+pub mod Pending

@@ -1,12 +1,14 @@
 -- Whether the keys of all tables in a part of a file ascend.
 --     Ordered p m     they do in what stands at the member m of a file with the parts p
-use Rattle.std.specs.Prelude.{◌≡◌, ℕ, List, [], ◌∷◌, map, true, false, Some}
+--     collections_in o, key_price o   how many tables and arrays are looked at for that, and what is
+--                     paid for reading the keys
+use Rattle.std.specs.Prelude.{◌≡◌, ℕ, ◌+◌, List, [], ◌∷◌, map, true, false, Some}
 use Rattle.resb_format.specs.Content.{Member, word, unit, list, entry_list, content_at}
 use Rattle.resb_format.specs.Parts.{Parts}
 use Rattle.resb_format.specs.Types as types
 use Rattle.resb_read.specs.Leaves.{type_in}
 use Rattle.resb_read.specs.Sequences.{at_entry}
-use Rattle.resb_read.specs.Tables.{keys_ascend}
+use Rattle.resb_read.specs.Tables.{keys_ascend, price_of}
 
 module _ (p : Parts) where
   mutual
@@ -28,3 +30,30 @@ module _ (p : Parts) where
       each_none : OrderedEach []
       each_more : {m : Member} {ms : List Member} → Ordered m → OrderedEach ms
           → OrderedEach (m ∷ ms)
+
+  abbrev mutual
+    -- how many tables and arrays stand there, each as often as it is reached
+    pub collections_in : {m : Member} → Ordered m → ℕ
+    collections_in ordered_unit = 0
+    collections_in (ordered_leaf a b) = 0
+    collections_in (ordered_list e os) = 1 + collections_of os
+    collections_in (ordered_entries e k os) = 1 + collections_of os
+
+    -- the same of several members
+    pub collections_of : {ms : List Member} → OrderedEach ms → ℕ
+    collections_of each_none = 0
+    collections_of (each_more o os) = collections_in o + collections_of os
+
+  abbrev mutual
+    -- what is paid for reading the keys of all tables there: one for each 16 bytes of a key, as
+    -- often as it is reached
+    pub key_price : {m : Member} → Ordered m → ℕ
+    key_price ordered_unit = 0
+    key_price (ordered_leaf a b) = 0
+    key_price (ordered_list e os) = price_of_each os
+    key_price (ordered_entries {w} {es} e k os) = price_of (map (at_entry p) es) + price_of_each os
+
+    -- the same of several members
+    pub price_of_each : {ms : List Member} → OrderedEach ms → ℕ
+    price_of_each each_none = 0
+    price_of_each (each_more o os) = key_price o + price_of_each os

@@ -1,6 +1,7 @@
 //! What a resource without members holds: its text, its bytes, its number or numbers.
 //! What is inside arrays and tables is found in `inside`.
-ghost use Rattle.std.specs.Prelude.{◌≡◌, ◌==◌, ◌<◌, ◌++◌, IfOk, IfSome, option_map, slice_get};
+ghost use Rattle.std.specs.Prelude.{◌≡◌, ◌==◌, ◌<◌, ◌++◌, IfOk, OnErr, IfSome};
+ghost use Rattle.std.specs.Prelude.{option_map, slice_get};
 ghost use Rattle.std.specs.List.{list_any};
 ghost use Rattle.std.specs.String.{string_bytes};
 ghost use Rattle.resb_format.specs.Bytes.{units_as_bytes};
@@ -103,10 +104,12 @@ impl<'a> Handle<'a> {
     }
 
     /// Puts the text of a string, or the path of an alias, behind what stands; of any other
-    /// resource nothing.
+    /// resource nothing. Where memory is missing, a front of that text stands there.
     pub fn push_text(self, text: &mut String) -> Result<(), NoMemory>
-        ensures { IfOk result (λ _. string_bytes text.new
+        ensures all { IfOk result (λ _. string_bytes text.new
             ≡ string_bytes text.old ++ shown.text_in (tree_at self.entry)) }
+        ensures front { OnErr result (shown.AddsFront (string_bytes text.old)
+            (string_bytes text.new) (shown.text_in (tree_at self.entry))) }
     {
         match self.standing() {
             Standing::Leaf(Leaf::Text(units) | Leaf::Alias(units)) => {

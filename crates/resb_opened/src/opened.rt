@@ -35,6 +35,7 @@ impl<'de> Opened<'de> {
         ensures tree { (t : Tree)
             → Denoted (parts_in parts.entry.file) (word parts.entry.root) t → tree_in result ≡ t }
         ensures count { result.count ≡ count }
+        ensures ascends { result.ascends ≡ ascends }
     {
         Opened {
             parts: parts.file,

@@ -1,11 +1,11 @@
 //! How a file is opened: it is counted, and whether its tables ascend is found.
 //! What it is counted by is in `resb_read`.
-ghost use Rattle.std.specs.Prelude.{◌≡◌, option_map};
+ghost use Rattle.std.specs.Prelude.{◌≡◌, IfOk, length, option_map};
 ghost use Rattle.resb_pool_bundle.specs.Pool.{pool_in};
 ghost use Rattle.resb_read.specs.Roots.{alone};
 ghost use Rattle.resb_read.specs.WithPool.{over};
 ghost use Rattle.resb_opened.specs.Handles.{tree_at, tree_in};
-ghost use Rattle.resb_opened.specs.Opening.{Opens};
+ghost use Rattle.resb_opened.specs.Opening.{FindsAscending, Opens};
 
 use crate::handle::Handle;
 use crate::opened::Opened;
@@ -19,9 +19,11 @@ use std::alloc::Global;
 
 impl<'de> Opened<'de> {
     /// Opens a file that is read alone, as `count_resources` counts it: with its refusals, and want
-    /// of memory besides.
+    /// of memory besides. Where the keys of all tables ascend, that is found, unless they have more
+    /// than 16 times the bytes of the file, a key counted as often as it is reached.
     pub fn read(alloc: Global, bytes: &'de [u8]) -> Result<Opened<'de>, BinaryDeserializerError>
-        ensures { Opens (alone bytes.now) result }
+        ensures opens { Opens (alone bytes.now) result }
+        ensures ascends { IfOk result (FindsAscending (alone bytes.now) (length bytes.now)) }
     {
         let count = count_resources(alloc, bytes)?;
         let parts = CheckedFile::read(bytes)?;
@@ -35,7 +37,9 @@ impl<'de> Opened<'de> {
         bytes: &'de [u8],
         pool: Option<PoolBundle<'de>>,
     ) -> Result<Opened<'de>, BinaryDeserializerError>
-        ensures { Opens (over (option_map pool_in pool.entry) bytes.now) result }
+        ensures opens { Opens (over (option_map pool_in pool.entry) bytes.now) result }
+        ensures ascends { IfOk result (FindsAscending
+            (over (option_map pool_in pool.entry) bytes.now) (length bytes.now)) }
     {
         let count = count_resources_with_pool(alloc, bytes, pool)?;
         let parts = read_with_pool(bytes, pool)?;

@@ -16,6 +16,7 @@ mod Failing
 mod Viewing
 mod Taking
 pub mod OneRefusal
+pub mod Limited
 mod OneValue
 mod Measures
 pub mod WithPool

@@ -101,8 +101,12 @@ within_root w p left limit (Err e) l none same all (inl h) =
     inl (refused_root w p left e l none same all h)
 within_root w p left limit (Err e) l none same all (inr (inl (is, more))) =
     inr (inl (is, more_root tree_bytes w p left limit l none same all more))
-within_root w p left limit (Err e) l none same all (inr (inr (is, more))) =
-    inr (inr (is, more_root key_bytes w p left limit l none same all more))
+within_root w p left limit (Err e) l none same all (inr (inr (is, (xs, holds, fits), more))) =
+    inr (inr (
+      is,
+      (xs, subst (λ q. HoldsPlace q xs) same holds, fits),
+      more_root key_bytes w p left limit l none same all more,
+    ))
 
 -- the laws
 pub one_weight_of : (w : Whole) (xs ys : List Piece) → HoldsPieces w xs → HoldsPieces w ys

@@ -29,6 +29,8 @@ pub record IsLinked (w : Whole) : Type 0 where
   pub passes : w.refusal ≡ None → w.is_file
   pub holds : w.is_file → w.refusal ≡ None
   pub denotes : (t : Tree) (n : ℕ) → w.is_file → Den w.parts w.root t n → w.denotes t n
+  pub heads : (t : Tree) (n : ℕ) → w.denotes t n → w.is_file
+  pub roots : (t : Tree) (n : ℕ) → w.denotes t n → Den w.parts w.root t n
 
 -- of a file that is read alone
 pub alone_linked : (bytes : List ℕ) → IsLinked (alone bytes)
@@ -36,6 +38,8 @@ alone_linked bytes = record {
   passes = (bundle_file_passes bytes).0;
   holds = (bundle_file_passes bytes).1;
   denotes = λ t n h d. record { head = h; root = d };
+  heads = λ t n d. d.head;
+  roots = λ t n d. d.root;
 }
 
 -- what has a fault in its head is no file

@@ -4,12 +4,14 @@
 --     IsMeasured m xs         how many resources these pieces are, and what they add up to
 --     AnswersMeasureOf w r    what measuring the tree answers
 --     FitsWithin limit xs     neither the tree nor the keys of its entries take more bytes
+--     TreeFits w limit        the tree takes no more bytes
 --     TreeWithinOf w limit r  what reading it within a limit answers
+--     IsRefusedOnceWithin w   memory aside, that refuses in one way
 --     HasOneWeight w, WeighsNoMore w  the tree has one weight, and is no heavier
 use Rattle.std.specs.Prelude.{◌≡◌, ◌<◌, ◌≤◌, ◌⊎◌, ℕ, List, Result, Ok, Err, codes, sum_by}
 use Rattle.resb_tree.specs.Tree.{Tree, tree_count}
 use Rattle.resb_tree.specs.declared.resource.Resource.{Resource}
-use Rattle.resb_format.specs.Error.{IsInvalid}
+use Rattle.resb_format.specs.Error.{IsInvalid, IsWantOfMemory, refusal_of}
 use Rattle.resb_format.specs.declared.error.ReadingError.{ReadingError}
 use Rattle.resb_walk.specs.Pieces.{Piece, Holds, pieces}
 use Rattle.resb_walk.specs.Sums.{AddsUp, count_of, key_bytes_in}
@@ -50,6 +52,10 @@ key_bytes xs = sum_by key_bytes_in xs
 abbrev pub FitsWithin : ℕ → List Piece → Type 0
 FitsWithin limit xs = (tree_bytes xs ≤ limit) × (key_bytes xs ≤ limit)
 
+-- the tree of the file takes no more bytes than the limit, whatever the keys of its entries take
+abbrev pub TreeFits : Whole → ℕ → Type 0
+TreeFits w limit = (xs : List Piece) × HoldsPieces w xs × (tree_bytes xs ≤ limit)
+
 -- a tree is denoted within the budget, and in this sum its pieces have more bytes than the limit
 pub record TakesMoreOf (sum : List Piece → ℕ) (w : Whole) (limit : ℕ) : Type 0 where
   pub tree : Tree
@@ -61,14 +67,23 @@ pub record TakesMoreOf (sum : List Piece → ℕ) (w : Whole) (limit : ℕ) : Ty
   pub more : limit < sum holding
 
 -- the tree, where neither it nor the keys of its entries take more bytes than the limit; or its
--- refusal, or that of a tree that takes more, or of keys that do
+-- refusal, or that of a tree that takes more, or of keys that do where the tree doesn't
 abbrev pub TreeWithinOf : Whole → ℕ → Result Resource ReadingError → Type 0
 TreeWithinOf w limit (Ok r) =
     AnswersTreeOf w (Ok r) × ((xs : List Piece) × HoldsPieces w xs × FitsWithin limit xs)
 TreeWithinOf w limit (Err e) =
     RefusesWhole w e
     ⊎ ((IsLarger e × TakesMoreOf tree_bytes w limit)
-    ⊎ (HasLargerKeys e × TakesMoreOf key_bytes w limit))
+    ⊎ (HasLargerKeys e × TreeFits w limit × TakesMoreOf key_bytes w limit))
+
+-- two refusals of reading the tree within a limit are equal, by kind and message, unless one is
+-- want of memory; and where the tree is read within it, only want of memory refuses it
+pub record IsRefusedOnceWithin (w : Whole) : Type 0 where
+  pub once : (limit : ℕ) (d e : ReadingError) → TreeWithinOf w limit (Err d)
+      → TreeWithinOf w limit (Err e)
+      → (IsWantOfMemory d ⊎ IsWantOfMemory e) ⊎ (refusal_of d ≡ refusal_of e)
+  pub read : (limit : ℕ) (r : Resource) (e : ReadingError) → TreeWithinOf w limit (Ok r)
+      → TreeWithinOf w limit (Err e) → IsWantOfMemory e
 
 -- the tree has one list of pieces, and so one of each sum
 abbrev pub HasOneWeight : Whole → Type 0

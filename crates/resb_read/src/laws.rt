@@ -4,7 +4,7 @@ ghost use Rattle.std.specs.Prelude.{ℕ, List, Option};
 ghost use Rattle.resb_pool_bundle.specs.Pool.{Pool};
 ghost use Rattle.resb_read.specs.Inside.{EntriesStand, MembersStand, NumbersStand, TypesTellTrees};
 ghost use Rattle.resb_read.specs.Laws.{OneValue};
-ghost use Rattle.resb_read.specs.Measuring.{HasOneWeight, WeighsNoMore};
+ghost use Rattle.resb_read.specs.Measuring.{HasOneWeight, WeighsNoMore, IsRefusedOnceWithin};
 ghost use Rattle.resb_read.specs.Roots.{IsRefusedOnce, alone};
 ghost use Rattle.resb_read.specs.Tables.{LastOfAName, AscendIsTold};
 ghost use Rattle.resb_read.specs.WithPool.{OneTreeWithPool, over};
@@ -41,6 +41,12 @@ pub fn ascend_is_told()
     ensures { AscendIsTold }
 {}
 
+/// A file whose tree isn't read within a limit of bytes is refused in one way, by kind and message,
+/// memory aside: a tree that is too large before its keys. One whose tree is read is not refused.
+pub fn one_refusal_within()
+    ensures { (bytes : List ℕ) → IsRefusedOnceWithin (alone bytes) }
+{}
+
 /// What a reading of a file's tree goes through is one list of resources and keys: so each sum over
 /// them is one number.
 pub fn one_weight()
@@ -62,6 +68,12 @@ pub fn one_tree_of_a_file_with_pool()
 /// memory aside.
 pub fn one_refusal_with_pool()
     ensures { (pool : Option Pool) (bytes : List ℕ) → IsRefusedOnce (over pool bytes) }
+{}
+
+/// A file beside a pool bundle whose tree isn't read within a limit of bytes is refused in one way,
+/// by kind and message, memory aside. One whose tree is read is not refused.
+pub fn one_refusal_within_with_pool()
+    ensures { (pool : Option Pool) (bytes : List ℕ) → IsRefusedOnceWithin (over pool bytes) }
 {}
 
 /// What a reading of the tree of a file beside a pool bundle goes through is one list of resources

@@ -119,7 +119,8 @@ pub fn measure(alloc: Global, bytes: &[u8]) -> Result<Measured, BinaryDeserializ
 
 /// Reads the tree of a file where it takes no more bytes than the limit, as `Measured::tree_bytes`
 /// counts them, nor do the keys of its entries, be they shared or not: each may be compared. It is
-/// refused before any of the tree is made; else it answers as `tree_from_bytes`.
+/// refused before any of the tree is made, for the tree where both are larger; else it answers as
+/// `tree_from_bytes`.
 pub fn tree_from_bytes_within(
     alloc: Global,
     bytes: &[u8],

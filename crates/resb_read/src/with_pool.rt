@@ -127,8 +127,8 @@ pub fn measure_with_pool<'de>(
 
 /// Reads the tree of a file beside the pool bundle that is given where it takes no more bytes than
 /// the limit, as `Measured::tree_bytes` counts them, nor do the keys of its entries, be they shared
-/// or not. It is refused before any of the tree is made; else it answers as
-/// `tree_from_bytes_with_pool`.
+/// or not. It is refused before any of the tree is made, for the tree where both are larger; else it
+/// answers as `tree_from_bytes_with_pool`.
 pub fn tree_from_bytes_within_with_pool<'de>(
     alloc: Global,
     bytes: &'de [u8],

@@ -3,7 +3,8 @@
 --     AreWords ns             each number is one of 32 bits
 --     text_in t               the text of a string, the path of an alias
 --     numbers_in t            the numbers of a vector
-use Rattle.std.specs.Prelude.{◌≡◌, ◌<◌, ◌^◌, ℕ, List, [], length, slice_index}
+--     AddsFront old new text  a front of the text was put behind what stood
+use Rattle.std.specs.Prelude.{◌≡◌, ◌<◌, ◌^◌, ◌++◌, ℕ, List, [], length, slice_index}
 use Rattle.resb_tree.specs.Tree.{Tree, string, alias, array, table, binary, integer, int_vector}
 use Rattle.resb_tree.specs.Tree.{Trees, Entries as TableEntries}
 use Rattle.resb_tree.specs.Maps.{IsMap}
@@ -37,3 +38,8 @@ IsNode members entries (Table e) t = (t ≡ table (entries e)) × IsMap (entries
 IsNode members entries (Binary bytes) t = t ≡ binary bytes.now
 IsNode members entries (Integer n) t = t ≡ integer n
 IsNode members entries IntVector t = (ns : List ℕ) × (t ≡ int_vector ns) × AreWords ns
+
+-- behind the old bytes stands a front of a text, and nothing else
+abbrev pub AddsFront : List ℕ → List ℕ → List ℕ → Type 0
+AddsFront old new text =
+    (front : List ℕ) × (rest : List ℕ) × (new ≡ old ++ front) × (front ++ rest ≡ text)

@@ -1,11 +1,12 @@
 //! The trait of what is shown: handles of resources, and ways through arrays and tables.
 //! Trees have their instance in `resource`.
-ghost use Rattle.std.specs.Prelude.{◌≡◌, ◌==◌, ◌++◌, ◌<◌, OnOk, IfSome, MatchOption, slice_get};
+ghost use Rattle.std.specs.Prelude.{◌≡◌, ◌==◌, ◌++◌, ◌<◌, OnOk, OnErr, IfSome, MatchOption};
+ghost use Rattle.std.specs.Prelude.{slice_get};
 ghost use Rattle.std.specs.List.{list_any};
 ghost use Rattle.std.specs.String.{string_bytes};
 ghost use Rattle.resb_tree.specs.Tree.{Tree, Trees, no_trees, more_trees};
 ghost use Rattle.resb_tree.specs.Tree.{Entries, no_entries, entry};
-ghost use Rattle.resb_shown.specs.Shown.{IsNode, text_in, numbers_in};
+ghost use Rattle.resb_shown.specs.Shown.{IsNode, AddsFront, text_in, numbers_in};
 
 use crate::node::Node;
 use std::alloc::AllocError;
@@ -38,9 +39,12 @@ pub trait Shown<'s>: Copy {
         ensures { IfSome result (λ text. text.now ≡ text_in (tree self)) };
 
     /// Puts a string's text, or an alias's path, behind what stands; of any other resource nothing.
+    /// Where memory is missing, a front of that text stands there.
     fn push_text(self, text: &mut String) -> Result<(), AllocError>
-        ensures { OnOk result
-            (string_bytes text.new ≡ string_bytes text.old ++ text_in (tree self)) };
+        ensures all { OnOk result
+            (string_bytes text.new ≡ string_bytes text.old ++ text_in (tree self)) }
+        ensures front { OnErr result
+            (AddsFront (string_bytes text.old) (string_bytes text.new) (text_in (tree self))) };
 
     /// Whether a string's text, or an alias's path, has this character of ASCII; no other resource
     /// has it. No text is made.

@@ -1,9 +1,10 @@
 //! Where a text goes that is made a block at a time: into any writer.
 //! What the text is, its maker says.
-ghost use Rattle.std.specs.Prelude.{◌≡◌, ◌<◌, ◌≤◌, ◌++◌, ℕ, List, [], OnOk, OnErr, IfOk, Ok};
-ghost use Rattle.std.specs.Prelude.{true, false, length};
+ghost use Rattle.std.specs.Prelude.{◌≡◌, ◌≢◌, ◌<◌, ◌≤◌, ◌++◌, ℕ, List, [], Ok};
+ghost use Rattle.std.specs.Prelude.{OnOk, OnErr, IfOk, IfErr, true, false, length};
 ghost use Rattle.std.specs.Io.KnownBytes.{Appends};
-ghost use Rattle.resb_shown.specs.Sink.{AppendsPart, IsLengthWithin};
+ghost use Rattle.std.specs.IoError.{error_kind};
+ghost use Rattle.resb_shown.specs.Sink.{AppendsPart, AppendsLess, FailsWriting, IsLengthWithin};
 
 use std::alloc::{AllocError, Global};
 use std::io;
@@ -29,11 +30,15 @@ pub trait Blocks {
         ensures fewer { result ≡ Ok true → left self.new < left self.old };
 }
 
-/// Writes bytes. Where the writer fails, a part of them from their start was written.
+/// Writes bytes. Where the writer fails, a part of them from their start was written, and not all of
+/// them: the error is the writer's own, or of the kind `WriteZero` where it takes nothing. A write
+/// that was interrupted is asked again, so that no error is of that kind: after 2^64 of them it is
+/// `TimedOut`.
 pub fn write_whole<W: Write>(writer: &mut W, bytes: &[u8]) -> io::Result<()>
     ensures ok { OnOk result (Appends (W.contents writer.old) (W.contents writer.new) bytes.now) }
     ensures part { OnErr result
-        (AppendsPart (W.contents writer.old) (W.contents writer.new) bytes.now) }
+        (AppendsLess (W.contents writer.old) (W.contents writer.new) bytes.now) }
+    ensures kind { IfErr result (λ e. error_kind e ≢ ErrorKind.Interrupted) }
 {
     let mut rest = bytes;
     for _ in 0..u64::MAX {
@@ -47,11 +52,15 @@ pub fn write_whole<W: Write>(writer: &mut W, bytes: &[u8]) -> io::Result<()>
             Err(e) => return Err(e),
         }
     }
-    Err(io::Error::from(ErrorKind::Interrupted))
+    if rest.is_empty() {
+        return Ok(());
+    }
+    Err(io::Error::from(ErrorKind::TimedOut))
 }
 
 /// Writes a text to its end. Where the writer fails or memory is wanted, a part of it from its
-/// start was written. The writer isn't flushed.
+/// start was written. The error is of the kind `OutOfMemory`, or else some of the text wasn't
+/// written and it is one of `write_whole`. The writer isn't flushed.
 pub fn write_blocks<B: Blocks, W: Write>(
     alloc: Global,
     writer: &mut W,
@@ -61,6 +70,8 @@ pub fn write_blocks<B: Blocks, W: Write>(
         (Appends (W.contents writer.old) (W.contents writer.new) (B.ahead text.old)) }
     ensures part { OnErr result
         (AppendsPart (W.contents writer.old) (W.contents writer.new) (B.ahead text.old)) }
+    ensures cause { IfErr result
+        (FailsWriting (W.contents writer.old) (W.contents writer.new) (B.ahead text.old)) }
 {
     let mut block = Vec::with_capacity(alloc, 2 * BLOCK_LEN)?;
     while text.push_block(&mut block)? {

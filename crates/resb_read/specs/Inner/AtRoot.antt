@@ -42,6 +42,10 @@ abbrev pub MoreHere : (List Piece → ℕ) → Place → ℕ → ℕ → Type 0
 MoreHere sum p left limit =
     (n : ℕ) × CountHere p left (Ok n) × (xs : List Piece) × HoldsPlace p xs × (limit < sum xs)
 
+-- the tree takes no more bytes than the limit
+abbrev pub FitsHere : Place → ℕ → Type 0
+FitsHere p limit = (xs : List Piece) × HoldsPlace p xs × (tree_bytes xs ≤ limit)
+
 -- a tree within what is left, where neither it nor its keys take more bytes than the limit, or its
 -- refusal
 abbrev pub TreeWithinHere : Place → ℕ → ℕ → Result Resource ReadingError → Type 0
@@ -50,4 +54,4 @@ TreeWithinHere p left limit (Ok r) =
 TreeWithinHere p left limit (Err e) =
     RefusesHere p left e
     ⊎ ((IsLarger e × MoreHere tree_bytes p left limit)
-    ⊎ (HasLargerKeys e × MoreHere key_bytes p left limit))
+    ⊎ (HasLargerKeys e × FitsHere p limit × MoreHere key_bytes p left limit))

@@ -13,7 +13,7 @@ returns-in-Ok-all_ascend c =
       is_opened pool file (option_map pool_in c.in_ok-pool.pool) (parts_in c.in-Ok.parts.file)
           c.in-Ok.parts.root c.of.result c.in_ok-pool.ensures.ok.1 c.in-Ok.ensures.1
           c.in-Ok.ensures.2 c.of.ensures.parts c.of.ensures.root
-          (λ yes. c.in-Ok-all_ascend.ensures (sym c.of.ensures.ascends ∙ yes)),
+          (λ yes. c.in-Ok-all_ascend.ensures.ordered (sym c.of.ensures.ascends ∙ yes)),
     )
 
 pub returns-in-Err-all_ascend : goal.returns-in-Err-all_ascend

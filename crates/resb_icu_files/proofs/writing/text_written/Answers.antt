@@ -15,6 +15,6 @@ pub returns-in_ok-named-in-None-clause-err : goal.returns-in_ok-named-in-None-cl
 returns-in_ok-named-in-None-clause-err c =
     let t = c.in_ok-text.ensures.ok in
     let n = c.in_ok-named-in-None.ensures in
-    let has = rules_lack _ _ t.bytes _ _ c.requires.text t.found t.said
+    let has = rules_lack _ _ t.bytes _ _ c.requires.text t.found (t.said, t.whole)
     (rw c.in-None.is at c.in_ok-taken.ensures) in
     rules_fail _ _ _ _ _ _ has n.0 n.1 c.without_rules.ensures

@@ -12,7 +12,7 @@ use Rattle.resb_icu_print.proofs.Bundles.{no_text}
 use Rattle.resb_lines.specs.Causes.{found_as}
 use Rattle.resb_lines.specs.Lines.{lines_of, IsTextWithin}
 use Rattle.resb_lines.proofs.Bundles.{same_found, same_lines}
-use Rattle.resb_lines.proofs.IcuPrinted.{says_cause, found_exact, found_bundle, found_small}
+use Rattle.resb_lines.proofs.IcuPrinted.{says_cause, found_exact, found_bundle, found_small, none}
 use Rattle.resb_lines.proofs.icu_print.print_icu_text_within.Goals as goal
 
 pub returns-in-Some-clause-refusal : goal.returns-in-Some-clause-refusal
@@ -98,3 +98,13 @@ returns-clause-size c =
     let within : IsTextWithin c.args.limit (lines_of icu_spelling own flag t) c.in_ok-text.text =
     subst (λ l. IsTextWithin c.args.limit l c.in_ok-text.text) lines c.in_ok-text.ensures in
     found_small own flag t found c.args.limit c.in_ok-text.text within held
+
+pub returns-clause-no_cause : goal.returns-clause-no_cause
+returns-clause-no_cause c =
+    let shown = c.of-shown.result in
+    let own = name_of c.args.bundle.now in
+    let t = root_of c.args.bundle.now in
+    none own c.args.bundle.now.is_locale_fallback_enabled t
+    (sym (ap found_as c.in_default.is) ∙ c.in_ok-cause.ensures.found
+    ∙ same_found icu_tests shown.name.now own (tree_of shown.root.now) t
+    c.of-shown.ensures.name c.of-shown.ensures.root)

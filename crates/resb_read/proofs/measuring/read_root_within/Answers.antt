@@ -53,6 +53,7 @@ returns-then-not-keys_are_within c =
     let (counted, xs, h, m) = rw all at c.in_ok-measured.ensures in
     inr (inr (
       c.larger_keys.ensures,
+      (xs, h, (c.is_within.ensures xs m).0 c.if-not-is_within.false),
       (
         c.in_ok-measured.measured.resources,
         counted,

@@ -2,7 +2,8 @@
 """What `./prove .. --to` installs, with stand-ins for what a proof builds. The last line counts.
 
 Looked at are each file's place, mode and bytes; the words that pkg-config gives for a C program,
-which is linked by them where a compiler is there; a folder that can't be made; and other words.
+which is linked by them where a compiler is there; a folder that can't be made, a file that can't
+be put in its place; and other words.
 """
 import importlib.machinery
 import importlib.util
@@ -113,12 +114,15 @@ def check_library(module, root, folder):
 
 
 def check_refusals(module, folder):
-    """Words that are none, and a folder below a file, which can't be made."""
+    """Words that are none, a folder below a file, and a folder where a file should be."""
     (folder / "file").write_text("", encoding="utf8")
     for words in (["other"], ["resb", "c"], ["c", "c"], ["--to"], ["--to", ""],
                   ["needed", "--to", str(folder / "x")], ["resb", "--to", str(folder / "file")]):
         expect(f"refused: {words}", status_of(module, *words) == 2)
     expect("needed", status_of(module, "c", "needed") == 1)
+    (folder / "taken/bin/resb_tool").mkdir(parents=True)
+    expect("a folder in the place", status_of(module, "--to", f"{folder}/taken") == 2)
+    expect("nothing is left", os.listdir(folder / "taken/bin") == ["resb_tool"])
 
 
 def main():

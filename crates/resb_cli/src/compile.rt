@@ -175,10 +175,10 @@ pub(crate) fn compile(rt: &HostRuntime, wanted: &CompileWords<'_>) -> u8 {
 }
 
 /// Compiles each text, and adds its bundle to those of which a pool bundle is made, if one is.
-pub(crate) fn compile_into(
+pub(crate) fn compile_into<'w>(
     rt: &HostRuntime,
-    wanted: &CompileWords<'_>,
-    maker: Option<&RefCell<PoolMaker>>,
+    wanted: &'w CompileWords<'_>,
+    maker: Option<&'w RefCell<PoolMaker>>,
     call: &mut Call,
 ) -> u8 {
     let work = Work {

@@ -4,4 +4,5 @@ mod Heads
 mod HexText
 mod Lists
 mod NamesLemmas
+mod Reasons
 mod Sizes

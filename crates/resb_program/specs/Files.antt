@@ -24,7 +24,8 @@ use Rattle.resb_pool_bundle.specs.declared.head.FileHead.{FileHead}
 use Rattle.resb_opened.specs.Opening.{Opens}
 use Rattle.resb_opened.specs.declared.opened.Opened.{Opened}
 use Rattle.resb_read.specs.Roots.{Whole, AnswersTreeOf, AnswersCountOf, RefusesWhole}
-use Rattle.resb_read.specs.Measuring.{HoldsPieces, AnswersMeasureOf, TakesMoreOf, key_bytes}
+use Rattle.resb_read.specs.Measuring.{HoldsPieces, AnswersMeasureOf, TakesMoreOf, TreeFits}
+use Rattle.resb_read.specs.Measuring.{key_bytes}
 use Rattle.resb_read.specs.WithPool.{over}
 use Rattle.resb_read.specs.declared.measuring.Measured.{Measured}
 use Rattle.resb_program.specs.declared.errors.FileError.{FileError}
@@ -90,13 +91,14 @@ pub record IsOver (sum : List Piece → ℕ) (w : Whole) (limit : ℕ) (taken : 
   pub more : TakesMoreOf sum w limit
   pub said : taken ≡ fitting (sum more.holding)
 
--- the reader's refusal, or that of a tree that takes more bytes than the limit, if there is one, or
--- the keys of whose entries take more than they may
+-- the reader's refusal, or that of a tree that takes more bytes than the limit, if there is one; or
+-- it takes no more, and the keys of its entries take more than they may
 abbrev pub RefusesSize : Whole → Option ℕ → FileError → Type 0
 RefusesSize w limit UsesPool = ⊥
 RefusesSize w limit (Reading e) = RefusesWhole w e
 RefusesSize w limit (Larger n most) = (limit ≡ Some most) × IsOver tree_bytes w most n
-RefusesSize w limit (LongKeys n most) = (most ≡ key_limit limit) × IsOver key_bytes w most n
+RefusesSize w limit (LongKeys n most) =
+    (most ≡ key_limit limit) × IfSome limit (TreeFits w) × IsOver key_bytes w most n
 
 -- the bundle has this name, the file's tree, which fits, and the fallback flag of the file's head:
 -- the lowest bit of the attributes turns fallback off
@@ -109,12 +111,13 @@ pub record IsBundleBeside (pool : Option Pool) (bytes name : List ℕ) (limit : 
   pub root : root_of b ≡ tree_of tree
   pub flag : b.is_locale_fallback_enabled ≡ (attributes_in bytes % 2 == 0)
 
--- a pool bundle is lacking, the reader refuses the file, or its tree or the keys of its entries
--- take more bytes than they may
+-- a pool bundle is lacking, the reader refuses the file, its tree takes more bytes than it may, or
+-- it doesn't and the keys of its entries do
 abbrev pub RefusesBeside : Option Pool → List ℕ → Option ℕ → FileError → Type 0
 RefusesBeside pool bytes limit UsesPool = LacksPool pool bytes
 RefusesBeside pool bytes limit (Reading e) = RefusesReading pool bytes e
 RefusesBeside pool bytes limit (Larger n most) =
     (limit ≡ Some most) × IsOver tree_bytes (over pool bytes) most n
 RefusesBeside pool bytes limit (LongKeys n most) =
-    (most ≡ key_limit limit) × IsOver key_bytes (over pool bytes) most n
+    (most ≡ key_limit limit) × IfSome limit (TreeFits (over pool bytes))
+    × IsOver key_bytes (over pool bytes) most n

@@ -2,7 +2,8 @@
 --     within most bytes       bytes, where there are at most so many of them
 --     Writes input old new    the writer gained the hex line of a file of the text
 --     IsNoInput input e       these bytes have no file, for this reason
---     HasReason input e       the same, or a stream or memory failed
+--     HasReason input e       the same, or a stream or memory failed: the writer's only once there
+--                             is a file
 --     CountsFile bytes r      what checking a file answers
 --     ReadsCounted bytes r    what `from_bytes_counted::<Resource>` promises of its answer
 --     Agrees has r s          the answer of a check beside that of a reading: the same count, or
@@ -45,13 +46,14 @@ IsNoInput input Input = ⊥
 IsNoInput input Output = ⊥
 IsNoInput input Memory = ⊥
 
--- the bytes have no file, for this reason; or a stream failed, or memory was wanted
+-- the bytes have no file, for this reason; or they have one, and it couldn't be written; or they
+-- couldn't be read to their end, or memory was wanted
 abbrev pub HasReason : List ℕ → ToolError → Type 0
 HasReason input NotUtf8 = IsUtf8 input → ⊥
 HasReason input (Compiling e) = IsUtf8 input × IsRefused input e
 HasReason input (Checking e) = ⊥
 HasReason input Input = Unit {0}
-HasReason input Output = Unit {0}
+HasReason input Output = IsUtf8 input × ((file : List ℕ) × IsCompiled input file)
 HasReason input Memory = Unit {0}
 
 -- a stream that fails ends the program with 2, anything else with 1

@@ -2,7 +2,7 @@
 //! The file of a text is made in `sources`.
 ghost use Rattle.std.specs.Prelude.{IfOk, IfErr, string_bytes};
 ghost use Rattle.resb_compile.specs.Compiling.{IsUnreadable};
-ghost use Rattle.resb_program.specs.Names.{IsNameOf};
+ghost use Rattle.resb_program.specs.Names.{IsNameOf, HasNoName};
 ghost use Rattle.resb_program.specs.Sources.{IsNoSource};
 
 use crate::errors::SourceError;
@@ -10,10 +10,12 @@ use resb_compile::CompileError;
 use resb_text::{Reader, TextParserError};
 use std::alloc::Global;
 
-/// The name of the bundle of a text, which is read as a whole.
+/// The name of the bundle of a text, which is read as a whole. It is refused only for what the
+/// reader refuses: a text whose tree no file holds has a name.
 pub fn bundle_name(alloc: Global, source: &str) -> Result<String, SourceError>
     ensures ok { IfOk result (λ name. IsNameOf source.now (string_bytes name)) }
     ensures err { IfErr result (IsNoSource source.now) }
+    ensures unread { IfErr result (HasNoName source.now) }
 {
     match name_of(alloc, source) {
         Ok(name) => Ok(name),

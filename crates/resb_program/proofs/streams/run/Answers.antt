@@ -6,6 +6,7 @@ use Rattle.std.proofs.lemmas.Result.{on_ok_weaker}
 use Rattle.std.proofs.lemmas.Option.{IfSome_then}
 use Rattle.hex.specs.Hex.{encode_lower}
 use Rattle.resb_compile.specs.Compiling.{IsCompiled}
+use Rattle.resb_program.proofs.Reasons.{output_reason}
 use Rattle.resb_program.proofs.streams.run.Goals as goal
 
 pub returns-clause-ok : goal.returns-clause-ok
@@ -26,3 +27,11 @@ returns-clause-ok c d =
       },
     )))
     d.write_line.ensures.ok
+
+pub returns-clause-err : goal.returns-clause-err
+returns-clause-err c d =
+    let given = d.in_ok-file.ensures.ok in
+    output_reason d.write_line.result (c.R.Read.remaining d.args.reader.now) d.as_slice.result.now
+    d.in_ok-file.file.items d.write_line.ensures.err given.0 given.1
+    (IfSome_then (c.R.Read.remaining d.args.reader.now) d.in_ok-input.ensures.ok
+    (λ input read. d.as_slice.ensures.value ∙ read))

@@ -12,6 +12,7 @@ pub use resb_format::{
 pub use resb_head::{
     BinHeader, BinIndex, BinReprInfo, CharsetFamily, CheckedFile, Endianness, FormatVersion,
 };
+pub use resb_lent::Pool;
 pub use resb_pool::{Plan, PlanError, pool};
 pub use resb_pool_bundle::{FileHead, PoolBundle, read_with_pool};
 pub use resb_pool_maker::{PoolMaker, PoolMakerError};

@@ -3,7 +3,7 @@
 
 use crate::example::{FILE, OTHERS, OVER_POOL, POOL, TEXT};
 use crate::outcome::{Outcome, Refused};
-use resb::binary::{PoolBundle, PoolMaker, Serializer, pool, tree_from_bytes};
+use resb::binary::{Pool, PoolBundle, PoolMaker, Serializer, pool, tree_from_bytes};
 use resb::bundle::Key;
 use resb::filter::Rules;
 use resb::text::{Expected, IcuReader, Reader, Turns};
@@ -48,7 +48,7 @@ pub(crate) fn compiles_icu(alloc: Global) -> Result<bool, Refused> {
 
 /// A text of either form, and its tree, have one file over a pool bundle.
 pub(crate) fn compiles_over_a_pool(alloc: Global) -> Result<bool, Refused> {
-    let pool = PoolBundle::read(&POOL)?;
+    let pool = Pool::open(alloc, &POOL)?;
     let text = "a{alpha{\"one two three\"}beta{\"x\"}}";
     let file = compile_with_pool(alloc, text, &pool)?;
     let icu_file = compile_icu_with_pool(alloc, text, &pool)?;

@@ -20,7 +20,7 @@ use crate::texts::{SourceText, taken_in};
 use crate::warn::{warn, warn_of_name};
 use crate::words::{NO_UTF8, is_marked};
 use resb_compile::compile_with_pool;
-use resb_pool_bundle::PoolBundle;
+use resb_lent::Pool;
 use resb_pool_maker::PoolMaker;
 use resb_program::{SourceError, bundle_name, compile_source, compile_source_within, text_of};
 use resb_words::CompileWords;
@@ -61,7 +61,7 @@ pub(crate) struct BundleFile<'t> {
 #[derive(Clone, Copy)]
 pub(crate) struct Work<'w, 'c, 'p> {
     pub(crate) wanted: &'w CompileWords<'c>,
-    pub(crate) pool: Option<PoolBundle<'p>>,
+    pub(crate) pool: Option<&'p Pool<'p>>,
     pub(crate) maker: Option<&'w RefCell<PoolMaker>>,
 }
 
@@ -204,10 +204,10 @@ fn compile_over(
     call.taken
         .add_input(rt, pool_name.as_str())
         .map_err(|_| refuse_memory(rt, name))?;
-    match PoolBundle::read(input.open(rt, pool_name.as_str())?.bytes) {
+    match Pool::open(rt.alloc(), input.open(rt, pool_name.as_str())?.bytes) {
         Ok(pool) => {
-            let pool = Some(pool);
             call.pool = Some(pool_name);
+            let pool = Some(&pool);
             Ok(compile_texts(rt, Work { pool, ..work }, call))
         }
         Err(e) => {
@@ -564,7 +564,7 @@ fn may_pass(length: usize, limit: Option<u64>) -> bool {
 /// The bytes of the file of a text in the plain form, over the pool bundle, or where reading the
 /// text keeps within the limit, if there is one.
 fn compiled(alloc: Global, text: &str, work: Work<'_, '_, '_>) -> Result<Vec<u8>, SourceError> {
-    match (&work.pool, work.wanted.limit) {
+    match (work.pool, work.wanted.limit) {
         (Some(pool), _) => compile_with_pool(alloc, text, pool).map_err(SourceError::Refused),
         (None, Some(limit)) => compile_source_within(alloc, text, limit),
         (None, None) => compile_source(alloc, text),

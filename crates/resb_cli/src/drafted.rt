@@ -239,7 +239,7 @@ fn written<'t>(
     let keys = laid_keys(alloc, &root, read, is_compact).map_err(|_| refuse_memory(rt, name))?;
     let keys = keys.as_slice();
     add_to_pool(rt, name, &root, keys, work.maker)?;
-    let file = match (&pool, is_compact) {
+    let file = match (pool, is_compact) {
         (None, false) => Serializer::draft_to_bytes(alloc, root, has_fallback, keys),
         (None, true) => Serializer::draft_to_bytes_compact(alloc, root, has_fallback, keys),
         (Some(pool), false) => {

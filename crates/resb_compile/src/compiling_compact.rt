@@ -10,7 +10,7 @@ ghost use Rattle.resb_compile.specs.CompilingIcu.{IsIcuRefused, IsIcuRefusedBy};
 
 use crate::compiling_icu::IcuCompileError;
 use resb_icu_text::IcuReader;
-use resb_pool_bundle::PoolBundle;
+use resb_lent::Pool;
 use resb_write::Serializer;
 use std::alloc::Global;
 
@@ -35,7 +35,7 @@ pub fn compile_icu_compact(alloc: Global, text: &str) -> Result<Vec<u8>, IcuComp
 pub fn compile_icu_compact_with_pool(
     alloc: Global,
     text: &str,
-    pool: &PoolBundle<'_>,
+    pool: &Pool<'_>,
 ) -> Result<Vec<u8>, IcuCompileError>
     // The text is a bundle in ICU's form, and the compact file denotes its tree beside the pool.
     ensures ok { IfOk result

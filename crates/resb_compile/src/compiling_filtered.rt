@@ -19,7 +19,7 @@ use crate::compiling_icu::IcuCompileError;
 use resb_draft::DraftBundle;
 use resb_filter::Rules;
 use resb_icu_text::IcuReader;
-use resb_pool_bundle::PoolBundle;
+use resb_lent::Pool;
 use resb_tree::Key;
 use resb_write::{BinarySerializerError, Serializer};
 use std::alloc::Global;
@@ -32,7 +32,7 @@ pub fn read_icu_filtered<'t>(
     rules: &Rules<'_>,
 ) -> Result<(DraftBundle<'t>, Vec<Key<'t>>), IcuCompileError>
     ensures ok { IfOk result (λ r. IsFilteredBundle (rules_of rules.now) text.now
-        (draft_tree r.0.root) r.0.is_locale_fallback_enabled r.1.items) }
+        r.0.name.now (draft_tree r.0.root) r.0.is_locale_fallback_enabled r.1.items) }
     ensures ready { IfOk result (λ r. is_ready r.0.root ≡ true) }
     ensures err { IfErr result (IsUnfiltered text.now) }
 {
@@ -80,7 +80,7 @@ pub fn compile_icu_filtered_with_pool(
     alloc: Global,
     text: &str,
     rules: &Rules<'_>,
-    pool: &PoolBundle<'_>,
+    pool: &Pool<'_>,
 ) -> Result<Vec<u8>, IcuCompileError>
     ensures ok { IfOk result (λ file. Compiled (IcuText text.now)
         (λ t. WrittenWith (pool_in pool.now) file.items (filtered (rules_of rules.now) t))) }

@@ -12,7 +12,7 @@ ghost use Rattle.resb_compile.specs.CompilingIcu.{IsIcuRefusedBy};
 use crate::compiling::CompileError;
 use crate::compiling_icu::IcuCompileError;
 use resb_icu_text::IcuReader;
-use resb_pool_bundle::PoolBundle;
+use resb_lent::Pool;
 use resb_text::Reader;
 use resb_write::Serializer;
 use std::alloc::Global;
@@ -22,7 +22,7 @@ use std::alloc::Global;
 pub fn compile_with_pool(
     alloc: Global,
     text: &str,
-    pool: &PoolBundle<'_>,
+    pool: &Pool<'_>,
 ) -> Result<Vec<u8>, CompileError>
     ensures ok { IfOk result
         (λ file. Compiled (BundleText text.now) (WrittenWith (pool_in pool.now) file.items)) }
@@ -45,7 +45,7 @@ pub fn compile_with_pool(
 pub fn compile_icu_with_pool(
     alloc: Global,
     text: &str,
-    pool: &PoolBundle<'_>,
+    pool: &Pool<'_>,
 ) -> Result<Vec<u8>, IcuCompileError>
     ensures ok { IfOk result
         (λ file. Compiled (IcuText text.now) (WrittenWith (pool_in pool.now) file.items)) }

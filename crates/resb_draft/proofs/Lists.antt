@@ -7,7 +7,7 @@ use Rattle.std.specs.Prelude.{slice_range}
 use Rattle.std.proofs.lemmas.Bool.{and_from, and_parts}
 use Rattle.std.proofs.lemmas.List.{take-append-le, drop-append-le, take_all, map-append}
 use Rattle.std.proofs.lemmas.List.{reverse-append, map_push, take-map, drop-map}
-use Rattle.std.proofs.lemmas.List.{take-append-drop, take-take, length-append}
+use Rattle.std.proofs.lemmas.List.{take-append-drop}
 use Rattle.std.proofs.Math.Seq.{drop-append_seam, take-append_seam, drop-nil}
 use Rattle.std.specs.Ordering.{is_lt}
 use Rattle.resb_tree.specs.Borrowing.{all_true}
@@ -134,12 +134,3 @@ drop_to_put xs ys all n at is = (λ i. drop (at i) (is i)) ∙ drop-append_seam 
 pub take_before_put : {X : Type 0} (xs ys all : List X) (n : ℕ) → n ≡ length xs → all ≡ xs ++ ys
     → take n all ≡ xs
 take_before_put xs ys all n at is = (λ i. take (at i) (is i)) ∙ take-append_seam xs ys
-
--- what begins with a list that begins with another begins with that one
-pub begins_on : {X : Type 0} (xs ys more zs : List X) → ys ≡ xs ++ more
-    → take (length ys) zs ≡ ys → take (length xs) zs ≡ xs
-begins_on xs ys more zs longer begins =
-    let short : length xs ≤ length ys =
-    omega (arith, ap length longer ∙ length-append xs more) in
-    sym (take-take (length xs) (length ys) zs short) ∙ ap (take (length xs)) (begins ∙ longer)
-    ∙ take-append_seam xs more

@@ -18,11 +18,13 @@ use resb_tree::{NoMemory, Resource};
 use std::alloc::Global;
 
 impl<'a> Draft<'a> {
-    /// A draft without pieces.
+    /// A draft without pieces, whose root is number 0. No other call here sets the root: who makes
+    /// the tree's last piece writes its number there.
     pub fn new(alloc: Global) -> Draft<'a>
         ensures pieces { result.pieces.items ≡ [] }
         ensures members { result.members.items ≡ [] }
         ensures keys { result.keys.items ≡ [] }
+        ensures root { result.root ≡ 0 }
     {
         Draft {
             pieces: Vec::new(alloc),
@@ -38,6 +40,7 @@ impl<'a> Draft<'a> {
         ensures members { self.new.members.items ≡ self.old.members.items }
         ensures keys { self.new.keys.items ≡ self.old.keys.items }
         ensures pieces { pieces_stand self.new ≡ pieces_stand self.old }
+        ensures root { self.new.root ≡ self.old.root }
         ensures keeps { Keeps self.old self.new }
     {
         self.pieces.reserve(more)?;
@@ -50,6 +53,7 @@ impl<'a> Draft<'a> {
         ensures made { IfOk result (λ n. IsMade self.new n (string text.now)) }
         ensures members { self.new.members ≡ self.old.members }
         ensures keys { self.new.keys ≡ self.old.keys }
+        ensures root { self.new.root ≡ self.old.root }
         ensures keeps { Keeps self.old self.new }
     {
         self.push(Piece::String(text))
@@ -61,6 +65,7 @@ impl<'a> Draft<'a> {
         ensures made { IfOk result (λ n. IsMade self.new n (tree_of resource.entry)) }
         ensures members { self.new.members ≡ self.old.members }
         ensures keys { self.new.keys ≡ self.old.keys }
+        ensures root { self.new.root ≡ self.old.root }
         ensures keeps { Keeps self.old self.new }
     {
         if let Resource::Integer(integer) = &resource {
@@ -77,6 +82,7 @@ impl<'a> Draft<'a> {
         ensures refused { OnErr result (self.new.members.items ≡ self.old.members.items) }
         ensures pieces { self.new.pieces ≡ self.old.pieces }
         ensures keys { self.new.keys ≡ self.old.keys }
+        ensures root { self.new.root ≡ self.old.root }
         ensures keeps { Keeps self.old self.new }
     {
         self.members.push(member)?;
@@ -91,6 +97,7 @@ impl<'a> Draft<'a> {
             (λ n. IsMade self.new n (array (trees_of (map (tree_at self.old) ns)))) }
         ensures members { self.new.members ≡ self.old.members }
         ensures keys { self.new.keys ≡ self.old.keys }
+        ensures root { self.new.root ≡ self.old.root }
         ensures keeps { Keeps self.old self.new }
     {
         let part = Members {
@@ -101,19 +108,23 @@ impl<'a> Draft<'a> {
     }
 
     /// One entry more, which `end_table` puts into a table: its key, and the number of its value.
+    /// Without memory neither comes.
     pub fn push_entry(&mut self, key: &'a str, member: u32) -> Result<(), NoMemory>
         ensures pieces { self.new.pieces ≡ self.old.pieces }
         ensures members { OnOk result
             (self.new.members.items ≡ self.old.members.items ++ member ∷ []) }
         ensures keys { OnOk result (self.new.keys.items ≡ self.old.keys.items ++ key.entry ∷ []) }
-        ensures refused { OnErr result (self.new.members.items ≡ self.old.members.items) }
-        ensures names { take (length self.old.keys.items) self.new.keys.items
-            ≡ self.old.keys.items }
+        ensures refused { OnErr result ((self.new.members.items ≡ self.old.members.items)
+            × (self.new.keys.items ≡ self.old.keys.items)) }
+        ensures root { self.new.root ≡ self.old.root }
         ensures keeps { Keeps self.old self.new }
     {
         self.keys.push(key)?;
-        self.members.push(member)?;
-        Ok(())
+        let pushed = self.push_member(member);
+        if pushed.is_err() {
+            self.keys.pop();
+        }
+        pushed
     }
 
     /// The table of the entries behind the first so many members and keys. A later entry of an
@@ -136,6 +147,7 @@ impl<'a> Draft<'a> {
         ensures members { take first_member self.new.members.items
             ≡ take first_member self.old.members.items }
         ensures names { take first_key self.new.keys.items ≡ take first_key self.old.keys.items }
+        ensures root { self.new.root ≡ self.old.root }
         ensures keeps { (before : Draft) (ps : List (Bor (List ℕ) × ℕ))
             → EndsInEntries before first_member first_key ps self.old → Keeps before self.new }
     {
@@ -160,6 +172,7 @@ impl<'a> Draft<'a> {
             (table (entries_of (map (λ p. (p.0.now, tree_at self.old p.1)) ps)))) }
         ensures members { self.new.members ≡ self.old.members }
         ensures keys { self.new.keys ≡ self.old.keys }
+        ensures root { self.new.root ≡ self.old.root }
         ensures keeps { Keeps self.old self.new }
     {
         let part = Members {
@@ -188,6 +201,7 @@ impl<'a> Draft<'a> {
         ensures keys { MatchResult result
             (λ _. self.new.keys.items ≡ take first_key self.old.keys.items)
             (λ _. self.new.keys ≡ self.old.keys) }
+        ensures root { self.new.root ≡ self.old.root }
         ensures keeps { (before : Draft) (ps : List (Bor (List ℕ) × ℕ))
             → EndsInEntries before first_member first_key ps self.old → Keeps before self.new }
     {
@@ -212,6 +226,7 @@ impl<'a> Draft<'a> {
             ≡ self.old.members.items }
         ensures names { take (length self.old.keys.items) self.new.keys.items
             ≡ self.old.keys.items }
+        ensures root { self.new.root ≡ self.old.root }
         ensures keeps { Keeps self.old self.new }
     {
         let first_member = self.members.len();
@@ -230,6 +245,7 @@ impl<'a> Draft<'a> {
             (pieces_stand self.old) piece.entry) }
         ensures members { self.new.members ≡ self.old.members }
         ensures keys { self.new.keys ≡ self.old.keys }
+        ensures root { self.new.root ≡ self.old.root }
         ensures keeps { Keeps self.old self.new }
     {
         let own_number = number(self.pieces.len())?;

@@ -1,10 +1,13 @@
--- A type's table with its form.
-use Rattle.std.proofs.Common.{◌≡◌, ℕ, ◌+◌, true, List, [], ◌∷◌, ◌++◌, Bor, map}
+-- Types' forms, and a type's table with its form.
+use Rattle.std.proofs.Common.{◌≡◌, ℕ, ◌+◌, ◌<◌, Bool, true, false, List, [], ◌∷◌, ◌++◌, Bor, map}
+use Rattle.std.proofs.Common.{cond, drop, get_or, length}
 use Rattle.std.proofs.Common.{refl, sym, ap, ◌∙◌, subst}
-use Rattle.std.specs.Prelude.{Some, codes}
+use Rattle.std.specs.Prelude.{Option, Some, codes, option_map}
 use Rattle.std.specs.List.Sorted.{IsStrictlySortedBy}
 use Rattle.std.proofs.lemmas.Bool.{and_from}
-use Rattle.std.proofs.lemmas.List.{map-append}
+use Rattle.std.proofs.lemmas.List.{drop_more, map-append}
+use Rattle.indexmap.specs.IndexMap.{IndexMap, get_by}
+use Rattle.resb_tree.specs.Keys.{same_text}
 use Rattle.resb_tree.specs.Borrowing.{all_true}
 use Rattle.resb_tree.specs.Maps.{text_cmp}
 use Rattle.resb_tree.specs.Tree.{Tree, table, binary, Entries, no_entries, put, put_all, map_of}
@@ -13,9 +16,34 @@ use Rattle.resb_draft.specs.Drafts.{tree_at, is_whole, IsMade, Keeps}
 use Rattle.resb_draft.specs.declared.draft.Draft.{Draft}
 use Rattle.resb_draft.proofs.EntriesLemmas.{texts_sorted}
 use Rattle.resb_draft.proofs.Lists.{all_append}
-use Rattle.resb_filter.specs.Collated.{with_form}
+use Rattle.resb_filter.specs.Collated.{form_of, with_form}
+use Rattle.resb_filter.specs.Inner.Forms.{form_in}
+use Rattle.resb_filter.specs.View.{forms_view}
+use Rattle.resb_filter.specs.declared.collation.CollationForm.{CollationForm}
 use Rattle.resb_filter.specs.Inner.Entries.{seen, AreEntries}
 use Rattle.resb_filter.proofs.TableLemmas.{entries_on, seen_keys}
+
+form_cases : (b : Bool) (form : Bor (List ℕ)) (o : Option (Bor (List ℕ)))
+    → option_map (λ (f : Bor (List ℕ)). f.now) (cond b (Some form) o)
+    ≡ cond b (Some form.now) (option_map (λ (f : Bor (List ℕ)). f.now) o)
+form_cases true form o = refl
+form_cases false form o = refl
+
+-- a form before those of which a map has the first of each type
+pub form_before : {H : Type 0} (m new : IndexMap (Bor (List ℕ)) (Bor (List ℕ)) H)
+    (fs : List CollationForm) (i : ℕ) (x : CollationForm) → i < length fs
+    → ((k : List ℕ) → form_in m k ≡ form_of (forms_view (drop (i + 1) fs)) k)
+    → ((k : List ℕ) → get_by (λ j. same_text k j.now) new
+    ≡ cond (same_text (get_or fs i x).key.now k) (Some (get_or fs i x).bytes)
+    (get_by (λ j. same_text k j.now) m))
+    → (k : List ℕ) → form_in new k ≡ form_of (forms_view (drop i fs)) k
+form_before m new fs i x lt before updated k =
+    let f = get_or fs i x in
+    let is = same_text f.key.now k in
+    ap (option_map (λ (b : Bor (List ℕ)). b.now)) (updated k)
+    ∙ form_cases is f.bytes (get_by (λ j. same_text k j.now) m)
+    ∙ ap (cond is (Some f.bytes.now)) (before k)
+    ∙ ap (λ l. form_of (forms_view l) k) (sym (drop_more fs i x lt))
 
 put_last : (es : Entries) (ps : List (List ℕ × Tree)) (p : List ℕ × Tree)
     → put_all es (ps ++ p ∷ []) ≡ put p.0 p.1 (put_all es ps)

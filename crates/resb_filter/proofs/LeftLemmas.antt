@@ -1,5 +1,4 @@
--- What is left of entries that stand as a list, and that their keys still ascend. What is left of
--- one is told by its key and tree.
+-- What is left of entries that stand as a list, and that their keys still ascend.
 use Rattle.std.proofs.Common.{◌≡◌, ℕ, List, [], ◌∷◌, ◌++◌, Less, refl, sym, ap, ◌∙◌}
 use Rattle.std.proofs.Common.{append-nil, append_assoc}
 use Rattle.std.specs.Prelude.{Option, Some, None}
@@ -10,20 +9,7 @@ use Rattle.resb_tree.specs.Maps.{text_cmp}
 use Rattle.resb_tree.specs.Tree.{Tree, entries_of, entry}
 use Rattle.resb_filter.specs.Filtered.{Rule, entry_before, filtered_entries, entry_left}
 use Rattle.resb_filter.specs.Collated.{each_entry}
-
--- the tree that is left at a key, as a list of one, or none
-abbrev pub one_left : List ℕ → Option Tree → List (List ℕ × Tree)
-one_left k None = []
-one_left k (Some t) = (k, t) ∷ []
-
--- what is left of an entry, by its key and tree
-abbrev pub Leaving : Type 0
-Leaving = List ℕ → Tree → Option Tree
-
--- what is left of entries
-abbrev pub all_left : Leaving → List (List ℕ × Tree) → List (List ℕ × Tree)
-all_left f [] = []
-all_left f (p ∷ ps) = one_left p.0 (f p.0 p.1) ++ all_left f ps
+use Rattle.resb_filter.specs.Inner.Left.{Leaving, one_left, all_left}
 
 before_is : (k : List ℕ) (o : Option Tree) (ps : List (List ℕ × Tree))
     → entry_before k o (entries_of ps) ≡ entries_of (one_left k o ++ ps)

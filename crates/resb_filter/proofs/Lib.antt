@@ -3,6 +3,7 @@ mod LineLemmas
 mod RuleLemmas
 mod LeftLemmas
 mod TableLemmas
+mod OpenLemmas
 mod LawLemmas
 mod CollationLemmas
 pub mod KeyLemmas

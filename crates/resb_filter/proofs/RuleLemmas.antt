@@ -1,9 +1,9 @@
--- Rules at a key: one after another, the last one, and that each is shorter.
-use Rattle.std.proofs.Common.{◌≡◌, ◌≤◌, ◌+◌, ◌-◌, ◌<◌, ℕ, Bool, true, false, List, [], ◌∷◌, ◌++◌}
-use Rattle.std.proofs.Common.{max, refl, sym, ap, ◌∙◌, arith, length, append-nil, append_assoc}
-use Rattle.resb_filter.specs.Filtered.{Rule, stands_for, rule_below, below, says, last_says}
+-- Rules at a key: one after another, and the last one.
+use Rattle.std.proofs.Common.{◌≡◌, ◌+◌, ◌<◌, ℕ, Bool, true, false, List, [], ◌∷◌, ◌++◌}
+use Rattle.std.proofs.Common.{refl, sym, ap, ◌∙◌, arith, length, append-nil, append_assoc}
+use Rattle.resb_filter.specs.Filtered.{Rule, rule_below, below, says, last_says}
 use Rattle.std.proofs.Common.{Bor, take, get_or}
-use Rattle.std.specs.Prelude.{◌==◌, if◌then◌else◌, Option, Some, None}
+use Rattle.std.specs.Prelude.{◌==◌, Option, Some, None}
 use Rattle.std.proofs.lemmas.Bool.{false≢true, eqb-true}
 use Rattle.std.proofs.lemmas.List.{map_push, take_more}
 use Rattle.resb_draft.specs.Drafts.{texts}
@@ -26,58 +26,6 @@ pub last_decides : (v : Verdict) (rs : List Rule) (r : Rule)
     → last_says v (rs ++ r ∷ []) ≡ says r
 last_decides v [] r = refl
 last_decides v (s ∷ rs) r = last_decides (says s) rs r
-
--- the most pieces of any of the rules
-abbrev pub longest : List Rule → ℕ
-longest [] = 0
-longest (r ∷ rs) = max (length r.1) (longest rs)
-
-longest-append : (rs ss : List Rule) → longest (rs ++ ss) ≡ max (longest rs) (longest ss)
-longest-append [] ss = omega arith
-longest-append (r ∷ rs) ss = omega (arith, longest-append rs ss)
-
-kept_shorter : (keeps b : Bool) (p : List ℕ) (ps : List (List ℕ))
-    → longest (if b then (keeps, ps) ∷ [] else []) ≤ length (p ∷ ps) - 1
-kept_shorter keeps true p ps = omega arith
-kept_shorter keeps false p ps = omega arith
-
-rule_shorter : (k : List ℕ) (r : Rule) → longest (rule_below k r) ≤ length r.1 - 1
-rule_shorter k (keeps, []) = omega arith
-rule_shorter k (keeps, p ∷ ps) = kept_shorter keeps (stands_for p k) p ps
-
--- the rules at a key have fewer pieces
-below_shorter : (k : List ℕ) (rs : List Rule) → longest (below k rs) ≤ longest rs - 1
-below_shorter k [] = omega arith
-below_shorter k (r ∷ rs) = omega (
-  arith,
-  below_shorter k rs,
-  longest-append (rule_below k r) (below k rs),
-  rule_shorter k r,
-)
-
--- 1 for what is filtered in turn
-abbrev goes_on : Verdict → ℕ
-goes_on Whole = 0
-goes_on Out = 0
-goes_on Partly = 1
-
-says_on : (r : Rule) → goes_on (says r) ≤ length r.1
-says_on (true, []) = let e : goes_on (says (true, [])) ≡ 0 = refl in omega (arith, e)
-says_on (false, []) = let e : goes_on (says (false, [])) ≡ 0 = refl in omega (arith, e)
-says_on (true, p ∷ ps) = let e : goes_on (says (true, p ∷ ps)) ≡ 1 = refl in omega (arith, e)
-says_on (false, p ∷ ps) = let e : goes_on (says (false, p ∷ ps)) ≡ 1 = refl in omega (arith, e)
-
-lasts_on : (v : Verdict) (rs : List Rule) → goes_on (last_says v rs) ≤ max (goes_on v) (longest rs)
-lasts_on v [] = omega arith
-lasts_on v (r ∷ rs) = omega (arith, lasts_on (says r) rs, says_on r)
-
--- where something inside is filtered in turn, the rules for it have fewer pieces
-pub inside_shorter : (k : List ℕ) (rs : List Rule) → verdict (below k rs) ≡ Partly
-    → longest (below k rs) < longest rs
-inside_shorter k rs h =
-    let none : goes_on Whole ≡ 0 = refl in
-    let one : goes_on (verdict (below k rs)) ≡ 1 = ap goes_on h in
-    omega (arith, lasts_on Whole (below k rs), none, one, below_shorter k rs)
 
 -- what is decided is what the last rule says
 pub decided : (rs front : List Remaining) (r : Remaining) → rs ≡ front ++ r ∷ []

@@ -23,7 +23,8 @@ use Rattle.resb_draft.proofs.Whole.{WholeTable, part_length}
 use Rattle.resb_filter.specs.Filtered.{Rule, filtered, entry_left}
 use Rattle.resb_filter.specs.Collated.{each_inside}
 use Rattle.resb_filter.specs.Inner.Entries.{seen, AreEntries, IsNoTable, StaysAs, is_table}
-use Rattle.resb_filter.proofs.LeftLemmas.{Leaving, one_left, all_left, all_left-push}
+use Rattle.resb_filter.specs.Inner.Left.{Leaving, one_left, all_left, LeftSoFar}
+use Rattle.resb_filter.proofs.LeftLemmas.{all_left-push}
 use Rattle.resb_filter.proofs.LeftLemmas.{entries_are_left, entries_are_changed}
 use Rattle.resb_filter.proofs.LeftLemmas.{left_sorted}
 
@@ -126,16 +127,16 @@ abbrev pub pushed : Bor (List ℕ) → Option ℕ → List (Bor (List ℕ) × �
 pushed k None = []
 pushed k (Some n) = (k, n) ∷ []
 
--- what is left of the first entries of a table stands in the draft that has grown
-pub record LeftSoFar (start d : Draft) (f : Leaving) (ps left : List (Bor (List ℕ) × ℕ))
-    : Type 0 where
-  pub keeps : Keeps start d
-  pub trees : seen (tree_at d) left ≡ all_left f (seen (tree_at start) ps)
-  pub whole : all_true (map (λ (p : Bor (List ℕ) × ℕ). is_whole d p.1) left) ≡ true
-
 -- at the start nothing is left of no entries
 pub left_start : (d : Draft) (f : Leaving) → LeftSoFar d d f [] []
 left_start d f = record { keeps = λ n h. (refl, h); trees = refl; whole = refl }
+
+-- what is left stands so in a draft that grows on
+pub left_on : (start d e : Draft) (f : Leaving) (ps left : List (Bor (List ℕ) × ℕ)) → Keeps d e
+    → LeftSoFar start d f ps left → LeftSoFar start e f ps left
+left_on start d e f ps left k so =
+    let on = entries_on d e k left so.whole in
+    record { keeps = keeps_on start d e so.keeps k; trees = on.0 ∙ so.trees; whole = on.1 }
 
 pushed_seen : (d : Draft) (k : Bor (List ℕ)) (t : Option Tree) (o : Option ℕ) → StaysAs d t o
     → (seen (tree_at d) (pushed k o) ≡ one_left k.now t)

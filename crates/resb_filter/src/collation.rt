@@ -5,10 +5,12 @@ ghost use Rattle.std.specs.Prelude.{◌≡◌, ℕ, List, true, map, option_map,
 ghost use Rattle.resb_tree.specs.Tree.{Tree};
 ghost use Rattle.resb_draft.specs.Drafts.{tree_at, is_whole, draft_tree, is_ready};
 ghost use Rattle.resb_draft.specs.Drafts.{IsMade, Keeps};
-ghost use Rattle.resb_filter.specs.Collated.{each_inside, form_of, with_form, at_root, collated};
+ghost use Rattle.resb_filter.specs.Collated.{each_inside, form_of, with_form, collated};
+ghost use Rattle.resb_filter.specs.Inner.Forms.{form_in, at_root_by};
 ghost use Rattle.resb_filter.specs.View.{forms_view};
 
 use crate::filtering::{entries_of, push_table};
+use indexmap::IndexMap;
 use resb_draft::Draft;
 use resb_tree::{NoMemory, Resource};
 use std::alloc::Global;
@@ -23,6 +25,9 @@ pub struct CollationForm<'a> {
     pub bytes: &'a [u8],
 }
 
+/// The form of each type.
+type FormIndex<'a> = IndexMap<&'a str, &'a [u8]>;
+
 /// The draft of a draft's tree with binary forms of rules of collation: at the root's key
 /// `collations` the table of each type that is listed gets its form, under `%%CollationBin`; of a
 /// type that is listed twice the first counts. Want of memory is the only refusal.
@@ -36,10 +41,23 @@ pub fn with_collation_forms<'a>(
     ensures tree { IfOk result
         (λ d. draft_tree d ≡ collated (forms_view forms.now) (draft_tree draft.entry)) }
 {
+    let forms = form_index(alloc, forms)?;
     let mut draft = draft;
     let root = draft.root;
-    draft.root = change_entries(alloc, &mut draft, &AtRoot(forms), root)?;
+    draft.root = change_entries(alloc, &mut draft, &AtRoot(&forms), root)?;
     Ok(draft)
+}
+
+/// The first form that is listed for each type.
+fn form_index<'a>(alloc: Global, forms: &[CollationForm<'a>]) -> Result<FormIndex<'a>, NoMemory>
+    ensures { IfOk result (λ m. (key : List ℕ)
+        → form_in m key ≡ form_of (forms_view forms.now) key) }
+{
+    let mut index = IndexMap::new(alloc);
+    for at in (0..forms.len()).rev() {
+        let _ = index.insert(forms[at].key, forms[at].bytes)?;
+    }
+    Ok(index)
 }
 
 /// What becomes of the value of each entry of a table.
@@ -86,10 +104,10 @@ fn change_entries<'a, C: EachEntry<'a>>(
 
 /// What stands at the root's keys, with these forms.
 #[derive(Clone, Copy)]
-struct AtRoot<'f, 'a>(&'f [CollationForm<'a>]);
+struct AtRoot<'f, 'a>(&'f FormIndex<'a>);
 
 impl<'f, 'a> EachEntry<'a> for AtRoot<'f, 'a> {
-    ghost changes = { λ c. at_root (forms_view c.0.now) };
+    ghost changes = { λ c. at_root_by (form_in c.0.now) };
 
     fn change(
         &self,
@@ -108,10 +126,10 @@ impl<'f, 'a> EachEntry<'a> for AtRoot<'f, 'a> {
 
 /// The tables of the types of collation, with these forms.
 #[derive(Clone, Copy)]
-struct OfTypes<'f, 'a>(&'f [CollationForm<'a>]);
+struct OfTypes<'f, 'a>(&'f FormIndex<'a>);
 
 impl<'f, 'a> EachEntry<'a> for OfTypes<'f, 'a> {
-    ghost changes = { λ c k. with_form (form_of (forms_view c.0.now) k) };
+    ghost changes = { λ c k. with_form (form_in c.0.now k) };
 
     fn change(
         &self,
@@ -127,16 +145,14 @@ impl<'f, 'a> EachEntry<'a> for OfTypes<'f, 'a> {
     }
 }
 
-/// The first form that is listed for a type.
-fn form_for<'a>(forms: &[CollationForm<'a>], key: &str) -> Option<&'a [u8]>
-    ensures { option_map (λ b. b.now) result ≡ form_of (forms_view forms.now) key.now }
+/// The form of a type.
+fn form_for<'a>(forms: &FormIndex<'a>, key: &str) -> Option<&'a [u8]>
+    ensures { option_map (λ b. b.now) result ≡ form_in forms.now key.now }
 {
-    for form in forms {
-        if form.key == key {
-            return Some(form.bytes);
-        }
+    match forms.get(key) {
+        Some(bytes) => Some(*bytes),
+        None => None,
     }
-    None
 }
 
 /// The number of a type's table with its form.

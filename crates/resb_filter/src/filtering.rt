@@ -1,5 +1,6 @@
 //! What rules leave of a draft. What stays whole keeps its piece; a table on the path of a rule is
-//! put anew behind the others. Which rules decide of an entry is in `remaining`.
+//! put anew behind the others. Which rules decide of an entry is in `remaining`, and what is left
+//! of a table so far in `open_tables`.
 ghost use Rattle.std.specs.Prelude.{◌≡◌, ◌+◌, ◌≤◌, true, map, length, slice_range};
 ghost use Rattle.std.specs.Prelude.{IfOk, OnOk, MatchOption};
 ghost use Rattle.std.specs.List.{zip};
@@ -7,11 +8,12 @@ ghost use Rattle.resb_tree.specs.Borrowing.{all_true};
 ghost use Rattle.resb_tree.specs.Tree.{table, map_of};
 ghost use Rattle.resb_draft.specs.Drafts.{tree_at, is_whole, draft_tree, is_ready};
 ghost use Rattle.resb_draft.specs.Drafts.{IsMade, Keeps};
-ghost use Rattle.resb_filter.specs.Filtered.{filtered, entry_left};
+ghost use Rattle.resb_filter.specs.Filtered.{filtered};
 ghost use Rattle.resb_filter.specs.View.{rules_of, rules_left};
-ghost use Rattle.resb_filter.specs.Inner.Entries.{seen, AreEntries, IsNoTable, StaysAs};
+ghost use Rattle.resb_filter.specs.Inner.Entries.{seen, AreEntries, IsNoTable};
 
-use crate::remaining::{Remaining, Verdict, all_rules, decide, rules_at};
+use crate::open_tables::open_table;
+use crate::remaining::{Remaining, all_rules};
 use crate::rules::Rules;
 use resb_draft::{Draft, Piece};
 use resb_tree::NoMemory;
@@ -30,56 +32,39 @@ impl<'r> Rules<'r> {
         let mut draft = draft;
         let rules = all_rules(alloc, self)?;
         let root = draft.root;
-        draft.root = filter_piece(alloc, &mut draft, &rules, root)?;
+        draft.root = filter_piece(alloc, &mut draft, rules, root)?;
         Ok(draft)
     }
 }
 
-/// The number of what rules leave of the tree of a piece.
-#[cycle(filtering)]
+/// The number of what rules leave of the tree of a piece. Tables that stand in each other wait in a
+/// list, so that the depth of a tree takes no stack.
 fn filter_piece<'a>(
     alloc: Global,
     draft: &mut Draft<'a>,
-    rules: &[Remaining<'_, '_>],
+    rules: Vec<Remaining<'_, '_>>,
     number: u32,
 ) -> Result<u32, NoMemory>
     requires { is_whole draft.old number ≡ true }
-    ensures made { IfOk result (λ n. IsMade draft.new n
-        (filtered (rules_left rules.now) (tree_at draft.old number))) }
-    ensures keeps { OnOk result (Keeps draft.old draft.new) }
+    ensures { IfOk result (λ n. IsMade draft.new n
+        (filtered (rules_left rules.entry.items) (tree_at draft.old number))) }
 {
-    let Some(entries) = entries_of(alloc, draft, number)? else {
+    let Some(mut table) = open_table(alloc, draft, rules, number)? else {
         return Ok(number);
     };
-    let mut left = Vec::new(alloc);
-    for entry in &entries {
-        let key = entry.0;
-        if let Some(value) = filter_entry(alloc, draft, rules, key, entry.1)? {
-            left.push((key, value))?;
+    let mut around = Vec::new(alloc);
+    'tables: loop {
+        if table.is_done() {
+            let made = push_table(alloc, draft, &table.left)?;
+            let Some(outer) = around.pop() else {
+                return Ok(made);
+            };
+            table = outer;
+            table.put(made)?;
+        } else if let Some(inner) = table.step(alloc, draft)? {
+            around.push(table)?;
+            table = inner;
         }
-    }
-    push_table(alloc, draft, &left)
-}
-
-/// The number of what rules leave of the value of an entry. None where the entry goes.
-#[cycle(filtering)]
-fn filter_entry<'a>(
-    alloc: Global,
-    draft: &mut Draft<'a>,
-    rules: &[Remaining<'_, '_>],
-    key: &str,
-    value: u32,
-) -> Result<Option<u32>, NoMemory>
-    requires { is_whole draft.old value ≡ true }
-    ensures stays { IfOk result (StaysAs draft.new
-        (entry_left (rules_left rules.now) key.now (tree_at draft.old value))) }
-    ensures keeps { OnOk result (Keeps draft.old draft.new) }
-{
-    let inside = rules_at(alloc, rules, key)?;
-    match decide(&inside) {
-        Verdict::Whole => Ok(Some(value)),
-        Verdict::Out => Ok(None),
-        Verdict::Partly => Ok(Some(filter_piece(alloc, draft, &inside, value)?)),
     }
 }
 

@@ -8,6 +8,7 @@ mod error;
 mod filtering;
 pub mod laws;
 mod lines;
+mod open_tables;
 mod remaining;
 mod rules;
 

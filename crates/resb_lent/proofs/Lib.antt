@@ -20,4 +20,7 @@ mod EndOrder
 mod Runs
 pub mod LastEnding
 pub mod EndsRead
+mod TopsLemmas
+mod TopsFound
+mod Union
 mod Examples

@@ -3,9 +3,8 @@
 use Rattle.std.proofs.Common.{◌≡◌, ℕ, zero, suc, ◌<◌, List, [], ◌∷◌, ◌++◌, length, map, get_or}
 use Rattle.std.proofs.Common.{Option, Some, None}
 use Rattle.std.proofs.Common.{MatchOption, inl, inr, refl, sym, ◌∙◌, ap, subst}
-use Rattle.std.proofs.Common.{arith, true≢false, ◌+◌, ◌-◌, take, drop, Bor, length-append}
-use Rattle.std.proofs.lemmas.List.{get_or_default, get_or-map, length-map, get_or-append-add}
-use Rattle.std.proofs.lemmas.List.{get_or-drop, get_or-take}
+use Rattle.std.proofs.Common.{arith, true≢false, Bor}
+use Rattle.std.proofs.lemmas.List.{get_or-map, length-map}
 use Rattle.resb_pool.specs.Holders.{AreHolders}
 use Rattle.resb_pool.specs.Plan.{nows}
 use Rattle.std.specs.List.{All, Contains}
@@ -47,7 +46,7 @@ empty_beside block S s None z h = λ i x. none s i z h x
     none s i z h (beside_empty b) = h 0 (lent_empty b)
     none s i z h (beside_within full lies e) = absurd (omega (arith, z, full))
 
-in_list : (es : List LentRecord) (t : List ℕ) (at : ℕ) → Contains (pairs es) (t, at)
+pub in_list : (es : List LentRecord) (t : List ℕ) (at : ℕ) → Contains (pairs es) (t, at)
     → Contains (map record_bytes es) t
 in_list [] t at c = absurd (omega (arith, c.1))
 in_list (e ∷ es) t at (zero, lt, is) = (0, omega arith, ap (λ (p : List ℕ × ℕ). p.0) is)
@@ -212,29 +211,12 @@ module _ (l : LentTexts) (block : List ℕ) (h : LendsTexts l block) (S : List (
     answered c v k none (Some i) x = in_top c v k none i x
     answered c v k none None x = lacks c v k none x
 
--- the texts of a list behind another one
-pub utf8_behind : (L S : List (List ℕ)) → All IsUtf8 (L ++ S) → All IsUtf8 S
-utf8_behind L S h i d l =
-    All-contains IsUtf8 (L ++ S) (get_or S i d) h
-    (Contains-append_right L S (get_or S i d) (i, l, get_or_default S i (get_or S i d) d l))
-
--- in whose record a string lies, which stands so far behind the pool's texts
-pub holder_behind : (L S : List (List ℕ)) (rs : List (Bor (List ℕ))) (n i : ℕ)
-    (d : Bor (List ℕ)) → AreHolders Compact (L ++ S) (nows rs) → length L ≡ n → i < length S
-    → 0 < length (get_or S i [])
-    → IsContainer Compact (L ++ S) (get_or S i [])
-    (get_or (take (length rs - n) (drop n rs)) i d).now
-holder_behind L S rs n i d h e l full =
-    let many : length rs ≡ length L + length S =
-    sym (length-map rs (λ (y : Bor (List ℕ)). y.now)) ∙ h.len ∙ length-append L S in
-    let m : i < length rs - n = omega (arith, many, e, l) in
-    let s : get_or (L ++ S) (n + i) [] ≡ get_or S i [] =
-    ap (λ z. get_or (L ++ S) (z + i) []) (sym e) ∙ get_or-append-add L S i [] in
-    let r : get_or (nows rs) (n + i) [] ≡ (get_or (take (length rs - n) (drop n rs)) i d).now =
-    get_or-map (λ (y : Bor (List ℕ)). y.now) rs (n + i) d [] (omega (arith, m))
-    ∙ ap (λ (y : Bor (List ℕ)). y.now) (sym (get_or-drop n rs i d)
-    ∙ sym (get_or-take (length rs - n) (drop n rs) i d m)) in
-    let c = h.each (n + i) (omega (arith, length-append L S, e, l))
-    (omega (arith, full, ap length s)) in
-    subst (λ z. IsContainer Compact (L ++ S) (get_or S i []) z) r
-    (subst (λ z. IsContainer Compact (L ++ S) z (get_or (nows rs) (n + i) [])) s c)
+-- in whose record a string lies
+pub holder_at : (S : List (List ℕ)) (rs : List (Bor (List ℕ))) (i : ℕ) (d : Bor (List ℕ))
+    → AreHolders Compact S (nows rs) → i < length S → 0 < length (get_or S i [])
+    → IsContainer Compact S (get_or S i []) (get_or rs i d).now
+holder_at S rs i d h l full =
+    let m : i < length rs =
+    omega (arith, l, h.len, length-map rs (λ (y : Bor (List ℕ)). y.now)) in
+    subst (IsContainer Compact S (get_or S i []))
+    (get_or-map (λ (y : Bor (List ℕ)). y.now) rs i d [] m) (h.each i l full)

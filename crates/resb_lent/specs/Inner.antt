@@ -4,3 +4,4 @@ pub mod Listed
 pub mod Within
 pub mod LentEndings
 pub mod Runs
+pub mod Tops

@@ -11,46 +11,18 @@ ghost use Rattle.resb_lent.specs.Lending.{LendsTexts};
 ghost use Rattle.resb_lent.specs.LentBeside.{LendsTextBy};
 ghost use Rattle.resb_lent.specs.PlanWithPool.{AreLentBy};
 ghost use Rattle.resb_lent.specs.Inner.LentEndings.{NotesEnd, AreLentEnds, AreLentEndsBy};
-ghost use Rattle.resb_lent.specs.Inner.Within.{lent_list};
 
 use crate::texts::LentTexts;
 use resb_pool::Packing;
 use resb_pool::holders::holders;
 use std::alloc::{AllocError, Global};
 
-/// The texts of the pool's records.
-fn lent_texts<'a>(alloc: Global, lent: &'a LentTexts) -> Result<Vec<&'a str>, AllocError>
-    ensures { IfOk result (λ v. nows v.items ≡ lent_list lent.now) }
-{
-    let mut texts = Vec::new(alloc);
-    for record in &lent.records {
-        texts.push(record.text.as_str())?;
-    }
-    Ok(texts)
-}
-
-/// The same, and behind them strings.
-fn all_texts<'a>(
-    alloc: Global,
-    lent: &'a LentTexts,
-    strings: &[&'a str],
-) -> Result<Vec<&'a str>, AllocError>
-    ensures { IfOk result (λ v. nows v.items ≡ lent_list lent.now ++ nows strings.now) }
-{
-    let mut texts = lent_texts(alloc, lent)?;
-    for text in strings {
-        texts.push(*text)?;
-    }
-    Ok(texts)
-}
-
-/// What the pool has of one of the file's strings, which lies in the record of this holder among
-/// all texts of the file and of the pool.
-fn answer_beside(lent: &LentTexts, text: &str, holder: &str) -> Option<u32>
+/// What the pool has of one of the file's strings, which would lie in the record of this one of
+/// them if there were no pool.
+fn answer_beside(lent: &LentTexts, text: &str, own: &str) -> Option<u32>
     ensures lends { (block : List ℕ) (S : List (List ℕ)) → LendsTexts lent.now block
         → All IsUtf8 S → Contains S text.now
-        → (0 < length text.now
-        → IsContainer Compact (lent_list lent.now ++ S) text.now holder.now)
+        → (0 < length text.now → IsContainer Compact S text.now own.now)
         → LendsTextBy Compact block S text.now result }
     ensures utf8 { IsUtf8 text.now }
 {
@@ -59,7 +31,7 @@ fn answer_beside(lent: &LentTexts, text: &str, holder: &str) -> Option<u32>
     }
     match lent.place_within(text, text) {
         Some(index) => Some(index),
-        None => lent.place_within(holder, text),
+        None => lent.place_in_top(text, own),
     }
 }
 
@@ -73,9 +45,7 @@ pub(crate) fn answers_beside(
         → AreLentBy Compact block (nows strings.now) (nows strings.now) v.items) }
     ensures utf8 { OnOk result (All IsUtf8 (nows strings.now)) }
 {
-    let texts = all_texts(alloc, lent, strings)?;
-    let found = holders(alloc, Packing::Compact, &texts)?;
-    let own = &found[lent.records.len()..];
+    let own = holders(alloc, Packing::Compact, strings)?;
     let mut answers = Vec::with_capacity(alloc, strings.len())?;
     for (number, text) in strings.iter().enumerate() {
         answers.push(answer_beside(lent, *text, own[number]))?;

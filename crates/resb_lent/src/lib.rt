@@ -9,11 +9,14 @@ mod head_with_pool;
 mod keys;
 pub mod laws;
 mod plan_with_pool;
+mod pool;
 mod records;
 mod texts;
+mod tops;
 
 pub use ends::{LentEnds, LentRun};
 pub use head_with_pool::HeadWithPool;
 pub use keys::LentKeys;
 pub use plan_with_pool::PlanWithPool;
+pub use pool::Pool;
 pub use texts::LentTexts;

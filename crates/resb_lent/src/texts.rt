@@ -15,6 +15,7 @@ ghost use Rattle.resb_lent.specs.Entries.{entry_cmp};
 ghost use Rattle.resb_lent.specs.declared.records.LentRecord.{LentRecord as Entry};
 
 use crate::records::{LentRecord, records_in, units_in};
+use crate::tops::{precedes, top_above, tops};
 use resb_format::{is_unmarked, utf16_len};
 use resb_pool::Packing;
 use resb_pool::suffix_order::compare;
@@ -28,6 +29,8 @@ use std::cmp::Ordering;
 pub struct LentTexts {
     /// In a plain file's order from the end, and of one text the later record first.
     pub(crate) records: Vec<LentRecord>,
+    /// The numbers of its tops, in a compact file's order from the end.
+    pub(crate) tops: Vec<usize>,
     /// Whether the pool's block begins with 0: only such a pool lends texts.
     pub(crate) lends: bool,
 }
@@ -108,7 +111,11 @@ impl LentTexts {
     ghost use Rattle.resb_lent.specs.Inner.LentEndings.{IsLentEnd};
     ghost use Rattle.resb_lent.specs.Inner.Within.{NoneHolds, StandsWithin};
     ghost use Rattle.std.specs.Bool.{MatchBool};
-    ghost use Rattle.std.specs.Prelude.{MatchOption};
+    ghost use Rattle.std.specs.Prelude.{◌<◌, All, Contains, MatchOption, length};
+    ghost use Rattle.std.specs.Str.{IsUtf8};
+    ghost use Rattle.resb_pool.specs.Container.{IsContainer};
+    ghost use Rattle.resb_pool.specs.declared.packing.Packing.TheVariants.{Compact};
+    ghost use Rattle.resb_lent.specs.LentBeside.{LendsTextBy};
 
     /// What the 16-bit block of a pool bundle lends, given as its bytes. Its records are gone
     /// through and sorted once. They end where no further one stands.
@@ -117,18 +124,38 @@ impl LentTexts {
     {
         let units = units_in(alloc, block)?;
         if !begins_with_zero(&units) {
-            let records = Vec::new(alloc);
             return Ok(LentTexts {
-                records,
+                records: Vec::new(alloc),
+                tops: Vec::new(alloc),
                 lends: false,
             });
         }
         let mut records = records_in(alloc, block, &units)?;
+        drop(units);
         records.sort_unstable_by(|left, right| compare_records(left, right));
+        let tops = tops(alloc, &records)?;
         Ok(LentTexts {
             records,
+            tops,
             lends: true,
         })
+    }
+
+    /// The unit at which a text of a compact file stands in the greatest top that ends with it, if
+    /// that top precedes the one of the file's own texts in whose record the text would lie.
+    pub(crate) fn place_in_top(&self, text: &str, own: &str) -> Option<u32>
+        ensures { (block : List ℕ) (S : List (List ℕ)) → LendsTexts self.now block → All IsUtf8 S
+            → Contains S text.now → 0 < length text.now → NoneHolds block text.now text.now
+            → IsContainer Compact S text.now own.now
+            → LendsTextBy Compact block S text.now result }
+    {
+        let Some(top) = top_above(&self.records, &self.tops, text) else {
+            return None;
+        };
+        if !precedes(top, own) {
+            return None;
+        }
+        self.place_within(top, text)
     }
 
     /// The unit at which a text stands in the first record of another text, if the pool has one and

@@ -19,6 +19,7 @@ mod Endings
 mod Ranking
 pub mod IsRead
 pub mod OnePool
+pub mod OneShared
 pub mod Least
 pub mod SuffixOrder
 pub mod Cut

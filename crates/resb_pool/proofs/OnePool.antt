@@ -9,7 +9,7 @@ use Rattle.resb_format.specs.Units.{size}
 use Rattle.resb_pool.specs.Records.{EachOnce}
 use Rattle.resb_pool.specs.Pool.{SizeIn, size_none, size_here, size_elsewhere, Saved, Precedes}
 use Rattle.resb_pool.specs.Pool.{fewer_units, saves_more, smaller_text, record_units, ClosesAt}
-use Rattle.resb_pool.specs.Pool.{Off, off_empty, off_within}
+use Rattle.resb_pool.specs.Pool.{IsPool, Off, off_empty, off_within}
 use Rattle.resb_pool.specs.Plan.{IsPlanAmong}
 use Rattle.resb_pool.specs.declared.packing.Packing.{Packing}
 use Rattle.resb_pool.specs.declared.packing.Packing.TheVariants.{Plain, Compact}
@@ -29,7 +29,7 @@ module _ (way : Packing) (A : List ℕ → Type 0) (S : TextList) where
   size_once r _ _ _ (size_elsewhere {s} {ss} {n = m} h p) (size_elsewhere {n} k q) =
       size_once r ss m n p q
 
-  saved_once : (r : List ℕ) (m n : ℕ) → Saved way A S r m → Saved way A S r n → m ≡ n
+  pub saved_once : (r : List ℕ) (m n : ℕ) → Saved way A S r m → Saved way A S r n → m ≡ n
   saved_once r m n p q = by way size_once p q
     where
       by : (w : Packing) → ((r : List ℕ) (ss : TextList) (m n : ℕ) → SizeIn w S r ss m
@@ -159,6 +159,14 @@ module _ (way : Packing) (A : List ℕ → Type 0) (S : TextList) where
       let close : c ≡ d = closes_once Q r c d u h (subst (λ z. ClosesAt Q z d) (sym same) g) in
       omega (arith, f, e, close)
 
+-- the records in their order
+pub one_list : (way : Packing) {A : List ℕ → Type 0} (S Q R : TextList) {us vs : List ℕ}
+    → IsPool way A S Q us → IsPool way A S R vs → Q ≡ R
+one_list way {A} S Q R p q =
+    one_order way A S Q R p.records.once q.records.once
+    (λ s c. (q.records.just s).1 ((p.records.just s).0 c))
+    (λ s c. (p.records.just s).1 ((q.records.just s).0 c)) p.ordered q.ordered
+
 -- the units, and where each text stands
 pub one_pool : (way : Packing) {A : List ℕ → Type 0} (S : TextList) (us vs : List ℕ)
     (offset place : List ℕ → Option ℕ) → IsPlanAmong way A S us offset
@@ -170,11 +178,7 @@ one_pool way {A} S us vs offset place p q = (
 )
   where
     records : p.records ≡ q.records
-    records =
-        one_order way A S p.records q.records p.pool.records.once q.pool.records.once
-        (λ s c. (q.pool.records.just s).1 ((p.pool.records.just s).0 c))
-        (λ s c. (p.pool.records.just s).1 ((q.pool.records.just s).0 c)) p.pool.ordered
-        q.pool.ordered
+    records = one_list way S p.records q.records p.pool q.pool
 
     by : (s : List ℕ) (a b : Option ℕ) → MatchOption a (Contains S s → ⊥) (λ k. Contains S s
         × Off way S p.records s k) → MatchOption b (Contains S s → ⊥) (λ k. Contains S s

@@ -9,8 +9,8 @@ use Rattle.std.proofs.lemmas.List.Elements.{All-filter}
 use Rattle.resb_format.specs.Units.{size}
 use Rattle.resb_pool.specs.Plan.{texts_size}
 use Rattle.resb_pool.specs.Pool.{Saved, record_units}
-use Rattle.resb_pool.specs.Records.{IsRecords}
 use Rattle.resb_pool.specs.Shared.{AreWorth, worth_none, worth_kept, worth_left, IsSharedPool}
+use Rattle.resb_pool.specs.Shared.{InPoolOrder}
 use Rattle.resb_pool.specs.Inner.Placing.{AreTexts, AreHidden, IsRecordOf, record_text}
 use Rattle.resb_pool.specs.Inner.Placing.{record_texts}
 use Rattle.resb_pool.specs.Inner.Ranked.{AreRanked, saving}
@@ -19,7 +19,7 @@ use Rattle.resb_pool.specs.declared.packing.Packing.{Packing}
 use Rattle.resb_pool.specs.declared.records.Record.{Record}
 use Rattle.resb_pool.proofs.InOrder.{length-records}
 use Rattle.resb_pool.proofs.PlacingLemmas.{hidden_from}
-use Rattle.resb_pool.proofs.PlanLemmas.{in_given, laid_small, saved_at, pool_is}
+use Rattle.resb_pool.proofs.PlanLemmas.{laid_small, saved_at, pool_is}
 use Rattle.resb_pool.proofs.TextLists.{TextList}
 
 -- the rows that save enough are the records that do
@@ -59,14 +59,16 @@ saving_within T least (r ∷ v) = by (saving_within T least v) (nat_le least r.s
 
 module _ (way : Packing) (S T : TextList) (ms : List Measure) (given : AreTexts S T ms)
     (small : texts_size S < 2 ^ 28) (v : List Record) (ranked : AreRanked way T ms v) where
-  pub records_of : IsRecords S (record_texts T v)
-  records_of =
-      in_given way S T ms given small ranked.containers ranked.containers_are ranked.hidden
-      ranked.sums ranked.lying v ranked.records ranked.each
-
   -- the records that save nothing among the strings
   hidden_are : AreHidden way (Contains S) T ranked.hidden
   hidden_are = hidden_from T S given.same way ranked.hidden ranked.hidden_are
+
+  pub in_order : InPoolOrder way S (record_texts T v)
+  in_order =
+      pool_is way S T ms given small ranked.containers ranked.containers_are ranked.hidden
+      ranked.sums ranked.lying v ranked.records ranked.each
+      (Contains S) hidden_are ranked.ascend
+      (0 ∷ flat_map record_units (record_texts T v)) refl
 
   module _ (least : ℕ) where
     pub kept_each : All (IsRecordOf T ranked.sums) (saving least v)
@@ -86,11 +88,7 @@ module _ (way : Packing) (S T : TextList) (ms : List Measure) (given : AreTexts 
     shared_pool us e = record {
       records = record_texts T v;
       kept = record_texts T (saving least v);
-      pool =
-          pool_is way S T ms given small ranked.containers ranked.containers_are ranked.hidden
-          ranked.sums ranked.lying v ranked.records ranked.each
-          (Contains S) hidden_are ranked.ascend
-          (0 ∷ flat_map record_units (record_texts T v)) refl;
+      pool = in_order;
       worth =
           worth_of way S T least v (saved_at way S T ms given small ranked.containers
           ranked.containers_are ranked.hidden ranked.sums ranked.lying v ranked.records ranked.each

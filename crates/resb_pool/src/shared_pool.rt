@@ -1,12 +1,12 @@
 //! What a pool that many bundles share takes of strings: the records of each bundle, and of all
 //! these together the records that save enough.
 //! How strings are told apart and laid is said in `pool` and in the steps below it.
-ghost use Rattle.std.specs.Prelude.{◌≡◌, ℕ, ◌<◌, ◌^◌, List, IfOk, IfErr, All};
+ghost use Rattle.std.specs.Prelude.{◌≡◌, ℕ, ◌<◌, ◌^◌, List, IfOk, IfErr, OnOk, All};
 ghost use Rattle.resb_pool.specs.Plan.{nows, texts_size, NotPlanned};
-ghost use Rattle.resb_pool.specs.Records.{IsRecords};
-ghost use Rattle.resb_pool.specs.Shared.{IsSharedPool};
+ghost use Rattle.resb_pool.specs.Shared.{ArePlanned, InPoolOrder, IsSharedPool};
 ghost use Rattle.resb_pool.specs.Inner.Placing.{AreTexts, record_texts};
 ghost use Rattle.resb_pool.specs.Inner.Ranked.{AreRanked, saving};
+ghost use Rattle.resb_pool.specs.declared.packing.Packing.TheVariants.{Plain};
 
 use crate::containers::{find_containers, find_sums};
 use crate::error::PlanError;
@@ -71,7 +71,8 @@ fn ranked_texts<'a>(
     requires given { (strings : List (List ℕ)) × (texts_size strings < 2 ^ 28)
         × AreTexts strings (nows texts.now) measures.now }
     ensures { IfOk result (λ v. (strings : List (List ℕ)) → texts_size strings < 2 ^ 28
-        → AreTexts strings (nows texts.now) measures.now → IsRecords strings (nows v.items)) }
+        → AreTexts strings (nows texts.now) measures.now
+        → InPoolOrder Plain strings (nows v.items)) }
 {
     let rows = rank(alloc, Packing::Plain, texts, measures)?;
     texts_of_rows(alloc, texts, &rows)
@@ -100,7 +101,8 @@ fn lay_saving(
 /// The texts that get a record in the plan of strings (`plan`), each once, in the order in which
 /// their records stand there. Refused is what `plan` refuses.
 pub fn records<'a>(alloc: Global, strings: &[&'a str]) -> Result<Vec<&'a str>, PlanError>
-    ensures ok { IfOk result (λ v. IsRecords (nows strings.now) (nows v.items)) }
+    ensures ok { IfOk result (λ v. InPoolOrder Plain (nows strings.now) (nows v.items)) }
+    ensures planned { OnOk result (ArePlanned (nows strings.now)) }
     ensures err { IfErr result (NotPlanned (nows strings.now)) }
 {
     let texts = texts_of(alloc, strings)?;

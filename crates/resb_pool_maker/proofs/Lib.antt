@@ -2,6 +2,8 @@
 mod Blocks
 mod Joining
 mod Given
+mod Faults
 mod ReadBack
 mod Made
+mod OneFile
 mod Examples

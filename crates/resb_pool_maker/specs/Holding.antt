@@ -7,7 +7,8 @@ use Rattle.std.specs.String.{string_bytes}
 use Rattle.std.specs.declared.string.String.{String}
 use Rattle.resb_tree.specs.LayingOrder.{texts_of}
 use Rattle.resb_layout.specs.TreeFaults.{has_nul}
-use Rattle.resb_pool.specs.Records.{IsRecords}
+use Rattle.resb_pool.specs.Shared.{InPoolOrder}
+use Rattle.resb_pool.specs.declared.packing.Packing.TheVariants.{Plain}
 use Rattle.resb_pool_maker.specs.PoolOf.{Bundle, used_keys}
 use Rattle.resb_pool_maker.specs.declared.gathering.Gift.{Gift}
 use Rattle.resb_pool_maker.specs.declared.maker.PoolMaker.{PoolMaker}
@@ -16,11 +17,11 @@ use Rattle.resb_pool_maker.specs.declared.maker.PoolMaker.{PoolMaker}
 abbrev pub bytes_each : {A : Type 0} → List (String A) → List (List ℕ)
 bytes_each ss = map string_bytes ss
 
--- a bundle's used keys, of which none holds U+0000, and the texts of its records
+-- a bundle's used keys, of which none holds U+0000, and the texts of its records in their order
 pub record IsGift (b : Bundle) (g : Gift) : Type 0 where
   pub keys : bytes_each g.keys.items ≡ used_keys b
   pub plain : list_any has_nul (used_keys b) ≡ false
-  pub records : IsRecords (texts_of b.tree) (bytes_each g.records.items)
+  pub records : InPoolOrder Plain (texts_of b.tree) (bytes_each g.records.items)
 
 -- a gift for each bundle
 pub data AreGifts : List Bundle → List Gift → Type 0 where

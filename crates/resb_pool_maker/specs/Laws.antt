@@ -1,6 +1,7 @@
--- What the law of pool bundles says.
+-- What the laws of pool bundles say.
 --     made_pool ks us         what is lent by the pool bundle of the keys ks and the units us
 --     MadePoolIsRead          a pool bundle that was made is one, and lends just what it is made of
+--     OnePoolFile             bundles leave one pool bundle of each packing
 use Rattle.std.specs.Prelude.{◌≡◌, ℕ, List}
 use Rattle.resb_layout.specs.KeyBlock.{key_bytes, padded}
 use Rattle.resb_layout.specs.Written.{even}
@@ -26,3 +27,9 @@ MadePoolIsRead =
     (q : Packing) (bytes : List ℕ) (bs : List Bundle) (p : IsPoolOfBy q bytes bs)
     → IsPoolFile bytes × (pool_of bytes ≡ made_pool (pool_keys_by q bs) p.units)
     × (checksum_of (pool_of bytes) ≡ (pool_of bytes).checksum)
+
+-- two pool bundles of the same bundles in the same order and packing are the same bytes
+abbrev pub OnePoolFile : Type 0
+OnePoolFile =
+    (q : Packing) (bytes others : List ℕ) (bs : List Bundle) → IsPoolOfBy q bytes bs
+    → IsPoolOfBy q others bs → bytes ≡ others

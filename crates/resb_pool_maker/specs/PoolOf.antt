@@ -13,10 +13,10 @@ use Rattle.resb_tree.specs.LayingOrder.{texts_of, keys_of}
 use Rattle.resb_layout.specs.KeyBlock.{is_among, used, key_bytes, padded}
 use Rattle.resb_layout.specs.CompactKeys.{keys_by}
 use Rattle.resb_pool.specs.declared.packing.Packing.{Packing}
+use Rattle.resb_pool.specs.declared.packing.Packing.TheVariants.{Plain}
 use Rattle.resb_layout.specs.Written.{even}
 use Rattle.resb_layout.specs.TreeFaults.{has_nul}
-use Rattle.resb_pool.specs.Records.{IsRecords}
-use Rattle.resb_pool.specs.Shared.{IsSharedPool}
+use Rattle.resb_pool.specs.Shared.{InPoolOrder, IsSharedPool}
 use Rattle.resb_pool_maker.specs.PoolFile.{pool_file, blocks_checksum}
 
 -- a bundle: its tree, and the list of its keys
@@ -42,11 +42,11 @@ abbrev pub pool_keys_by : Packing → List Bundle → List (List ℕ)
 pool_keys_by q bs = keys_by q (each_once (flat_map (λ b. keys_by q (used_keys b)) bs))
 
 -- each bundle gives the texts that get a record among its own strings, each of them once, so that
--- what is repeated inside one bundle counts once
+-- what is repeated inside one bundle counts once, and in their order in a plain file of the bundle
 pub data GiveRecords : List Bundle → List (List ℕ) → Type 0 where
   give_none : GiveRecords [] []
-  give_more : {b : Bundle} {bs : List Bundle} {Q S : List (List ℕ)} → IsRecords (texts_of b.tree) Q
-      → GiveRecords bs S → GiveRecords (b ∷ bs) (Q ++ S)
+  give_more : {b : Bundle} {bs : List Bundle} {Q S : List (List ℕ)}
+      → InPoolOrder Plain (texts_of b.tree) Q → GiveRecords bs S → GiveRecords (b ∷ bs) (Q ++ S)
 
 -- how many units a record has to save so that it stands in the pool
 abbrev pub least_saved : ℕ

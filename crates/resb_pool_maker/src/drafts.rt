@@ -6,7 +6,8 @@ ghost use Rattle.resb_draft.specs.Drafts.{draft_tree, is_ready, is_whole, texts,
 ghost use Rattle.resb_draft.specs.Pieces.{is_piece};
 ghost use Rattle.resb_layout.specs.KeyBlock.{used};
 ghost use Rattle.resb_pool.specs.Plan.{nows, NotPlanned};
-ghost use Rattle.resb_pool.specs.Records.{IsRecords};
+ghost use Rattle.resb_pool.specs.Shared.{ArePlanned, InPoolOrder};
+ghost use Rattle.resb_pool.specs.declared.packing.Packing.TheVariants.{Plain};
 ghost use Rattle.resb_tree.specs.Borrowing.{all_true};
 ghost use Rattle.resb_tree.specs.LayingOrder.{own_keys, text_in, texts_of, keys_of};
 ghost use Rattle.resb_tree.specs.Tree.{Tree};
@@ -96,8 +97,10 @@ fn used_keys(
 /// The texts that get a record among the strings of pieces of these numbers.
 fn own_records(alloc: Global, draft: &Draft<'_>, order: &[u32]) -> Result<Vec<String>, PlanError>
     requires { all_true (map (is_whole draft.now) order.now) ≡ true }
-    ensures ok { IfOk result (λ v.
-        IsRecords (flat_map text_in (map (tree_at draft.now) order.now)) (bytes_each v.items)) }
+    ensures ok { IfOk result (λ v. InPoolOrder Plain
+        (flat_map text_in (map (tree_at draft.now) order.now)) (bytes_each v.items)) }
+    ensures planned { OnOk result
+        (ArePlanned (flat_map text_in (map (tree_at draft.now) order.now))) }
     ensures err { IfErr result
         (NotPlanned (flat_map text_in (map (tree_at draft.now) order.now))) }
 {
@@ -115,7 +118,8 @@ pub(crate) fn draft_gift_of(
     ensures keys { IfOk result (λ g.
         bytes_each g.keys.items ≡ used (keys_of (draft_tree root.now)) list.now) }
     ensures records { IfOk result (λ g.
-        IsRecords (texts_of (draft_tree root.now)) (bytes_each g.records.items)) }
+        InPoolOrder Plain (texts_of (draft_tree root.now)) (bytes_each g.records.items)) }
+    ensures planned { OnOk result (ArePlanned (texts_of (draft_tree root.now))) }
     ensures err { IfErr result (NotPlanned (texts_of (draft_tree root.now))) }
 {
     let order = root.in_laying_order(alloc)?;

@@ -7,7 +7,8 @@ ghost use Rattle.std.specs.String.{string_bytes};
 ghost use Rattle.resb_layout.specs.KeyBlock.{is_among, used};
 ghost use Rattle.resb_layout.specs.TreeFaults.{has_nul};
 ghost use Rattle.resb_pool.specs.Plan.{nows, NotPlanned};
-ghost use Rattle.resb_pool.specs.Records.{IsRecords};
+ghost use Rattle.resb_pool.specs.Shared.{ArePlanned, InPoolOrder};
+ghost use Rattle.resb_pool.specs.declared.packing.Packing.TheVariants.{Plain};
 ghost use Rattle.resb_tree.specs.LayingOrder.{entry_keys, own_keys, text_in, trees_in};
 ghost use Rattle.resb_tree.specs.LayingOrder.{texts_of, keys_of};
 ghost use Rattle.resb_tree.specs.View.{tree_of, entries_view};
@@ -24,7 +25,7 @@ use std::alloc::{AllocError, Global};
 pub(crate) struct Gift {
     /// The listed keys that its tables have, in the list's order.
     pub(crate) keys: Vec<String>,
-    /// The texts that get a record among its own strings.
+    /// The texts that get a record among its own strings, in their order in a plain file.
     pub(crate) records: Vec<String>,
 }
 
@@ -170,9 +171,10 @@ pub(crate) fn has_nul_key(keys: &[String]) -> bool
     keys.iter().any(|key| key.as_bytes().contains(&0))
 }
 
-/// Those of texts that get a record among them.
+/// Those of texts that get a record among them, in their order in a plain file.
 pub(crate) fn records_of(alloc: Global, texts: &[&str]) -> Result<Vec<String>, PlanError>
-    ensures ok { IfOk result (λ v. IsRecords (nows texts.now) (bytes_each v.items)) }
+    ensures ok { IfOk result (λ v. InPoolOrder Plain (nows texts.now) (bytes_each v.items)) }
+    ensures planned { OnOk result (ArePlanned (nows texts.now)) }
     ensures err { IfErr result (NotPlanned (nows texts.now)) }
 {
     let records = shared_pool::records(alloc, texts)?;
@@ -181,8 +183,9 @@ pub(crate) fn records_of(alloc: Global, texts: &[&str]) -> Result<Vec<String>, P
 
 /// The texts that get a record among the strings of resources.
 fn own_records(alloc: Global, order: &LayingOrder<'_, '_>) -> Result<Vec<String>, PlanError>
-    ensures ok { IfOk result (λ v. IsRecords (flat_map text_in (trees_in order.now.items))
+    ensures ok { IfOk result (λ v. InPoolOrder Plain (flat_map text_in (trees_in order.now.items))
         (bytes_each v.items)) }
+    ensures planned { OnOk result (ArePlanned (flat_map text_in (trees_in order.now.items))) }
     ensures err { IfErr result (NotPlanned (flat_map text_in (trees_in order.now.items))) }
 {
     let texts = texts_in(alloc, order)?;
@@ -198,7 +201,8 @@ pub(crate) fn gift_of(
     ensures keys { IfOk result (λ g.
         bytes_each g.keys.items ≡ used (keys_of (tree_of root.now)) list.now) }
     ensures records { IfOk result (λ g.
-        IsRecords (texts_of (tree_of root.now)) (bytes_each g.records.items)) }
+        InPoolOrder Plain (texts_of (tree_of root.now)) (bytes_each g.records.items)) }
+    ensures planned { OnOk result (ArePlanned (texts_of (tree_of root.now))) }
     ensures err { IfErr result (NotPlanned (texts_of (tree_of root.now))) }
 {
     let order = in_laying_order(alloc, root)?;

@@ -60,8 +60,8 @@ impl PoolMaker {
     /// Adds the bundle of a tree and of a list of its keys, of which those count that some table of
     /// the tree has. After an error the maker is as it was, and may be used on.
     ///
-    /// Refused are the first string of more than 4294967295 16-bit units; strings whose units and
-    /// 16 for each come to 2^28 or more; and a used key that holds U+0000.
+    /// Refused are, in this order, the first string of more than 4294967295 16-bit units; strings
+    /// whose units and 16 for each come to 2^28 or more; and a used key that holds U+0000.
     pub fn add(
         &mut self,
         alloc: Global,
@@ -128,8 +128,8 @@ impl PoolMaker {
     /// bundles saves 10 units or more. It is of version 3.0 where it has such a string, and else of
     /// 2.0. (ICU's `reslist.cpp` and `uresdata.h`.)
     ///
-    /// Refused are keys that come to more than 2^31 bytes, each with a zero byte, and records whose
-    /// units and 16 for each come to 2^28 or more.
+    /// Refused are keys that come to more than 2^31 bytes, each with a zero byte, and where they
+    /// don't, records whose units and 16 for each come to 2^28 or more.
     pub fn finish(&self, alloc: Global) -> Result<Vec<u8>, PoolMakerError>
         ensures ok { IfOk result (λ v. (bs : List Bundle) → Holds self.now bs
             → IsPoolOfBy Plain v.items bs) }

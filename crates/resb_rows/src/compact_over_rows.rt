@@ -4,7 +4,7 @@
 use crate::answers::same;
 use crate::over_pool_rows::{pool_named, words_of};
 use resb_compile::compile_icu_compact_with_pool;
-use resb_pool_bundle::PoolBundle;
+use resb_lent::Pool;
 use resb_text::Reader;
 use resb_write::Serializer;
 use std::alloc::Global;
@@ -43,7 +43,7 @@ long f{a{"aaaaaaaaaaaaaaaaaaaabbbbbbbbbbbbbbbbbbbbb"}b{
 pub(crate) fn line_of_compact_over(alloc: Global, input: &str) -> Result<String, Fail> {
     let (version, text) = input.split_once(' ').ok_or("a row without a pool")?;
     let bytes = pool_named(alloc, version)?;
-    let pool = PoolBundle::read(&bytes)?;
+    let pool = Pool::open(alloc, &bytes)?;
     let (bundle, keys) = Reader::read(alloc, text)?;
     let file = Serializer::to_bytes_compact_with_pool(alloc, &bundle, keys.as_slice(), &pool)?;
     let drafted = drafted_over(alloc, text, &pool)?;
@@ -53,7 +53,7 @@ pub(crate) fn line_of_compact_over(alloc: Global, input: &str) -> Result<String,
 }
 
 /// The compact file over a pool of a text that is read as a draft.
-fn drafted_over(alloc: Global, text: &str, pool: &PoolBundle<'_>) -> Result<Vec<u8>, Fail> {
+fn drafted_over(alloc: Global, text: &str, pool: &Pool<'_>) -> Result<Vec<u8>, Fail> {
     let (bundle, keys) = Reader::read_draft(alloc, text)?;
     let has_fallback = bundle.is_locale_fallback_enabled;
     Ok(Serializer::draft_to_bytes_compact_with_pool(

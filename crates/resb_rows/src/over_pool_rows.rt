@@ -5,7 +5,7 @@ use resb_compile::{
     compile_icu_filtered, compile_icu_filtered_with_pool, compile_icu_with_pool, compile_with_pool,
 };
 use resb_filter::Rules;
-use resb_pool_bundle::PoolBundle;
+use resb_lent::Pool;
 use resb_text::Reader;
 use resb_tree::Key;
 use resb_write::Serializer;
@@ -108,7 +108,7 @@ pub(crate) fn words_of(alloc: Global, file: &[u8]) -> Result<String, Fail> {
 }
 
 /// The file of a text with these keys over a pool.
-fn line_over(alloc: Global, pool: &PoolBundle<'_>, text: &str, list: &str) -> Result<String, Fail> {
+fn line_over(alloc: Global, pool: &Pool<'_>, text: &str, list: &str) -> Result<String, Fail> {
     let mut keys = Vec::new(alloc);
     for word in list.split(' ') {
         keys.push(Key::from(word))?;
@@ -134,16 +134,11 @@ pub(crate) fn line_of_pool(alloc: Global, input: &str) -> Result<String, Fail> {
     let (version, input) = input.split_once(' ').ok_or("a row without a pool")?;
     let (text, list) = input.split_once(" | ").ok_or("a row without keys")?;
     let file = pool_named(alloc, version)?;
-    line_over(alloc, &PoolBundle::read(&file)?, text, list)
+    line_over(alloc, &Pool::open(alloc, &file)?, text, list)
 }
 
 /// The file of rules and a text of ICU's form, over a pool but for version 0.
-fn filtered(
-    alloc: Global,
-    pool: &PoolBundle<'_>,
-    version: &str,
-    input: &str,
-) -> Result<Vec<u8>, Fail> {
+fn filtered(alloc: Global, pool: &Pool<'_>, version: &str, input: &str) -> Result<Vec<u8>, Fail> {
     let (rules, text) = input.split_once(' ').ok_or("a row without rules")?;
     let lines = rules.replace(alloc, "|", "\n")?;
     let rules = Rules::read(alloc, lines.as_str())?;
@@ -157,7 +152,7 @@ fn filtered(
 /// The file of a form, the version of a pool and a text.
 fn compiled(
     alloc: Global,
-    pool: &PoolBundle<'_>,
+    pool: &Pool<'_>,
     form: &str,
     version: &str,
     text: &str,
@@ -174,6 +169,6 @@ pub(crate) fn line_of_compiled(alloc: Global, input: &str) -> Result<String, Fai
     let (form, input) = input.split_once(' ').ok_or("a row without a form")?;
     let (version, text) = input.split_once(' ').ok_or("a row without a pool")?;
     let pool = pool_named(alloc, version)?;
-    let file = compiled(alloc, &PoolBundle::read(&pool)?, form, version, text)?;
+    let file = compiled(alloc, &Pool::open(alloc, &pool)?, form, version, text)?;
     words_of(alloc, &file)
 }

@@ -34,10 +34,12 @@ pub(crate) fn end_keys_beside<'k>(
     alloc: Global,
     tree_keys: NumberedKeys<'_>,
     list: &'k [Key<'_>],
-    pool: &[u8],
+    lent: &LentEnds<'_>,
 ) -> Result<KeyBlock<'k>, BinarySerializerError>
-    ensures ok { IfOk result (λ b. (us : List (List ℕ)) → NumbersKeys tree_keys.entry us
-        → IsKeyBlockBeside Compact pool.now us list.now (nows b.keys.items) b.positions.items) }
+    requires { (pool : List ℕ) × LendsEnds lent.now pool }
+    ensures ok { IfOk result (λ b. (us : List (List ℕ)) (pool : List ℕ)
+        → NumbersKeys tree_keys.entry us → LendsEnds lent.now pool
+        → IsKeyBlockBeside Compact pool us list.now (nows b.keys.items) b.positions.items) }
     ensures err { IfErr result (λ e. (us : List (List ℕ)) → NumbersKeys tree_keys.entry us
         → (fault_of e ≡ out_of_memory) ⊎ (key_fault us (used_of us list.now)
         ≡ Some (fault_of e))) }
@@ -47,9 +49,8 @@ pub(crate) fn end_keys_beside<'k>(
     check_used(alloc, distinct.keys().as_slice(), &used)?;
     let sorted = in_end_order(alloc, &used)?;
     let kept = kept_keys(alloc, &used, &sorted)?;
-    let lent = LentEnds::of(alloc, pool)?;
-    let keys = own_ends(alloc, &kept, &sorted, &lent)?;
-    let places = ends_beside(alloc, distinct.keys().as_slice(), &sorted, &keys, &lent)?;
+    let keys = own_ends(alloc, &kept, &sorted, lent)?;
+    let places = ends_beside(alloc, distinct.keys().as_slice(), &sorted, &keys, lent)?;
     let positions = values_at(&places, numbers);
     Ok(KeyBlock { keys, positions })
 }

@@ -9,7 +9,8 @@ ghost use Rattle.resb_layout.specs.KeyBlock.{used as used_of};
 ghost use Rattle.resb_layout.specs.TreeFaults.{key_fault};
 ghost use Rattle.resb_layout.specs.WritingFault.{out_of_memory};
 ghost use Rattle.resb_pool.specs.declared.packing.Packing.TheVariants.{Plain};
-ghost use Rattle.resb_lent.specs.Lending.{lent_place};
+ghost use Rattle.resb_lent.specs.Lending.{lent_keys, lent_place};
+ghost use Rattle.resb_pool_bundle.specs.Pool.{pool_in};
 ghost use Rattle.resb_write.specs.FaultOf.{fault_of};
 ghost use Rattle.resb_write.specs.Inner.NearPositions.{near_position_in};
 ghost use Rattle.resb_write.specs.Inner.Numbered.{NumbersKeys};
@@ -19,6 +20,7 @@ use crate::ends_beside::end_keys_beside;
 use crate::error::BinarySerializerError;
 use crate::key_block::{KeyBlock, check_used, last_positions, used_keys, values_at};
 use crate::numbered_keys::NumberedKeys;
+use crate::target::OverPool;
 use indexmap::IndexMap;
 use resb_layout::Packing;
 use resb_lent::LentKeys;
@@ -32,24 +34,23 @@ pub(crate) const LENT_KEY: u32 = 0x8000_0000;
 pub(crate) const WORD: u32 = 4;
 
 /// The block of a list of keys for a tree whose tables have these keys, which are dropped then, in
-/// a file that is packed like this, over a pool bundle with these keys. Refuses the first fault of
-/// a key.
+/// a file over a pool bundle. Refuses the first fault of a key.
 pub(crate) fn key_block_beside<'k>(
     alloc: Global,
-    packing: Packing,
     tree_keys: NumberedKeys<'_>,
     list: &'k [Key<'_>],
-    pool: &[u8],
+    over: &OverPool<'_>,
 ) -> Result<KeyBlock<'k>, BinarySerializerError>
     ensures ok { IfOk result (λ b. (us : List (List ℕ)) → NumbersKeys tree_keys.entry us
-        → IsKeyBlockBeside packing pool.now us list.now (nows b.keys.items) b.positions.items) }
+        → IsKeyBlockBeside over.now.packing (pool_in over.now.pool.now).keys us list.now
+        (nows b.keys.items) b.positions.items) }
     ensures err { IfErr result (λ e. (us : List (List ℕ)) → NumbersKeys tree_keys.entry us
         → (fault_of e ≡ out_of_memory) ⊎ (key_fault us (used_of us list.now)
         ≡ Some (fault_of e))) }
 {
-    match packing {
-        Packing::Plain => whole_keys_beside(alloc, tree_keys, list, pool),
-        Packing::Compact => end_keys_beside(alloc, tree_keys, list, pool),
+    match over.packing {
+        Packing::Plain => whole_keys_beside(alloc, tree_keys, list, over.pool.keys()),
+        Packing::Compact => end_keys_beside(alloc, tree_keys, list, over.pool.ends()),
     }
 }
 
@@ -59,10 +60,11 @@ fn whole_keys_beside<'k>(
     alloc: Global,
     tree_keys: NumberedKeys<'_>,
     list: &'k [Key<'_>],
-    pool: &[u8],
+    lent: &LentKeys<'_>,
 ) -> Result<KeyBlock<'k>, BinarySerializerError>
     ensures ok { IfOk result (λ b. (us : List (List ℕ)) → NumbersKeys tree_keys.entry us
-        → IsKeyBlockBeside Plain pool.now us list.now (nows b.keys.items) b.positions.items) }
+        → IsKeyBlockBeside Plain (lent_keys lent.now) us list.now (nows b.keys.items)
+        b.positions.items) }
     ensures err { IfErr result (λ e. (us : List (List ℕ)) → NumbersKeys tree_keys.entry us
         → (fault_of e ≡ out_of_memory) ⊎ (key_fault us (used_of us list.now)
         ≡ Some (fault_of e))) }
@@ -70,9 +72,8 @@ fn whole_keys_beside<'k>(
     let (distinct, numbers) = tree_keys.into_parts();
     let used = used_keys(alloc, &distinct, list)?;
     check_used(alloc, distinct.keys().as_slice(), &used)?;
-    let lent = LentKeys::of(alloc, pool)?;
-    let keys = own_keys(alloc, &used, &lent)?;
-    let places = places_beside(alloc, distinct.keys().as_slice(), &keys, &lent)?;
+    let keys = own_keys(alloc, &used, lent)?;
+    let places = places_beside(alloc, distinct.keys().as_slice(), &keys, lent)?;
     let positions = values_at(&places, numbers);
     Ok(KeyBlock { keys, positions })
 }

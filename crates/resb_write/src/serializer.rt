@@ -38,7 +38,7 @@ use crate::tree_bodies::lay_bodies;
 use crate::with_pool::write_order_with_pool;
 use resb_draft::Draft;
 use resb_layout::Packing;
-use resb_pool_bundle::PoolBundle;
+use resb_lent::Pool;
 use resb_tree::{Key, ResourceBundle, in_laying_order};
 use std::alloc::Global;
 
@@ -112,7 +112,7 @@ impl Serializer {
         alloc: Global,
         bundle: &ResourceBundle<'_>,
         keys_in_discovery_order: &[Key<'_>],
-        pool: &PoolBundle<'_>,
+        pool: &Pool<'_>,
     ) -> Result<Vec<u8>, BinarySerializerError>
         ensures ok { IfOk result (λ v. WrittenWith (pool_in pool.now) v.items (root_of bundle.now)
             bundle.now.is_locale_fallback_enabled keys_in_discovery_order.now) }
@@ -125,7 +125,7 @@ impl Serializer {
             keys_in_discovery_order,
             Target::OverPool(OverPool {
                 packing: Packing::Plain,
-                pool: *pool,
+                pool,
             }),
         )
     }
@@ -143,7 +143,7 @@ impl Serializer {
         alloc: Global,
         bundle: &ResourceBundle<'_>,
         keys_in_discovery_order: &[Key<'_>],
-        pool: &PoolBundle<'_>,
+        pool: &Pool<'_>,
     ) -> Result<Vec<u8>, BinarySerializerError>
         ensures ok { IfOk result (λ v. WrittenCompactWith (pool_in pool.now) v.items
             (root_of bundle.now) bundle.now.is_locale_fallback_enabled
@@ -157,7 +157,7 @@ impl Serializer {
             keys_in_discovery_order,
             Target::OverPool(OverPool {
                 packing: Packing::Compact,
-                pool: *pool,
+                pool,
             }),
         )
     }
@@ -211,7 +211,7 @@ impl Serializer {
         root: Draft<'_>,
         is_locale_fallback_enabled: bool,
         keys_in_discovery_order: &[Key<'_>],
-        pool: &PoolBundle<'_>,
+        pool: &Pool<'_>,
     ) -> Result<Vec<u8>, BinarySerializerError>
         requires { is_ready root ≡ true }
         ensures ok { IfOk result (λ v. WrittenWith (pool_in pool.now) v.items
@@ -225,7 +225,7 @@ impl Serializer {
         };
         let over = OverPool {
             packing: Packing::Plain,
-            pool: *pool,
+            pool,
         };
         write_draft(alloc, root, &wanted, Target::OverPool(over))
     }
@@ -238,7 +238,7 @@ impl Serializer {
         root: Draft<'_>,
         is_locale_fallback_enabled: bool,
         keys_in_discovery_order: &[Key<'_>],
-        pool: &PoolBundle<'_>,
+        pool: &Pool<'_>,
     ) -> Result<Vec<u8>, BinarySerializerError>
         requires { is_ready root ≡ true }
         ensures ok { IfOk result (λ v. WrittenCompactWith (pool_in pool.now) v.items
@@ -252,7 +252,7 @@ impl Serializer {
         };
         let over = OverPool {
             packing: Packing::Compact,
-            pool: *pool,
+            pool,
         };
         write_draft(alloc, root, &wanted, Target::OverPool(over))
     }

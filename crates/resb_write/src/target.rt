@@ -1,7 +1,7 @@
 //! What is wanted of a file, beside its tree, and what it stands on.
 //! How it is written is said in `serializer` and `with_pool`.
 use resb_layout::Packing;
-use resb_pool_bundle::PoolBundle;
+use resb_lent::Pool;
 use resb_tree::Key;
 
 /// What is wanted of a file, beside its tree.
@@ -25,5 +25,5 @@ pub(crate) enum Target<'p> {
 #[derive(Clone, Copy)]
 pub(crate) struct OverPool<'p> {
     pub(crate) packing: Packing,
-    pub(crate) pool: PoolBundle<'p>,
+    pub(crate) pool: &'p Pool<'p>,
 }

@@ -34,8 +34,7 @@ use crate::numbered_keys::NumberedKeys;
 use crate::sites::Sites;
 use crate::target::{OverPool, Wanted};
 use crate::tree_bodies::lay_bodies;
-use resb_lent::{HeadWithPool, LentTexts, PlanWithPool};
-use resb_pool_bundle::PoolBundle;
+use resb_lent::{HeadWithPool, PlanWithPool};
 use resb_tree::{Key, NoMemory};
 use std::alloc::Global;
 
@@ -55,11 +54,11 @@ pub(crate) fn write_order_with_pool<N: Nodes + Drop>(
     requires { (t : Tree) × N.fit order (laying_order t) × NumbersKeys tree_keys (keys_of t) }
     ensures ok { IfOk result (λ v. (t : Tree) → N.fit order (laying_order t)
         → NumbersKeys tree_keys.entry (keys_of t)
-        → WrittenWithBy over.now.packing (pool_in over.now.pool) v.items t
+        → WrittenWithBy over.now.packing (pool_in over.now.pool.now) v.items t
         wanted.now.is_locale_fallback_enabled wanted.now.list.now) }
     ensures err { IfErr result (λ e. (t : Tree) → N.fit order (laying_order t)
         → NumbersKeys tree_keys.entry (keys_of t)
-        → RefusesWritingWith (pool_in over.now.pool) t wanted.now.list.now (fault_of e)) }
+        → RefusesWritingWith (pool_in over.now.pool.now) t wanted.now.list.now (fault_of e)) }
 {
     let (contents, block) = checked_beside(alloc, &order, tree_keys, wanted.list, over)?;
     let KeyBlock { keys, positions } = block;
@@ -109,7 +108,7 @@ fn checked_beside<'t, 'k, N: Nodes>(
     requires { (t : Tree) × N.fit order.now (laying_order t) × NumbersKeys tree_keys (keys_of t) }
     ensures ok { IfOk result (λ r. (t : Tree) → N.fit order.now (laying_order t)
         → NumbersKeys tree_keys.entry (keys_of t) → Gathered (laying_order t) r.0
-        × IsKeyBlockBeside over.now.packing (pool_in over.now.pool).keys (keys_of t) list.now
+        × IsKeyBlockBeside over.now.packing (pool_in over.now.pool.now).keys (keys_of t) list.now
         (nows r.1.keys.items) r.1.positions.items
         × (list_size list.now + resources_size (laying_order t) < 2 ^ 28)) }
     ensures err { IfErr result (λ e. (t : Tree) → N.fit order.now (laying_order t)
@@ -117,7 +116,7 @@ fn checked_beside<'t, 'k, N: Nodes>(
         → RefusesWriting t list.now (fault_of e)) }
 {
     let contents = Contents::gather(alloc, order)?;
-    let block = key_block_beside(alloc, over.packing, tree_keys, list, over.pool.keys())?;
+    let block = key_block_beside(alloc, tree_keys, list, over)?;
     check_sizes(&contents, list)?;
     Ok((contents, block))
 }
@@ -128,13 +127,12 @@ fn plan_beside(
     texts: Vec<&str>,
     over: &OverPool<'_>,
 ) -> Result<PlanWithPool, BinarySerializerError>
-    ensures ok { IfOk result (λ p. IsPlanWithBy over.now.packing (pool_in over.now.pool).block
+    ensures ok { IfOk result (λ p. IsPlanWithBy over.now.packing (pool_in over.now.pool.now).block
         (nows texts.entry.items) p.units.items p.indexes.items p.limit p.short_limit) }
-    ensures err { IfErr result (λ e. IsUnplanned over.now.packing (pool_in over.now.pool).block
+    ensures err { IfErr result (λ e. IsUnplanned over.now.packing (pool_in over.now.pool.now).block
         (nows texts.entry.items) (fault_of e)) }
 {
-    let lent = LentTexts::of(alloc, over.pool.block())?;
-    Ok(PlanWithPool::by(alloc, over.packing, &lent, &texts)?)
+    Ok(PlanWithPool::by(alloc, over.packing, over.pool.texts(), &texts)?)
 }
 
 /// Where the file's own keys end, in bytes of the body: at 0 where it has none.

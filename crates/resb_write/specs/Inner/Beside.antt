@@ -81,8 +81,8 @@ pub record FitsLimits (l : Lends) : Type 0 where
 abbrev pub IsFileOver : Target → List ℕ → Tree → Bool → List (List ℕ) → Type 0
 IsFileOver (Alone q) bytes t fallback ks = WrittenBy q bytes t fallback ks
 IsFileOver (OverPool o) bytes t fallback ks =
-    WrittenWithBy o.packing (pool_in o.pool) bytes t fallback ks
+    WrittenWithBy o.packing (pool_in o.pool.now) bytes t fallback ks
 
 abbrev pub RefusesOver : Target → Tree → List (List ℕ) → WritingFault → Type 0
 RefusesOver (Alone q) t ks f = RefusesWriting t ks f
-RefusesOver (OverPool o) t ks f = RefusesWritingWith (pool_in o.pool) t ks f
+RefusesOver (OverPool o) t ks f = RefusesWritingWith (pool_in o.pool.now) t ks f

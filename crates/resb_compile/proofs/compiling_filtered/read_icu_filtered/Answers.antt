@@ -15,6 +15,7 @@ returns-clause-ok c = record {
     keys = c.in_ok-bundle.keys.items;
     is = c.in_ok-bundle.ensures.ok;
   };
+  name_is = refl;
   tree = c.in-Ok.ensures.tree;
   fallback_is = refl;
   keys = refl;

@@ -1,10 +1,11 @@
-use Rattle.std.proofs.Common.{◌≡◌, IfOk, refl, sym, subst, arith, rules, get_or, Bor, List, ℕ}
+use Rattle.std.proofs.Common.{IfOk, refl, sym, subst, arith, rules, get_or, Bor, List, ℕ}
 use Rattle.std.proofs.lemmas.List.{take_all}
 use Rattle.std.specs.Prelude.{Some}
 use Rattle.resb_tree.specs.Tree.{Tree}
 use Rattle.resb_draft.specs.Drafts.{IsMade}
 use Rattle.resb_filter.specs.Inner.Entries.{AreEntries}
-use Rattle.resb_filter.proofs.TableLemmas.{LeftSoFar, stays_more, changed_made, entry_whole}
+use Rattle.resb_filter.specs.Inner.Left.{LeftSoFar}
+use Rattle.resb_filter.proofs.TableLemmas.{stays_more, changed_made, entry_whole}
 use Rattle.resb_filter.proofs.collation.change_entries.Goals as goal
 
 pub change-requires : goal.change-requires

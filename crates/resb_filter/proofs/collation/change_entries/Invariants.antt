@@ -1,7 +1,7 @@
 -- The first entries are changed so far.
 use Rattle.std.proofs.Common.{take}
 use Rattle.std.specs.Prelude.{Some}
-use Rattle.resb_filter.proofs.TableLemmas.{LeftSoFar}
+use Rattle.resb_filter.specs.Inner.Left.{LeftSoFar}
 use Rattle.resb_filter.proofs.collation.change_entries.Given as goal
 
 abbrev pub invariant-loop-entry : goal.invariant-loop-entry

@@ -1,6 +1,6 @@
 use Rattle.std.proofs.Common.{◌≡◌, ◌<◌, length, arith}
 use Rattle.std.proofs.lemmas.Bool.Decides.{nat_tests}
-use Rattle.resb_lent.proofs.Together.{answered, empty_beside, in_own}
+use Rattle.resb_lent.proofs.Together.{empty_beside, in_own}
 use Rattle.resb_lent.proofs.answers_beside.answer_beside.Goals as goal
 
 pub returns-then-is_empty-clause-lends : goal.returns-then-is_empty-clause-lends
@@ -17,6 +17,4 @@ returns-in-Some-clause-lends c = λ block S h u g k.
 pub returns-in-None-clause-lends : goal.returns-in-None-clause-lends
 returns-in-None-clause-lends c = λ block S h u g k.
     let full : 0 < length c.args.text.now = grind (arith, nat_tests, c.if-is_empty.ensures) in
-    answered c.args.lent.now block h S u c.args.text.now full g c.args.holder.now c.utf8.holder
-    (k full) (c.in-None.ensures block h) c.place_within-in-None.result
-    (c.place_within-in-None.ensures block h)
+    c.place_in_top.ensures block S h u g full (c.in-None.ensures block h) (k full)

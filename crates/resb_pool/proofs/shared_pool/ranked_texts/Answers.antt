@@ -1,10 +1,10 @@
 use Rattle.std.proofs.Common.{sym, ◌∙◌, ap, subst}
 use Rattle.std.proofs.lemmas.Result.{IfOk-weaker}
 use Rattle.resb_pool.specs.Plan.{nows}
-use Rattle.resb_pool.specs.Records.{IsRecords}
+use Rattle.resb_pool.specs.Shared.{InPoolOrder}
 use Rattle.resb_pool.specs.Inner.Placing.{record_texts}
 use Rattle.resb_pool.specs.declared.packing.Packing.TheVariants.{Plain}
-use Rattle.resb_pool.proofs.Ranking.{records_of}
+use Rattle.resb_pool.proofs.Ranking.{in_order}
 use Rattle.resb_pool.proofs.shared_pool.ranked_texts.Goals as goal
 
 pub returns : goal.returns
@@ -13,6 +13,6 @@ returns c =
     let ms = c.args.measures.now in
     let rows = c.in_ok-rows.rows.items in
     IfOk-weaker c.texts_of_rows.result _ _
-    (λ v h S small given. subst (IsRecords S)
+    (λ v h S small given. subst (InPoolOrder Plain S)
     (sym (h ∙ ap (record_texts T) c.deref.ensures.value))
-    (records_of Plain S T ms given small rows c.in_ok-rows.ensures)) c.texts_of_rows.ensures
+    (in_order Plain S T ms given small rows c.in_ok-rows.ensures)) c.texts_of_rows.ensures

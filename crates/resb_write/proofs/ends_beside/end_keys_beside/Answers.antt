@@ -22,10 +22,10 @@ use Rattle.resb_write.proofs.NumberedKeys.{by_number}
 use Rattle.resb_write.proofs.ends_beside.end_keys_beside.Goals as goal
 
 pub own_ends-requires : goal.own_ends-requires
-own_ends-requires c = (c.args.pool.now, c.in_ok-lent.ensures)
+own_ends-requires c = c.requires
 
 pub ends_beside-requires : goal.ends_beside-requires
-ends_beside-requires c = (c.args.pool.now, c.in_ok-lent.ensures)
+ends_beside-requires c = c.requires
 
 pub returns-in_err-check_used-clause-err : goal.returns-in_err-check_used-clause-err
 returns-in_err-check_used-clause-err c =
@@ -47,13 +47,13 @@ returns-in_err-check_used-clause-err c =
     ])
 
 pub returns-clause-ok : goal.returns-clause-ok
-returns-clause-ok c = λ us h.
+returns-clause-ok c = λ us pool h lends.
     let numbered = c.into_parts-distinct.ensures us h in
     let m = c.into_parts-distinct.result.0 in
     let ns = c.into_parts-distinct.result.1.items in
     let list = c.args.list.now in
     let js = used us list in
-    let lent = c.in_ok-lent.lent in
+    let lent = c.args.lent.now in
     let place = end_place lent js in
     let own = filter (λ k. is_none (place k)) (kept js) in
     let used_are : nows c.in_ok-used.used.items ≡ js = c.in_ok-used.ensures.keys
@@ -79,14 +79,14 @@ returns-clause-ok c = λ us h.
     let places = c.deref-9.ensures.value
     ∙ c.in_ok-places.ensures js (subst (AreByEnd js) (sym c.deref-7.ensures.value) by_end)
     ∙ (λ i. map (told_at_end place js (here i)) (names i)) in
-    let lies = places_lie lent c.args.pool.now js c.in_ok-lent.ensures in
+    let lies = places_lie lent pool js lends in
     record {
       place = place;
       places = lies;
       own = own_are;
       positions = λ small.
           (λ i. map (position_beside Compact place js (own_are i)) us)
-          ∙ all_told_at_ends c.args.pool.now place us list faultless lies
+          ∙ all_told_at_ends pool place us list faultless lies
           (subst (λ l. length (key_bytes l) < 2 ^ 28) own_are small)
           ∙ ap (map Some) (sym (c.values_at-positions.ensures
           ∙ (λ i. map (slice_index (places i)) ns)

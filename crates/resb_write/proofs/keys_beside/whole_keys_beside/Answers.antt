@@ -11,7 +11,6 @@ use Rattle.indexmap.specs.IndexMap.{keys}
 use Rattle.resb_layout.specs.KeyBlock.{used, key_bytes}
 use Rattle.resb_layout.specs.TreeFaults.{key_fault}
 use Rattle.resb_pool.specs.declared.packing.Packing.TheVariants.{Plain}
-use Rattle.resb_lent.specs.LentKeys.{LendsKey}
 use Rattle.resb_lent.specs.Lending.{lent_place}
 use Rattle.resb_write.specs.WrittenWith.{position_beside}
 use Rattle.resb_write.specs.Inner.Beside.{told_beside}
@@ -46,7 +45,7 @@ returns-clause-ok c = λ us h.
     let m = c.into_parts-distinct.result.0 in
     let ns = c.into_parts-distinct.result.1.items in
     let list = c.args.list.now in
-    let lent = c.in_ok-lent.lent in
+    let lent = c.args.lent.now in
     let place = lent_place lent in
     let ks = used us list in
     let own = filter (λ k. is_none (place k)) ks in
@@ -68,8 +67,7 @@ returns-clause-ok c = λ us h.
     ∙ (λ i. map (λ k. told_beside (place k) (near_position_in (here i) k)) (names i)) in
     record {
       place = place;
-      places = λ k. subst (λ keys. LendsKey keys k (lent_place lent k)) c.in_ok-lent.ensures
-          (lent.lent k);
+      places = λ k. lent.lent k;
       own = js;
       positions = λ small.
           (λ i. map (position_beside Plain place ks (js i)) us)

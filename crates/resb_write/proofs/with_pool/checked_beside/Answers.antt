@@ -4,8 +4,6 @@ use Rattle.std.proofs.lemmas.Result.{err_from_is_err_and}
 use Rattle.resb_tree.specs.LayingOrder.{laying_order, keys_of}
 use Rattle.resb_layout.specs.KeyBlock.{used}
 use Rattle.resb_layout.specs.TreeFaults.{RefusesWriting, no_memory}
-use Rattle.resb_pool.specs.Plan.{nows}
-use Rattle.resb_write.specs.Inner.Beside.{IsKeyBlockBeside}
 use Rattle.resb_write.proofs.Refusals.{key_refused, size_refused}
 use Rattle.resb_write.proofs.with_pool.checked_beside.Goals as goal
 
@@ -35,8 +33,6 @@ pub returns-clause-ok : goal.returns-clause-ok
 returns-clause-ok g c = λ t f k.
     let gathered = c.in_ok-contents.ensures (laying_order t) f in (
       gathered,
-      subst (λ keys. IsKeyBlockBeside c.args.over.now.packing keys (keys_of t) c.args.list.now
-          (nows c.in_ok-block.block.keys.items) c.in_ok-block.block.positions.items)
-          c.keys.ensures (c.in_ok-block.ensures.ok (keys_of t) k),
+      c.in_ok-block.ensures.ok (keys_of t) k,
       c.in_ok-check_sizes.ensures.ok (laying_order t) gathered,
     )

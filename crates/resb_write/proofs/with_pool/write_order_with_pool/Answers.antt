@@ -56,7 +56,7 @@ returns-in_err-units-clause-err g c =
     c.from_residual-in_err-units.ensures.1 in
     rw (p.1, p.2) (λ t f k.
     let known = c.in_ok-contents.ensures.ok t f k in
-    unplanned t c.args.wanted.now.list.now (pool_in c.args.over.now.pool) known.1.faultless known.2
+    unplanned t c.args.wanted.now.list.now (pool_in c.args.over.now.pool.now) known.1.faultless known.2
     c.args.over.now.packing (nows c.into_texts.result.items) _
     (ap (λ v. nows v.items) c.into_texts.ensures ∙ known.0.texts_are) c.in_err-units.ensures.err)
 
@@ -115,7 +115,7 @@ numbered g c base t f us =
     let ks = c.args.wanted.now.list.now in
     let few = few_keys _ _ t ks _ _ keys known.2 in
     let p = c.in_ok-units.field-0 in
-    let block = (pool_in c.args.over.now.pool).block in
+    let block = (pool_in c.args.over.now.pool.now).block in
     let plan = subst (λ S. IsPlanWithBy q block S p.units.items p.indexes.items p.limit
     p.short_limit)
     (ap (λ v. nows v.items) c.into_texts.ensures ∙ known.0.texts_are) c.in_ok-units.ensures.ok in
@@ -211,7 +211,7 @@ returns-clause-ok g c = λ t f k.
     let known = c.in_ok-contents.ensures.ok t f k in
     let place = known.1.place in
     let q = c.args.over.now.packing in
-    let pool = pool_in c.args.over.now.pool in
+    let pool = pool_in c.args.over.now.pool.now in
     let ks = c.args.wanted.now.list.now in
     let all = used (keys_of t) ks in
     let fallback = c.args.wanted.now.is_locale_fallback_enabled in

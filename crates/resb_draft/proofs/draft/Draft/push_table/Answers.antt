@@ -5,7 +5,7 @@ use Rattle.resb_tree.specs.Tree.{table, entries_of}
 use Rattle.resb_draft.specs.Drafts.{IsMade, tree_at}
 use Rattle.resb_draft.proofs.EntriesBehind.{entries_on}
 use Rattle.resb_draft.proofs.EntriesLemmas.{seen}
-use Rattle.resb_draft.proofs.Lists.{begins_on, drop_to_put}
+use Rattle.resb_draft.proofs.Lists.{drop_to_put}
 use Rattle.resb_draft.proofs.Standing.{keeps_on}
 use Rattle.resb_draft.proofs.draft.Draft.push_table.Goals as goal
 
@@ -35,8 +35,3 @@ pub returns-clause-keeps : goal.returns-clause-keeps
 returns-clause-keeps c =
     keeps_on c.args.self.now c.loop-entry.self c.end_ascending.new.self c.loop-entry.invariant.keeps
     c.end_ascending.ensures.keeps
-
-pub returns-in_err-push_entry-clause-names : goal.returns-in_err-push_entry-clause-names
-returns-in_err-push_entry-clause-names c =
-    begins_on c.args.self.now.keys.items c.loop-entry.self.keys.items _
-    c.push_entry.new.self.keys.items c.loop-entry.invariant.keys c.push_entry.ensures.names

@@ -8,5 +8,6 @@ invariant-loop-entry l = record {
       ++ map (λ (e : Bor (List ℕ) × ℕ). e.1) (take l.entry-index l.entries);
   keys : l.self.keys.items ≡ l.fn.self.keys.items
       ++ map (λ (e : Bor (List ℕ) × ℕ). e.0) (take l.entry-index l.entries);
+  root : l.self.root ≡ l.fn.self.root;
   keeps : Keeps l.fn.self l.self;
 }

@@ -10,11 +10,12 @@ use Rattle.resb_pool.specs.Plan.{nows, NotPlanned}
 use Rattle.resb_pool.specs.Shared.{IsSharedPool}
 use Rattle.resb_pool_maker.specs.Holding.{Holds}
 use Rattle.resb_pool_maker.specs.Inner.Given.{gift_keys, gift_records}
-use Rattle.resb_pool_maker.specs.PoolFault.{pool_memory, pool_strings, pool_keys_far}
+use Rattle.resb_pool_maker.specs.PoolFault.{pool_memory}
 use Rattle.resb_pool_maker.specs.PoolFile.{pool_file, blocks_checksum}
 use Rattle.resb_pool_maker.specs.PoolOf.{Bundle, used_keys, each_once, pool_keys_by, least_saved}
 use Rattle.resb_pool_maker.specs.declared.gathering.Gift.{Gift}
 use Rattle.resb_layout.specs.CompactKeys.{keys_by}
+use Rattle.resb_pool_maker.proofs.Faults.{pool_keys_far, pool_strings}
 use Rattle.resb_pool_maker.proofs.Given.{keys_given, records_given, plain_given, none_kept}
 use Rattle.resb_pool_maker.proofs.Joining.{none_once}
 use Rattle.resb_pool_maker.proofs.maker.PoolMaker.finish_by.Goals as goal
@@ -38,7 +39,7 @@ returns-in_err-check_near-clause-err c =
     let r = c.from_residual-in_err-check_near in
     let p = err_from_is_err_and r.result r.ensures.1 in
     let e = c.in_err-check_near.ensures.err in
-    rw (p.1, p.2, e.0) (λ bs h. pool_keys_far (subst (λ ks. 2 ^ 31 < length (key_bytes ks))
+    rw (p.1, p.2, e.0) (λ bs h. pool_keys_far c.args.packing bs (records_given h) (subst (λ ks. 2 ^ 31 < length (key_bytes ks))
     (ap nows c.deref-2.ensures.value
     ∙ keys_are (goal.at.returns-in_err-check_near-clause-err c).In_ok-keys bs h) e.1))
 
@@ -46,7 +47,11 @@ pub returns-in_err-units-clause-err : goal.returns-in_err-units-clause-err
 returns-in_err-units-clause-err c =
     let r = c.from_residual-in_err-units in
     let p = err_from_is_err_and r.result r.ensures.1 in
-    rw (p.1, p.2) (λ bs h. pool_strings (records_given h)
+    rw (p.1, p.2) (λ bs h. pool_strings c.args.packing bs (records_given h)
+    (subst (λ ks. length (key_bytes ks) ≤ 2 ^ 31)
+    (ap nows c.deref-2.ensures.value
+    ∙ keys_are (goal.at.returns-in_err-units-clause-err c).In_ok-keys bs h)
+    c.in_ok-check_near.ensures.ok) _
     (subst (λ (g : List Gift). NotPlanned (gift_records g) c.in_err-units.field-0.0)
     c.deref-3.ensures.value c.in_err-units.ensures.err))
 

@@ -6,8 +6,9 @@ use Rattle.std.specs.declared.string.String.{String}
 use Rattle.resb_layout.specs.TreeFaults.{has_nul}
 use Rattle.std.proofs.lemmas.Result.{err_from_is_err_and}
 use Rattle.resb_pool_maker.specs.Holding.{AreGifts, bytes_each}
-use Rattle.resb_pool_maker.specs.PoolFault.{bundle_memory, bundle_key}
-use Rattle.resb_pool_maker.specs.PoolOf.{Bundle, used_keys}
+use Rattle.resb_pool_maker.specs.PoolFault.{bundle_memory}
+use Rattle.resb_pool_maker.specs.PoolOf.{used_keys}
+use Rattle.resb_pool_maker.proofs.Faults.{bundle_key}
 use Rattle.resb_pool_maker.proofs.Given.{gift_added, any_string}
 use Rattle.resb_pool_maker.proofs.maker.PoolMaker.keep.Goals as goal
 
@@ -38,6 +39,6 @@ returns-clause-adds c = λ b given bs h.
 
 pub returns-then-has_nul_key-clause-err : goal.returns-then-has_nul_key-clause-err
 returns-then-has_nul_key-clause-err c = λ b given.
-    bundle_key (sym (told c.args.gift.keys.items c.deref.result.now c.deref.ensures.value
+    bundle_key b given.planned (sym (told c.args.gift.keys.items c.deref.result.now c.deref.ensures.value
     (used_keys b) given.keys c.has_nul_key.result c.has_nul_key.ensures)
     ∙ c.if-has_nul_key.true)

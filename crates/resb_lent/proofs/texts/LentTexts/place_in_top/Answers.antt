@@ -1,0 +1,29 @@
+use Rattle.std.proofs.Common.{inl, inr}
+use Rattle.resb_lent.proofs.Sorting.{texts_utf8}
+use Rattle.resb_lent.proofs.Union.{held_by_own, held_by_top}
+use Rattle.resb_lent.proofs.texts.LentTexts.place_in_top.Goals as goal
+
+pub returns-in_default : goal.returns-in_default
+returns-in_default c = λ block S h utf8 given full none k.
+    held_by_own c.args.self.now block h S utf8 c.args.text.now full given none c.args.own.now k
+    (inl ((rw (c.deref.ensures.value, c.deref-2.ensures.value) at c.in_default.ensures)
+    (texts_utf8 c.args.self.now block h) h.tops))
+
+pub returns-then-not-precedes : goal.returns-then-not-precedes
+returns-then-not-precedes c = λ block S h utf8 given full none k.
+    held_by_own c.args.self.now block h S utf8 c.args.text.now full given none c.args.own.now k
+    (inr (
+      c.in-Some.top.now,
+      (rw (c.deref.ensures.value, c.deref-2.ensures.value) at c.in-Some.ensures)
+          (texts_utf8 c.args.self.now block h) h.tops,
+      c.if-not-precedes.ensures,
+    ))
+
+pub returns : goal.returns
+returns c = λ block S h utf8 given full none k.
+    held_by_top c.args.self.now block h S utf8 c.args.text.now full given none c.args.own.now k
+    c.in-Some.top.now
+    ((rw (c.deref.ensures.value, c.deref-2.ensures.value) at c.in-Some.ensures)
+    (texts_utf8 c.args.self.now block h) h.tops)
+    c.if-not-precedes.ensures c.place_within.result
+    (c.place_within.ensures block h)

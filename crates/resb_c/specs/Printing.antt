@@ -1,7 +1,8 @@
 -- What a bundle is printed as in either form, and why it has no text there.
 --     IsTextOf form text name fallback t keys   the text is a bundle of this form
 --     IsPrintOf form text name fallback t       the text is what that bundle is printed as
---     IsLongPrint form limit name fallback t    it has a text of more bytes than this
+--     IsLongPrint form limit name fallback t    it is printed as more bytes than this
+--     HasNoCause form name t                    nothing keeps it from having a text of this form
 --     IsUnprintable form e name fallback t      why it has no text of this form
 use Rattle.std.specs.Prelude.{◌≡◌, ◌⊎◌, ℕ, Bool, List, None}
 use Rattle.resb_tree.specs.Tree.{Tree}
@@ -30,13 +31,16 @@ abbrev pub IsPrintOf : Form → List ℕ → List ℕ → Bool → Tree → Type
 IsPrintOf Plain text name fallback t = IsBundleText plain_spelling text name fallback t
 IsPrintOf Icu text name fallback t = IsBundleText icu_spelling text name fallback t
 
--- nothing keeps a bundle of this name, flag and tree from having a text of this form, and it is
--- printed as more bytes than this
+-- a bundle of this name, flag and tree is printed in this form as more bytes than this, be that a
+-- text of the bundle or not
 abbrev pub IsLongPrint : Form → ℕ → List ℕ → Bool → Tree → Type 0
-IsLongPrint Plain limit name fallback t =
-    (first_cause plain_tests name t ≡ None) × IsLongBundle plain_spelling limit name fallback t
-IsLongPrint Icu limit name fallback t =
-    (first_cause icu_tests name t ≡ None) × IsLongBundle icu_spelling limit name fallback t
+IsLongPrint Plain limit name fallback t = IsLongBundle plain_spelling limit name fallback t
+IsLongPrint Icu limit name fallback t = IsLongBundle icu_spelling limit name fallback t
+
+-- nothing keeps a bundle of this name and tree from having a text of this form
+abbrev pub HasNoCause : Form → List ℕ → Tree → Type 0
+HasNoCause Plain name t = first_cause plain_tests name t ≡ None
+HasNoCause Icu name t = first_cause icu_tests name t ≡ None
 
 -- memory was wanted, or no text of this form has this name, flag and tree; then the first cause of
 -- that is named

@@ -2,7 +2,7 @@
 //! Where its tokens stand is found in `icu_walk`; the warnings of the other form are in `warning`.
 ghost use Rattle.std.specs.Prelude.{◌≡◌, ◌<◌, ◌≤◌, length, slice_index, false, IfOk, OnOk};
 ghost use Rattle.std.specs.Prelude.{IsPermutation};
-ghost use Rattle.std.specs.List.Sorted.{IsSorted, IsSortedByKey};
+ghost use Rattle.std.specs.List.Sorted.{IsSortedByKey};
 ghost use Rattle.std.specs.Ordering.{nat_cmp};
 ghost use Rattle.resb_grammar.specs.ByteRuns as bytes;
 ghost use Rattle.resb_diagnostics.specs.IcuWarnings as spec;
@@ -16,14 +16,12 @@ use crate::numbers::cut_integer;
 use crate::warning::{Reason, Warning};
 use std::alloc::{AllocError, Global};
 
-/// The warnings of a text of ICU's form, in order of place, and at one place in the order in which
-/// `Reason` has them. They are right for a text that is a bundle of that form; for any other one
-/// they say little.
+/// The warnings of a text of ICU's form, in order of place. They are right for a text that is a
+/// bundle of that form; for any other one they say little.
 pub fn icu_warnings(alloc: Global, text: &str) -> Result<Vec<Warning>, AllocError>
     ensures exact { IfOk result
         (λ found. IsPermutation (icu_warned text.now (length text.now)) found.items) }
     ensures order { IfOk result (λ found. IsSortedByKey (λ w. w.place) nat_cmp found.items) }
-    ensures reasons { IfOk result (λ found. IsSorted ⟦<Warning as Ord>⟧.cmp found.items) }
 {
     let mut look = Look::new(alloc, text.as_bytes());
     'tokens: while look.walk.at < text.len() {

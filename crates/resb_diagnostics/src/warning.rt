@@ -4,7 +4,7 @@
 ghost use Rattle.std.specs.Prelude.{◌≡◌, ◌++◌, ◌<◌, ◌≤◌, [], Some, None, length, option_map};
 ghost use Rattle.std.specs.Prelude.{IfOk, OnOk, slice_index};
 ghost use Rattle.std.specs.Prelude.{IsPermutation};
-ghost use Rattle.std.specs.List.Sorted.{IsSorted, IsSortedByKey};
+ghost use Rattle.std.specs.List.Sorted.{IsSortedByKey};
 ghost use Rattle.std.specs.Ordering.{nat_cmp};
 ghost use Rattle.resb_diagnostics.specs.Groups as spec;
 ghost use Rattle.resb_diagnostics.specs.Groups.{groups_behind};
@@ -58,13 +58,12 @@ pub enum Reason {
     UnquotedGroup,
 }
 
-/// The warnings of a text, in order of place, and at one place in the order in which `Reason` has
-/// them. They are right for a text that is a bundle; for any other one they say little.
+/// The warnings of a text, in order of place. They are right for a text that is a bundle; for any
+/// other one they say little.
 pub fn warnings(alloc: Global, text: &str) -> Result<Vec<Warning>, AllocError>
     ensures exact { IfOk result
         (λ found. IsPermutation (warned text.now (length text.now)) found.items) }
     ensures order { IfOk result (λ found. IsSortedByKey (λ w. w.place) nat_cmp found.items) }
-    ensures reasons { IfOk result (λ found. IsSorted ⟦<Warning as Ord>⟧.cmp found.items) }
 {
     let mut scan = Scan::new(alloc, text.as_bytes());
     'tokens: while scan.at < text.len() {

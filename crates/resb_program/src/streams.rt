@@ -121,8 +121,9 @@ fn write_line<W: Write>(writer: &mut W, file: &[u8]) -> Result<(), ToolError>
 /// feed.
 ///
 /// A read that was interrupted is asked again. The writer is not touched before the file is there,
-/// so that a write fault is only told then: an unknown part was written, else nothing. Where memory is wanted, no clause says for what: `Memory` may stand for the
-/// reader's or the writer's too, and it prints as theirs do.
+/// so that a write fault is told only then: an unknown part was written, else nothing. Where memory
+/// is wanted, no clause says for what: `Memory` may stand for the reader's or the writer's too, and
+/// it prints as theirs do.
 pub fn run<R: Read, W: Write>(
     alloc: Global,
     reader: &mut R,

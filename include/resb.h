@@ -4,7 +4,8 @@
  * It is for strangers' texts and files: whatever bytes they have, a call stays inside its buffers,
  * ends, and says what is wrong with them.
  *
- * Link with libresb_c.a and with the toolchain's liblibc_c.a, in this order.
+ * Link with libresb_c.a and with the toolchain's liblibc_c.a, in this order. Where both were
+ * installed by `./prove c --to PREFIX`, `pkg-config --cflags --libs resb` prints the words for that.
  *
  * Texts, names and paths are UTF-8 of a given length, without a zero at their end, and may hold
  * zeros: they are uint8_t, as all bytes here are, and not char. A char pointer is cast.

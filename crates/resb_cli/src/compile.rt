@@ -61,7 +61,7 @@ pub(crate) struct BundleFile<'t> {
 #[derive(Clone, Copy)]
 pub(crate) struct Work<'w, 'c, 'p> {
     pub(crate) wanted: &'w CompileWords<'c>,
-    pub(crate) pool: Option<&'p Pool<'p>>,
+    pub(crate) pool: Option<&'w Pool<'p>>,
     pub(crate) maker: Option<&'w RefCell<PoolMaker>>,
 }
 
@@ -204,17 +204,14 @@ fn compile_over(
     call.taken
         .add_input(rt, pool_name.as_str())
         .map_err(|_| refuse_memory(rt, name))?;
-    match Pool::open(rt.alloc(), input.open(rt, pool_name.as_str())?.bytes) {
-        Ok(pool) => {
-            call.pool = Some(pool_name);
-            let pool = Some(&pool);
-            Ok(compile_texts(rt, Work { pool, ..work }, call))
-        }
-        Err(e) => {
-            complain(rt, pool_name.as_str(), e);
-            Err(1)
-        }
-    }
+    let bytes = input.open(rt, pool_name.as_str())?.bytes;
+    let pool = Pool::open(rt.alloc(), bytes).map_err(|e| {
+        complain(rt, pool_name.as_str(), e);
+        1
+    })?;
+    call.pool = Some(pool_name);
+    let pool = Some(&pool);
+    Ok(compile_texts(rt, Work { pool, ..work }, call))
 }
 
 /// Compiles the texts that the words name, each folder's among them.

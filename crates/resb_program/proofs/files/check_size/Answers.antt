@@ -22,15 +22,15 @@ pub returns-then-not-keys_are_within-clause-err : goal.returns-then-not-keys_are
 returns-then-not-keys_are_within-clause-err c = (
   c.unwrap_or-key_limit.ensures,
   (
-    let (t, xs, d, paid, holds, is) = c.in-Ok.ensures in
-    let within : IfSome c.args.limit (λ most. tree_bytes xs ≤ most) =
-    elim c.in_default.branch [
-      | in_default-via-in-None-1 w ↦ search rules
-      | in_default-via-in-Some+else-not-is_within w ↦ rw w.in-Some.is
-          ((w.is_within.ensures xs is).0 w.if-not-is_within.false)
-    ] in
-    IfSome_then c.args.limit within (λ most less. (xs, holds, less))
-  ),
+      let (t, xs, d, paid, holds, is) = c.in-Ok.ensures in
+      let within : IfSome c.args.limit (λ most. tree_bytes xs ≤ most) =
+      elim c.in_default.branch [
+        | in_default-via-in-None-1 w ↦ search rules
+        | in_default-via-in-Some+else-not-is_within w ↦ rw w.in-Some.is
+            ((w.is_within.ensures xs is).0 w.if-not-is_within.false)
+      ] in
+      IfSome_then c.args.limit within (λ most less. (xs, holds, less))
+      ),
   is_over key_bytes (over (option_map pool_in c.args.pool) c.args.file.now)
       c.unwrap_or-key_limit.result c.in-Ok.measured c.in-Ok.measured.sums.key_bytes
       c.keys_are_within.result c.in-Ok.ensures c.keys_are_within.ensures

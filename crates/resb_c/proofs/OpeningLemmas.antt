@@ -1,20 +1,24 @@
 -- A file that is opened has the parts and the root of its bytes.
 use Rattle.std.proofs.Common.{◌≡◌, ℕ, List, Option, Some, Ok, Err, inl, inr, true, sym, ap, subst}
-use Rattle.std.proofs.Common.{◌∙◌}
+use Rattle.std.proofs.Common.{◌∙◌, [], refl, false, cond, None}
+use Rattle.std.proofs.lemmas.Bool.{false≢true}
+use Rattle.resb_tree.specs.Tree.{string}
 use Rattle.resb_format.specs.Error.{refusal_of, IsWantOfMemory}
-use Rattle.resb_format.specs.Content.{word}
+use Rattle.resb_format.specs.Content.{word, content_at, leaf}
+use Rattle.resb_format.specs.Denotes.{den_leaf}
 use Rattle.resb_format.specs.Parts.{Parts, reads_older}
 use Rattle.resb_format.specs.declared.error.ReadingError.{ReadingError}
 use Rattle.resb_head.specs.File.{root_word}
 use Rattle.resb_pool_bundle.specs.Checks.{refusal_with}
 use Rattle.resb_pool_bundle.specs.Pool.{Pool, parts_with}
+use Rattle.resb_path.specs.Finding.{tree_spot}
 use Rattle.resb_read.specs.Resources.{DenSpot}
 use Rattle.resb_read.specs.Roots.{AnswersCountOf}
 use Rattle.resb_read.specs.WithPool.{over}
 use Rattle.resb_read.specs.declared.cursor.Spot.TheVariants as spot
 use Rattle.resb_opened.specs.Ordered.{Ordered}
 use Rattle.resb_c.specs.Calls.{CountsFile}
-use Rattle.resb_c.specs.Opened.{parts_of, spot_of, says_ascending, AscendsAt}
+use Rattle.resb_c.specs.Opened.{IsClosed, parts_of, spot_of, says_ascending, AscendsAt, Shows}
 use Rattle.resb_c.specs.Opening.{IsOpened}
 use Rattle.resb_c.specs.Pools.{given}
 use Rattle.resb_c.specs.declared.fault.Fault.TheVariants.{Reading}
@@ -48,6 +52,33 @@ is_opened pool file lent q root o is cut at mine named ordered =
             (subst (λ p. Ordered p (word root)) (sym same) (ordered yes)),
       );
     }
+
+-- where aliases are read, the descriptor 0 is that of an empty string, whatever the file has
+nothing_there : (p : Parts) → reads_older p ≡ true → DenSpot p (spot.Descriptor 0) (string []) 1
+unfolding content_at
+nothing_there p reads = den_leaf (ap (λ c. cond c (Some (leaf (string []))) None) reads)
+
+-- so a struct whose root it is, and which doesn't say that tables ascend, shows an empty string
+pub closed_root : (o : ResbOpened) → spot_of o.root ≡ spot.Descriptor 0
+    → says_ascending o ≡ false → Shows o o.root (tree_spot (string []))
+closed_root o root never = (
+  (1, subst (λ s. DenSpot (parts_of o) s (string []) 1) (sym root) (nothing_there (parts_of o) refl)),
+  λ yes. absurd (false≢true (sym never ∙ yes)),
+)
+
+-- such a struct in which nothing stands
+pub is_closed : (o : ResbOpened) → spot_of o.root ≡ spot.Descriptor 0 → says_ascending o ≡ false
+    → o.count ≡ 0 → o.body.now ≡ [] → o.keys.now ≡ [] → o.block.now ≡ [] → o.pool_keys.now ≡ []
+    → o.pool_block.now ≡ [] → IsClosed o
+is_closed o root never count body keys block pool_keys pool_block = record {
+  empty = closed_root o root never;
+  count = count;
+  body = body;
+  keys = keys;
+  block = block;
+  pool_keys = pool_keys;
+  pool_block = pool_block;
+}
 
 -- a file that was counted passes each check of its head
 pub counted_passes : (pool file : List ℕ) (lent : Option Pool) (e : ReadingError) (n : ℕ)

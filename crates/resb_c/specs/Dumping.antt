@@ -11,7 +11,7 @@ use Rattle.resb_program.specs.Files.{LacksPool, RefusesReading, IsBundleBeside, 
 use Rattle.resb_program.specs.declared.errors.FileError.TheVariants as file_error
 use Rattle.resb_c.specs.Calls.{Fills, IsNotUtf8}
 use Rattle.resb_c.specs.Pools.{given, IsGiven, RefusesPool}
-use Rattle.resb_c.specs.Printing.{IsTextOf, IsPrintOf, IsLongPrint, IsUnprintable}
+use Rattle.resb_c.specs.Printing.{IsTextOf, IsPrintOf, IsLongPrint, HasNoCause, IsUnprintable}
 use Rattle.resb_c.specs.declared.form.Form.{Form}
 use Rattle.resb_c.specs.declared.printing.PrintingFault.{PrintingFault}
 use Rattle.resb_c.specs.declared.fault.Fault.{Fault}
@@ -52,11 +52,13 @@ pub record IsDump (form : Form) (pool file name : List ℕ) (limit : ℕ) (text 
       (root_of bundle) keys
   pub fits : length text ≤ limit
 
--- the file's bundle under this name, which is UTF-8, is printed as more bytes than the limit
+-- nothing keeps the file's bundle under this name, which is UTF-8, from having a text of this form,
+-- and it is printed as more bytes than the limit
 pub record HasLongDump (form : Form) (pool file name : List ℕ) (limit : ℕ) : Type 0 where
   pub bundle : ResourceBundle
   pub named : IsUtf8 name
   pub of_file : IsBundleToDump pool file name limit bundle
+  pub no_cause : HasNoCause form (name_of bundle) (root_of bundle)
   pub long : IsLongPrint form limit (name_of bundle) bundle.is_locale_fallback_enabled
       (root_of bundle)
 

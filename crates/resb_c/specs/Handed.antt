@@ -3,9 +3,12 @@
 --     IsOpenedAs r o          the struct that the caller gets where a file is opened
 --     HandsOn r status m      the status and the resource that he gets of an answer
 --     HandsPart read x status b   the status and the bytes that he gets of what is there
+--     HandsUnits x status b       the same of a text, whose units are handed on
 --     TellsKeyOf o r k s status b     the same of the key of the kth entry
 use Rattle.std.specs.Prelude.{◌≡◌, ℕ, List, [], Option, Some, None, Result, Ok, Err, slice_get}
 use Rattle.resb_tree.specs.Tree.{Tree, string, alias, array, table, binary, integer, int_vector}
+use Rattle.resb_format.specs.Bytes.{units_as_bytes}
+use Rattle.resb_format.specs.Units.{units}
 use Rattle.resb_path.specs.Finding.{Spot, tree_spot, number_spot}
 use Rattle.resb_read.specs.declared.cursor.Spot.TheVariants as spot
 use Rattle.resb_c.specs.Faults.{number_of}
@@ -34,6 +37,13 @@ HandsOn (Err fault) status new = (status ≡ number_of fault) × (spot_of new �
 abbrev pub HandsPart : (List ℕ → List ℕ) → Option (List ℕ) → ℕ → ResbBytes → Type 0
 HandsPart read (Some x) status b = (status ≡ 0) × (read b.bytes.now ≡ x)
 HandsPart read None status b = (status ≡ 13) × (b.bytes.now ≡ [])
+
+-- the status is 0, and the bytes are those of the text's units of 16 bits, the lower byte of each
+-- first; or it is 13, and there are none
+abbrev pub HandsUnits : Option (List ℕ) → ℕ → ResbBytes → Type 0
+HandsUnits (Some text) status b =
+    (status ≡ 0) × (b.bytes.now ≡ units_as_bytes (units text))
+HandsUnits None status b = (status ≡ 13) × (b.bytes.now ≡ [])
 
 -- the status is 0, and the bytes are the entry's key; or it is 12, and there are none
 abbrev pub HandsKey : Option (List ℕ × Tree) → ℕ → ResbBytes → Type 0

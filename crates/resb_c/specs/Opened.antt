@@ -4,10 +4,10 @@
 --     AscendsAt p spot        the keys of all tables ascend in what stands at a spot
 --     Shows o r s             what this resource names is this tree, or this number of a vector
 --     HoldsEntries o r ts     a table stands there, with these entries in this order
---     IsClosed o              nothing stands in the file
+--     IsClosed o              nothing stands in the file but an empty string
 use Rattle.std.specs.Prelude.{◌≡◌, ◌==◌, ◌&&◌, ◌^◌, not, ℕ, Bool, true, List, [], Some, nat_lt}
 use Rattle.std.specs.Prelude.{if◌then◌else◌}
-use Rattle.resb_tree.specs.Tree.{Tree}
+use Rattle.resb_tree.specs.Tree.{Tree, string}
 use Rattle.resb_format.specs.Bytes.{units_of}
 use Rattle.resb_format.specs.Content.{Member, word, unit, entry_list}
 use Rattle.resb_format.specs.Denotes.{DenEntries}
@@ -16,7 +16,7 @@ use Rattle.resb_read.specs.Places.{Place}
 use Rattle.resb_read.specs.declared.cursor.Spot as cursor
 use Rattle.resb_read.specs.declared.cursor.Spot.TheVariants as spot
 use Rattle.resb_opened.specs.Ordered.{Ordered}
-use Rattle.resb_path.specs.Finding.{Spot}
+use Rattle.resb_path.specs.Finding.{Spot, tree_spot}
 use Rattle.resb_path.specs.InFiles.{IsAt}
 use Rattle.resb_c.specs.AtPlaces.{content_from}
 use Rattle.resb_c.specs.declared.opened.ResbOpened.{ResbOpened}
@@ -72,8 +72,10 @@ HoldsEntries o r ts =
     × (content_from (parts_of o) (spot_of r) ≡ Some (entry_list es))
     × DenEntries (parts_of o) es ts n
 
--- nothing stands in the file of the struct: it has no resources, and no bytes
+-- nothing stands in the file of the struct: it has no resources, and no bytes. It may be handed on:
+-- its root is an empty string, which needs none
 pub record IsClosed (o : ResbOpened) : Type 0 where
+  pub empty : Shows o o.root (tree_spot (string []))
   pub count : o.count ≡ 0
   pub body : o.body.now ≡ []
   pub keys : o.keys.now ≡ []

@@ -2,8 +2,9 @@
 --     IsTextOf form text name fallback t keys   the text is a bundle of this form
 --     IsPrintOf form text name fallback t       the text is what that bundle is printed as
 --     IsLongPrint form limit name fallback t    it is printed as more bytes than this
+--     HasNoCause form name t                    nothing keeps it from having a text of this form
 --     IsUnprintable form e name fallback t      why it has no text of this form
-use Rattle.std.specs.Prelude.{◌≡◌, ◌⊎◌, ℕ, Bool, List}
+use Rattle.std.specs.Prelude.{◌≡◌, ◌⊎◌, ℕ, Bool, List, None}
 use Rattle.resb_tree.specs.Tree.{Tree}
 use Rattle.resb_grammar.specs.BundleText.{BundleText}
 use Rattle.resb_icu_grammar.specs.Bundle.{IcuText}
@@ -35,6 +36,11 @@ IsPrintOf Icu text name fallback t = IsBundleText icu_spelling text name fallbac
 abbrev pub IsLongPrint : Form → ℕ → List ℕ → Bool → Tree → Type 0
 IsLongPrint Plain limit name fallback t = IsLongBundle plain_spelling limit name fallback t
 IsLongPrint Icu limit name fallback t = IsLongBundle icu_spelling limit name fallback t
+
+-- nothing keeps a bundle of this name and tree from having a text of this form
+abbrev pub HasNoCause : Form → List ℕ → Tree → Type 0
+HasNoCause Plain name t = first_cause plain_tests name t ≡ None
+HasNoCause Icu name t = first_cause icu_tests name t ≡ None
 
 -- memory was wanted, or no text of this form has this name, flag and tree; then the first cause of
 -- that is named

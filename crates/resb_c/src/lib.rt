@@ -9,7 +9,6 @@ ghost use Rattle.std.specs.Prelude.{MatchOption};
 ghost use Rattle.resb_tree.specs.Tree.{Tree, Entries, table, map_of};
 ghost use Rattle.resb_format.specs.Bytes.{words_of};
 ghost use Rattle.resb_path.specs.Finding.{Spot, tree_spot};
-ghost use Rattle.resb_walk.specs.Inner.Members.{text_of_bytes};
 ghost use Rattle.resb_read.specs.declared.measuring.Measured.{Measured};
 ghost use Rattle.resb_diagnostics.specs.Location.{line_at, column_at};
 ghost use Rattle.resb_zoneinfo.specs.Reading.{ReadsInfo, RefusesInfo};
@@ -22,7 +21,7 @@ ghost use Rattle.resb_c.specs.Compiling.{CompilesInto, CompilesWithin};
 ghost use Rattle.resb_c.specs.Dumping.{DumpsInto};
 ghost use Rattle.resb_c.specs.JsonDumping.{DumpsJsonInto};
 ghost use Rattle.resb_c.specs.Handed as handed;
-ghost use Rattle.resb_c.specs.Handed.{HandsOn, HandsPart, IsOpenedAs, TellsKeyOf};
+ghost use Rattle.resb_c.specs.Handed.{HandsOn, HandsPart, HandsUnits, IsOpenedAs, TellsKeyOf};
 ghost use Rattle.resb_c.specs.Measures.{MeasuresFile, ShowsSums};
 ghost use Rattle.resb_c.specs.Opened.{Shows, HoldsEntries};
 ghost use Rattle.resb_c.specs.Opening.{OpensFile};
@@ -662,8 +661,7 @@ pub extern "C" fn resb_utf16_of<'a>(
     resource: ResbResource,
     units: &mut ResbBytes<'a>,
 ) -> u32
-    ensures { (s : Spot) → Shows opened.now resource s → HandsPart text_of_bytes (text_shown s)
-        result units.new }
+    ensures { (s : Spot) → Shows opened.now resource s → HandsUnits (text_shown s) result units.new }
 {
     let answer = units_seen(opened, resource);
     hand_bytes(&answer, units)

@@ -1,11 +1,12 @@
 //! The text of a bundle in either form, and why it has none there.
 //! How a file's bundle is read, and where its text goes, is in `files`.
 ghost use Rattle.std.specs.Prelude.{◌≡◌, ◌≤◌, ℕ, List, length, IfOk, IfErr, IfSome, Some};
-ghost use Rattle.std.specs.Prelude.{MatchOption};
+ghost use Rattle.std.specs.Prelude.{MatchOption, OnOk};
 ghost use Rattle.std.specs.String.{string_bytes};
 ghost use Rattle.resb_tree.specs.Bundle.{name_of, root_of};
 ghost use Rattle.resb_c.specs.Faults.{print_message, print_number};
-ghost use Rattle.resb_c.specs.Printing.{IsTextOf, IsPrintOf, IsLongPrint, IsUnprintable};
+ghost use Rattle.resb_c.specs.Printing.{IsTextOf, IsPrintOf, IsLongPrint, HasNoCause};
+ghost use Rattle.resb_c.specs.Printing.{IsUnprintable};
 
 use crate::form::Form;
 use resb_icu_print::IcuPrintError;
@@ -52,7 +53,8 @@ impl fmt::Display for PrintingFault {
 
 impl Error for PrintingFault {}
 
-/// The text of a bundle in this form, or none where it would have more bytes than the limit.
+/// The text of a bundle in this form, or none where it would have more bytes than the limit. A cause
+/// that keeps the bundle from having a text is answered whatever the limit is.
 pub(crate) fn print_within(
     alloc: Global,
     form: Form,
@@ -69,6 +71,7 @@ pub(crate) fn print_within(
         bundle.now.is_locale_fallback_enabled (root_of bundle.now))) }
     ensures within { IfOk result (λ found.
         IfSome found (λ text. length (string_bytes text) ≤ limit)) }
+    ensures no_cause { OnOk result (HasNoCause form (name_of bundle.now) (root_of bundle.now)) }
     ensures none { IfErr result (λ e. IsUnprintable form e (name_of bundle.now)
         bundle.now.is_locale_fallback_enabled (root_of bundle.now)) }
 {

@@ -1,11 +1,13 @@
 //! What stands at a resource of an opened file: its kind and its size, and what a leaf holds.
 //! What is inside arrays, tables and vectors is found in `within`.
-ghost use Rattle.std.specs.Prelude.{◌≡◌, ℕ, Some, None, option_map, IfOk, IfErr, MatchResult};
-ghost use Rattle.resb_format.specs.Bytes.{words_of};
+ghost use Rattle.std.specs.Prelude.{◌≡◌, ℕ, Some, None, option_map, IfOk, IfErr, IfSome};
+ghost use Rattle.std.specs.Prelude.{MatchResult};
+ghost use Rattle.resb_format.specs.Bytes.{units_as_bytes, words_of};
+ghost use Rattle.resb_format.specs.Units.{units};
 ghost use Rattle.resb_tree.specs.Int28.{signed};
 ghost use Rattle.resb_path.specs.Finding as finding;
 ghost use Rattle.resb_path.specs.Finding.{number_spot};
-ghost use Rattle.resb_walk.specs.Inner.Members.{content_of, text_of_bytes};
+ghost use Rattle.resb_walk.specs.Inner.Members.{content_of, text_of_bytes, AreUtf16, HasUtf16};
 ghost use Rattle.resb_c.specs.AtPlaces.{content_from, found_kind};
 ghost use Rattle.resb_c.specs.Inner.Contents.{content_bytes, content_integer, content_numbers};
 ghost use Rattle.resb_c.specs.Inner.Contents.{content_text};
@@ -33,6 +35,7 @@ pub(crate) fn standing<'a>(
         content_from (parts_of opened.now) (spot_of resource) ≡ Some (content_of s)) }
     ensures err { IfErr result (λ e. (s : finding.Spot) → Shows opened.now resource s
         → (n : ℕ) × (s ≡ number_spot n) × (e ≡ OtherKind)) }
+    ensures form { IfOk result HasUtf16 }
 {
     let at = resource.spot();
     if let Spot::Word(_) = at {
@@ -44,14 +47,26 @@ pub(crate) fn standing<'a>(
     }
 }
 
+/// Bytes of UTF-16, which are those of the units of the text that they spell.
+fn spelled(bytes: &[u8]) -> &[u8]
+    requires { AreUtf16 bytes.now }
+    ensures is { result.now ≡ bytes.entry.now }
+    ensures units { result.now ≡ units_as_bytes (units (text_of_bytes result.now)) }
+{
+    bytes
+}
+
 /// The units of a string.
 #[tactic(auto, using(crate::proofs::ThereLemmas::empty_text))]
 fn text_of(there: Standing<'_>) -> Option<&[u8]>
-    ensures { option_map (λ units. text_of_bytes units.now) result
+    requires { HasUtf16 there }
+    ensures text { option_map (λ units. text_of_bytes units.now) result
         ≡ content_text (content_of there.entry) }
+    ensures units { IfSome result
+        (λ bytes. bytes.now ≡ units_as_bytes (units (text_of_bytes bytes.now))) }
 {
     match there {
-        Standing::Leaf(Leaf::Text(units)) => Some(units),
+        Standing::Leaf(Leaf::Text(units)) => Some(spelled(units)),
         Standing::Leaf(Leaf::Empty) => Some(&[]),
         Standing::Leaf(Leaf::Alias(_) | Leaf::Binary(_) | Leaf::Integer(_) | Leaf::Numbers(_)) => {
             None
@@ -128,9 +143,11 @@ pub(crate) fn units_seen<'a>(
     opened: &ResbOpened<'a>,
     resource: ResbResource,
 ) -> Result<&'a [u8], Fault>
-    ensures { (s : finding.Spot) → Shows opened.now resource s → MatchResult result
-        (λ units. text_shown s ≡ Some (text_of_bytes units.now))
+    ensures shown { (s : finding.Spot) → Shows opened.now resource s → MatchResult result
+        (λ bytes. text_shown s ≡ Some (text_of_bytes bytes.now))
         (λ e. (text_shown s ≡ None) × (e ≡ OtherKind)) }
+    ensures units { IfOk result
+        (λ bytes. bytes.now ≡ units_as_bytes (units (text_of_bytes bytes.now))) }
 {
     let there = standing(opened, resource)?;
     match text_of(there) {

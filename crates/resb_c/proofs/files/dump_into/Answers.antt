@@ -64,6 +64,7 @@ returns-in-Ok-None c =
       of_file = subst
           (λ (n : List ℕ). IsBundleToDump pool file n limit c.in_ok-bundle.bundle)
           c.in_ok-name.ensures.ok.0 c.in_ok-bundle.ensures.ok;
+      no_cause = at.no_cause;
       long = at.exact;
     } in
     (refl, long, refl)

@@ -28,7 +28,7 @@ use Rattle.resb_lent.specs.PlanWithPool.{AreLentBy, lent_more, lacking}
 use Rattle.resb_lent.specs.Inner.LentEndings.{IsLentEnd, NotesEnd, AreLentEnds}
 use Rattle.resb_lent.specs.Inner.LentEndings.{AreLentEndsBy}
 use Rattle.resb_lent.specs.Inner.Within.{lent_list}
-use Rattle.resb_lent.specs.declared.records.LentRecord.{LentRecord}
+use Rattle.resb_lent.specs.declared.lent_record.LentRecord.{LentRecord}
 use Rattle.resb_lent.specs.declared.texts.LentTexts.{LentTexts}
 use Rattle.resb_lent.proofs.Among.{plan_among}
 use Rattle.resb_lent.proofs.Lying.{ends_of}

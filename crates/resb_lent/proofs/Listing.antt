@@ -10,7 +10,7 @@ use Rattle.resb_lent.specs.LentTexts.{StandsAt, Reaches, at_end, past}
 use Rattle.resb_lent.specs.Inner.Listed.{IsRecordAt, IsListed, ListsRecords, ListsUpTo}
 use Rattle.resb_lent.specs.Entries.{pairs}
 use Rattle.resb_lent.specs.Entries.{pair_of}
-use Rattle.resb_lent.specs.declared.records.LentRecord.{LentRecord}
+use Rattle.resb_lent.specs.declared.lent_record.LentRecord.{LentRecord}
 use Rattle.resb_lent.proofs.Standing.{one_record, reaches_next}
 
 pub none_listed : (block : List ℕ) (es : List LentRecord) → es ≡ [] → ListsUpTo block es 1

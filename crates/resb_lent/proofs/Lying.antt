@@ -30,7 +30,7 @@ use Rattle.resb_lent.specs.Inner.Listed.{HasPlace}
 use Rattle.resb_lent.specs.Inner.LentEndings.{IsLentEnd}
 use Rattle.resb_lent.specs.Inner.Within.{NoneHolds, StandsWithin}
 use Rattle.resb_lent.specs.Entries.{IsLentEntry, pair_of, entry_cmp}
-use Rattle.resb_lent.specs.declared.records.LentRecord.{LentRecord}
+use Rattle.resb_lent.specs.declared.lent_record.LentRecord.{LentRecord}
 use Rattle.resb_lent.specs.declared.texts.LentTexts.{LentTexts}
 
 abbrev text : LentRecord → List ℕ

@@ -15,7 +15,7 @@ use Rattle.resb_lent.specs.Inner.Tops.{AreTops}
 use Rattle.resb_lent.specs.Inner.Within.{record_bytes}
 use Rattle.resb_lent.specs.Entries.{IsLentEntry, pairs, pair_of}
 use Rattle.resb_lent.specs.Entries.{entry_cmp}
-use Rattle.resb_lent.specs.declared.records.LentRecord.{LentRecord}
+use Rattle.resb_lent.specs.declared.lent_record.LentRecord.{LentRecord}
 use Rattle.resb_lent.specs.declared.texts.LentTexts.{LentTexts}
 
 pub lends_sorted : (l : LentTexts) (block : List ℕ) (old : List LentRecord)

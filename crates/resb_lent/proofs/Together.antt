@@ -27,7 +27,7 @@ use Rattle.resb_lent.specs.LentBeside.{LentBeside, beside_empty, beside_within, 
 use Rattle.resb_lent.specs.LentTexts.{IsLentRecord, Holds, LentText, LendsText, lent_empty}
 use Rattle.resb_lent.specs.LentTexts.{lent_within}
 use Rattle.resb_lent.specs.Inner.Within.{NoneHolds, StandsWithin, lent_list, record_bytes}
-use Rattle.resb_lent.specs.declared.records.LentRecord.{LentRecord}
+use Rattle.resb_lent.specs.declared.lent_record.LentRecord.{LentRecord}
 use Rattle.resb_lent.specs.declared.texts.LentTexts.{LentTexts}
 use Rattle.resb_lent.proofs.Lying.{turned, ends_of}
 

@@ -17,7 +17,7 @@ use Rattle.resb_pool.specs.Inner.Tops.{IsTopOf}
 use Rattle.resb_pool.specs.declared.packing.Packing.TheVariants.{Compact}
 use Rattle.resb_lent.specs.Inner.Within.{record_bytes}
 use Rattle.resb_lent.specs.Inner.Tops.{AreInOrder, AreTops, Ascend, numbered_text, text_of_number}
-use Rattle.resb_lent.specs.declared.records.LentRecord.{LentRecord}
+use Rattle.resb_lent.specs.declared.lent_record.LentRecord.{LentRecord}
 use Rattle.resb_lent.proofs.Lying.{turned, comes_after}
 use Rattle.resb_lent.proofs.TopsLemmas.{Behind, letters, ends_before, ends_between, same_text}
 

@@ -10,7 +10,7 @@ use Rattle.resb_format.specs.Units.{size}
 use Rattle.resb_pool.specs.Order.{suffix_cmp}
 use Rattle.resb_pool.specs.declared.packing.Packing.TheVariants.{Plain}
 use Rattle.resb_lent.specs.LentTexts.{IsLentRecord}
-use Rattle.resb_lent.specs.declared.records.LentRecord.{LentRecord}
+use Rattle.resb_lent.specs.declared.lent_record.LentRecord.{LentRecord}
 
 -- a record's text and its place
 abbrev pub pair_of : LentRecord → List ℕ × ℕ

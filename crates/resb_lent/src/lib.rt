@@ -8,6 +8,7 @@ mod ends;
 mod head_with_pool;
 mod keys;
 pub mod laws;
+mod lent_record;
 mod plan_with_pool;
 mod pool;
 mod records;

@@ -12,24 +12,16 @@ ghost use Rattle.resb_pool.specs.Pool.{record_units};
 ghost use Rattle.resb_lent.specs.LentTexts.{StandsAt};
 ghost use Rattle.resb_lent.specs.Inner.Listed.{IsRecordAt, ListsRecords};
 
+use crate::lent_record::LentRecord;
 use resb_format::bytes::unit_at;
 use resb_format::{Utf16View, string_at, utf16_len};
 use resb_pool::push_record;
+use resb_pool::suffix_order::last_digits;
 use resb_tree::NoMemory;
 use std::alloc::Global;
 
 /// A record of a pool stands below this unit, since indexes of strings have 28 bits.
 const INDEX_LIMIT: usize = 0x1000_0000;
-
-/// A record of a pool bundle.
-#[derive(Drop)]
-pub(crate) struct LentRecord {
-    pub(crate) text: String,
-    /// The unit at which it stands.
-    pub(crate) at: u32,
-    /// The unit right behind it.
-    pub(crate) end: u32,
-}
 
 /// The units that bytes spell.
 pub(crate) fn units_in(alloc: Global, block: &[u8]) -> Result<Vec<u16>, NoMemory>
@@ -123,10 +115,12 @@ fn record_at(
     if record.len() > INDEX_LIMIT - at || !stand_at(units, at, &record) {
         return Ok(None);
     }
+    let digits = last_digits(&text);
     Ok(Some(LentRecord {
         text,
         at: at as u32,
         end: (at + record.len()) as u32,
+        digits,
     }))
 }
 

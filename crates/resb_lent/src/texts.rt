@@ -7,18 +7,19 @@ ghost use Rattle.std.specs.String.{string_bytes};
 ghost use Rattle.std.specs.declared.cmp.Ordering.TheVariants.{Greater};
 ghost use Rattle.resb_format.specs.Units.{size};
 ghost use Rattle.resb_pool.specs.Order.{suffix_cmp};
+ghost use Rattle.resb_pool.specs.Inner.Suffixes.{last_digits as digits_of};
 ghost use Rattle.resb_pool.specs.Records.{EndsWith};
 ghost use Rattle.resb_pool.specs.declared.packing.Packing.TheVariants.{Plain};
 ghost use Rattle.resb_lent.specs.LentTexts.{Holds};
 ghost use Rattle.resb_lent.specs.Inner.Listed.{HasPlace};
 ghost use Rattle.resb_lent.specs.Entries.{entry_cmp};
-ghost use Rattle.resb_lent.specs.declared.records.LentRecord.{LentRecord as Entry};
+ghost use Rattle.resb_lent.specs.declared.lent_record.LentRecord.{LentRecord as Entry};
 
-use crate::records::{LentRecord, records_in, units_in};
+use crate::lent_record::LentRecord;
+use crate::records::{records_in, units_in};
 use crate::tops::{precedes, top_above, tops};
 use resb_format::{is_unmarked, utf16_len};
-use resb_pool::Packing;
-use resb_pool::suffix_order::compare;
+use resb_pool::suffix_order::{compare_with_digits, last_digits};
 use resb_tree::NoMemory;
 use std::alloc::Global;
 use std::cmp::Ordering;
@@ -51,10 +52,20 @@ fn begins_with_zero(units: &[u16]) -> bool
 fn compare_records(left: &LentRecord, right: &LentRecord) -> Ordering
     ensures { result ≡ entry_cmp left.now right.now }
 {
-    match compare(Packing::Plain, &left.text, &right.text) {
+    match compare_with_digits(&left.text, left.digits, &right.text, right.digits) {
         Ordering::Equal => right.at.cmp(&left.at),
         other => other,
     }
+}
+
+/// How the text of a record compares to a text in a plain file's order, where the last digits of
+/// that text are given.
+#[inline(always)]
+fn compare_to(record: &LentRecord, text: &str, digits: u128) -> Ordering
+    requires { digits ≡ digits_of text.now }
+    ensures { result ≡ suffix_cmp Plain (string_bytes «record».now.text) text.now }
+{
+    compare_with_digits(&record.text, record.digits, text, digits)
 }
 
 /// How many records stand before the first that comes after a text. The records are sorted.
@@ -67,11 +78,12 @@ fn count_up_to(records: &[LentRecord], text: &str) -> usize
         → suffix_cmp Plain (string_bytes (slice_index_or records.now result d).text) text.now
         ≡ Greater }
 {
+    let digits = last_digits(text);
     let mut low = 0;
     let mut high = records.len();
     'halves: while low < high {
         let middle = low + (high - low) / 2;
-        if compare(Packing::Plain, &records[middle].text, text) == Ordering::Greater {
+        if compare_to(&records[middle], text, digits) == Ordering::Greater {
             high = middle;
         } else {
             low = middle + 1;
@@ -149,6 +161,10 @@ impl LentTexts {
             → IsContainer Compact S text.now own.now
             → LendsTextBy Compact block S text.now result }
     {
+        // Most texts that the pool lacks end none of its texts, which a search by digits tells.
+        if !self.ends_with(text) {
+            return None;
+        }
         let Some(top) = top_above(&self.records, &self.tops, text) else {
             return None;
         };

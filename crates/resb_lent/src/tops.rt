@@ -14,7 +14,7 @@ ghost use Rattle.resb_pool.specs.declared.packing.Packing.TheVariants.{Compact};
 ghost use Rattle.resb_lent.specs.Inner.Within.{record_bytes};
 ghost use Rattle.resb_lent.specs.Inner.Tops.{AreTops, AreInOrder, Precedes, numbered_text, text_of_number};
 
-use crate::records::LentRecord;
+use crate::lent_record::LentRecord;
 use resb_pool::Packing;
 use resb_pool::suffix_order::compare;
 use std::alloc::{AllocError, Global};

@@ -8,17 +8,18 @@ use Rattle.std.specs.Cmp.{IsTotalOrder, IsStrictWeakOrder}
 use Rattle.std.proofs.lemmas.List.MinMax.{ranks_by}
 use Rattle.std.specs.Str.{IsUtf8}
 use Rattle.std.specs.Ordering.{nat_cmp, ordering_then, ordering_reverse, is_lt}
-use Rattle.std.specs.declared.cmp.Ordering.TheVariants.{Less}
+use Rattle.std.specs.declared.cmp.Ordering.{Ordering}
+use Rattle.std.specs.declared.cmp.Ordering.TheVariants.{Less, Equal}
 use Rattle.std.proofs.lemmas.Cmp.{then_total, on_total, nat_cmp_total}
-use Rattle.std.proofs.lemmas.Cmp.{tied_itself}
+use Rattle.std.proofs.lemmas.Cmp.{tied_itself, ranked, by_ranked}
 use Rattle.std.proofs.lemmas.Bool.{cases_lt}
 use Rattle.std.proofs.lemmas.List.{get_or_past}
 use Rattle.std.proofs.lemmas.List.Elements.{All-tail}
 use Rattle.std.proofs.lemmas.Str.{IsUtf8-nil}
-use Rattle.resb_pool.specs.Order.{end_last_cmp}
+use Rattle.resb_pool.specs.Order.{end_last_cmp, suffix_cmp}
 use Rattle.resb_pool.specs.Inner.Cuts.{chars_backwards, letters_backwards}
 use Rattle.resb_pool.specs.Inner.Suffixes.{digits_backwards, key_of_digits, digits_bound}
-use Rattle.resb_pool.specs.Inner.Suffixes.{keyed_cmp, row_cmp}
+use Rattle.resb_pool.specs.Inner.Suffixes.{keyed_cmp, row_cmp, last_digits}
 use Rattle.resb_pool.specs.Inner.Suffixes.{row_key, row_text, IsKeyed, IsRowOf}
 use Rattle.resb_pool.specs.Inner.Placing.{indexed_text}
 use Rattle.resb_pool.specs.Inner.Ranks.{HaveCharLetters}
@@ -116,6 +117,24 @@ order_of (suc n) a (x ∷ xs) (y ∷ ys) s t l =
           (tail_small y ys t) (tail_small x xs s) (omega (arith, m)),
     )))
 
+-- texts of which the first digits differ compare as these do
+pub digits_tell : (s t : List ℕ) → IsUtf8 s → IsUtf8 t → last_digits s < last_digits t
+    → suffix_cmp Plain s t ≡ Less
+digits_tell s t u v l = digits_order (chars_backwards s) (chars_backwards t)
+    (order_of 16 0 (digits_backwards s) (digits_backwards t) (small_key s u) (small_key t v) l)
+
+-- and so does what tells which of their digits are greater
+pub told_by_digits : (s t : List ℕ) → IsUtf8 s → IsUtf8 t → (o : Ordering)
+    → o ≡ nat_cmp (last_digits s) (last_digits t) → (o ≡ Equal → ⊥) → o ≡ suffix_cmp Plain s t
+told_by_digits s t u v o is ne =
+    let m = last_digits s in
+    let n = last_digits t in
+    by_ranked (m < n) (m ≡ n) (n < m) (nat_cmp m n) (ranked m n (nat_cmp m n) refl)
+    (λ e l. is ∙ e ∙ sym (digits_tell s t u v l))
+    (λ e l. absurd (ne (is ∙ e)))
+    (λ e l. is ∙ e ∙ sym (end_last_total.antisymm (chars_backwards s) (chars_backwards t)
+    ∙ ap ordering_reverse (digits_tell t s v u l)))
+
 -- each text, and the empty one where there is none
 pub text_utf8 : (T : List (List ℕ)) (i : ℕ) → All IsUtf8 T → IsUtf8 (indexed_text T i)
 text_utf8 T i u = elim (cases_lt i (length T)) [
@@ -140,10 +159,8 @@ module _ (T : List (List ℕ)) where
         let s = row_text T x in
         let t = row_text T y in
         ap is_lt (end_last_total.antisymm (chars_backwards s) (chars_backwards t)
-        ∙ ap ordering_reverse (digits_order (chars_backwards t) (chars_backwards s)
-        (order_of 16 0 (digits_backwards t) (digits_backwards s)
-        (small_key t (text_utf8 T y.index utf8)) (small_key s (text_utf8 T x.index utf8))
-        (omega (arith, m, h.key_is, k.key_is)))))
+        ∙ ap ordering_reverse (digits_tell t s (text_utf8 T y.index utf8)
+        (text_utf8 T x.index utf8) (omega (arith, m, h.key_is, k.key_is))))
 
     before_too : (x y : Row) → IsKeyed T x → IsKeyed T y → is_lt (keyed_cmp T x y) ≡ false
         → is_lt (row_cmp Plain T x y) ≡ false

@@ -11,7 +11,8 @@ ghost use Rattle.resb_pool.specs.Inner.Suffixes.{keyed_cmp};
 ghost use Rattle.resb_pool.specs.Inner.Suffixes.{char_digits, digits_backwards, key_of_digits};
 ghost use Rattle.resb_pool.specs.Inner.Suffixes.{row_key, row_text, IsPart, IsKeyed};
 ghost use Rattle.resb_pool.specs.Inner.Suffixes.{IsWholeInRow, TellsEnd};
-ghost use Rattle.resb_pool.specs.declared.packing.Packing.TheVariants.{Compact};
+ghost use Rattle.resb_pool.specs.Inner.Suffixes.{last_digits as digits_of};
+ghost use Rattle.resb_pool.specs.declared.packing.Packing.TheVariants.{Plain, Compact};
 
 use crate::letters::{are_compared_by_units, last_rank};
 use crate::packing::Packing;
@@ -291,6 +292,34 @@ pub fn compare(packing: Packing, left: &str, right: &str) -> Ordering
             (None, Some(_)) => return Ordering::Greater,
             (None, None) => return Ordering::Equal,
         }
+    }
+}
+
+/// The first 16 digits of a text's characters, last character first, as a number. An ASCII
+/// character is one digit of eight bits, and any other is three. Where the text has ended, 255
+/// stands for each digit.
+pub fn last_digits(text: &str) -> u128
+    ensures { result ≡ digits_of text.now }
+{
+    end_key_of(text).number
+}
+
+/// How two texts compare in a plain file, as `compare` answers it, where their `last_digits` are
+/// given. The texts are looked at only where these are the same.
+#[inline(always)]
+pub fn compare_with_digits(
+    left: &str,
+    left_digits: u128,
+    right: &str,
+    right_digits: u128,
+) -> Ordering
+    requires left { left_digits ≡ digits_of left.now }
+    requires right { right_digits ≡ digits_of right.now }
+    ensures { result ≡ suffix_cmp Plain left.now right.now }
+{
+    match left_digits.cmp(&right_digits) {
+        Ordering::Equal => compare(Packing::Plain, left, right),
+        other => other,
     }
 }
 

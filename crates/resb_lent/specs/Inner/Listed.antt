@@ -7,7 +7,7 @@ use Rattle.std.specs.String.{string_bytes}
 use Rattle.resb_format.specs.Units.{size}
 use Rattle.resb_lent.specs.LentTexts.{StandsAt, Reaches, Holds}
 use Rattle.resb_lent.specs.Entries.{pairs}
-use Rattle.resb_lent.specs.declared.records.LentRecord.{LentRecord}
+use Rattle.resb_lent.specs.declared.lent_record.LentRecord.{LentRecord}
 
 -- the record of a text that stands at this unit of the block
 pub record IsRecordAt (block : List ℕ) (at : ℕ) (e : LentRecord) : Type 0 where

@@ -12,7 +12,7 @@ use Rattle.resb_pool.specs.Order.{suffix_cmp}
 use Rattle.resb_pool.specs.Records.{EndsWith}
 use Rattle.resb_pool.specs.declared.packing.Packing.TheVariants.{Compact}
 use Rattle.resb_lent.specs.Inner.Within.{record_bytes}
-use Rattle.resb_lent.specs.declared.records.LentRecord.{LentRecord}
+use Rattle.resb_lent.specs.declared.lent_record.LentRecord.{LentRecord}
 
 -- the text of the record of a number; the empty text where there is none
 abbrev pub numbered_text : List LentRecord → ℕ → List ℕ

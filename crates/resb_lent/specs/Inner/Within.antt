@@ -6,7 +6,7 @@ use Rattle.std.specs.Prelude.{◌≡◌, ℕ, ◌+◌, ◌≤◌, List, map}
 use Rattle.std.specs.String.{string_bytes}
 use Rattle.resb_format.specs.Units.{size}
 use Rattle.resb_lent.specs.LentTexts.{IsLentRecord, Holds}
-use Rattle.resb_lent.specs.declared.records.LentRecord.{LentRecord}
+use Rattle.resb_lent.specs.declared.lent_record.LentRecord.{LentRecord}
 use Rattle.resb_lent.specs.declared.texts.LentTexts.{LentTexts}
 
 abbrev pub NoneHolds : List ℕ → List ℕ → List ℕ → Type 0

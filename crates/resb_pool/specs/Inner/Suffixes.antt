@@ -1,5 +1,6 @@
 -- Distinct texts in suffix order. T are the texts; each goes by its index there.
 --     AreInOrder way T rows   the rows are the texts T, in suffix order in a file packed this way
+--     last_digits t           the first 16 digits of the characters of t, from its end, as a number
 --     TellsEnd answer t s     the answer is whether t ends with s, if s has few digits
 --     IsSharedEnd p s         s may lie in the record of p
 use Rattle.std.specs.Prelude.{◌≡◌, ℕ, zero, suc, ◌+◌, ◌*◌, ◌^◌, ◌<◌, List, [], ◌∷◌, length, map}
@@ -35,6 +36,10 @@ abbrev pub key_of_digits : ℕ → ℕ → List ℕ → ℕ
 key_of_digits number zero ds = number
 key_of_digits number (suc n) [] = key_of_digits (number * 256 + 255) n []
 key_of_digits number (suc n) (d ∷ ds) = key_of_digits (number * 256 + d) n ds
+
+-- the first 16 digits of a text's characters, last first, as a number
+abbrev pub last_digits : List ℕ → ℕ
+last_digits t = key_of_digits 0 16 (digits_backwards t)
 
 -- what a number of n digits stays below
 abbrev pub digits_bound : ℕ → ℕ

@@ -4,7 +4,7 @@ use Rattle.std.specs.String.{string_bytes}
 use Rattle.std.specs.declared.cmp.Ordering.TheVariants.{Greater}
 use Rattle.resb_pool.specs.Order.{suffix_cmp}
 use Rattle.resb_pool.specs.declared.packing.Packing.TheVariants.{Plain}
-use Rattle.resb_lent.specs.declared.records.LentRecord.{LentRecord}
+use Rattle.resb_lent.specs.declared.lent_record.LentRecord.{LentRecord}
 use Rattle.resb_lent.proofs.texts.count_up_to.Given as goal
 
 abbrev pub invariant-halves : goal.invariant-halves

@@ -12,7 +12,7 @@ use Rattle.resb_pool.specs.Order.{suffix_cmp}
 use Rattle.resb_pool.specs.declared.packing.Packing.TheVariants.{Compact}
 use Rattle.resb_pool.proofs.SuffixOrder.{end_last_total}
 use Rattle.resb_lent.specs.Inner.Tops.{AreInOrder, numbered_text}
-use Rattle.resb_lent.specs.declared.records.LentRecord.{LentRecord}
+use Rattle.resb_lent.specs.declared.lent_record.LentRecord.{LentRecord}
 use Rattle.resb_lent.proofs.TopsLemmas.{letters}
 use Rattle.resb_lent.proofs.tops.in_order.Goals as goal
 

@@ -6,7 +6,7 @@ use Rattle.std.specs.Prelude.{slice_get}
 use Rattle.std.proofs.lemmas.Fn.{always_returns_same}
 use Rattle.resb_format.specs.Bytes.{units_of}
 use Rattle.resb_lent.specs.Entries.{entry_cmp}
-use Rattle.resb_lent.specs.declared.records.LentRecord.{LentRecord}
+use Rattle.resb_lent.specs.declared.lent_record.LentRecord.{LentRecord}
 use Rattle.resb_lent.proofs.Lying.{entry_order}
 use Rattle.resb_lent.proofs.Sorting.{lends_sorted, utf8_moved}
 use Rattle.resb_lent.specs.Inner.Tops.{AreTops}

@@ -3,7 +3,7 @@ use Rattle.std.proofs.Common.{true, false, not, true≢false, get_or}
 use Rattle.std.specs.Str.{bytes_eq}
 use Rattle.std.specs.Cmp.Lexicographic.{bytes_decides}
 use Rattle.std.specs.String.{string_bytes}
-use Rattle.resb_lent.specs.declared.records.LentRecord.{LentRecord}
+use Rattle.resb_lent.specs.declared.lent_record.LentRecord.{LentRecord}
 use Rattle.resb_lent.proofs.Lying.{none_holds, same_last, found_within}
 use Rattle.resb_lent.proofs.texts.LentTexts.place_within.Goals as goal
 use Rattle.resb_lent.proofs.texts.LentTexts.place_within.Goals.{After-ne}

@@ -11,8 +11,8 @@ that a check loses up to a second. A check is a process `rattle` with what it ha
 counts of the command. Wrong words end it with status 2; else it
 ends as the command does.
 
-The speed is that of 20,000,000 rounds of `s += i * i & 7` in Python, before the run: the budget of
-docs/GATE.md is for a machine on which they take 2.5 to 3.1 seconds.
+The speed is that of 20,000,000 rounds of `s += i * i & 7` in Python, before the run: the
+budget in CONTRIBUTING is for a machine on which they take 2.5 to 3.1 seconds.
 """
 import argparse
 import collections

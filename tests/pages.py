@@ -3,7 +3,8 @@
 
 Each block marked `rust` stands in a source of crates/, so that the gate proves it. Each command
 that is shown with its answer (a line that begins with `$`) is run, and answers that. The table of
-docs/TRUST.md is the one that trust.py makes, and every definition has its words.
+docs/TRUST.md is the one that trust.py makes, that of docs/ARCHITECTURE.md is crates.py's, and every
+definition has its words.
 
 Refused are more words than README and all pages together may have; a date, but in the rows of a
 table of runs; a line of prose that is too long; a name of code that no source has; and a file that
@@ -191,7 +192,8 @@ def check_code(count, pages):
 
 
 def check_tables(count):
-    for words in (["trust.py", "--check"], ["definitions.py", "--missing"], ["signatures.py"]):
+    for words in (["trust.py", "--check"], ["definitions.py", "--missing"], ["signatures.py"],
+                  ["crates.py", "--check"], ["promises.py"]):
         run = subprocess.run([sys.executable, TESTS / words[0], *words[1:]],
                              stdout=subprocess.PIPE, text=True)
         count.add(run.returncode != 0 and " ".join(words) + "\n" + run.stdout)

@@ -62,6 +62,8 @@ done << 'END'
 --icu@1:9@two commas in a row@b{a{"x",,"y"}}
 @1:8@this comment has no end@b{a{x} /* y }
 @1:3@this comment has no end@b{/*/}
+@1:8@a comment begins with '//' or '/*'@b{a{x} # y\n}
+@2:1@a comment begins with '//' or '/*'@b{// y\n# y\na{x}}
 @1:8@a comment begins with '//' or '/*'@b{a{x} / y }
 @1:5@a string that begins with '/' needs quotes@b{a{/c}}
 @1:8@'$' needs quotes round its string@b{a{x} $c{y}}
@@ -69,7 +71,9 @@ done << 'END'
 @1:5@'\303\251' needs quotes round its string@b{a{\303\251}}
 @1:10@a key of several words needs quotes@b{a{x} c d{y}}
 @1:10@expected '{'@b{a{x} c }
-@2:1@expected '{'@b{a{x} c\nd{y}}
+@1:8@there is no '{' behind 'c'@b{a{x} c\nd{y}}
+@1:10@this value has no '{' before it@b{a{x} c "y"}
+@1:9@this value has no '{' before it@b{a{x} c"y"}
 @1:8@this value has no key@b{a{x} {y}}
 @1:3@this value has no key@b{{x}}
 @1:3@'\303\251' needs quotes round its string@b{\303\251{y}}
@@ -88,6 +92,7 @@ done << 'END'
 @1:10@numbers are whole@b{a:int{3.5}}
 @1:10@a group of this type has one value@b{a:int{1,2}}
 @1:17@a comma is missing before this number@b{a:intvector{1 2}}
+@1:17@two commas in a row@b{a:intvector{1,,2}}
 @1:9@an odd number of hex digits@b{a:bin{"0"}}
 @1:10@'g' is no hex digit@b{a:bin{"g0"}}
 @1:8@this '}' is one too many@b{a{x}}}
@@ -95,6 +100,7 @@ done << 'END'
 @1:8@the bundle ends before this, and a text has only one@b{a{x}}c{y}
 @1:5@nothing closes this quote@b{a{"x}}
 @1:5@the quote that closes this string may be missing in its line@b{a{"x\n}c{"y"}}
+@2:4@the quote that closes this string may be missing in its line@b{\n a{"x}\n c{"y"}\n d{"z"}\n}
 END
 
 # a bundle that isn't named as its text, where the text names the file

@@ -51,7 +51,7 @@ done << 'END'
 15@expected '}'@b{v:intvector{x}}
 16@expected '}'@b{v:intvector{,1}}
 17@a comma is missing before this number@b{v:intvector{1 2}}
-17@expected '}'@b{v:intvector{1,,}}
+17@two commas in a row@b{v:intvector{1,,}}
 4@there is no type 'import'@b{a:import{"x"}}
 5@there is no blank between ':' and a type@b{a: int{1}}
 2@the root is a table: its type is table, if it has one@b:array{}

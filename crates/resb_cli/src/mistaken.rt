@@ -57,7 +57,7 @@ fn plain_mistake<'s>(
         Expected::HexPairs => digits_mistake(spot, false),
         Expected::Number => plain_number_mistake(spot),
         Expected::EndOfText => end_mistake(spot),
-        _ => plain_quote_mistake(spot).or(plain_group_mistake(spot, expected)),
+        _ => plain_quote_mistake(spot, expected).or(plain_group_mistake(spot, expected)),
     })
 }
 
@@ -81,12 +81,16 @@ fn plain_type_mistake<'s>(
     })
 }
 
-/// What is wrong with quotes of the plain form, which has no escapes.
-fn plain_quote_mistake<'s>(spot: &Spot<'s>) -> Option<Mistake<'s>> {
+/// What is wrong with quotes of the plain form, which has no escapes. A quote that closes in the
+/// place of a `{` is none: then the `{` is missing.
+fn plain_quote_mistake<'s>(spot: &Spot<'s>, expected: Expected) -> Option<Mistake<'s>> {
     let is_unclosed = match spot.behind {
         [b'"', rest @ ..] => !rest.contains(&b'"'),
         _ => false,
     };
+    if expected == Expected::LeftBrace && !is_unclosed && spot.behind.starts_with(b"\"") {
+        return None;
+    }
     match quote_mistake(spot, false, is_unclosed) {
         None if is_unclosed => spot.here(What::NoClosingQuote),
         found => found,
@@ -98,6 +102,10 @@ fn plain_group_mistake<'s>(spot: &Spot<'s>, expected: Expected) -> Option<Mistak
     let is_at_entry = may_begin_entry(spot.before);
     match (expected, spot.behind) {
         (Expected::LeftBrace, _) => plain_brace_mistake(spot),
+        (Expected::RightBrace, [b'#', b' ', ..]) => spot.here(What::NoComment),
+        (Expected::RightBrace, [b',', ..]) if spot.before.trim_ascii_end().ends_with(b",") => {
+            spot.here(What::TwoCommas)
+        }
         (Expected::RightBrace, [b',', ..]) if is_at_entry => spot.here(What::Comma),
         (Expected::RightBrace, [b';', ..]) if is_at_entry => spot.here(What::Semicolon),
         (Expected::RightBrace, [b'{', ..]) if is_at_entry => spot.here(What::NoKey),

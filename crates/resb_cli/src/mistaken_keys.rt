@@ -126,7 +126,10 @@ pub(crate) fn has_line_end(bytes: &[u8]) -> bool {
 /// What is wrong where the `{` of an entry or of the bundle is to stand, in the plain form.
 pub(crate) fn plain_brace_mistake<'s>(spot: &Spot<'s>) -> Option<Mistake<'s>> {
     let first = *spot.behind.first()?;
-    if is_word(first) || first == b'"' {
+    if first == b'"' {
+        return spot.here(What::NoBraceOpen);
+    }
+    if is_word(first) {
         return plain_words(spot);
     }
     match spot.before.last() {
@@ -135,19 +138,37 @@ pub(crate) fn plain_brace_mistake<'s>(spot: &Spot<'s>) -> Option<Mistake<'s>> {
     }
 }
 
-/// What is wrong where a second string stands behind a key or a name of the plain form: it is the
-/// key's, if a group follows it in its line.
+/// What is wrong where a second word stands behind a key or a name of the plain form. In the same
+/// line it is the key's, if a group follows it; in a new line the first word has no group.
 fn plain_words<'s>(spot: &Spot<'s>) -> Option<Mistake<'s>> {
-    let (_, blanks) = spot
-        .before
-        .split_at_checked(spot.before.trim_ascii_end().len())?;
-    if blanks.is_empty() || has_line_end(blanks) || spot.behind.starts_with(b"\"") {
+    let key = spot.before.trim_ascii_end();
+    let (_, blanks) = spot.before.split_at_checked(key.len())?;
+    if blanks.is_empty() {
         return None;
+    }
+    if has_line_end(blanks) {
+        return key_without_group(key);
     }
     let word = key_at(spot.source, spot.before.len(), false);
     let (_, rest) = spot.behind.split_at_checked(word.len())?;
     match rest.trim_ascii_start() {
         [b'{' | b':', ..] => spot.here(What::KeyOfWords),
+        _ => None,
+    }
+}
+
+/// That no `{` stands behind the word of the plain form with which a text's first bytes end, if
+/// they end with one.
+fn key_without_group<'s>(before: &'s [u8]) -> Option<Mistake<'s>> {
+    let mut place = before.len();
+    while place > 0 && is_word(before[place - 1]) {
+        place -= 1;
+    }
+    match str::from_utf8(&before[place..]) {
+        Ok(word) if !word.is_empty() => Some(Mistake {
+            place,
+            what: What::NoBrace(word),
+        }),
         _ => None,
     }
 }

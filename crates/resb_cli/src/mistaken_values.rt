@@ -211,14 +211,45 @@ pub(crate) fn quote_mistake<'s>(
     }
 }
 
+/// How many strings that span lines are looked at, one before the other.
+const MOST_LONG_STRINGS: usize = 64;
+
+/// The string before a place whose closing quote may be missing. It spans lines and ends at the
+/// place, or in the line of a quote there that nothing closes. Where a quote is missing, each string
+/// behind it is taken for what stands between two, and begins in the line in which the one before
+/// it ends: so the first of such a row is told.
+fn long_string(spot: &Spot<'_>, is_icu: bool, is_unclosed: bool) -> Option<usize> {
+    let mut quote = long_string_at(spot, is_icu, is_unclosed)?;
+    for _ in 0..MOST_LONG_STRINGS {
+        let Some(earlier) = last_long_string(spot.source, quote, is_icu) else {
+            break;
+        };
+        let Some((before, _)) = spot.source.split_at_checked(quote) else {
+            break;
+        };
+        match before.split_at_checked(end_of_string(spot, earlier, is_icu)) {
+            Some((_, between)) if !has_line_end(between) => quote = earlier,
+            _ => break,
+        }
+    }
+    Some(quote)
+}
+
+/// Where a string in quotes ends that begins at a place.
+fn end_of_string(spot: &Spot<'_>, quote: usize, is_icu: bool) -> usize {
+    let length = key_at(spot.source, quote, is_icu).len();
+    quote.saturating_add(length).saturating_add(2)
+}
+
 /// The last string before a place that spans lines, if it ends there, or in the line of a quote
 /// there that nothing closes.
-fn long_string(spot: &Spot<'_>, is_icu: bool, is_unclosed: bool) -> Option<usize> {
+fn long_string_at(spot: &Spot<'_>, is_icu: bool, is_unclosed: bool) -> Option<usize> {
     let place = spot.before.len();
     let quote = last_long_string(spot.source, place, is_icu)?;
-    let length = key_at(spot.source, quote, is_icu).len();
-    let end = quote.saturating_add(length).saturating_add(2);
-    match spot.before.split_at_checked(end) {
+    match spot
+        .before
+        .split_at_checked(end_of_string(spot, quote, is_icu))
+    {
         Some((_, rest)) if rest.is_empty() || (is_unclosed && !has_line_end(rest)) => Some(quote),
         _ => None,
     }

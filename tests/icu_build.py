@@ -7,7 +7,8 @@ SOURCE is ICU's folder `source` with its `data` and `python`, as `icu_sources.py
 is a new one for what is built. ICU's `databuilder` writes the rules for `make`, which are run with
 the tools of Debian's icu-devtools: once as they are, and once with the program `resb` in the place
 of `genrb`, the proved one if none is named. The binary forms of rules of collation are taken from
-the files of the first build, since only ICU's compiler makes them (`--collation`). A call that
+the files of the first build, since only ICU's compiler makes them (`--collation`). The root's rules
+of collation stand in another folder (`--include-outside`). A call that
 fails stops none that is behind it, by `make -i`: what one of the two can't build is counted.
 
 FILE says in ICU's own form which data are left out, as ICU's `ICU_DATA_FILTER_FILE` does. The
@@ -188,7 +189,8 @@ def main():
     source, folder, resb = (it.resolve() for it in (given.source, given.folder, given.resb))
     rules = rules_of(source, given.filters and given.filters.resolve())
     theirs = build(rules, source, folder / 'genrb', shutil.which('genrb', path=PATH), given.jobs)
-    words = f'{resb} genrb --collation {theirs}/coll' + ' --compact' * given.compact
+    words = (f'{resb} genrb --include-outside --collation {theirs}/coll'
+             + ' --compact' * given.compact)
     ours = build(rules, source, folder / 'resb', words, given.jobs)
     filtered = sum(it.is_file() for it in (folder / 'resb/tmp/filters').rglob('*'))
     print(f'{filtered} files of rules')

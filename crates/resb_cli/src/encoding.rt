@@ -18,6 +18,8 @@ pub(crate) fn utf8_of(alloc: Global, bytes: Vec<u8>) -> Result<Vec<u8>, &'static
     if bytes.len() % 2 == 1 {
         return Err(NO_UTF16);
     }
+    // bytes, units and text never stand in memory side by side
+    drop(bytes);
     made(text_of(alloc, units.as_slice()))?.ok_or(NO_UTF16)
 }
 

@@ -258,7 +258,7 @@ module _ (l : LentTexts) (block : List ℕ) (h : LendsTexts l block) where
           by Greater f = absurd (before f)
 
       -- what lies in it stands there
-      stands_within : text e ≡ s → (t : List ℕ) (i : ℕ) → HasPlace e t i
+      pub stands_within : text e ≡ s → (t : List ℕ) (i : ℕ) → HasPlace e t i
           → StandsWithin block s t i
       stands_within q t i p = record {
         at = e.at;
@@ -266,6 +266,13 @@ module _ (l : LentTexts) (block : List ℕ) (h : LendsTexts l block) where
         holds = subst (λ r. Holds r t) q p.holds;
         first = λ n x. (lies (inl q)).first n (subst (λ r. IsLentRecord block r n) (sym q) x);
         place = omega (arith, p.ends own.end, own.end, ap size q);
+      }
+
+      -- the text itself stands where its record does
+      pub stands_whole : text e ≡ s → StandsWithin block s s e.at
+      stands_whole q = stands_within q s e.at record {
+        holds = inl q;
+        ends = λ f. omega (arith, f, ap size q);
       }
 
       none_within : (t : List ℕ) → IsUtf8 t → (Holds (text e) t → size t ≤ e.end → ⊥)

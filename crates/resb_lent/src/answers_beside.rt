@@ -12,7 +12,7 @@ ghost use Rattle.resb_lent.specs.LentBeside.{LendsTextBy};
 ghost use Rattle.resb_lent.specs.PlanWithPool.{AreLentBy};
 ghost use Rattle.resb_lent.specs.Inner.LentEndings.{NotesEnd, AreLentEnds, AreLentEndsBy};
 
-use crate::texts::LentTexts;
+use crate::texts::{LentTexts, Standing};
 use resb_pool::Packing;
 use resb_pool::holders::holders;
 use std::alloc::{AllocError, Global};
@@ -29,9 +29,10 @@ fn answer_beside(lent: &LentTexts, text: &str, own: &str) -> Option<u32>
     if text.is_empty() {
         return lent.index(text);
     }
-    match lent.place_within(text, text) {
-        Some(index) => Some(index),
-        None => lent.place_in_top(text, own),
+    match lent.standing(text) {
+        Standing::Whole(index) => Some(index),
+        Standing::End => lent.place_in_top(text, own),
+        Standing::Apart => None,
     }
 }
 

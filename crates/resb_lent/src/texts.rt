@@ -36,6 +36,17 @@ pub struct LentTexts {
     pub(crate) lends: bool,
 }
 
+/// How a text that isn't empty stands beside those of a pool.
+#[derive(Clone, Copy)]
+pub(crate) enum Standing {
+    /// The pool has a record of it, the first of which stands at this unit.
+    Whole(u32),
+    /// The pool has no record of it, but one of a text that ends with it.
+    End,
+    /// No text of the pool ends with it.
+    Apart,
+}
+
 /// Whether the first unit is 0.
 fn begins_with_zero(units: &[u16]) -> bool
     ensures { MatchBool result (slice_get units.now 0 ≡ Some 0)
@@ -120,7 +131,7 @@ impl LentTexts {
     ghost use Rattle.resb_format.specs.Bytes.{units_of};
     ghost use Rattle.resb_lent.specs.LentTexts.{LendsText};
     ghost use Rattle.resb_lent.specs.Lending.{LendsTexts};
-    ghost use Rattle.resb_lent.specs.Inner.LentEndings.{IsLentEnd};
+    ghost use Rattle.resb_lent.specs.Inner.LentEndings.{IsLentEnd, StandsAs};
     ghost use Rattle.resb_lent.specs.Inner.Within.{NoneHolds, StandsWithin};
     ghost use Rattle.std.specs.Bool.{MatchBool};
     ghost use Rattle.std.specs.Prelude.{◌<◌, All, Contains, MatchOption, length};
@@ -153,6 +164,25 @@ impl LentTexts {
         })
     }
 
+    /// How a text stands beside the pool's, which takes one search.
+    pub(crate) fn standing(&self, text: &str) -> Standing
+        ensures { (block : List ℕ) → LendsTexts self.now block → StandsAs block text.now result }
+    {
+        let count = count_up_to(&self.records, text);
+        if count == 0 {
+            return Standing::Apart;
+        }
+        let record = &self.records[count - 1];
+        if record.text.as_str() == text {
+            return Standing::Whole(record.at);
+        }
+        if has_end(record, text) {
+            Standing::End
+        } else {
+            Standing::Apart
+        }
+    }
+
     /// The unit at which a text of a compact file stands in the greatest top that ends with it, if
     /// that top precedes the one of the file's own texts in whose record the text would lie.
     pub(crate) fn place_in_top(&self, text: &str, own: &str) -> Option<u32>
@@ -161,10 +191,6 @@ impl LentTexts {
             → IsContainer Compact S text.now own.now
             → LendsTextBy Compact block S text.now result }
     {
-        // Most texts that the pool lacks end none of its texts, which a search by digits tells.
-        if !self.ends_with(text) {
-            return None;
-        }
         let Some(top) = top_above(&self.records, &self.tops, text) else {
             return None;
         };

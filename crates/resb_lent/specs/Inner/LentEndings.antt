@@ -1,5 +1,6 @@
 -- Which of some texts a text of the pool ends with.
 --     IsLentEnd block s           a text of the pool ends with s
+--     StandsAs block s standing   how the text s stands beside the pool's
 --     NotesEnd block s n es fs    fs are es, and the number n if a text of the pool ends with s
 --     AreLentEndsBy way block S es    es are the numbers of these texts of S
 use Rattle.std.specs.Prelude.{◌≡◌, ℕ, ◌<◌, List, [], ◌∷◌, ◌++◌, length, ◌⊎◌, Contains}
@@ -8,10 +9,20 @@ use Rattle.resb_pool.specs.Records.{EndsWith}
 use Rattle.resb_pool.specs.declared.packing.Packing.{Packing}
 use Rattle.resb_pool.specs.declared.packing.Packing.TheVariants.{Plain, Compact}
 use Rattle.resb_lent.specs.LentBeside.{IsLent}
+use Rattle.resb_lent.specs.Inner.Within.{NoneHolds, StandsWithin}
+use Rattle.resb_lent.specs.declared.texts.Standing.{Standing}
+use Rattle.resb_lent.specs.declared.texts.Standing.TheVariants.{Whole, End, Apart}
 
 -- a text of the pool ends with s
 abbrev pub IsLentEnd : List ℕ → List ℕ → Type 0
 IsLentEnd block s = (t : List ℕ) × IsLent block t × EndsWith t s
+
+-- the pool has a first record of s at this unit; or it has none, but one of a text that ends with s;
+-- or no text of the pool ends with s
+abbrev pub StandsAs : List ℕ → List ℕ → Standing → Type 0
+StandsAs block s (Whole i) = StandsWithin block s s i
+StandsAs block s End = NoneHolds block s s × IsLentEnd block s
+StandsAs block s Apart = IsLentEnd block s → ⊥
 
 -- the number of a text is added to those before, if a text of the pool ends with it
 abbrev pub NotesEnd : List ℕ → List ℕ → ℕ → List ℕ → List ℕ → Type 0

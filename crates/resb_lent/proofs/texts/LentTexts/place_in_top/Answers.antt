@@ -1,15 +1,7 @@
 use Rattle.std.proofs.Common.{inl, inr}
 use Rattle.resb_lent.proofs.Sorting.{texts_utf8}
-use Rattle.resb_lent.proofs.Together.{lent_of}
 use Rattle.resb_lent.proofs.Union.{held_by_own, held_by_top}
 use Rattle.resb_lent.proofs.texts.LentTexts.place_in_top.Goals as goal
-
-pub returns-then-not-ends_with : goal.returns-then-not-ends_with
-returns-then-not-ends_with c = λ block S h utf8 given full none k.
-    let l = c.args.self.now in
-    held_by_own l block h S utf8 c.args.text.now full given none c.args.own.now k
-    (inl (λ r top e. c.if-not-ends_with.ensures block h
-    (r, lent_of l block h S utf8 r top.given, e)))
 
 pub returns-in_default : goal.returns-in_default
 returns-in_default c = λ block S h utf8 given full none k.

@@ -193,7 +193,7 @@ def check_code(count, pages):
 
 def check_tables(count):
     for words in (["trust.py", "--check"], ["definitions.py", "--missing"], ["signatures.py"],
-                  ["crates.py", "--check"], ["promises.py"]):
+                  ["crates.py", "--check"], ["promises.py"], ["../bench/picture.py", "--check"]):
         run = subprocess.run([sys.executable, TESTS / words[0], *words[1:]],
                              stdout=subprocess.PIPE, text=True)
         count.add(run.returncode != 0 and " ".join(words) + "\n" + run.stdout)

@@ -36,8 +36,8 @@ use Rattle.resb_write.proofs.FilesBeside.{written_with}
 use Rattle.resb_write.proofs.KeysBeside.{filter_room}
 use Rattle.resb_write.proofs.PackedKeys.{packed_room}
 use Rattle.resb_write.proofs.Refusals.{unplanned}
-use Rattle.resb_write.proofs.with_pool.write_order_with_pool.Goals as goal
-use Rattle.resb_write.proofs.with_pool.write_order_with_pool.Goals.{After-deref-3}
+use Rattle.resb_write.proofs.with_pool.write_beside.Goals as goal
+use Rattle.resb_write.proofs.with_pool.write_beside.Goals.{After-deref-3}
 
 pub returns-in_err-contents-clause-err : goal.returns-in_err-contents-clause-err
 returns-in_err-contents-clause-err g c =
@@ -56,8 +56,8 @@ returns-in_err-units-clause-err g c =
     c.from_residual-in_err-units.ensures.1 in
     rw (p.1, p.2) (λ t f k.
     let known = c.in_ok-contents.ensures.ok t f k in
-    unplanned t c.args.wanted.now.list.now (pool_in c.args.over.now.pool.now) known.1.faultless known.2
-    c.args.over.now.packing (nows c.into_texts.result.items) _
+    unplanned t c.args.wanted.now.list.now (pool_in c.args.pool.now) known.1.faultless known.2
+    c.args.wanted.now.layout.packing (nows c.into_texts.result.items) _
     (ap (λ v. nows v.items) c.into_texts.ensures ∙ known.0.texts_are) c.in_err-units.ensures.err)
 
 -- the own keys take few bytes
@@ -100,22 +100,22 @@ numbered : (g : _) (c : After-deref-3 g) (base : ℕ) (t : Tree)
     → (k : NumbersKeys c.args.tree_keys (keys_of t))
     → let place = (c.in_ok-contents.ensures.ok t f k).1.place in
     GivesInTurn (record {
-      position = position_beside c.args.over.now.packing place
+      position = position_beside c.args.wanted.now.layout.packing place
           (used (keys_of t) c.args.wanted.now.list.now)
-          (own_keys_of c.args.over.now.packing place t c.args.wanted.now.list.now);
+          (own_keys_of c.args.wanted.now.layout.packing place t c.args.wanted.now.list.now);
       offset = look (texts_of t) c.in_ok-units.field-0.indexes.items;
       base = base;
-      packing = c.args.over.now.packing;
+      packing = c.args.wanted.now.layout.packing;
     }) c.deref-2.result.now c.deref-3.result.now (laying_order t)
 numbered g c base t f us =
     let known = c.in_ok-contents.ensures.ok t f us in
-    let q = c.args.over.now.packing in
+    let q = c.args.wanted.now.layout.packing in
     let keys = known.1 in
     let place = keys.place in
     let ks = c.args.wanted.now.list.now in
     let few = few_keys _ _ t ks _ _ keys known.2 in
     let p = c.in_ok-units.field-0 in
-    let block = (pool_in c.args.over.now.pool.now).block in
+    let block = (pool_in c.args.pool.now).block in
     let plan = subst (λ S. IsPlanWithBy q block S p.units.items p.indexes.items p.limit
     p.short_limit)
     (ap (λ v. nows v.items) c.into_texts.ensures ∙ known.0.texts_are) c.in_ok-units.ensures.ok in
@@ -210,8 +210,8 @@ pub returns-clause-ok : goal.returns-clause-ok
 returns-clause-ok g c = λ t f k.
     let known = c.in_ok-contents.ensures.ok t f k in
     let place = known.1.place in
-    let q = c.args.over.now.packing in
-    let pool = pool_in c.args.over.now.pool.now in
+    let q = c.args.wanted.now.layout.packing in
+    let pool = pool_in c.args.pool.now in
     let ks = c.args.wanted.now.list.now in
     let all = used (keys_of t) ks in
     let fallback = c.args.wanted.now.is_locale_fallback_enabled in

@@ -20,8 +20,8 @@ use Rattle.resb_write.proofs.FilesLemmas.{largest_room, Made, written}
 use Rattle.resb_write.proofs.PackedKeys.{packed_room}
 use Rattle.resb_layout.specs.CompactKeys.{key_position_by}
 use Rattle.resb_write.proofs.Refusals.{plan_refused}
-use Rattle.resb_write.proofs.serializer.write_order.Goals as goal
-use Rattle.resb_write.proofs.serializer.write_order.Goals.{After-deref-3}
+use Rattle.resb_write.proofs.serializer.write_alone.Goals as goal
+use Rattle.resb_write.proofs.serializer.write_alone.Goals.{After-deref-3}
 
 pub returns-in_err-contents-clause-err : goal.returns-in_err-contents-clause-err
 returns-in_err-contents-clause-err g c =
@@ -53,7 +53,7 @@ block_length-keys_end-requires g c =
       small,
       ap (λ l. length (key_bytes l)) js,
       used_room (keys_of t) c.args.wanted.now.list.now,
-      packed_room c.args.packing (used (keys_of t) c.args.wanted.now.list.now),
+      packed_room c.args.wanted.now.layout.packing (used (keys_of t) c.args.wanted.now.list.now),
     )
 
 pub overflow_add-keys_end : goal.overflow_add-keys_end
@@ -68,7 +68,7 @@ overflow_add-keys_end g c =
       small,
       ap (λ l. length (key_bytes l)) js,
       used_room (keys_of t) c.args.wanted.now.list.now,
-      packed_room c.args.packing (used (keys_of t) c.args.wanted.now.list.now),
+      packed_room c.args.wanted.now.layout.packing (used (keys_of t) c.args.wanted.now.list.now),
       length-padded (key_bytes (nows c.deref.result.now)),
       c.block_length-keys_end.ensures,
     )
@@ -78,10 +78,10 @@ numbered : (g : _) (c : After-deref-3 g) (base : ℕ) (t : Tree)
     → g.N.Nodes.fit c.args.order (laying_order t)
     → NumbersKeys c.args.tree_keys (keys_of t)
     → GivesInTurn (record {
-      position = key_position_by c.args.packing t c.args.wanted.now.list.now;
+      position = key_position_by c.args.wanted.now.layout.packing t c.args.wanted.now.list.now;
       offset = c.in_ok-pool.ensures.ok.offset;
       base = base;
-      packing = c.args.packing;
+      packing = c.args.wanted.now.layout.packing;
     }) c.deref-2.result.now c.deref-3.result.now (laying_order t)
 numbered g c base t f us =
     let gathered = (c.in_ok-contents.ensures.ok t f us).0 in
@@ -95,7 +95,7 @@ numbered g c base t f us =
       keys = b.positions (omega (arith, used_room (keys_of t) list, small))
           ∙ ap (map Some) (sym c.deref-2.ensures.value);
       texts = ap (map pooled.offset) (sym texts) ∙ offsets;
-      near = near_offsets c.args.packing (nows c.into_texts.result.items)
+      near = near_offsets c.args.wanted.now.layout.packing (nows c.into_texts.result.items)
           c.in_ok-pool.field-0.pool.items pooled.offset pooled.plan
           (nows c.into_texts.result.items) c.deref-3.result.now (λ s h. h) offsets;
     }
@@ -111,7 +111,7 @@ lay_bodies-requires-clause-tree g c =
     let js = ap nows c.deref.ensures.value
     ∙ (c.in_ok-contents.ensures.ok t c.requires.1 c.requires.2).1.keys in
     let texts = (ap (λ v. nows v.items) c.into_texts.ensures ∙ gathered.texts_are) in
-    let pool = pool_room c.args.packing (nows c.into_texts.result.items) us
+    let pool = pool_room c.args.wanted.now.layout.packing (nows c.into_texts.result.items) us
     pooled.offset pooled.plan in
     let same = ap (sum_by size) texts in (
       t,
@@ -126,7 +126,8 @@ lay_bodies-requires-clause-tree g c =
           small,
           ap (λ l. length (key_bytes l)) js,
           used_room (keys_of t) c.args.wanted.now.list.now,
-          packed_room c.args.packing (used (keys_of t) c.args.wanted.now.list.now),
+          packed_room c.args.wanted.now.layout.packing
+              (used (keys_of t) c.args.wanted.now.list.now),
           length-padded (key_bytes (nows c.deref.result.now)),
           c.block_length-keys_end.ensures,
         );
@@ -164,7 +165,8 @@ assemble-requires g c =
           small,
           ap (λ l. length (key_bytes l)) js,
           used_room (keys_of t) c.args.wanted.now.list.now,
-          packed_room c.args.packing (used (keys_of t) c.args.wanted.now.list.now),
+          packed_room c.args.wanted.now.layout.packing
+              (used (keys_of t) c.args.wanted.now.list.now),
         );
         units = omega (arith, room.units);
         tail = omega (arith, room.bytes);
@@ -191,7 +193,7 @@ returns-clause-ok g c = λ t f k.
     let end : ℕ = 32 + c.block_length-keys_end.result + 2 *
     (length c.in_ok-bodies.bodies.units.items + length c.in_ok-bodies.bodies.units.items % 2) in
     let room = c.in_ok-bodies.ensures.fits in
-    let q = c.args.packing in
+    let q = c.args.wanted.now.layout.packing in
     let made : Made q t ks = record {
       pool = pool;
       offset = pooled.offset;

@@ -15,6 +15,7 @@ pub use Rattle.resb_diff.specs.Differences
 pub use Rattle.resb_diff.specs.Paths as DiffPaths
 pub use Rattle.resb_diff.specs.View as DiffView
 pub use Rattle.resb_diff.specs.Laws as DiffLaws
+pub use Rattle.resb_diff.specs.Applied as DiffApplied
 pub use Rattle.resb_draft.specs.Drafts
 pub use Rattle.resb_draft.specs.Pieces as DraftPieces
 pub use Rattle.resb_filter.specs.Filtered

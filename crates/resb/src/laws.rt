@@ -22,6 +22,9 @@ pub use resb_tree::laws::table_ascends;
 pub use resb_tree::laws::integers_survive;
 // Two trees don't differ exactly where they are equal, and each difference is so.
 pub use resb_diff::laws::{differences_are_so, equal_trees_do_not_differ};
+// The old tree with the differences carried out is the new one, without any one of them it isn't,
+// none is of two arrays or of two tables, and their paths ascend.
+pub use resb_diff::laws::differences_make_the_new_tree;
 
 // Texts.
 

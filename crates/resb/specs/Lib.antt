@@ -138,6 +138,7 @@ pub use Rattle.resb_layout.specs.WritingFault
 pub use Rattle.resb_layout.specs.TreeFaults
 pub use Rattle.resb_layout.specs.WrittenHead
 pub use Rattle.resb_layout.specs.CompactKeys
+pub use Rattle.resb_layout.specs.KeyLaws
 pub use Rattle.resb_layout.specs.Written
 pub use Rattle.resb_write.specs.FaultOf
 pub use Rattle.resb_write.specs.WrittenWith

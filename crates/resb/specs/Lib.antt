@@ -15,6 +15,7 @@ pub use Rattle.resb_diff.specs.Differences
 pub use Rattle.resb_diff.specs.Paths as DiffPaths
 pub use Rattle.resb_diff.specs.View as DiffView
 pub use Rattle.resb_diff.specs.Laws as DiffLaws
+pub use Rattle.resb_diff.specs.Applied as DiffApplied
 pub use Rattle.resb_draft.specs.Drafts
 pub use Rattle.resb_draft.specs.Pieces as DraftPieces
 pub use Rattle.resb_filter.specs.Filtered
@@ -137,6 +138,7 @@ pub use Rattle.resb_layout.specs.WritingFault
 pub use Rattle.resb_layout.specs.TreeFaults
 pub use Rattle.resb_layout.specs.WrittenHead
 pub use Rattle.resb_layout.specs.CompactKeys
+pub use Rattle.resb_layout.specs.KeyLaws
 pub use Rattle.resb_layout.specs.Written
 pub use Rattle.resb_write.specs.FaultOf
 pub use Rattle.resb_write.specs.WrittenWith

@@ -22,6 +22,9 @@ pub use resb_tree::laws::table_ascends;
 pub use resb_tree::laws::integers_survive;
 // Two trees don't differ exactly where they are equal, and each difference is so.
 pub use resb_diff::laws::{differences_are_so, equal_trees_do_not_differ};
+// The old tree with the differences carried out is the new one, without any one of them it isn't,
+// none is of two arrays or of two tables, and their paths ascend.
+pub use resb_diff::laws::differences_make_the_new_tree;
 
 // Texts.
 
@@ -156,6 +159,9 @@ pub use resb_layout::laws::laid_in_order;
 pub use resb_layout::laws::laid_is_denoted;
 // What was laid out has two bytes for each resource but the root.
 pub use resb_layout::laws::laid_is_paid;
+// No key that a compact file keeps is the end of another, each key lies in one that is kept, and no
+// block of bytes that holds them all is shorter.
+pub use resb_layout::key_laws::kept_keys_are_least;
 // The units of a tree don't depend on where the tail begins.
 pub use resb_write::laws::one_block;
 // In each file without a pool bundle the bodies stand in laying order, without a gap.

@@ -43,12 +43,12 @@ one_step_on (q ∷ p) s r t e =
     after_first p (p ++ s ∷ []) (after_step q r) t (after_step s t)
     (λ x f. one_step_on p s x t f) e
 
-all_append : (P : Difference → Type 0) (xs ys : List Difference) → AllByRecursion P xs
+pub all_append : (P : Difference → Type 0) (xs ys : List Difference) → AllByRecursion P xs
     → AllByRecursion P ys → AllByRecursion P (xs ++ ys)
 all_append P [] ys h k = k
 all_append P (x ∷ xs) ys h k = (h.0, all_append P xs ys h.1 k)
 
-at_order : (P : Difference → Type 0) (o : Ordering) (a b c : List Difference)
+pub at_order : (P : Difference → Type 0) (o : Ordering) (a b c : List Difference)
     → (o ≡ Less → AllByRecursion P a) → (o ≡ Equal → AllByRecursion P b)
     → (o ≡ Greater → AllByRecursion P c) → AllByRecursion P (match_ordering o a b c)
 at_order P Less a b c f g h = f refl
@@ -89,35 +89,35 @@ beyond_all k no_entries h = tt
 beyond_all k (entry l u fs) h =
     (less (text_cmp k l) (first _ _ h), beyond_all k fs (second (is_lt (text_cmp k l)) _ h))
 
-ascends : (es : Entries) → IsMap es → Ascends es
+pub ascends : (es : Entries) → IsMap es → Ascends es
 ascends no_entries h = tt
 ascends (entry k t es) h = (
   beyond_all k es (first _ _ h),
   ascends es (second (fin.below_all text_cmp k (keyed_trees es)) _ h),
 )
 
-unbound : (es : Entries) → AllBeyond None es
+pub unbound : (es : Entries) → AllBeyond None es
 unbound no_entries = tt
 unbound (entry k t es) = (tt, unbound es)
 
-further : (b : Option (List ℕ)) (k q : List ℕ) → Beyond b k → text_cmp k q ≡ Less → Beyond b q
+pub further : (b : Option (List ℕ)) (k q : List ℕ) → Beyond b k → text_cmp k q ≡ Less → Beyond b q
 further None k q h e = tt
 further (Some l) k q h e = nat_list_cmp_total.trans l k q h e
 
-all_further : (k l : List ℕ) (es : Entries) → text_cmp k l ≡ Less → AllBeyond (Some l) es
+pub all_further : (k l : List ℕ) (es : Entries) → text_cmp k l ≡ Less → AllBeyond (Some l) es
     → AllBeyond (Some k) es
 all_further k l no_entries e h = tt
 all_further k l (entry m t es) e h =
     (nat_list_cmp_total.trans k l m e h.0, all_further k l es e h.1)
 
-turned : (k l : List ℕ) (o : Ordering) → text_cmp k l ≡ o → text_cmp l k ≡ ordering_reverse o
+pub turned : (k l : List ℕ) (o : Ordering) → text_cmp k l ≡ o → text_cmp l k ≡ ordering_reverse o
 turned k l o e = nat_list_cmp_total.antisymm l k ∙ ap ordering_reverse e
 
-get_here : (q k : List ℕ) (t : Tree) (es : Entries) → text_cmp q k ≡ Equal
+pub get_here : (q k : List ℕ) (t : Tree) (es : Entries) → text_cmp q k ≡ Equal
     → get q (entry k t es) ≡ Some t
 get_here q k t es e = ap (λ o. cond (is_eq o) (Some t) (get q es)) e
 
-get_past : (q k : List ℕ) (t : Tree) (es : Entries) → text_cmp k q ≡ Less
+pub get_past : (q k : List ℕ) (t : Tree) (es : Entries) → text_cmp k q ≡ Less
     → get q (entry k t es) ≡ get q es
 get_past q k t es e = ap (λ o. cond (is_eq o) (Some t) (get q es)) (turned k q Less e)
 

@@ -4,4 +4,5 @@ pub mod Differences
 pub mod Paths
 pub mod View
 pub mod Laws
+pub mod Applied
 pub mod Inner

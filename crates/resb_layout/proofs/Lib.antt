@@ -12,3 +12,5 @@ pub mod Lists
 pub mod StringWords
 pub mod ByteOrder
 pub mod KeyEndsLemmas
+mod KeptLemmas
+mod LeastLemmas

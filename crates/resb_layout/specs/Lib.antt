@@ -14,6 +14,7 @@ pub mod InOrder
 pub mod KeyBlock
 pub mod CompactKeys
 pub mod KeyEnds
+pub mod KeyLaws
 pub mod PlainSize
 pub mod WritingFault
 pub mod TreeFaults

@@ -5,6 +5,7 @@
 
 pub mod header;
 pub mod key_ends;
+pub mod key_laws;
 pub mod laws;
 
 pub use resb_pool::Packing;

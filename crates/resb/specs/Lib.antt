@@ -111,6 +111,8 @@ pub use Rattle.resb_read.specs.Resources
 pub use Rattle.resb_read.specs.Roots
 pub use Rattle.resb_read.specs.Measuring
 pub use Rattle.resb_read.specs.WithPool
+pub use Rattle.resb_read.specs.Manners
+pub use Rattle.resb_read.specs.Files
 pub use Rattle.resb_read.specs.Spots
 pub use Rattle.resb_read.specs.Sequences
 pub use Rattle.resb_read.specs.Access
@@ -142,6 +144,7 @@ pub use Rattle.resb_layout.specs.KeyLaws
 pub use Rattle.resb_layout.specs.Written
 pub use Rattle.resb_write.specs.FaultOf
 pub use Rattle.resb_write.specs.WrittenWith
+pub use Rattle.resb_write.specs.Layouts
 pub use Rattle.resb_write.specs.Laws as WriteLaws
 pub use Rattle.resb_pool.specs.Shared as SharedPools
 pub use Rattle.resb_pool_bundle.specs.Checksum

@@ -1,7 +1,7 @@
 //! Reading without a type of one's own: by the given types, by look-ups of keys, and by a plain
 //! function over cursors.
 //! A type of one's own is shown in `records`, and one with relations of its own in `zones`.
-use resb::binary::{BinaryDeserializerError, Cursor, PoolBundle, from_bytes, from_bytes_with_pool};
+use resb::binary::{BinaryDeserializerError, Cursor, File, PoolBundle, from_bytes};
 use std::alloc::Global;
 use std::collections::BTreeMap;
 
@@ -26,7 +26,7 @@ pub fn names_over_a_pool<'a>(
     pool: &'a [u8],
 ) -> Result<BTreeMap<&'a str, String>, BinaryDeserializerError> {
     let pool = PoolBundle::read(pool)?;
-    from_bytes_with_pool(alloc, file, Some(pool))
+    File::open(file, Some(pool))?.read(alloc)
 }
 
 /// The number `base` of a zone, looked up by its keys, in a file of tables that may hold anything

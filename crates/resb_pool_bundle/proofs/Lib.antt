@@ -4,6 +4,6 @@ pub mod Steps
 mod VersionSteps
 mod SizeSteps
 mod HeadSteps
-mod PoolSteps
+pub mod PoolSteps
 pub mod OwnFiles
 mod Older

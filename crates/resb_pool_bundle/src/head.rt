@@ -53,6 +53,13 @@ impl<'a> FileHead<'a> {
         Ok(FileHead { index })
     }
 
+    /// The bytes of the file.
+    pub fn bytes(&self) -> &'a [u8]
+        ensures { result.now ≡ head_bytes self.now }
+    {
+        self.index.bytes
+    }
+
     /// The version of the file, from 1.1 up.
     pub fn version(&self) -> FormatVersion
         ensures { version_bytes result ≡ slice_range (head_bytes self.now) 16 20 }

@@ -20,3 +20,4 @@ pub mod Limited
 mod OneValue
 mod Measures
 pub mod WithPool
+pub mod FilesLemmas

@@ -34,6 +34,8 @@ pub mod Resources
 pub mod Roots
 pub mod Measuring
 pub mod WithPool
+pub mod Manners
+pub mod Files
 pub mod Laws
 pub mod Sequences
 pub mod Access

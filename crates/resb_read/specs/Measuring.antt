@@ -6,9 +6,11 @@
 --     FitsWithin limit xs     neither the tree nor the keys of its entries take more bytes
 --     TreeFits w limit        the tree takes no more bytes
 --     TreeWithinOf w limit r  what reading it within a limit answers
+--     LimitedTreeOf w limit r what reading it answers, within a limit if there is one
 --     IsRefusedOnceWithin w   memory aside, that refuses in one way
 --     HasOneWeight w, WeighsNoMore w  the tree has one weight, and is no heavier
-use Rattle.std.specs.Prelude.{◌≡◌, ◌<◌, ◌≤◌, ◌⊎◌, ℕ, List, Result, Ok, Err, codes, sum_by}
+use Rattle.std.specs.Prelude.{◌≡◌, ◌<◌, ◌≤◌, ◌⊎◌, ℕ, List, Option, Some, None, Result, Ok, Err}
+use Rattle.std.specs.Prelude.{codes, sum_by}
 use Rattle.resb_tree.specs.Tree.{Tree, tree_count}
 use Rattle.resb_tree.specs.declared.resource.Resource.{Resource}
 use Rattle.resb_format.specs.Error.{IsInvalid, IsWantOfMemory, refusal_of}
@@ -75,6 +77,11 @@ TreeWithinOf w limit (Err e) =
     RefusesWhole w e
     ⊎ ((IsLarger e × TakesMoreOf tree_bytes w limit)
     ⊎ (HasLargerKeys e × TreeFits w limit × TakesMoreOf key_bytes w limit))
+
+-- what reading the tree answers, within the limit if there is one
+abbrev pub LimitedTreeOf : Whole → Option ℕ → Result Resource ReadingError → Type 0
+LimitedTreeOf w None r = AnswersTreeOf w r
+LimitedTreeOf w (Some limit) r = TreeWithinOf w limit r
 
 -- two refusals of reading the tree within a limit are equal, by kind and message, unless one is
 -- want of memory; and where the tree is read within it, only want of memory refuses it

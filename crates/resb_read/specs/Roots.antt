@@ -1,6 +1,7 @@
 -- What is read at a file's root, with the whole budget: once for whatever a file's bytes come to.
 --     Whole                   what a file comes to
 --     HoldsAt P w             it is a file, and P holds of the place of its root
+--     StandsAtRoot w s, OpensRoot w r     a cursor at its root; what opening that answers
 --     RefusesAt refuses w e   what a type that refuses so answers of it
 --     IsRefusedOnce w         memory aside, it is refused in one way
 --     AnswersTreeOf, AnswersCountOf   what reading and counting its tree answer
@@ -43,12 +44,14 @@ pub record HoldsAt (P : Place → Type 0) (w : Whole) : Type 0 where
   pub head : w.is_file
   pub root : P (place_of_root w)
 
+-- no check of the head fails, and a cursor is at the root, with the whole budget
+abbrev pub StandsAtRoot : Whole → Cursor × ℕ → Type 0
+StandsAtRoot w s =
+    (w.refusal ≡ None) × (place_of s.0 ≡ place_of_root w) × (s.1 ≡ w.budget)
+
 -- a cursor at the root, with the whole budget; or the first check of the head that fails
 abbrev pub OpensRoot : Whole → Result (Cursor × ℕ) ReadingError → Type 0
-OpensRoot w r =
-    MatchResult r
-    (λ s. (w.refusal ≡ None) × (place_of s.0 ≡ place_of_root w) × (s.1 ≡ w.budget))
-    (λ e. w.refusal ≡ Some (refusal_of e))
+OpensRoot w r = MatchResult r (StandsAtRoot w) (λ e. w.refusal ≡ Some (refusal_of e))
 
 -- the first check of the head that fails, or what the type answers at the root, with the whole
 -- budget

@@ -7,6 +7,7 @@ ghost use Rattle.resb_read.specs.Places.{place_of};
 ghost use Rattle.resb_read.specs.Roots.{OpensRoot, alone};
 ghost use Rattle.resb_read.specs.declared.cursor.Spot.TheVariants as spot;
 
+use crate::file::File;
 use resb_format::{BinaryDeserializerError, FileBlocks};
 use resb_head::CheckedFile;
 use resb_walk::Walk;
@@ -37,8 +38,8 @@ impl<'de> Cursor<'de> {
     pub fn root(bytes: &'de [u8]) -> Result<(Cursor<'de>, Walk), BinaryDeserializerError>
         ensures { OpensRoot (alone bytes.now) result }
     {
-        let parts = CheckedFile::read(bytes)?;
-        Ok(Cursor::begin(parts, bytes))
+        let file = File::alone(bytes)?;
+        Ok(file.root())
     }
 
     /// The spot where the cursor stands in the parts of its file.

@@ -5,6 +5,7 @@ ghost use Rattle.resb_walk.specs.Pieces.{Piece};
 ghost use Rattle.resb_walk.specs.Sums.{AddsUp, count_of, fitting};
 ghost use Rattle.resb_walk.specs.TreeBytes.{tree_bytes};
 ghost use Rattle.resb_read.specs.Inner.AtRoot.{IsRoot, MeasureHere, TreeWithinHere};
+ghost use Rattle.resb_read.specs.Files.{whole_in};
 ghost use Rattle.resb_read.specs.Measuring.{IsMeasured, AnswersMeasureOf, TreeWithinOf};
 ghost use Rattle.resb_read.specs.Roots.{alone};
 ghost use Rattle.resb_read.specs.Measuring.{IsLarger, HasLargerKeys, key_bytes};
@@ -12,6 +13,7 @@ ghost use Rattle.resb_read.specs.Places.{place_of};
 ghost use Rattle.resb_read.specs.Resources.{HoldsPlace};
 
 use crate::cursor::{Cursor, Spot};
+use crate::file::File;
 use crate::whole_files::{count_root, read_root_tree};
 use resb_format::{BinaryDeserializerError, Resource};
 use resb_tree::{NoMemory, weights};
@@ -104,6 +106,18 @@ impl<'de> Cursor<'de> {
             Spot::Descriptor(word) => weigh_word(alloc, self.file, word, resources),
             Spot::Unit(_) | Spot::Word(_) | Spot::Key(_) => unreachable!(),
         }
+    }
+}
+
+impl<'de> File<'de> {
+    /// Counts the resources of the tree, sums what they hold, and makes none of it. It is refused
+    /// as `count` is. No key and no string, but short ones, is looked at again and again as a
+    /// whole.
+    pub fn measure(&self, alloc: Global) -> Result<Measured, BinaryDeserializerError>
+        ensures { AnswersMeasureOf (whole_in self.now) result }
+    {
+        let (root, walk) = self.root();
+        measure_root(alloc, root, walk)
     }
 }
 

@@ -8,7 +8,7 @@ use resb_head::FormatVersion;
 use resb_path::{find_in, find_with_pool};
 use resb_pool_bundle::{FileHead, PoolBundle, read_with_pool};
 use resb_read::{
-    Cursor, count_resources_with_pool, from_bytes_counted_with_pool, from_bytes_with_pool,
+    Cursor, File, count_resources_with_pool, from_bytes_counted_with_pool, from_bytes_with_pool,
     measure_with_pool, tree_from_bytes_with_pool, tree_from_bytes_within_with_pool,
 };
 use std::alloc::Global;
@@ -148,6 +148,33 @@ fn is_one_tree(
     Ok(same == tree && count == 3)
 }
 
+/// Whether the tree of a file that was opened is read in the same way by each call, and not within
+/// a byte less than it takes.
+fn is_read_once(alloc: Global, file: &File<'_>) -> Result<bool, BinaryDeserializerError> {
+    let (tree, count) = file.read_counted::<Resource<'_>>(alloc)?;
+    let limited = file.tree(alloc, Some(TREE_BYTES))?;
+    let is_one = limited == tree && file.tree(alloc, None)? == tree;
+    let is_refused = file.tree(alloc, Some(TREE_BYTES - 1)).is_err();
+    let measured = file.measure(alloc)?;
+    Ok(is_one && is_refused && count == file.count(alloc)? && count == measured.resources)
+}
+
+/// Whether a file is opened once, and read from there; and so it is where it is read alone.
+fn is_opened_once(
+    alloc: Global,
+    bytes: &[u8],
+    pool: PoolBundle<'_>,
+) -> Result<bool, BinaryDeserializerError> {
+    let file = File::open(bytes, Some(pool))?;
+    let names: BTreeMap<&str, String> = file.read(alloc)?;
+    let (_, walk) = file.root();
+    let is_whole = file.bytes() == bytes && file.parts().root == 0x5000_0011;
+    let is_whole = is_whole && walk.left() == bytes.len() / 2 && names.len() == 2;
+    let own = file_of(alloc, "INTEGER")?;
+    let is_alone = File::alone(&own)?.count(alloc)? == 1;
+    Ok(is_whole && is_alone && is_read_once(alloc, &file)?)
+}
+
 /// Whether the file is read in each way.
 fn is_read(alloc: Global, pool: &[u8], file: &[u8]) -> Result<bool, BinaryDeserializerError> {
     let bundle = PoolBundle::read(pool)?;
@@ -158,7 +185,8 @@ fn is_read(alloc: Global, pool: &[u8], file: &[u8]) -> Result<bool, BinaryDeseri
             && are_found(file, bundle)?
             && are_led(file, bundle)?
             && is_measured(alloc, file, bundle)?
-            && is_one_tree(alloc, file, bundle)?,
+            && is_one_tree(alloc, file, bundle)?
+            && is_opened_once(alloc, file, bundle)?,
     )
 }
 

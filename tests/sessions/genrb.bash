@@ -78,6 +78,10 @@ same over/c.res wanted.res
 told 0 'three' '' get --pool shared/pool.res over/c.res delta/2
 told 0 '' '' compile --icu source/c.txt -o one.res --pool shared/pool.res
 same one.res wanted.res
+told 0 '' '' compile --icu source/c.txt -o two.res --pool shared/pool.res --limit 100000
+same two.res one.res
+told 1 '' 'source/a.txt: reading this text takes more than the limit of 120 bytes' \
+  compile source/a.txt --pool shared/pool.res --limit 120
 told 4 '' 'source/pool.res: no such file' genrb -q -s source -d over --usePoolBundle -k a.txt
 told 1 '' 'over/a.res: Invalid resource bundle data: file is not a pool bundle' \
   compile source/a.txt --pool over/a.res

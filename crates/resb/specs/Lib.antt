@@ -140,6 +140,7 @@ pub use Rattle.resb_layout.specs.CompactKeys
 pub use Rattle.resb_layout.specs.Written
 pub use Rattle.resb_write.specs.FaultOf
 pub use Rattle.resb_write.specs.WrittenWith
+pub use Rattle.resb_write.specs.Layouts
 pub use Rattle.resb_write.specs.Laws as WriteLaws
 pub use Rattle.resb_pool.specs.Shared as SharedPools
 pub use Rattle.resb_pool_bundle.specs.Checksum
@@ -150,7 +151,6 @@ pub use Rattle.resb_pool_maker.specs.PoolFault
 pub use Rattle.resb_pool_maker.specs.Laws as PoolMakerLaws
 pub use Rattle.resb_compile.specs.Compiled
 pub use Rattle.resb_compile.specs.Compiling
-pub use Rattle.resb_compile.specs.CompilingIcu
-pub use Rattle.resb_compile.specs.CompilingFiltered
+pub use Rattle.resb_compile.specs.Errors as CompileErrors
 pub mod Headline
 pub mod Laws

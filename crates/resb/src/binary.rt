@@ -24,4 +24,4 @@ pub use resb_read::{
     measure, measure_with_pool, tree_from_bytes, tree_from_bytes_with_pool, tree_from_bytes_within,
     tree_from_bytes_within_with_pool,
 };
-pub use resb_write::{BinarySerializerError, Serializer};
+pub use resb_write::{BinarySerializerError, Layout, Serializer};

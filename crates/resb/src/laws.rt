@@ -7,10 +7,10 @@ ghost use Rattle.resb_text.specs.Answer.{IsNoBundle};
 ghost use Rattle.resb_text.specs.Refusal.{want_of_memory};
 ghost use Rattle.resb_icu_text.specs.Answer.{IsNoIcuText};
 ghost use Rattle.resb_icu_text.specs.Refusal.{want_of_memory as icu_want_of_memory};
-ghost use Rattle.resb.specs.Laws.{TextIsRead, CompiledIsRead, WrittenIsRead};
-ghost use Rattle.resb.specs.Laws.{WrittenIsReadWithPool, IcuCompiledIsRead};
-ghost use Rattle.resb.specs.Laws.{WrittenOverPoolIsRead, CompiledWithPoolIsRead};
-ghost use Rattle.resb.specs.Laws.{IcuCompiledWithPoolIsRead};
+ghost use Rattle.resb.specs.Laws.{TextIsRead, PlainIsCompiled, CompiledIsRead};
+ghost use Rattle.resb.specs.Laws.{WrittenIsRead};
+ghost use Rattle.resb.specs.Laws.{WrittenIsReadWithPool, WrittenOverPoolIsRead};
+ghost use Rattle.resb.specs.Laws.{CompiledByIsRead};
 
 // Trees and integers.
 
@@ -222,10 +222,10 @@ pub fn written_is_read_with_pool()
     ensures { WrittenIsReadWithPool }
 {}
 
-/// A compiled text of ICU's form, compact or not, is read back by
-/// `from_bytes_with_pool::<Resource>` as the text's tree, memory aside.
-pub fn icu_compiled_is_read()
-    ensures { IcuCompiledIsRead }
+/// What is compiled of a text of the plain form, with no option, is a written file of the text's
+/// bundle.
+pub fn plain_is_compiled()
+    ensures { PlainIsCompiled }
 {}
 
 /// A compiled text is read back by `from_bytes::<Resource>` as the text's tree, memory aside.
@@ -239,14 +239,9 @@ pub fn written_over_pool_is_read()
     ensures { WrittenOverPoolIsRead }
 {}
 
-/// A text that was compiled over a pool bundle is read back beside it as the text's tree, memory
+/// A text that was compiled in any way is read back by `from_bytes_with_pool::<Resource>`, beside
+/// the way's pool bundle, if it has one, as what the way's rules leave of the text's tree, memory
 /// aside.
-pub fn compiled_with_pool_is_read()
-    ensures { CompiledWithPoolIsRead }
-{}
-
-/// A text of ICU's form that was compiled over a pool bundle, compact or not, is read back beside
-/// it as the text's tree, memory aside.
-pub fn icu_compiled_with_pool_is_read()
-    ensures { IcuCompiledWithPoolIsRead }
+pub fn compiled_by_is_read()
+    ensures { CompiledByIsRead }
 {}

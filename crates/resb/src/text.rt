@@ -1,6 +1,6 @@
 //! The text form: from a text to a bundle and its keys, with the counter of turns, and from a
 //! bundle to its text; and the same for texts of ICU's own form, with a counter of their own.
-//! The way on to a file is `compile`, or `compile_icu`, at the top.
+//! The way on to a file is `Compile` at the top.
 
 pub use resb_icu_grammar::IcuExpected;
 pub use resb_icu_print::{IcuCause, IcuPrintError};

@@ -2,7 +2,7 @@
 --     number_of f             the status that the header names
 --     place_of f              the byte of the text at which it can't be read on
 --     message_of f            what it prints as
-use Rattle.std.specs.Prelude.{ℕ, List, ◌++◌, codes, decimal}
+use Rattle.std.specs.Prelude.{ℕ, List, ◌++◌, codes, decimal, unwrap_or}
 use Rattle.resb_grammar.specs.declared.expected.Expected.{Expected}
 use Rattle.resb_grammar.specs.declared.expected.Expected.TheVariants as expect
 use Rattle.resb_icu_grammar.specs.declared.expected.IcuExpected.{IcuExpected}
@@ -17,24 +17,23 @@ use Rattle.resb_print.specs.Message as print
 use Rattle.resb_print.specs.declared.error.PrintError.TheVariants.{NotPrintable, OutOfMemory}
 use Rattle.resb_icu_print.specs.Message as print_icu
 use Rattle.resb_icu_print.specs.declared.error.IcuPrintError.TheVariants as icu_print
-use Rattle.resb_compile.specs.declared.compiling.CompileError.TheVariants.{Reading, Writing}
-use Rattle.resb_compile.specs.declared.compiling_icu.IcuCompileError.TheVariants as icu
-use Rattle.resb_compile.specs.Compiling as compile
-use Rattle.resb_compile.specs.CompilingIcu as compile_icu
+use Rattle.resb_compile.specs.declared.error.CompileError.{CompileError}
+use Rattle.resb_compile.specs.declared.error.CompileError.TheVariants.{Reading, ReadingIcu}
+use Rattle.resb_compile.specs.declared.error.CompileError.TheVariants as compiling
+use Rattle.resb_compile.specs.declared.error.CompileError.TheVariants.{Writing}
+use Rattle.resb_compile.specs.Errors as compile
 use Rattle.resb_program.specs.Messages.{file_message}
 use Rattle.resb_program.specs.declared.errors.FileError.TheVariants as file_error
 use Rattle.resb_zoneinfo.specs.Message.{zone_message}
 use Rattle.resb_zoneinfo.specs.declared.checking.ZoneError.{ZoneError}
 use Rattle.resb_zoneinfo.specs.declared.checking.ZoneError.TheVariants as zone
-use Rattle.resb_c.specs.declared.compiling.CompilingFault.{CompilingFault}
-use Rattle.resb_c.specs.declared.compiling.CompilingFault.TheVariants.{Plain, Icu}
 use Rattle.resb_c.specs.declared.printing.PrintingFault.{PrintingFault}
 use Rattle.resb_c.specs.declared.printing.PrintingFault.TheVariants as printing
 use Rattle.resb_c.specs.declared.fault.Fault.{Fault}
 use Rattle.resb_c.specs.declared.fault.Fault.TheVariants as the
 use Rattle.resb_c.specs.declared.fault.Fault.TheVariants.{TooShort, NotUtf8, Compiling}
 use Rattle.resb_c.specs.declared.fault.Fault.TheVariants.{UsesPool, Pool, Larger, LongKeys}
-use Rattle.resb_c.specs.declared.fault.Fault.TheVariants.{LongText, LargerText, Printing}
+use Rattle.resb_c.specs.declared.fault.Fault.TheVariants.{LongText, Printing}
 use Rattle.resb_c.specs.declared.fault.Fault.TheVariants.{NotFound, OtherKind, Zone}
 
 -- a text that isn't read is 3, want of memory 8
@@ -65,12 +64,13 @@ print_number (printing.Plain OutOfMemory) = 8
 print_number (printing.Icu (icu_print.NotPrintable cause)) = 7
 print_number (printing.Icu icu_print.OutOfMemory) = 8
 
--- why a text isn't compiled: the number of the reader's fault, or of the writer's
-abbrev pub compile_number : CompilingFault → ℕ
-compile_number (Plain (Reading e)) = text_number e.expected
-compile_number (Plain (Writing e)) = tree_number (fault_of e)
-compile_number (Icu (icu.Reading e)) = icu_text_number e.expected
-compile_number (Icu (icu.Writing e)) = tree_number (fault_of e)
+-- why a text isn't compiled: the number of the reader's fault, or of the writer's, and 10 where
+-- reading makes more bytes than the limit
+abbrev pub compile_number : CompileError → ℕ
+compile_number (Reading e) = text_number e.expected
+compile_number (ReadingIcu e) = icu_text_number e.expected
+compile_number (Writing e) = tree_number (fault_of e)
+compile_number (compiling.Larger limit) = 10
 
 -- no zone of a name is 12, a zone with a fault 14
 abbrev pub zone_number : ZoneError → ℕ
@@ -90,18 +90,14 @@ number_of (Pool e) = 11
 number_of (Larger n limit) = 10
 number_of (LongKeys n limit) = 10
 number_of (LongText limit) = 10
-number_of LargerText = 10
 number_of (Printing e) = print_number e
 number_of NotFound = 12
 number_of OtherKind = 13
 number_of (Zone e) = zone_number e
 
--- the reader's place in the text, and 0 for a tree that isn't written
-abbrev pub compile_place : CompilingFault → ℕ
-compile_place (Plain (Reading e)) = e.position
-compile_place (Plain (Writing e)) = 0
-compile_place (Icu (icu.Reading e)) = e.position
-compile_place (Icu (icu.Writing e)) = 0
+-- the reader's place in the text, and 0 for a tree that isn't written and a text that is too large
+abbrev pub compile_place : CompileError → ℕ
+compile_place e = unwrap_or (compile.position_of e) 0
 
 -- the byte at which the text is no UTF-8 or isn't read on, and 0 for any other fault
 abbrev pub place_of : Fault → ℕ
@@ -114,16 +110,17 @@ place_of (Pool e) = 0
 place_of (Larger n limit) = 0
 place_of (LongKeys n limit) = 0
 place_of (LongText limit) = 0
-place_of LargerText = 0
 place_of (Printing e) = 0
 place_of NotFound = 0
 place_of OtherKind = 0
 place_of (Zone e) = 0
 
--- what the error of its form prints
-abbrev pub compile_message : CompilingFault → List ℕ
-compile_message (Plain e) = compile.message_of e
-compile_message (Icu e) = compile_icu.message_of e
+-- what the error prints, but for a text that is too large
+abbrev pub compile_message : CompileError → List ℕ
+compile_message (compiling.Larger limit) = codes "reading the text takes more bytes than the limit"
+compile_message (Reading e) = compile.message_of (Reading e)
+compile_message (ReadingIcu e) = compile.message_of (ReadingIcu e)
+compile_message (Writing e) = compile.message_of (Writing e)
 
 -- what the printer's error of its form prints
 abbrev pub print_message : PrintingFault → List ℕ
@@ -143,7 +140,6 @@ message_of (Larger n limit) = file_message (file_error.Larger n limit)
 message_of (LongKeys n limit) = file_message (file_error.LongKeys n limit)
 message_of (LongText limit) =
     codes "the text takes more than the limit of " ++ (decimal limit ++ codes " bytes")
-message_of LargerText = codes "reading the text takes more bytes than the limit"
 message_of (Printing e) = print_message e
 message_of NotFound = codes "nothing stands at the path"
 message_of OtherKind = codes "what stands at the path is of another kind"

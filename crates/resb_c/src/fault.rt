@@ -4,8 +4,9 @@ ghost use Rattle.std.specs.Prelude.{◌≡◌, Some};
 ghost use Rattle.resb_c.specs.Faults as faults;
 ghost use Rattle.resb_c.specs.Faults.{message_of, number_of, place_of};
 
-use crate::compiling::CompilingFault;
+use crate::compiling;
 use crate::printing::PrintingFault;
+use resb_compile::CompileError;
 use resb_format::{BinaryDeserializerError, ErrorKind};
 use resb_program::FileError;
 use resb_zoneinfo::ZoneError;
@@ -19,8 +20,8 @@ pub enum Fault {
     TooShort(usize),
     /// The bytes that should be a text, or a name, aren't UTF-8 from this place on.
     NotUtf8(usize),
-    /// The text has no file.
-    Compiling(CompilingFault),
+    /// The text has no file, or its reading makes more bytes than the limit.
+    Compiling(CompileError),
     /// The bytes are no file of a tree within its budget.
     Reading(BinaryDeserializerError),
     /// The tree takes so many bytes, more than the limit; none where they don't fit in 64 bits.
@@ -30,8 +31,6 @@ pub enum Fault {
     LongKeys { bytes: Option<u64>, limit: u64 },
     /// The tree's text, or its JSON, has more bytes than this limit.
     LongText(u64),
-    /// Reading the text makes more bytes than the limit.
-    LargerText,
     /// The file uses a pool bundle, and none was given.
     UsesPool,
     /// The bytes that were given as a pool bundle are none.
@@ -64,7 +63,7 @@ impl Fault {
         match self {
             Fault::TooShort(_) => 1,
             Fault::NotUtf8(_) => 2,
-            Fault::Compiling(e) => e.number(),
+            Fault::Compiling(e) => compiling::number(e),
             Fault::Reading(e) => match e.kind() {
                 ErrorKind::OutOfMemory => 8,
                 ErrorKind::UnsupportedFormat => 6,
@@ -72,7 +71,7 @@ impl Fault {
             },
             Fault::UsesPool => 9,
             Fault::Larger { .. } | Fault::LongKeys { .. } => 10,
-            Fault::LongText(_) | Fault::LargerText => 10,
+            Fault::LongText(_) => 10,
             Fault::Printing(e) => e.number(),
             Fault::Pool(_) => 11,
             Fault::NotFound => 12,
@@ -87,7 +86,7 @@ impl Fault {
     {
         match self {
             Fault::NotUtf8(place) => *place,
-            Fault::Compiling(e) => e.place(),
+            Fault::Compiling(e) => compiling::place(e),
             _ => 0,
         }
     }
@@ -102,6 +101,9 @@ impl fmt::Display for Fault {
                 write!(f, "the buffer is too short, {length} bytes are needed")
             }
             Fault::NotUtf8(place) => write!(f, "not UTF-8 from byte {place} on"),
+            Fault::Compiling(CompileError::Larger(_)) => {
+                write!(f, "reading the text takes more bytes than the limit")
+            }
             Fault::Compiling(e) => write!(f, "{e}"),
             Fault::Reading(e) => write!(f, "{e}"),
             Fault::UsesPool => write!(f, "the file uses a pool bundle, and none was given"),
@@ -117,7 +119,6 @@ impl fmt::Display for Fault {
             Fault::LongText(limit) => {
                 write!(f, "the text takes more than the limit of {limit} bytes")
             }
-            Fault::LargerText => write!(f, "reading the text takes more bytes than the limit"),
             Fault::Printing(e) => write!(f, "{e}"),
             Fault::NotFound => write!(f, "nothing stands at the path"),
             Fault::OtherKind => write!(f, "what stands at the path is of another kind"),

@@ -17,7 +17,7 @@ ghost use Rattle.resb_c.specs.AtPaths.{GivesBytes, GivesKey, GivesString, TellsI
 ghost use Rattle.resb_c.specs.AtPaths.{TellsKind, integer_told, kind_told};
 ghost use Rattle.resb_c.specs.AtPlaces.{found_kind};
 ghost use Rattle.resb_c.specs.Calls.{CountsFile, Reports, Tells, number_told};
-ghost use Rattle.resb_c.specs.Compiling.{CompilesInto, CompilesWithin};
+ghost use Rattle.resb_c.specs.Compiling.{CompilesInto};
 ghost use Rattle.resb_c.specs.Dumping.{DumpsInto};
 ghost use Rattle.resb_c.specs.JsonDumping.{DumpsJsonInto};
 ghost use Rattle.resb_c.specs.Handed as handed;
@@ -49,7 +49,7 @@ mod there;
 mod within;
 mod zones;
 
-use crate::compiling::{compile_into, compile_within_into};
+use crate::compiling::compile_into;
 use crate::files::{Input, Wanted, count_file, dump_into, measure_file};
 use crate::found::{bytes_into, key_into, string_into, tell_integer, tell_kind};
 use crate::handed::{hand_bytes, hand_on, status_of};
@@ -61,7 +61,6 @@ use crate::seen::{
 };
 use crate::within::{find_at_path, key_seen, member_seen, value_at_key};
 use crate::zones::tell_offset;
-pub use compiling::CompilingFault;
 pub use fault::Fault;
 pub use form::Form;
 pub use handed::ResbBytes;
@@ -93,10 +92,10 @@ pub extern "C" fn resb_compile(
     length: &mut usize,
     error: &mut ResbError,
 ) -> u32
-    ensures { (r : Result ℕ Fault) × CompilesInto Plain text.now out.old out.new r
+    ensures { (r : Result ℕ Fault) × CompilesInto Plain None text.now out.old out.new r
         × Reports r result length.new error.new }
 {
-    let answer = compile_into(alloc, Form::Plain, text, out);
+    let answer = compile_into(alloc, Form::Plain, None, text, out);
     report(alloc, answer, length, error)
 }
 
@@ -111,10 +110,10 @@ pub extern "C" fn resb_compile_within(
     length: &mut usize,
     error: &mut ResbError,
 ) -> u32
-    ensures { (r : Result ℕ Fault) × CompilesWithin Plain text.now limit out.old out.new r
+    ensures { (r : Result ℕ Fault) × CompilesInto Plain (Some limit) text.now out.old out.new r
         × Reports r result length.new error.new }
 {
-    let answer = compile_within_into(alloc, Form::Plain, text, limit, out);
+    let answer = compile_into(alloc, Form::Plain, Some(limit), text, out);
     report(alloc, answer, length, error)
 }
 
@@ -127,10 +126,10 @@ pub extern "C" fn resb_compile_icu(
     length: &mut usize,
     error: &mut ResbError,
 ) -> u32
-    ensures { (r : Result ℕ Fault) × CompilesInto Icu text.now out.old out.new r
+    ensures { (r : Result ℕ Fault) × CompilesInto Icu None text.now out.old out.new r
         × Reports r result length.new error.new }
 {
-    let answer = compile_into(alloc, Form::Icu, text, out);
+    let answer = compile_into(alloc, Form::Icu, None, text, out);
     report(alloc, answer, length, error)
 }
 
@@ -145,10 +144,10 @@ pub extern "C" fn resb_compile_icu_within(
     length: &mut usize,
     error: &mut ResbError,
 ) -> u32
-    ensures { (r : Result ℕ Fault) × CompilesWithin Icu text.now limit out.old out.new r
+    ensures { (r : Result ℕ Fault) × CompilesInto Icu (Some limit) text.now out.old out.new r
         × Reports r result length.new error.new }
 {
-    let answer = compile_within_into(alloc, Form::Icu, text, limit, out);
+    let answer = compile_into(alloc, Form::Icu, Some(limit), text, out);
     report(alloc, answer, length, error)
 }
 

@@ -19,10 +19,10 @@ use crate::taken::Taken;
 use crate::texts::{SourceText, taken_in};
 use crate::warn::{warn, warn_of_name};
 use crate::words::{NO_UTF8, is_marked};
-use resb_compile::compile_with_pool;
+use resb_compile::{Compile, TextForm};
 use resb_lent::Pool;
 use resb_pool_maker::PoolMaker;
-use resb_program::{SourceError, bundle_name, compile_source, compile_source_within, text_of};
+use resb_program::{SourceError, bundle_name, text_of};
 use resb_words::CompileWords;
 use std::alloc::{AllocError, Global};
 use std::cell::RefCell;
@@ -558,14 +558,19 @@ fn may_pass(length: usize, limit: Option<u64>) -> bool {
     }
 }
 
-/// The bytes of the file of a text in the plain form, over the pool bundle, or where reading the
-/// text keeps within the limit, if there is one.
+/// The bytes of the file of a text in the plain form, over the pool bundle, if there is one, where
+/// reading the text keeps within the limit, if there is one.
 fn compiled(alloc: Global, text: &str, work: Work<'_, '_, '_>) -> Result<Vec<u8>, SourceError> {
-    match (work.pool, work.wanted.limit) {
-        (Some(pool), _) => compile_with_pool(alloc, text, pool).map_err(SourceError::Refused),
-        (None, Some(limit)) => compile_source_within(alloc, text, limit),
-        (None, None) => compile_source(alloc, text),
-    }
+    let way = Compile::new(TextForm::Plain);
+    let way = match work.pool {
+        Some(pool) => way.over(pool),
+        None => way,
+    };
+    let way = match work.wanted.limit {
+        Some(limit) => way.within(limit),
+        None => way,
+    };
+    way.text(alloc, text).map_err(SourceError::Refused)
 }
 
 /// The name of a text's file: the one that was said, or the text's with `.res`, in the folder that

@@ -13,7 +13,7 @@ use crate::mistaken_values::{
 };
 use crate::mistakes::{Mistake, Spot, What};
 use crate::repeated::repeated_key;
-use resb_compile::{CompileError, IcuCompileError};
+use resb_compile::CompileError;
 use resb_diagnostics::first_icu_word;
 use resb_grammar::Expected;
 use resb_icu_grammar::IcuExpected;
@@ -34,7 +34,7 @@ pub(crate) fn mistake_at<'s>(
         SourceError::Refused(CompileError::Reading(e)) => {
             plain_mistake(alloc, &spot, e.expected())
         }
-        SourceError::IcuRefused(IcuCompileError::Reading(e)) => {
+        SourceError::Refused(CompileError::ReadingIcu(e)) => {
             icu_mistake(alloc, &spot, e.expected())
         }
         _ => Ok(None),

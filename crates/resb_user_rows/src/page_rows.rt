@@ -4,7 +4,7 @@
 //! The zone table has its rows in `text_rows` and `zone_rows`.
 use crate::zone_rows::file_of;
 use resb::binary::PoolBundle;
-use resb::compile;
+use resb::{Compile, TextForm};
 use resb_examples::names::{ZoneNames, language_name, zone_names};
 use resb_examples::reading::{base_by_cursor, base_by_key, base_of, names_over_a_pool};
 use resb_examples::records::{digits_of, digits_or_blame};
@@ -106,13 +106,13 @@ fn are_found(alloc: Global) -> Result<bool, Fail> {
         file_of(alloc, &NAMES_OVER_POOL)?,
     );
     let pool = PoolBundle::read(&pool)?;
-    let alone = compile(alloc, NAMES)?;
+    let alone = Compile::new(TextForm::Plain).text(alloc, NAMES)?;
     Ok(has_names(alloc, &file, Some(pool))? && has_names(alloc, &alone, None)?)
 }
 
 /// Whether each zone's base is read, by each way.
 fn are_read(alloc: Global) -> Result<bool, Fail> {
-    let file = compile(alloc, ZONES)?;
+    let file = Compile::new(TextForm::Plain).text(alloc, ZONES)?;
     for (name, base) in BASES {
         if base_of(alloc, &file, name)? != base || base_by_cursor(&file, name)? != base {
             return Ok(false);
@@ -126,7 +126,7 @@ fn are_read(alloc: Global) -> Result<bool, Fail> {
 
 /// Whether the digits of each currency are read.
 fn are_records(alloc: Global) -> Result<bool, Fail> {
-    let file = compile(alloc, CURRENCIES)?;
+    let file = Compile::new(TextForm::Plain).text(alloc, CURRENCIES)?;
     for (code, digits) in DIGITS {
         let Ok(found) = digits_or_blame(alloc, &file, code) else {
             return Ok(false);
@@ -140,9 +140,10 @@ fn are_records(alloc: Global) -> Result<bool, Fail> {
 
 /// Whether the files that are made are those of the texts.
 fn are_written(alloc: Global) -> Result<bool, Fail> {
-    let greeting = compile(alloc, r#"names { age:int { 7 } greeting { "hello" } }"#)?;
+    let plain = Compile::new(TextForm::Plain);
+    let greeting = plain.text(alloc, r#"names { age:int { 7 } greeting { "hello" } }"#)?;
     let merged = merge(alloc, MERGED[0], MERGED[1])?;
-    Ok(greeting_file(alloc)? == greeting && merged == compile(alloc, MERGED[2])?)
+    Ok(greeting_file(alloc)? == greeting && merged == plain.text(alloc, MERGED[2])?)
 }
 
 #[test]

@@ -103,7 +103,6 @@ const COMPILE: Described<'static> = Described {
             id: "POOL",
             option: Some("pool"),
             help: "Leaves out what this pool bundle, or the pool.res in this folder, has",
-            against: Some("BYTES"),
             ..VALUE
         },
         COMPACT,

@@ -17,8 +17,6 @@ use Rattle.resb_layout.specs.PlainSize.{list_size, resources_size}
 use Rattle.resb_layout.specs.TreeFaults.{key_fault, tree_fault, RefusesWriting, no_memory}
 use Rattle.resb_layout.specs.TreeFaults.{at_the_first}
 use Rattle.resb_layout.specs.TreeFaults.{too_large}
-use Rattle.resb_write.specs.declared.target.Target.{Target}
-use Rattle.resb_write.specs.declared.target.Target.TheVariants.{Alone, OverPool}
 use Rattle.resb_pool.specs.declared.packing.Packing.{Packing}
 use Rattle.resb_write.specs.FaultOf.{plan_fault}
 use Rattle.resb_write.specs.Inner.Sizes.{size_fault, IsTooMuch, at_fault}
@@ -31,7 +29,8 @@ use Rattle.resb_lent.specs.PlanWithPool.{lacking, NotPlannedWithBy, own_fault}
 use Rattle.resb_lent.specs.PlanWithPool.{no_memory as no_memory_beside, too_far as too_far_beside}
 use Rattle.resb_lent.proofs.PlanRoom.{lacking_sum, limit_within, own_within}
 use Rattle.resb_write.specs.WrittenWith.{RefusesWritingWith, as_alone, too_far}
-use Rattle.resb_write.specs.Inner.Beside.{IsUnplanned, RefusesOver}
+use Rattle.resb_write.specs.Inner.Beside.{IsUnplanned}
+use Rattle.resb_write.specs.Layouts.{RefusesBy}
 
 module _ (t : Tree) (ks : List (List ℕ)) where
   pub key_refused : (us : List (List ℕ)) (f : WritingFault) → us ≡ keys_of t → (f ≡ out_of_memory)
@@ -120,8 +119,8 @@ module _ (t : Tree) (ks : List (List ℕ)) (pool : Pool)
       subst (RefusesWritingWith pool t ks) (sym u.answered) (not_planned q u.error
       (subst (λ T. NotPlannedWithBy q pool.block T u.error) is u.refused))
 
--- want of memory is answered, whatever a file stands on
-pub no_memory_over : (o : Target) (t : Tree) (ks : List (List ℕ))
-    → RefusesOver o t ks out_of_memory
-no_memory_over (Alone q) t ks = no_memory
-no_memory_over (OverPool o) t ks = as_alone no_memory
+-- want of memory is answered, however a file is laid out
+pub no_memory_by : (pool : Option Pool) (t : Tree) (ks : List (List ℕ))
+    → RefusesBy pool t ks out_of_memory
+no_memory_by None t ks = no_memory
+no_memory_by (Some pool) t ks = as_alone no_memory

@@ -1,6 +1,6 @@
--- The words of the contracts: what a file is that is written over a pool bundle, what the laws of
--- written files say, and, from the crates below, why a file isn't written, what a written file is,
--- and for which tree a draft stands.
+-- The words of the contracts: what a file is that is written over a pool bundle, how files are laid
+-- out, what the laws of written files say, and, from the crates below, why a file isn't written,
+-- what a written file is, and for which tree a draft stands.
 pub use Rattle.resb_tree.specs.Tree
 pub use Rattle.resb_tree.specs.View
 pub use Rattle.resb_tree.specs.Bundle
@@ -27,5 +27,6 @@ pub use Rattle.resb_lent.specs.PlanWithPool
 pub use Rattle.resb_lent.specs.HeadWithPool
 pub mod FaultOf
 pub mod WrittenWith
+pub mod Layouts
 pub mod Laws
 pub mod Inner

@@ -20,10 +20,10 @@ use crate::ends_beside::end_keys_beside;
 use crate::error::BinarySerializerError;
 use crate::key_block::{KeyBlock, check_used, last_positions, used_keys, values_at};
 use crate::numbered_keys::NumberedKeys;
-use crate::target::OverPool;
+use crate::wanted::Wanted;
 use indexmap::IndexMap;
 use resb_layout::Packing;
-use resb_lent::LentKeys;
+use resb_lent::{LentKeys, Pool};
 use resb_tree::Key;
 use std::alloc::{AllocError, Global};
 
@@ -33,24 +33,24 @@ pub(crate) const LENT_KEY: u32 = 0x8000_0000;
 /// By how much the file's own keys begin later: the index of a file over a pool has a word more.
 pub(crate) const WORD: u32 = 4;
 
-/// The block of a list of keys for a tree whose tables have these keys, which are dropped then, in
-/// a file over a pool bundle. Refuses the first fault of a key.
+/// The block of the keys that are wanted for a tree whose tables have these keys, which are dropped
+/// then, in a file over a pool bundle. Refuses the first fault of a key.
 pub(crate) fn key_block_beside<'k>(
     alloc: Global,
     tree_keys: NumberedKeys<'_>,
-    list: &'k [Key<'_>],
-    over: &OverPool<'_>,
+    wanted: &Wanted<'k>,
+    pool: &Pool<'_>,
 ) -> Result<KeyBlock<'k>, BinarySerializerError>
     ensures ok { IfOk result (λ b. (us : List (List ℕ)) → NumbersKeys tree_keys.entry us
-        → IsKeyBlockBeside over.now.packing (pool_in over.now.pool.now).keys us list.now
-        (nows b.keys.items) b.positions.items) }
+        → IsKeyBlockBeside wanted.now.layout.packing (pool_in pool.now).keys us
+        wanted.now.list.now (nows b.keys.items) b.positions.items) }
     ensures err { IfErr result (λ e. (us : List (List ℕ)) → NumbersKeys tree_keys.entry us
-        → (fault_of e ≡ out_of_memory) ⊎ (key_fault us (used_of us list.now)
+        → (fault_of e ≡ out_of_memory) ⊎ (key_fault us (used_of us wanted.now.list.now)
         ≡ Some (fault_of e))) }
 {
-    match over.packing {
-        Packing::Plain => whole_keys_beside(alloc, tree_keys, list, over.pool.keys()),
-        Packing::Compact => end_keys_beside(alloc, tree_keys, list, over.pool.ends()),
+    match wanted.layout.packing {
+        Packing::Plain => whole_keys_beside(alloc, tree_keys, wanted.list, pool.keys()),
+        Packing::Compact => end_keys_beside(alloc, tree_keys, wanted.list, pool.ends()),
     }
 }
 

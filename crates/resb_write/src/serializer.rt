@@ -1,6 +1,6 @@
 //! Writes a bundle, or a draft of one: its faults in their order, and then the parts of the file,
 //! one after another.
-//! Each part is made in a module or crate of its own.
+//! Each part is made in a module or crate of its own; how a file may be laid out is in `layout`.
 ghost use Rattle.std.specs.Prelude.{◌≡◌, ◌+◌, ◌<◌, ◌^◌, true, map, IfOk, IfErr};
 ghost use Rattle.resb_tree.specs.Borrowing.{all_true};
 ghost use Rattle.resb_tree.specs.Tree.{Tree};
@@ -10,35 +10,31 @@ ghost use Rattle.resb_draft.specs.Drafts.{draft_tree, is_ready, tree_at, is_whol
 ghost use Rattle.resb_draft.specs.Pieces.{are_pieces};
 ghost use Rattle.resb_write.specs.FaultOf.{fault_of};
 ghost use Rattle.resb_pool.specs.Plan.{nows};
-ghost use Rattle.resb_write.specs.Inner.Beside.{IsFileOver, RefusesOver};
+ghost use Rattle.resb_write.specs.Layouts.{IsFileOver, RefusesOver};
 ghost use Rattle.resb_write.specs.Inner.Gathered.{Gathered};
 ghost use Rattle.resb_write.specs.Inner.NearPositions.{IsKeyBlockBy};
 ghost use Rattle.resb_write.specs.Inner.Numbered.{NumbersKeys};
 ghost use Rattle.resb_layout.specs.PlainSize.{list_size, resources_size};
 ghost use Rattle.resb_layout.specs.TreeFaults.{RefusesWriting};
-ghost use Rattle.resb_layout.specs.Written.{Written, WrittenCompact};
-ghost use Rattle.resb_write.specs.declared.target.Target.TheVariants.{Alone};
-ghost use Rattle.resb_pool_bundle.specs.Pool.{pool_in};
-ghost use Rattle.resb_write.specs.WrittenWith.{WrittenWith, WrittenCompactWith};
-ghost use Rattle.resb_write.specs.WrittenWith.{RefusesWritingWith};
+ghost use Rattle.resb_layout.specs.Written.{Written, WrittenBy};
 
 use crate::contents::Contents;
 use crate::drafts::{NumberedPieces, draft_keys};
 use crate::error::BinarySerializerError;
 use crate::file::{FileParts, assemble};
 use crate::key_block::{KEYS_START, KeyBlock, block_length};
+use crate::layout::Layout;
 use crate::limits::check_sizes;
 use crate::nodes::{Nodes, nodes_of, table_keys};
 use crate::numbered_keys::NumberedKeys;
 use crate::packed_keys::packed_keys;
 use crate::sites::Sites;
 use crate::strings::Strings;
-use crate::target::{OverPool, Target, Wanted};
 use crate::tree_bodies::lay_bodies;
-use crate::with_pool::write_order_with_pool;
+use crate::wanted::Wanted;
+use crate::with_pool::write_beside;
 use resb_draft::Draft;
 use resb_layout::Packing;
-use resb_lent::Pool;
 use resb_tree::{Key, ResourceBundle, in_laying_order};
 use std::alloc::Global;
 
@@ -66,208 +62,20 @@ impl Serializer {
         ensures err { IfErr result (λ e. RefusesWriting (root_of bundle.now)
             keys_in_discovery_order.now (fault_of e)) }
     {
-        write_bundle(
-            alloc,
-            bundle,
-            keys_in_discovery_order,
-            Target::Alone(Packing::Plain),
-        )
-    }
-
-    /// The compact `.res` file of a bundle: what `to_bytes` gives, but that a key that other keys
-    /// end with lies at the end of the greatest of them, by their bytes from the last to the first,
-    /// that an empty string has the word 0, and that strings share ends only with strings that no
-    /// other one ends with, where strings are ordered by their 16-bit units. So ICU's `genrb`
-    /// writes files without a pool bundle, byte by byte. A file with word 0 is for readers of
-    /// aliases.
-    ///
-    /// Refused is what `to_bytes` refuses.
-    pub fn to_bytes_compact(
-        alloc: Global,
-        bundle: &ResourceBundle<'_>,
-        keys_in_discovery_order: &[Key<'_>],
-    ) -> Result<Vec<u8>, BinarySerializerError>
-        ensures ok { IfOk result (λ v. WrittenCompact v.items (root_of bundle.now)
-            bundle.now.is_locale_fallback_enabled keys_in_discovery_order.now) }
-        ensures err { IfErr result (λ e. RefusesWriting (root_of bundle.now)
-            keys_in_discovery_order.now (fault_of e)) }
-    {
-        write_bundle(
-            alloc,
-            bundle,
-            keys_in_discovery_order,
-            Target::Alone(Packing::Compact),
-        )
-    }
-
-    /// The `.res` file of a bundle over a pool bundle: its keys and strings that the pool has stay
-    /// there. A key stands in the pool where the pool has it whole, and a string where a record of
-    /// the pool is that string, or ends with it if it has no marker; the others are the file's own.
-    /// The version is 3.0 where a string stands in the pool, and else 2.0. Which pool is used the
-    /// file says by the pool's checksum. (ICU's `uresdata.h`: pool bundles.)
-    ///
-    /// Refused is what `to_bytes` refuses, and, as `file too large`, strings whose indexes would
-    /// take more than 28 bits with those of the pool.
-    pub fn to_bytes_with_pool(
-        alloc: Global,
-        bundle: &ResourceBundle<'_>,
-        keys_in_discovery_order: &[Key<'_>],
-        pool: &Pool<'_>,
-    ) -> Result<Vec<u8>, BinarySerializerError>
-        ensures ok { IfOk result (λ v. WrittenWith (pool_in pool.now) v.items (root_of bundle.now)
-            bundle.now.is_locale_fallback_enabled keys_in_discovery_order.now) }
-        ensures err { IfErr result (λ e. RefusesWritingWith (pool_in pool.now)
-            (root_of bundle.now) keys_in_discovery_order.now (fault_of e)) }
-    {
-        write_bundle(
-            alloc,
-            bundle,
-            keys_in_discovery_order,
-            Target::OverPool(OverPool {
-                packing: Packing::Plain,
-                pool,
-            }),
-        )
-    }
-
-    /// The compact `.res` file of a bundle over a pool bundle: what `to_bytes_with_pool` gives, but
-    /// that a key lies at the end of a key of the pool or of the file, that an empty string has the
-    /// word 0, and that strings share ends only with those strings of the file and the pool that no
-    /// other one of these ends with. Of the pool's keys that end with a key the last one is looked
-    /// at, by their bytes from the last to the first, where an end is the greatest. The key lies in
-    /// it unless the one in which `to_bytes_compact` lays the key is behind it. So ICU's `genrb`
-    /// writes it.
-    ///
-    /// Refused is what `to_bytes_with_pool` refuses.
-    pub fn to_bytes_compact_with_pool(
-        alloc: Global,
-        bundle: &ResourceBundle<'_>,
-        keys_in_discovery_order: &[Key<'_>],
-        pool: &Pool<'_>,
-    ) -> Result<Vec<u8>, BinarySerializerError>
-        ensures ok { IfOk result (λ v. WrittenCompactWith (pool_in pool.now) v.items
-            (root_of bundle.now) bundle.now.is_locale_fallback_enabled
-            keys_in_discovery_order.now) }
-        ensures err { IfErr result (λ e. RefusesWritingWith (pool_in pool.now)
-            (root_of bundle.now) keys_in_discovery_order.now (fault_of e)) }
-    {
-        write_bundle(
-            alloc,
-            bundle,
-            keys_in_discovery_order,
-            Target::OverPool(OverPool {
-                packing: Packing::Compact,
-                pool,
-            }),
-        )
-    }
-
-    /// The `.res` file of a bundle whose root is given as a draft: what `to_bytes` gives, and what
-    /// it refuses, for the tree for which the draft stands, which is whole.
-    pub fn draft_to_bytes(
-        alloc: Global,
-        root: Draft<'_>,
-        is_locale_fallback_enabled: bool,
-        keys_in_discovery_order: &[Key<'_>],
-    ) -> Result<Vec<u8>, BinarySerializerError>
-        requires { is_ready root ≡ true }
-        ensures ok { IfOk result (λ v. Written v.items (draft_tree root.entry)
-            is_locale_fallback_enabled keys_in_discovery_order.now) }
-        ensures err { IfErr result (λ e. RefusesWriting (draft_tree root.entry)
-            keys_in_discovery_order.now (fault_of e)) }
-    {
-        let wanted = Wanted {
-            is_locale_fallback_enabled,
-            list: keys_in_discovery_order,
-        };
-        write_draft(alloc, root, &wanted, Target::Alone(Packing::Plain))
-    }
-
-    /// The compact `.res` file of a bundle whose root is given as a draft: what `to_bytes_compact`
-    /// gives, and what it refuses, for the tree for which the draft stands.
-    pub fn draft_to_bytes_compact(
-        alloc: Global,
-        root: Draft<'_>,
-        is_locale_fallback_enabled: bool,
-        keys_in_discovery_order: &[Key<'_>],
-    ) -> Result<Vec<u8>, BinarySerializerError>
-        requires { is_ready root ≡ true }
-        ensures ok { IfOk result (λ v. WrittenCompact v.items (draft_tree root.entry)
-            is_locale_fallback_enabled keys_in_discovery_order.now) }
-        ensures err { IfErr result (λ e. RefusesWriting (draft_tree root.entry)
-            keys_in_discovery_order.now (fault_of e)) }
-    {
-        let wanted = Wanted {
-            is_locale_fallback_enabled,
-            list: keys_in_discovery_order,
-        };
-        write_draft(alloc, root, &wanted, Target::Alone(Packing::Compact))
-    }
-
-    /// The `.res` file of a bundle over a pool bundle, whose root is given as a draft: what
-    /// `to_bytes_with_pool` gives, and what it refuses, for the tree for which the draft stands.
-    pub fn draft_to_bytes_with_pool(
-        alloc: Global,
-        root: Draft<'_>,
-        is_locale_fallback_enabled: bool,
-        keys_in_discovery_order: &[Key<'_>],
-        pool: &Pool<'_>,
-    ) -> Result<Vec<u8>, BinarySerializerError>
-        requires { is_ready root ≡ true }
-        ensures ok { IfOk result (λ v. WrittenWith (pool_in pool.now) v.items
-            (draft_tree root.entry) is_locale_fallback_enabled keys_in_discovery_order.now) }
-        ensures err { IfErr result (λ e. RefusesWritingWith (pool_in pool.now)
-            (draft_tree root.entry) keys_in_discovery_order.now (fault_of e)) }
-    {
-        let wanted = Wanted {
-            is_locale_fallback_enabled,
-            list: keys_in_discovery_order,
-        };
-        let over = OverPool {
-            packing: Packing::Plain,
-            pool,
-        };
-        write_draft(alloc, root, &wanted, Target::OverPool(over))
-    }
-
-    /// The compact `.res` file of a bundle over a pool bundle, whose root is given as a draft: what
-    /// `to_bytes_compact_with_pool` gives, and what it refuses, for the tree for which the draft
-    /// stands.
-    pub fn draft_to_bytes_compact_with_pool(
-        alloc: Global,
-        root: Draft<'_>,
-        is_locale_fallback_enabled: bool,
-        keys_in_discovery_order: &[Key<'_>],
-        pool: &Pool<'_>,
-    ) -> Result<Vec<u8>, BinarySerializerError>
-        requires { is_ready root ≡ true }
-        ensures ok { IfOk result (λ v. WrittenCompactWith (pool_in pool.now) v.items
-            (draft_tree root.entry) is_locale_fallback_enabled keys_in_discovery_order.now) }
-        ensures err { IfErr result (λ e. RefusesWritingWith (pool_in pool.now)
-            (draft_tree root.entry) keys_in_discovery_order.now (fault_of e)) }
-    {
-        let wanted = Wanted {
-            is_locale_fallback_enabled,
-            list: keys_in_discovery_order,
-        };
-        let over = OverPool {
-            packing: Packing::Compact,
-            pool,
-        };
-        write_draft(alloc, root, &wanted, Target::OverPool(over))
+        Layout::plain().write(alloc, bundle, keys_in_discovery_order)
     }
 }
 
-/// The file of a bundle, which stands on this.
-fn write_bundle(
+/// The file of a bundle, laid out like this.
+pub(crate) fn write_bundle(
     alloc: Global,
     bundle: &ResourceBundle<'_>,
     list: &[Key<'_>],
-    target: Target<'_>,
+    layout: Layout<'_>,
 ) -> Result<Vec<u8>, BinarySerializerError>
-    ensures ok { IfOk result (λ v. IsFileOver target.entry v.items
+    ensures ok { IfOk result (λ v. IsFileOver layout.entry v.items
         (root_of bundle.now) bundle.now.is_locale_fallback_enabled list.now) }
-    ensures err { IfErr result (λ e. RefusesOver target.entry
+    ensures err { IfErr result (λ e. RefusesOver layout.entry
         (root_of bundle.now) list.now (fault_of e)) }
 {
     let order = in_laying_order(alloc, bundle.root())?;
@@ -275,30 +83,30 @@ fn write_bundle(
     let nodes = nodes_of(alloc, &order)?;
     drop(order);
     let wanted = Wanted {
+        layout,
         is_locale_fallback_enabled: bundle.is_locale_fallback_enabled,
         list,
     };
-    write_nodes(alloc, nodes, keys, &wanted, target)
+    write_nodes(alloc, nodes, keys, &wanted)
 }
 
-/// The file of a draft, which stands on this.
-fn write_draft(
+/// The file of a draft.
+pub(crate) fn write_draft(
     alloc: Global,
     root: Draft<'_>,
     wanted: &Wanted<'_>,
-    target: Target<'_>,
 ) -> Result<Vec<u8>, BinarySerializerError>
     requires { is_ready root ≡ true }
-    ensures ok { IfOk result (λ v. IsFileOver target.entry v.items
+    ensures ok { IfOk result (λ v. IsFileOver wanted.now.layout v.items
         (draft_tree root.entry) wanted.now.is_locale_fallback_enabled wanted.now.list.now) }
-    ensures err { IfErr result (λ e. RefusesOver target.entry
+    ensures err { IfErr result (λ e. RefusesOver wanted.now.layout
         (draft_tree root.entry) wanted.now.list.now (fault_of e)) }
 {
     if root.stands_in_order(alloc)? {
-        return write_standing(alloc, root, wanted, target);
+        return write_standing(alloc, root, wanted);
     }
     let order = root.in_laying_order(alloc)?;
-    write_by_number(alloc, root, order, wanted, target)
+    write_by_number(alloc, root, order, wanted)
 }
 
 /// The file of a draft whose pieces and keys stand in laying order. Its other lists go first.
@@ -306,13 +114,12 @@ fn write_standing(
     alloc: Global,
     draft: Draft<'_>,
     wanted: &Wanted<'_>,
-    target: Target<'_>,
 ) -> Result<Vec<u8>, BinarySerializerError>
     requires pieces { are_pieces draft.pieces.items (laying_order (draft_tree draft)) ≡ true }
     requires keys { texts draft.keys.items ≡ keys_of (draft_tree draft) }
-    ensures ok { IfOk result (λ v. IsFileOver target.entry v.items
+    ensures ok { IfOk result (λ v. IsFileOver wanted.now.layout v.items
         (draft_tree draft.entry) wanted.now.is_locale_fallback_enabled wanted.now.list.now) }
-    ensures err { IfErr result (λ e. RefusesOver target.entry
+    ensures err { IfErr result (λ e. RefusesOver wanted.now.layout
         (draft_tree draft.entry) wanted.now.list.now (fault_of e)) }
 {
     let Draft {
@@ -324,7 +131,7 @@ fn write_standing(
     drop(members);
     let numbered = NumberedKeys::of_list(alloc, &keys)?;
     drop(keys);
-    write_nodes(alloc, pieces, numbered, wanted, target)
+    write_nodes(alloc, pieces, numbered, wanted)
 }
 
 /// The file of a draft, whose pieces have these numbers in laying order. Its other lists go first.
@@ -333,13 +140,12 @@ fn write_by_number(
     draft: Draft<'_>,
     order: Vec<u32>,
     wanted: &Wanted<'_>,
-    target: Target<'_>,
 ) -> Result<Vec<u8>, BinarySerializerError>
     requires trees { map (tree_at draft) order.items ≡ laying_order (draft_tree draft) }
     requires whole { all_true (map (is_whole draft) order.items) ≡ true }
-    ensures ok { IfOk result (λ v. IsFileOver target.entry v.items
+    ensures ok { IfOk result (λ v. IsFileOver wanted.now.layout v.items
         (draft_tree draft.entry) wanted.now.is_locale_fallback_enabled wanted.now.list.now) }
-    ensures err { IfErr result (λ e. RefusesOver target.entry
+    ensures err { IfErr result (λ e. RefusesOver wanted.now.layout
         (draft_tree draft.entry) wanted.now.list.now (fault_of e)) }
 {
     let keys = draft_keys(alloc, &draft, &order)?;
@@ -355,30 +161,29 @@ fn write_by_number(
         pieces,
         numbers: order,
     };
-    write_nodes(alloc, numbered, keys, wanted, target)
+    write_nodes(alloc, numbered, keys, wanted)
 }
 
-/// The file of a tree, which stands on this. The tree's resources are given in laying order, and
+/// The file of a tree. The tree's resources are given in laying order, and
 /// beside them the keys of its tables; both go before the file is put together.
 fn write_nodes<N: Nodes + Drop>(
     alloc: Global,
     order: N,
     tree_keys: NumberedKeys<'_>,
     wanted: &Wanted<'_>,
-    target: Target<'_>,
 ) -> Result<Vec<u8>, BinarySerializerError>
     requires { (t : Tree) × N.fit order (laying_order t) × NumbersKeys tree_keys (keys_of t) }
     ensures ok { IfOk result (λ v. (t : Tree) → N.fit order (laying_order t)
         → NumbersKeys tree_keys.entry (keys_of t)
-        → IsFileOver target.entry v.items t wanted.now.is_locale_fallback_enabled
+        → IsFileOver wanted.now.layout v.items t wanted.now.is_locale_fallback_enabled
         wanted.now.list.now) }
     ensures err { IfErr result (λ e. (t : Tree) → N.fit order (laying_order t)
         → NumbersKeys tree_keys.entry (keys_of t)
-        → RefusesOver target.entry t wanted.now.list.now (fault_of e)) }
+        → RefusesOver wanted.now.layout t wanted.now.list.now (fault_of e)) }
 {
-    match target {
-        Target::OverPool(over) => write_order_with_pool(alloc, order, tree_keys, wanted, &over),
-        Target::Alone(packing) => write_order(alloc, order, tree_keys, wanted, packing),
+    match wanted.layout.pool {
+        Some(pool) => write_beside(alloc, order, tree_keys, wanted, pool),
+        None => write_alone(alloc, order, tree_keys, wanted),
     }
 }
 
@@ -406,25 +211,25 @@ fn checked<'t, 'k, N: Nodes>(
     Ok((contents, block))
 }
 
-/// The refusals in their order, and then the file of a tree, whose resources are given in laying
-/// order, and beside them the keys of its tables.
-pub(crate) fn write_order<N: Nodes + Drop>(
+/// The refusals in their order, and then the file over no pool bundle of a tree, whose resources
+/// are given in laying order, and beside them the keys of its tables.
+fn write_alone<N: Nodes + Drop>(
     alloc: Global,
     order: N,
     tree_keys: NumberedKeys<'_>,
     wanted: &Wanted<'_>,
-    packing: Packing,
 ) -> Result<Vec<u8>, BinarySerializerError>
     requires { (t : Tree) × N.fit order (laying_order t)
         × NumbersKeys tree_keys (keys_of t) }
     ensures ok { IfOk result (λ v. (t : Tree) → N.fit order (laying_order t)
         → NumbersKeys tree_keys.entry (keys_of t)
-        → IsFileOver (Alone packing) v.items t wanted.now.is_locale_fallback_enabled
+        → WrittenBy wanted.now.layout.packing v.items t wanted.now.is_locale_fallback_enabled
         wanted.now.list.now) }
     ensures err { IfErr result (λ e. (t : Tree) → N.fit order (laying_order t)
         → NumbersKeys tree_keys.entry (keys_of t)
         → RefusesWriting t wanted.now.list.now (fault_of e)) }
 {
+    let packing = wanted.layout.packing;
     let (contents, block) = checked(alloc, &order, tree_keys, wanted.list, packing)?;
     let KeyBlock { keys, positions } = block;
     let largest_table = contents.largest_table as u32;

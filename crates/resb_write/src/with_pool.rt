@@ -32,10 +32,11 @@ use crate::limits::check_sizes;
 use crate::nodes::Nodes;
 use crate::numbered_keys::NumberedKeys;
 use crate::sites::Sites;
-use crate::target::{OverPool, Wanted};
 use crate::tree_bodies::lay_bodies;
-use resb_lent::{HeadWithPool, PlanWithPool};
-use resb_tree::{Key, NoMemory};
+use crate::wanted::Wanted;
+use resb_layout::Packing;
+use resb_lent::{HeadWithPool, PlanWithPool, Pool};
+use resb_tree::NoMemory;
 use std::alloc::Global;
 
 /// Where the file's own keys begin, in bytes of the body: behind the root's word and 8 words of the
@@ -44,23 +45,24 @@ const OWN_KEYS_START: usize = 36;
 
 /// The refusals in their order, and then the file over a pool bundle of a tree, whose resources are
 /// given in laying order, and beside them the keys of its tables.
-pub(crate) fn write_order_with_pool<N: Nodes + Drop>(
+pub(crate) fn write_beside<N: Nodes + Drop>(
     alloc: Global,
     order: N,
     tree_keys: NumberedKeys<'_>,
     wanted: &Wanted<'_>,
-    over: &OverPool<'_>,
+    pool: &Pool<'_>,
 ) -> Result<Vec<u8>, BinarySerializerError>
     requires { (t : Tree) × N.fit order (laying_order t) × NumbersKeys tree_keys (keys_of t) }
     ensures ok { IfOk result (λ v. (t : Tree) → N.fit order (laying_order t)
         → NumbersKeys tree_keys.entry (keys_of t)
-        → WrittenWithBy over.now.packing (pool_in over.now.pool.now) v.items t
+        → WrittenWithBy wanted.now.layout.packing (pool_in pool.now) v.items t
         wanted.now.is_locale_fallback_enabled wanted.now.list.now) }
     ensures err { IfErr result (λ e. (t : Tree) → N.fit order (laying_order t)
         → NumbersKeys tree_keys.entry (keys_of t)
-        → RefusesWritingWith (pool_in over.now.pool.now) t wanted.now.list.now (fault_of e)) }
+        → RefusesWritingWith (pool_in pool.now) t wanted.now.list.now (fault_of e)) }
 {
-    let (contents, block) = checked_beside(alloc, &order, tree_keys, wanted.list, over)?;
+    let packing = wanted.layout.packing;
+    let (contents, block) = checked_beside(alloc, &order, tree_keys, wanted, pool)?;
     let KeyBlock { keys, positions } = block;
     let largest_table = contents.largest_table as u32;
     let PlanWithPool {
@@ -68,7 +70,7 @@ pub(crate) fn write_order_with_pool<N: Nodes + Drop>(
         indexes,
         limit,
         short_limit,
-    } = plan_beside(alloc, contents.into_texts(), over)?;
+    } = plan_beside(alloc, contents.into_texts(), packing, pool)?;
     let lends = Lends {
         own_end: own_end(&keys),
         limit,
@@ -78,7 +80,7 @@ pub(crate) fn write_order_with_pool<N: Nodes + Drop>(
         positions: &positions,
         offsets: &indexes,
         lent: Some(lends),
-        packing: over.packing,
+        packing,
     };
     let keys_end = OWN_KEYS_START + block_length(&keys);
     let (bodies, word) = lay_bodies(alloc, &sites, units, keys_end, &order)?;
@@ -92,7 +94,7 @@ pub(crate) fn write_order_with_pool<N: Nodes + Drop>(
         keys: &keys,
         bodies: &bodies,
     };
-    Ok(assemble_beside(alloc, &parts, &lends, over.pool.checksum())?)
+    Ok(assemble_beside(alloc, &parts, &lends, pool.checksum())?)
 }
 
 /// What a tree holds and the block of the keys that stand in the file, once none of the refusals
@@ -102,22 +104,22 @@ fn checked_beside<'t, 'k, N: Nodes>(
     alloc: Global,
     order: &'t N,
     tree_keys: NumberedKeys<'_>,
-    list: &'k [Key<'_>],
-    over: &OverPool<'_>,
+    wanted: &Wanted<'k>,
+    pool: &Pool<'_>,
 ) -> Result<(Contents<'t>, KeyBlock<'k>), BinarySerializerError>
     requires { (t : Tree) × N.fit order.now (laying_order t) × NumbersKeys tree_keys (keys_of t) }
     ensures ok { IfOk result (λ r. (t : Tree) → N.fit order.now (laying_order t)
         → NumbersKeys tree_keys.entry (keys_of t) → Gathered (laying_order t) r.0
-        × IsKeyBlockBeside over.now.packing (pool_in over.now.pool.now).keys (keys_of t) list.now
-        (nows r.1.keys.items) r.1.positions.items
-        × (list_size list.now + resources_size (laying_order t) < 2 ^ 28)) }
+        × IsKeyBlockBeside wanted.now.layout.packing (pool_in pool.now).keys (keys_of t)
+        wanted.now.list.now (nows r.1.keys.items) r.1.positions.items
+        × (list_size wanted.now.list.now + resources_size (laying_order t) < 2 ^ 28)) }
     ensures err { IfErr result (λ e. (t : Tree) → N.fit order.now (laying_order t)
         → NumbersKeys tree_keys.entry (keys_of t)
-        → RefusesWriting t list.now (fault_of e)) }
+        → RefusesWriting t wanted.now.list.now (fault_of e)) }
 {
     let contents = Contents::gather(alloc, order)?;
-    let block = key_block_beside(alloc, tree_keys, list, over)?;
-    check_sizes(&contents, list)?;
+    let block = key_block_beside(alloc, tree_keys, wanted, pool)?;
+    check_sizes(&contents, wanted.list)?;
     Ok((contents, block))
 }
 
@@ -125,14 +127,15 @@ fn checked_beside<'t, 'k, N: Nodes>(
 fn plan_beside(
     alloc: Global,
     texts: Vec<&str>,
-    over: &OverPool<'_>,
+    packing: Packing,
+    pool: &Pool<'_>,
 ) -> Result<PlanWithPool, BinarySerializerError>
-    ensures ok { IfOk result (λ p. IsPlanWithBy over.now.packing (pool_in over.now.pool.now).block
+    ensures ok { IfOk result (λ p. IsPlanWithBy packing (pool_in pool.now).block
         (nows texts.entry.items) p.units.items p.indexes.items p.limit p.short_limit) }
-    ensures err { IfErr result (λ e. IsUnplanned over.now.packing (pool_in over.now.pool.now).block
+    ensures err { IfErr result (λ e. IsUnplanned packing (pool_in pool.now).block
         (nows texts.entry.items) (fault_of e)) }
 {
-    Ok(PlanWithPool::by(alloc, over.packing, over.pool.texts(), &texts)?)
+    Ok(PlanWithPool::by(alloc, packing, pool.texts(), &texts)?)
 }
 
 /// Where the file's own keys end, in bytes of the body: at 0 where it has none.

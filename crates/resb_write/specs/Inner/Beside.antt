@@ -1,39 +1,31 @@
 -- Where keys stand in a file over a pool, while they are placed; what is refused where strings
--- aren't planned beside it; the file's head; and a file over a pool or over none.
+-- aren't planned beside it; and the file's head.
 --     told_beside place own   the position of a key that stands there in the pool, or else there
 --                             among the file's own, as if these began at byte 32
 --     told_at_end place js ks k   the same of a key k at an end, in a file of the keys js
 --     IsKeyBlockBeside q keys us ks js ps  of used keys us and a list ks, over a pool of these
 --                             keys: those that stand in the file, and where the used ones stand
 --     IsUnplanned q block S f     the fault f may be answered where the strings S have no plan
---     IsFileOver o bytes t f ks, RefusesOver o t ks e     a file that stands on this, and why there
---                             is none
 --     head_with c l n         the head of a file of these parts, to which so much is lent by a
 --                             pool of the checksum n
 use Rattle.std.specs.Prelude.{◌≡◌, ℕ, ◌+◌, ◌-◌, ◌/◌, ◌<◌, ◌≤◌, ◌^◌, min, List, length, map, filter}
-use Rattle.std.specs.Prelude.{Option, Some, None, All, unwrap_or, Bool}
+use Rattle.std.specs.Prelude.{Option, Some, None, All, unwrap_or}
 use Rattle.std.specs.Option.{is_none}
 use Rattle.std.specs.Str.{IsUtf8}
 use Rattle.resb_pool.specs.declared.error.PlanError.{PlanError}
 use Rattle.resb_layout.specs.KeyBlock.{used, key_bytes}
-use Rattle.resb_layout.specs.TreeFaults.{key_fault, RefusesWriting}
+use Rattle.resb_layout.specs.TreeFaults.{key_fault}
 use Rattle.resb_layout.specs.WritingFault.{WritingFault}
-use Rattle.resb_layout.specs.Written.{WrittenBy}
 use Rattle.resb_layout.specs.CompactKeys.{keys_by}
 use Rattle.resb_pool.specs.declared.packing.Packing.{Packing}
-use Rattle.resb_tree.specs.Tree.{Tree}
-use Rattle.resb_pool_bundle.specs.Pool.{pool_in}
 use Rattle.resb_lent.specs.PlanWithPool.{NotPlannedWithBy}
 use Rattle.resb_lent.specs.declared.head_with_pool.HeadWithPool.{HeadWithPool}
 use Rattle.resb_write.specs.FaultOf.{plan_fault}
-use Rattle.resb_write.specs.WrittenWith.{LendsKeyBy, position_beside, WrittenWithBy}
-use Rattle.resb_write.specs.WrittenWith.{RefusesWritingWith}
+use Rattle.resb_write.specs.WrittenWith.{LendsKeyBy, position_beside}
 use Rattle.resb_write.specs.Inner.Files.{keys_in_file, units_in_file}
 use Rattle.resb_write.specs.Inner.KeyEnds.{near_end_position}
 use Rattle.resb_write.specs.declared.file.FileParts.{FileParts}
 use Rattle.resb_write.specs.declared.lends.Lends.{Lends}
-use Rattle.resb_write.specs.declared.target.Target.{Target}
-use Rattle.resb_write.specs.declared.target.Target.TheVariants.{Alone, OverPool}
 
 abbrev pub told_beside : Option ℕ → Option ℕ → ℕ
 told_beside (Some n) own = n + 2 ^ 31
@@ -77,12 +69,3 @@ pub record FitsLimits (l : Lends) : Type 0 where
   pub limit : l.limit < 2 ^ 28
   pub short : l.short_limit ≤ 65535
   pub none : l.limit ≡ 0 → l.short_limit ≡ 0
-
-abbrev pub IsFileOver : Target → List ℕ → Tree → Bool → List (List ℕ) → Type 0
-IsFileOver (Alone q) bytes t fallback ks = WrittenBy q bytes t fallback ks
-IsFileOver (OverPool o) bytes t fallback ks =
-    WrittenWithBy o.packing (pool_in o.pool.now) bytes t fallback ks
-
-abbrev pub RefusesOver : Target → Tree → List (List ℕ) → WritingFault → Type 0
-RefusesOver (Alone q) t ks f = RefusesWriting t ks f
-RefusesOver (OverPool o) t ks f = RefusesWritingWith (pool_in o.pool.now) t ks f

@@ -7,15 +7,15 @@ use Rattle.resb_draft.specs.Drafts.{draft_tree, tree_at, is_whole}
 use Rattle.resb_tree.specs.LayingOrder.{laying_order, own_keys}
 use Rattle.resb_draft.specs.declared.draft.Draft.{Draft}
 use Rattle.resb_write.specs.Inner.Numbered.{NumbersKeys, TakesPieces}
-use Rattle.resb_write.specs.Inner.Beside.{RefusesOver}
-use Rattle.resb_write.proofs.Refusals.{no_memory_over}
+use Rattle.resb_write.specs.Layouts.{RefusesOver, pool_of}
+use Rattle.resb_write.proofs.Refusals.{no_memory_by}
 use Rattle.resb_write.proofs.serializer.write_by_number.Goals as goal
 
 pub returns-in_err-keys-clause-err : goal.returns-in_err-keys-clause-err
 returns-in_err-keys-clause-err c =
     let p = err_from_is_err_and c.from_residual.result c.from_residual.ensures.1 in
-    rw p.1 (subst (RefusesOver c.args.target _ c.args.wanted.now.list.now) (sym p.2)
-    (no_memory_over c.args.target _ c.args.wanted.now.list.now))
+    rw p.1 (subst (RefusesOver c.args.wanted.now.layout _ c.args.wanted.now.list.now) (sym p.2)
+    (no_memory_by (pool_of c.args.wanted.now.layout) _ c.args.wanted.now.list.now))
 
 takes : (d : Draft) (ns : List ℕ) → map (tree_at d) ns ≡ laying_order (draft_tree d)
     → all_true (map (is_whole d) ns) ≡ true

@@ -3,16 +3,16 @@ use Rattle.std.proofs.Common.{ap, sym, subst, ◌∙◌}
 use Rattle.std.proofs.lemmas.Result.{err_from_is_err_and, IfOk-weaker, IfErr-weaker}
 use Rattle.resb_pool.specs.Plan.{nows}
 use Rattle.resb_draft.specs.Drafts.{draft_tree}
-use Rattle.resb_write.specs.Inner.Beside.{RefusesOver}
+use Rattle.resb_write.specs.Layouts.{RefusesOver, pool_of}
 use Rattle.resb_write.specs.Inner.Numbered.{NumbersKeys}
-use Rattle.resb_write.proofs.Refusals.{no_memory_over}
+use Rattle.resb_write.proofs.Refusals.{no_memory_by}
 use Rattle.resb_write.proofs.serializer.write_standing.Goals as goal
 
 pub returns-in_err-numbered-clause-err : goal.returns-in_err-numbered-clause-err
 returns-in_err-numbered-clause-err c =
     let p = err_from_is_err_and c.from_residual.result c.from_residual.ensures.1 in
-    rw p.1 (subst (RefusesOver c.args.target _ c.args.wanted.now.list.now) (sym p.2)
-    (no_memory_over c.args.target _ c.args.wanted.now.list.now))
+    rw p.1 (subst (RefusesOver c.args.wanted.now.layout _ c.args.wanted.now.list.now) (sym p.2)
+    (no_memory_by (pool_of c.args.wanted.now.layout) _ c.args.wanted.now.list.now))
 
 pub write_nodes-requires : goal.write_nodes-requires
 write_nodes-requires c = (

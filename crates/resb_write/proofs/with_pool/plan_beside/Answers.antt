@@ -8,8 +8,8 @@ use Rattle.resb_write.proofs.with_pool.plan_beside.Goals as goal
 pub returns-clause-ok : goal.returns-clause-ok
 returns-clause-ok c =
     let p = c.in_ok-by.field-0 in
-    let block = (pool_in c.args.over.now.pool.now).block in
-    subst (λ S. IsPlanWithBy c.args.over.now.packing block S p.units.items p.indexes.items p.limit
+    let block = (pool_in c.args.pool.now).block in
+    subst (λ S. IsPlanWithBy c.args.packing block S p.units.items p.indexes.items p.limit
     p.short_limit)
     (ap nows c.deref.ensures.value)
     (c.in_ok-by.ensures.ok _ c.texts.ensures)

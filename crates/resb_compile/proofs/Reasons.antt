@@ -1,6 +1,7 @@
 -- The tree of a text, and what rules leave of it, is not refused for a key that isn't listed; and a
 -- text that is read within a limit never makes more.
-use Rattle.std.proofs.Common.{◌≡◌, ℕ, List, Option, Some, None, Result, Ok, Err, sym, subst}
+use Rattle.std.proofs.Common.{◌≡◌, ◌⊎◌, ℕ, List, Option, Some, None, Result, Ok, Err, inr, refl}
+use Rattle.std.proofs.Common.{sym, subst}
 use Rattle.std.specs.Result.{IsErrAnd, IfErr}
 use Rattle.std.specs.Prelude.{codes, true, Contains}
 use Rattle.std.specs.Borrow.{Bor}
@@ -14,7 +15,10 @@ use Rattle.resb_grammar.proofs.Listed.{listed as plain_listed}
 use Rattle.resb_grammar.proofs.MadeOnce.{never_more as plain_never_more}
 use Rattle.resb_icu_grammar.proofs.Limited.{icu_never_more}
 use Rattle.resb_icu_grammar.proofs.Listed.{listed as icu_listed}
-use Rattle.resb_layout.specs.WritingFault.{WritingFault, unexpected}
+use Rattle.resb_icu_text.specs.Answer.{IcuFails, IsNoIcuText, IcuNeverMore}
+use Rattle.resb_icu_text.specs.Refusal.{want_of_memory}
+use Rattle.resb_icu_text.specs.declared.error.IcuTextError.{IcuTextError}
+use Rattle.resb_layout.specs.WritingFault.{WritingFault, unexpected, out_of_memory}
 use Rattle.resb_layout.specs.TreeFaults.{RefusesWriting, no_memory, at_the_first, too_large}
 use Rattle.resb_pool_bundle.specs.Pool.{Pool}
 use Rattle.resb_write.proofs.Listed.{not_unlisted as no_fault, not_memory, not_large}
@@ -24,6 +28,8 @@ use Rattle.resb_write.specs.WrittenWith.{as_alone, too_far}
 use Rattle.resb_write.specs.declared.error.BinarySerializerError.{BinarySerializerError}
 use Rattle.resb_compile.specs.Compiled.{Unwritable}
 use Rattle.resb_compile.specs.Compiling.{IsText, IsBundle, IsReadWithin, ReadsMore, left_by}
+use Rattle.resb_compile.specs.Compiling.{IsUnread, IsRefusedBy}
+use Rattle.resb_compile.specs.declared.error.CompileError.TheVariants.{ReadingIcu, Writing}
 use Rattle.resb_compile.specs.declared.compiling.Compile.{Compile}
 use Rattle.resb_compile.specs.declared.compiling.TextForm.{TextForm}
 use Rattle.resb_compile.specs.declared.compiling.TextForm.TheVariants.{Plain, Icu}
@@ -76,6 +82,48 @@ pub never_more : (form : TextForm) (limit : Option ℕ) (text : List ℕ)
 never_more form None text h more = more
 never_more Plain (Some limit) text h = plain_never_more text (draft_limit limit) h
 never_more Icu (Some limit) text h = icu_never_more text (draft_limit limit) h
+
+-- want of memory is answered, over a pool or not
+memory_by : (pool : Option Pool) (t : Tree) (ks : List (List ℕ)) → RefusesBy pool t ks out_of_memory
+memory_by None t ks = no_memory
+memory_by (Some pool) t ks = as_alone no_memory
+
+-- a text that was read isn't compiled where the writer refuses what rules leave of its tree
+pub writing_refused : (c : Compile) (text : List ℕ) (e : BinarySerializerError)
+    (b : IsBundle c.form text) → IsReadWithin c.form c.limit text
+    → RefusesOver c.layout (left_by c.rules b.tree) b.keys (fault_of e)
+    → IsRefusedBy c text (Writing e)
+writing_refused c text e b within h =
+    (unwritable c text e b h, never_more c.form c.limit text within)
+
+-- nor where memory is wanted for what rules leave
+pub filtering_refused : (c : Compile) (text : List ℕ) (e : BinarySerializerError)
+    (b : IsBundle c.form text) → IsReadWithin c.form c.limit text → fault_of e ≡ out_of_memory
+    → IsRefusedBy c text (Writing e)
+filtering_refused c text e b within memory =
+    writing_refused c text e b within
+    (subst (RefusesOver c.layout (left_by c.rules b.tree) b.keys) (sym memory)
+    (memory_by (pool_of c.layout) (left_by c.rules b.tree) b.keys))
+
+-- a text of ICU's form that its reader refuses within a limit isn't read within it
+pub icu_unread : (limit : Option ℕ) (n : ℕ) (text : List ℕ) (e : IcuTextError) → limit ≡ Some n
+    → IcuFails text e × IcuNeverMore text (draft_limit n) e
+    → (e ≡ want_of_memory) ⊎ IsNoIcuText text → IsUnread Icu limit text (ReadingIcu e)
+icu_unread limit n text e is h none = (
+  refl,
+  record { fails = h.0; no_bundle = none },
+  subst (λ l. (e ≡ want_of_memory) ⊎ (ReadsMore Icu l text → ⊥)) (sym is) h.1,
+)
+
+-- nor where there is no limit
+pub icu_unread_at_all : (limit : Option ℕ) (text : List ℕ) (e : IcuTextError) → limit ≡ None
+    → IcuFails text e → (e ≡ want_of_memory) ⊎ IsNoIcuText text
+    → IsUnread Icu limit text (ReadingIcu e)
+icu_unread_at_all limit text e is h none = (
+  refl,
+  record { fails = h; no_bundle = none },
+  inr (λ more. subst (λ l. ReadsMore Icu l text) is more),
+)
 
 -- an error that is one of these is as it is
 pub carried : {X E : Type 0} (P : E → Type 0) (e : E) → P e → (r : Result X E)

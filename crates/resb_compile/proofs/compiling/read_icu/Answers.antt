@@ -10,4 +10,4 @@ pub returns-in-Err-Text-clause-err : goal.returns-in-Err-Text-clause-err
 returns-in-Err-Text-clause-err c =
     let h = rw c.in-Err-Text.field-0-is at c.in-Err-Text.ensures.err in
     let n = rw c.in-Err-Text.field-0-is at c.in-Err-Text.ensures.none in
-    rw c.in-Err-Text.field-0-is (icu_unread c.args.limit _ c.args.text.now _ c.in-Some.is h n)
+    icu_unread c.args.limit _ c.args.text.now _ c.in-Some.is h n

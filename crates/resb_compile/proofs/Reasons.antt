@@ -80,8 +80,8 @@ unwritable c text e b h = record {
 pub never_more : (form : TextForm) (limit : Option ℕ) (text : List ℕ)
     → IsReadWithin form limit text → ReadsMore form limit text → ⊥
 never_more form None text h more = more
-never_more Plain (Some limit) text h = plain_never_more text (draft_limit limit) h
-never_more Icu (Some limit) text h = icu_never_more text (draft_limit limit) h
+never_more Plain (Some limit) text h more = plain_never_more text (draft_limit limit) h more
+never_more Icu (Some limit) text h more = icu_never_more text (draft_limit limit) h more
 
 -- want of memory is answered, over a pool or not
 memory_by : (pool : Option Pool) (t : Tree) (ks : List (List ℕ)) → RefusesBy pool t ks out_of_memory

@@ -1,6 +1,6 @@
 -- What the laws of the whole way say.
---     ReadsAsTree w r         what `from_bytes::<Resource>` and `from_bytes_with_pool::<Resource>`
---                             promise of their answers, by what the file comes to
+--     ReadsAsTree w r         what `from_bytes::<Resource>` and `File::read::<Resource>` promise of
+--                             their answers, by what the file comes to
 --     WrittenIsRead           a file of a tree is read back as that tree, memory aside
 --     WrittenIsReadWithPool   so it is by the calls that take a pool, aliases too
 --     WrittenOverPoolIsRead   a file over a pool is read back beside it, memory aside

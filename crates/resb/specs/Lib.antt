@@ -110,6 +110,8 @@ pub use Rattle.resb_read.specs.Resources
 pub use Rattle.resb_read.specs.Roots
 pub use Rattle.resb_read.specs.Measuring
 pub use Rattle.resb_read.specs.WithPool
+pub use Rattle.resb_read.specs.Manners
+pub use Rattle.resb_read.specs.Files
 pub use Rattle.resb_read.specs.Spots
 pub use Rattle.resb_read.specs.Sequences
 pub use Rattle.resb_read.specs.Access

@@ -216,14 +216,14 @@ pub fn written_is_read()
     ensures { WrittenIsRead }
 {}
 
-/// What was written of any tree, compact or not, is read back by
-/// `from_bytes_with_pool::<Resource>` as that tree, memory aside.
+/// What was written of any tree, compact or not, is read back by `File::read::<Resource>`, once
+/// `File::open` has opened it, as that tree, memory aside.
 pub fn written_is_read_with_pool()
     ensures { WrittenIsReadWithPool }
 {}
 
-/// A compiled text of ICU's form, compact or not, is read back by
-/// `from_bytes_with_pool::<Resource>` as the text's tree, memory aside.
+/// A compiled text of ICU's form, compact or not, is read back by `File::read::<Resource>` as the
+/// text's tree, memory aside.
 pub fn icu_compiled_is_read()
     ensures { IcuCompiledIsRead }
 {}
@@ -233,8 +233,8 @@ pub fn compiled_is_read()
     ensures { CompiledIsRead }
 {}
 
-/// What was written over a pool bundle, compact or not, is read back by
-/// `from_bytes_with_pool::<Resource>` beside that pool bundle as its tree, memory aside.
+/// What was written over a pool bundle, compact or not, is read back by `File::read::<Resource>`
+/// beside that pool bundle as its tree, memory aside.
 pub fn written_over_pool_is_read()
     ensures { WrittenOverPoolIsRead }
 {}

@@ -9,3 +9,4 @@ mod WithinLemmas
 mod NamedLemmas
 mod SeenLemmas
 mod OpeningLemmas
+mod SourceLemmas

@@ -7,7 +7,8 @@ use Rattle.std.specs.Prelude.{◌≡◌, ◌≤◌, ℕ, List, length, Some, Res
 use Rattle.std.specs.Prelude.{IsUtf8}
 use Rattle.resb_tree.specs.Bundle.{name_of, root_of}
 use Rattle.resb_tree.specs.declared.bundle.ResourceBundle.{ResourceBundle}
-use Rattle.resb_program.specs.Files.{LacksPool, RefusesReading, IsBundleBeside, RefusesBeside}
+use Rattle.resb_read.specs.WithPool.{over}
+use Rattle.resb_program.specs.Files.{LacksPool, RefusesReading, IsBundleOf, RefusesSize}
 use Rattle.resb_program.specs.declared.errors.FileError.TheVariants as file_error
 use Rattle.resb_c.specs.Calls.{Fills, IsNotUtf8}
 use Rattle.resb_c.specs.Pools.{given, IsGiven, RefusesPool}
@@ -24,7 +25,7 @@ use Rattle.resb_c.specs.declared.fault.Fault.TheVariants.{Printing}
 -- head
 abbrev pub IsBundleToDump : List ℕ → List ℕ → List ℕ → ℕ → ResourceBundle → Type 0
 IsBundleToDump pool file name limit b =
-    IsGiven pool × IsBundleBeside (given pool) file name (Some limit) b
+    IsGiven pool × IsBundleOf (over (given pool) file) file name (Some limit) b
 
 -- the bytes are no pool bundle, the file lacks one, the reader refuses it, or its tree or the keys
 -- of its entries take so many bytes, more than the limit
@@ -33,9 +34,9 @@ HasNoBundle pool file limit UsesPool = LacksPool (given pool) file
 HasNoBundle pool file limit (Pool e) = RefusesPool pool e
 HasNoBundle pool file limit (Reading e) = IsGiven pool × RefusesReading (given pool) file e
 HasNoBundle pool file limit (Larger n most) =
-    IsGiven pool × RefusesBeside (given pool) file (Some limit) (file_error.Larger n most)
+    IsGiven pool × RefusesSize (over (given pool) file) (Some limit) (file_error.Larger n most)
 HasNoBundle pool file limit (LongKeys n most) =
-    IsGiven pool × RefusesBeside (given pool) file (Some limit) (file_error.LongKeys n most)
+    IsGiven pool × RefusesSize (over (given pool) file) (Some limit) (file_error.LongKeys n most)
 HasNoBundle pool file limit _ = ⊥
 
 -- the text is what the file's bundle is printed as under this name, which is UTF-8, so that it is a

@@ -5,6 +5,7 @@ ghost use Rattle.resb_format.specs.declared.error.ReadingError.{ReadingError};
 ghost use Rattle.resb_pool_bundle.specs.Pool.{pool_in};
 ghost use Rattle.resb_c.specs.Calls.{CountsFile, Fills, IsNotUtf8};
 ghost use Rattle.resb_c.specs.Dumping.{DumpsInto, HasNoBundle, IsBundleToDump};
+ghost use Rattle.resb_c.specs.Inner.Heads.{HasNoSource, IsSource, fault_said};
 ghost use Rattle.resb_c.specs.Measures.{MeasuresFile};
 ghost use Rattle.resb_c.specs.Pools.{given, IsGiven, RefusesPool};
 
@@ -12,7 +13,7 @@ use crate::fault::Fault;
 use crate::form::Form;
 use crate::printing::print_within;
 use resb_pool_bundle::PoolBundle;
-use resb_program::{FileError, read_bundle};
+use resb_program::{BundleFile, FileError, open_file, read_bundle};
 use resb_read::Measured;
 use resb_tree::ResourceBundle;
 use std::alloc::Global;
@@ -74,17 +75,38 @@ pub(crate) fn pool_of(bytes: &[u8]) -> Result<Option<PoolBundle<'_>>, Fault>
     }
 }
 
+/// The fault of a file that isn't had.
+fn fault_in(e: FileError) -> Fault
+    ensures { result ≡ fault_said e }
+{
+    match e {
+        FileError::UsesPool => Fault::UsesPool,
+        FileError::Larger { bytes, limit } => Fault::Larger { bytes, limit },
+        FileError::LongKeys { bytes, limit } => Fault::LongKeys { bytes, limit },
+        FileError::Reading(e) => Fault::Reading(e),
+    }
+}
+
+/// Opens a file beside the pool bundle that is given, if one is.
+pub(crate) fn source_of<'a>(input: Input<'a>) -> Result<BundleFile<'a>, Fault>
+    ensures ok { IfOk result (IsSource input.entry.pool.now input.entry.file.now) }
+    ensures err { IfErr result (HasNoSource input.entry.pool.now input.entry.file.now) }
+{
+    let pool = pool_of(input.pool)?;
+    match open_file(input.file, pool) {
+        Ok(source) => Ok(source),
+        Err(e) => Err(fault_in(e)),
+    }
+}
+
 /// The number of resources of a file's tree.
 pub(crate) fn count_file(alloc: Global, input: Input<'_>) -> Result<usize, Fault>
     ensures { CountsFile input.entry.pool.now input.entry.file.now result }
 {
-    let pool = pool_of(input.pool)?;
-    match resb_program::count_file(alloc, input.file, pool) {
-        Ok((count, _)) => Ok(count),
-        Err(FileError::UsesPool) => Err(Fault::UsesPool),
-        Err(FileError::Larger { bytes, limit }) => Err(Fault::Larger { bytes, limit }),
-        Err(FileError::LongKeys { bytes, limit }) => Err(Fault::LongKeys { bytes, limit }),
-        Err(FileError::Reading(e)) => Err(Fault::Reading(e)),
+    let source = source_of(input)?;
+    match source.file.count(alloc) {
+        Ok(count) => Ok(count),
+        Err(e) => Err(Fault::Reading(e)),
     }
 }
 
@@ -92,13 +114,10 @@ pub(crate) fn count_file(alloc: Global, input: Input<'_>) -> Result<usize, Fault
 pub(crate) fn measure_file(alloc: Global, input: Input<'_>) -> Result<Measured, Fault>
     ensures { MeasuresFile input.entry.pool.now input.entry.file.now result }
 {
-    let pool = pool_of(input.pool)?;
-    match resb_program::measure_file(alloc, input.file, pool) {
+    let source = source_of(input)?;
+    match source.file.measure(alloc) {
         Ok(measured) => Ok(measured),
-        Err(FileError::UsesPool) => Err(Fault::UsesPool),
-        Err(FileError::Larger { bytes, limit }) => Err(Fault::Larger { bytes, limit }),
-        Err(FileError::LongKeys { bytes, limit }) => Err(Fault::LongKeys { bytes, limit }),
-        Err(FileError::Reading(e)) => Err(Fault::Reading(e)),
+        Err(e) => Err(Fault::Reading(e)),
     }
 }
 
@@ -113,13 +132,10 @@ pub(crate) fn bundle_of<'a>(
         (IsBundleToDump input.entry.pool.now input.entry.file.now name.entry.now limit) }
     ensures err { IfErr result (HasNoBundle input.entry.pool.now input.entry.file.now limit) }
 {
-    let pool = pool_of(input.pool)?;
-    match read_bundle(alloc, name, input.file, pool, Some(limit)) {
+    let source = source_of(input)?;
+    match read_bundle(alloc, name, &source, Some(limit)) {
         Ok(bundle) => Ok(bundle),
-        Err(FileError::UsesPool) => Err(Fault::UsesPool),
-        Err(FileError::Larger { bytes, limit }) => Err(Fault::Larger { bytes, limit }),
-        Err(FileError::LongKeys { bytes, limit }) => Err(Fault::LongKeys { bytes, limit }),
-        Err(FileError::Reading(e)) => Err(Fault::Reading(e)),
+        Err(e) => Err(fault_in(e)),
     }
 }
 

@@ -12,9 +12,9 @@ use crate::files::{Input, fill, pool_of, text_of};
 use crate::path::names_of;
 use crate::there::{bytes_there, integer_there, key_there, kind_there, units_there};
 use resb_format::BinaryDeserializerError;
-use resb_path::find_with_pool;
+use resb_path::find_in;
 use resb_pool_bundle::{FileHead, PoolBundle};
-use resb_read::Cursor;
+use resb_read::{Cursor, File};
 use resb_walk::text_of_units;
 use std::alloc::Global;
 
@@ -54,7 +54,11 @@ fn find<'a>(alloc: Global, input: Input<'a>, path: &[u8]) -> Result<Cursor<'a>, 
             return Err(fault_of(input.file, pool, wanting));
         }
     };
-    match find_with_pool(input.file, pool, names.as_slice()) {
+    let file = match File::open(input.file, pool) {
+        Ok(file) => file,
+        Err(refusal) => return Err(fault_of(input.file, pool, refusal)),
+    };
+    match find_in(&file, names.as_slice()) {
         Ok(Some(found)) => Ok(found),
         Ok(None) => Err(Fault::NotFound),
         Err(refusal) => Err(fault_of(input.file, pool, refusal)),

@@ -3,7 +3,7 @@
 
 use crate::example::{FILE, OTHERS, OVER_POOL, POOL, TEXT};
 use crate::outcome::{Outcome, Refused};
-use resb::binary::{Pool, PoolBundle, PoolMaker, Serializer, pool, tree_from_bytes};
+use resb::binary::{File, Pool, PoolBundle, PoolMaker, Serializer, pool};
 use resb::bundle::Key;
 use resb::filter::Rules;
 use resb::text::{Expected, IcuReader, Reader, Turns};
@@ -75,7 +75,7 @@ pub(crate) fn filters(alloc: Global) -> Result<bool, Refused> {
 /// Whether the text has a file that ends with this, and that is read back as the text's tree.
 fn compiles_to(alloc: Global, text: &str, body: &[u8]) -> Result<bool, Refused> {
     let file = compile(alloc, text)?;
-    let tree = tree_from_bytes(alloc, &file)?;
+    let tree = File::alone(&file)?.tree(alloc, None)?;
     let (bundle, _keys) = Reader::read(alloc, text)?;
     Ok(file.get(32..) == Some(body) && tree.equals(bundle.root()))
 }

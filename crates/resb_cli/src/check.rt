@@ -12,8 +12,8 @@ use crate::unread::Unread;
 use crate::words::MARK;
 use resb_head::FormatVersion;
 use resb_json::json_text;
-use resb_pool_bundle::FileHead;
-use resb_program::count_file;
+use resb_pool_bundle::{FileHead, PoolBundle};
+use resb_program::{FileError, open_file};
 use resb_tree::Resource;
 use resb_words::CheckWords;
 use std::alloc::{AllocError, Global};
@@ -115,7 +115,7 @@ fn check_beside(
         Err(status) => return without_pool(rt, name, status, wanted),
     };
     let (file, pool) = (opened.bytes, beside.name());
-    match count_file(rt.alloc(), file, bundle) {
+    match counted(rt.alloc(), file, bundle) {
         Ok((count, head)) => {
             let summary = Summary { count, head, pool };
             say_summary(rt, name, summary, wanted.is_json)
@@ -125,6 +125,19 @@ fn check_beside(
             print_fault(rt, name, e.kind, e).max(1)
         }
         Err(e) => refuse(rt, name, file, &e, pool),
+    }
+}
+
+/// How many resources a file has, beside the pool bundle that it uses, and its head.
+fn counted<'f>(
+    alloc: Global,
+    file: &'f [u8],
+    pool: Option<PoolBundle<'f>>,
+) -> Result<(usize, FileHead<'f>), FileError> {
+    let source = open_file(file, pool)?;
+    match source.file.count(alloc) {
+        Ok(count) => Ok((count, source.head)),
+        Err(e) => Err(FileError::Reading(e)),
     }
 }
 

@@ -12,8 +12,8 @@ use crate::forms::{Built, Forms, why_lacking, with_forms};
 use crate::input::{Beside, Input};
 use crate::key_order::{ReadKeys, laid_keys};
 use crate::say::{complain, or_fail, refuse_memory};
-use crate::show::opened_of;
 use crate::streams::made;
+use crate::subject::Subject;
 use crate::texts::SourceText;
 use resb_compile::IcuCompileError;
 use resb_draft::{Draft, DraftBundle};
@@ -148,7 +148,7 @@ fn built_file(
     let input = Input::read(rt, file, limit)?;
     let opened = input.open(rt, file)?;
     let beside = opened.pool(rt, file, None, limit)?;
-    let built = opened_of(rt, file, opened.bytes, &beside, None)?;
+    let built = Subject::open(rt, file, opened.bytes, &beside)?.index(rt, None)?;
     let root = built.root();
     // taken apart, so that the text is lent for as long as the forms
     let Source { name, text } = source;

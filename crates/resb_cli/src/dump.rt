@@ -6,14 +6,12 @@ use crate::place::{Place, place_of};
 use crate::progress::Progress;
 use crate::save::{Content, save, saved};
 use crate::say::{NoText, fail, or_fail, refuse_memory};
-use crate::show::{
-    Form, Showing, bundle_name, bundle_of, opened_of, print_content, say_cause, settled,
-};
+use crate::show::{Form, Showing, bundle_name, print_content, say_cause, settled};
 use crate::streams::{NO_MEMORY, made};
+use crate::subject::Subject;
 use crate::taken::Taken;
 use crate::unread::Unread;
 use resb_opened::Ascending;
-use resb_pool_bundle::FileHead;
 use resb_shown::Shown;
 use resb_tree::ResourceBundle;
 use resb_words::DumpWords;
@@ -25,8 +23,6 @@ use std::path::{Path, PathBuf};
 #[derive(Clone, Copy)]
 struct Source<'f> {
     name: &'f str,
-    bytes: &'f [u8],
-    beside: &'f Beside<'f>,
     wanted: &'f DumpWords<'f>,
 }
 
@@ -83,21 +79,17 @@ fn dump_one(
         beside => beside?,
     };
     note_pool(rt, name, &beside, taken)?;
-    let source = Source {
-        name,
-        bytes: opened.bytes,
-        beside: &beside,
-        wanted,
-    };
+    let source = Source { name, wanted };
     if wanted.is_lenient
         && let Some(note) = note_of(rt, name, opened.bytes, &beside)
     {
         return source.send(rt, &note, Form::Text.ending(), taken);
     }
-    if let Some(status) = source.dump_opened(rt, taken)? {
+    let subject = Subject::open(rt, name, opened.bytes, &beside)?;
+    if let Some(status) = source.dump_opened(rt, &subject, taken)? {
         return Ok(status);
     }
-    source.dump_tree(rt, taken)
+    source.dump_tree(rt, &subject, taken)
 }
 
 /// Notes a pool bundle that is read, if it is a file of its own.
@@ -143,14 +135,6 @@ impl Source<'_> {
         }
     }
 
-    /// Whether the file's head turns fallback on.
-    fn has_fallback(self) -> bool {
-        match FileHead::read(self.bytes) {
-            Ok(head) => head.has_fallback(),
-            Err(_) => false,
-        }
-    }
-
     /// The form that is wanted, which the file has no text of, and what is said of its JSON, which
     /// is shown in place of that or not.
     fn missing(self, has_json: bool) -> NoText {
@@ -168,15 +152,20 @@ impl Source<'_> {
 
     /// Shows the file without its tree, if that can be: where its tables ascend, and it has what is
     /// wanted.
-    fn dump_opened(self, rt: &HostRuntime, taken: &mut Taken) -> Result<Option<u8>, u8> {
-        let file = opened_of(rt, self.name, self.bytes, self.beside, self.wanted.limit)?;
+    fn dump_opened(
+        self,
+        rt: &HostRuntime,
+        subject: &Subject<'_>,
+        taken: &mut Taken,
+    ) -> Result<Option<u8>, u8> {
+        let file = subject.index(rt, self.wanted.limit)?;
         let Some(root) = Ascending::of(file.root()) else {
             return Ok(None);
         };
         let showing = Showing {
             name: bundle_name(self.name),
             root,
-            has_fallback: self.has_fallback(),
+            has_fallback: subject.source.head.has_fallback(),
             form: self.form(),
         };
         match showing.is_had(rt.alloc()) {
@@ -187,9 +176,13 @@ impl Source<'_> {
     }
 
     /// Shows the file by its tree.
-    fn dump_tree(self, rt: &HostRuntime, taken: &mut Taken) -> Result<u8, u8> {
-        let limit = self.wanted.limit;
-        let bundle = bundle_of(rt, self.name, self.bytes, self.beside, limit)?;
+    fn dump_tree(
+        self,
+        rt: &HostRuntime,
+        subject: &Subject<'_>,
+        taken: &mut Taken,
+    ) -> Result<u8, u8> {
+        let bundle = subject.bundle(rt, self.wanted.limit)?;
         let done = self.dump_bundle(rt, &bundle, taken);
         let_go(bundle, self.wanted.files.len() == 1);
         done
@@ -205,7 +198,7 @@ impl Source<'_> {
         let mut showing = Showing {
             name: bundle_name(self.name),
             root: bundle.root(),
-            has_fallback: self.has_fallback(),
+            has_fallback: bundle.is_locale_fallback_enabled,
             form: self.form(),
         };
         match showing.is_had(rt.alloc()) {

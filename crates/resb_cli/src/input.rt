@@ -258,7 +258,7 @@ fn pool_item<'f>(
 }
 
 /// Whether a file's head says that it uses a pool bundle.
-pub(crate) fn uses_pool(file: &[u8]) -> bool {
+fn uses_pool(file: &[u8]) -> bool {
     match FileHead::read(file) {
         Ok(head) => head.uses_pool(),
         Err(_) => false,

@@ -43,6 +43,7 @@ mod say;
 mod show;
 mod shown;
 mod streams;
+mod subject;
 mod taken;
 mod texts;
 mod unread;

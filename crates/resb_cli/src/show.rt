@@ -1,18 +1,13 @@
 //! What is shown of a file as a whole: its text, in either form, and its JSON, from its tree or
-//! from the opened file. Where that goes is said by the commands, and why a file has no tree in
-//! `refusal`.
-use crate::input::Beside;
+//! from the opened file. Where that goes is said by the commands, and what is had of a file in
+//! `subject`.
 use crate::least::uncounted_in;
-use crate::levels::check_levels;
-use crate::refusal::refuse;
 use crate::save::{Bytes, Content, cause_of_printing, print};
 use crate::say::{NoText, complain, fail, refuse_memory, say_no_text};
 use resb_icu_print::IcuPrintError;
 use resb_json::{json_length_within, write_json};
 use resb_lines::{Icu, Plain, ShownBundle, find_cause, has_text, lines_length_within, write_lines};
-use resb_opened::Opened;
 use resb_print::{Cause, PrintError};
-use resb_program::{open_file, open_file_within, read_bundle};
 use resb_shown::Shown;
 use resb_tree::ResourceBundle;
 use std::alloc::{AllocError, Global};
@@ -182,46 +177,6 @@ pub(crate) fn bundle_name(file: &str) -> &str {
         return "bundle";
     }
     Path::new(file).file_stem().unwrap_or("bundle")
-}
-
-/// A file's bundle, beside its pool bundle, or the status, once it is said why there is none.
-pub(crate) fn bundle_of<'f>(
-    rt: &HostRuntime,
-    name: &'f str,
-    file: &'f [u8],
-    beside: &'f Beside<'f>,
-    limit: Option<u64>,
-) -> Result<ResourceBundle<'f>, u8> {
-    let pool = beside.bundle(rt, name)?;
-    read_bundle(rt.alloc(), bundle_name(name), file, pool, limit).map_err(|e| refuse(
-        rt,
-        name,
-        file,
-        &e,
-        beside.name(),
-    ))
-}
-
-/// A file that is opened beside its pool bundle, or the status, once it is said why it isn't. A
-/// limit refuses it for the bytes that its tree would take, as `bundle_of` does, and for what is
-/// kept for its levels.
-pub(crate) fn opened_of<'f>(
-    rt: &HostRuntime,
-    name: &'f str,
-    file: &'f [u8],
-    beside: &'f Beside<'f>,
-    limit: Option<u64>,
-) -> Result<Opened<'f>, u8> {
-    let pool = beside.bundle(rt, name)?;
-    let opened = match limit {
-        Some(limit) => open_file_within(rt.alloc(), file, pool, limit),
-        None => open_file(rt.alloc(), file, pool),
-    };
-    let opened = opened.map_err(|e| refuse(rt, name, file, &e, beside.name()))?;
-    if let Some(limit) = limit {
-        check_levels(rt, name, file, beside, limit)?;
-    }
-    Ok(opened)
 }
 
 /// The status of what was done, or of what kept it from being done.

@@ -5,7 +5,7 @@ use Rattle.resb_read.specs.Places.{place_of}
 use Rattle.resb_read.specs.Resources.{DenPlace}
 use Rattle.resb_path.specs.Finding.{Spot, tree_spot, found_at}
 use Rattle.resb_path.specs.InFiles.{IsAt, place_at, FailsOnWay, HoldsOnWay}
-use Rattle.resb_path.proofs.file.find_in.Given as goal
+use Rattle.resb_path.proofs.file.find_from.Given as goal
 
 abbrev pub invariant-loop-name : goal.invariant-loop-name
 invariant-loop-name l = record {

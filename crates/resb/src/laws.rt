@@ -91,6 +91,9 @@ pub use resb_print::laws::printed_is_linear;
 pub use resb_head::laws::header_passes;
 // The checks of a file's head let through exactly the bundle files.
 pub use resb_head::laws::bundle_file_passes;
+// The checks of a head let through exactly the pool bundles, and exactly the files that can be read
+// beside a pool bundle.
+pub use resb_pool_bundle::laws::files_pass;
 // A file of version 2.0 that neither is nor uses a pool bundle has beside any the refusal that it
 // has alone, and its parts, of which aliases are read; and it denotes what it does where they are.
 pub use resb_pool_bundle::laws::{own_files_are_the_same, own_files_denote_the_same};

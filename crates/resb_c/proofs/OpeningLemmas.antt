@@ -9,6 +9,7 @@ use Rattle.resb_format.specs.Denotes.{den_leaf}
 use Rattle.resb_format.specs.Parts.{Parts, reads_older}
 use Rattle.resb_format.specs.declared.error.ReadingError.{ReadingError}
 use Rattle.resb_head.specs.File.{root_word}
+use Rattle.resb_pool_bundle.proofs.PassingFiles.{file_passes}
 use Rattle.resb_pool_bundle.specs.Checks.{refusal_with}
 use Rattle.resb_pool_bundle.specs.Pool.{Pool, parts_with}
 use Rattle.resb_path.specs.Finding.{tree_spot}
@@ -85,7 +86,8 @@ pub counted_passes : (pool file : List ℕ) (lent : Option Pool) (e : ReadingErr
     → lent ≡ given pool → AnswersCountOf (over (given pool) file) (Ok n)
     → refusal_with lent file ≡ Some (refusal_of e) → ⊥
 counted_passes pool file lent e n is (t, d, less) h =
-    none_some (sym d.head ∙ ap (λ l. refusal_with l file) (sym is) ∙ h)
+    none_some (sym (file_passes (given pool) file d.head)
+    ∙ ap (λ l. refusal_with l file) (sym is) ∙ h)
 
 -- once a file was counted, memory may be wanted
 pub memory_wanted : (pool file : List ℕ) (n : ℕ) (e : ReadingError) → CountsFile pool file (Ok n)
@@ -93,7 +95,7 @@ pub memory_wanted : (pool file : List ℕ) (n : ℕ) (e : ReadingError) → Coun
 memory_wanted pool file n e (is, (t, d, less)) want = (
   is,
   (
-    passes_given (given pool) file d.head,
+    passes_given (given pool) file (file_passes (given pool) file d.head),
     inr (d.head, inl want, λ fault. absurd (fault.not_memory want.kind_is)),
   ),
 )

@@ -1,5 +1,6 @@
 -- Nothing is passed on.
 mod HeadLemmas
+mod HandedLemmas
 mod PathLemmas
 mod ThereLemmas
 mod ZoneLemmas

@@ -7,7 +7,7 @@
 ghost use Rattle.std.specs.Prelude.{◌≡◌, ◌⊎◌, ℕ, ℤ, pos, List, [], length, min, Result};
 ghost use Rattle.std.specs.Prelude.{MatchOption};
 ghost use Rattle.resb_tree.specs.Tree.{Tree, Entries, table, map_of};
-ghost use Rattle.resb_format.specs.Bytes.{words_of};
+ghost use Rattle.resb_layout.specs.Laid.{words};
 ghost use Rattle.resb_path.specs.Finding.{Spot, tree_spot};
 ghost use Rattle.resb_read.specs.declared.measuring.Measured.{Measured};
 ghost use Rattle.resb_diagnostics.specs.Location.{line_at, column_at};
@@ -21,7 +21,8 @@ ghost use Rattle.resb_c.specs.Compiling.{CompilesInto, CompilesWithin};
 ghost use Rattle.resb_c.specs.Dumping.{DumpsInto};
 ghost use Rattle.resb_c.specs.JsonDumping.{DumpsJsonInto};
 ghost use Rattle.resb_c.specs.Handed as handed;
-ghost use Rattle.resb_c.specs.Handed.{HandsOn, HandsPart, HandsUnits, IsOpenedAs, TellsKeyOf};
+ghost use Rattle.resb_c.specs.Handed.{units_handed};
+ghost use Rattle.resb_c.specs.Handed.{HandsOn, HandsPart, IsOpenedAs, TellsKeyOf};
 ghost use Rattle.resb_c.specs.Measures.{MeasuresFile, ShowsSums};
 ghost use Rattle.resb_c.specs.Opened.{Shows, HoldsEntries};
 ghost use Rattle.resb_c.specs.Opening.{OpensFile};
@@ -661,7 +662,8 @@ pub extern "C" fn resb_utf16_of<'a>(
     resource: ResbResource,
     units: &mut ResbBytes<'a>,
 ) -> u32
-    ensures { (s : Spot) → Shows opened.now resource s → HandsUnits (text_shown s) result units.new }
+    ensures { (s : Spot) → Shows opened.now resource s → HandsPart units_handed (text_shown s)
+        result units.new }
 {
     let answer = units_seen(opened, resource);
     hand_bytes(&answer, units)
@@ -690,7 +692,7 @@ pub extern "C" fn resb_vector_of<'a>(
     resource: ResbResource,
     numbers: &mut ResbBytes<'a>,
 ) -> u32
-    ensures { (s : Spot) → Shows opened.now resource s → HandsPart words_of (numbers_shown s)
+    ensures { (s : Spot) → Shows opened.now resource s → HandsPart words (numbers_shown s)
         result numbers.new }
 {
     let answer = numbers_seen(opened, resource);

@@ -7,7 +7,7 @@ ghost use Rattle.resb_format.specs.Content.{leaf};
 ghost use Rattle.resb_walk.specs.BlockRefusals.{Says};
 ghost use Rattle.resb_format.specs.Parts.{parts_in};
 ghost use Rattle.resb_walk.specs.Inner.Members.{content_of, keyed_members, leaf_tree};
-ghost use Rattle.resb_walk.specs.Inner.Members.{text_of_bytes, HasUtf16};
+ghost use Rattle.resb_walk.specs.Inner.Members.{text_of_bytes, IsWellSpelled};
 ghost use Rattle.resb_read.specs.Places.{place_of};
 ghost use Rattle.resb_c.specs.AtPlaces.{content_from, integer_from, kind_from, kind_number};
 ghost use Rattle.resb_c.specs.AtPlaces.{leaf_size, size_in, spot_refusal, tree_kind, HasKey};
@@ -31,7 +31,7 @@ pub(crate) fn standing_in(
     ensures stands { let p = parts_in file.entry in let there = content_from p at in
         MatchResult result (λ s. there ≡ Some (content_of s))
         (λ e. (there ≡ None) × Says (spot_refusal p at) e) }
-    ensures form { IfOk result HasUtf16 }
+    ensures form { IfOk result IsWellSpelled }
 {
     match at {
         Spot::Descriptor(word) => standing_at(file, word),

@@ -160,17 +160,25 @@ fn plain_words<'s>(spot: &Spot<'s>) -> Option<Mistake<'s>> {
 /// That no `{` stands behind the word of the plain form with which a text's first bytes end, if
 /// they end with one.
 fn key_without_group<'s>(before: &'s [u8]) -> Option<Mistake<'s>> {
-    let mut place = before.len();
-    while place > 0 && is_word(before[place - 1]) {
-        place -= 1;
-    }
-    match str::from_utf8(&before[place..]) {
-        Ok(word) if !word.is_empty() => Some(Mistake {
-            place,
-            what: What::NoBrace(word),
+    let word = word_at_end(before);
+    match str::from_utf8(word) {
+        Ok(key) if !key.is_empty() => Some(Mistake {
+            place: before.len().saturating_sub(word.len()),
+            what: What::NoBrace(key),
         }),
         _ => None,
     }
+}
+
+/// The word of the plain form with which bytes end.
+fn word_at_end(bytes: &[u8]) -> &[u8] {
+    for number in 0..bytes.len() {
+        let at = bytes.len() - 1 - number;
+        if !is_word(bytes[at]) {
+            return &bytes[at + 1..];
+        }
+    }
+    bytes
 }
 
 /// The character at the place, if quotes are needed round it in the plain form.

@@ -233,10 +233,10 @@ impl PlanWithPool {
     }
 
     /// Plans the strings of a file that is packed this way. The pool has a string of a compact file
-    /// if it has a record of just this string, or if this string has no marker and the greatest text
-    /// that ends with it, and that no other one ends with, is the pool's, where the texts are those
-    /// of the file and of the pool together. A record of the file's own that ends another one of these
-    /// texts saves nothing. (ICU's `reslist.cpp`: `compactStringsV2`.)
+    /// if it has a record of just this string, or if this string has no marker and the greatest
+    /// text that ends with it, and that no other one ends with, is the pool's, where the texts are
+    /// those of the file and of the pool together. A record of the file's own that ends another one
+    /// of these texts saves nothing. (ICU's `reslist.cpp`: `compactStringsV2`.)
     ///
     /// Refused is what `of` refuses; 2^32 texts and more are refused as want of memory.
     pub fn by(

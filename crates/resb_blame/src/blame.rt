@@ -60,7 +60,7 @@ impl<'de, 'm> Blame<'de, 'm> {
         }
     }
 
-    /// The same, seen from outside of what it was seen from: one step more leads to it. Where there
+    /// This blame, seen from outside of what it was seen from: a step more leads to it. Where there
     /// is no memory for the step, want of memory is to blame, without a path or a field.
     pub fn under(mut self, step: PathStep<'de>) -> Blame<'de, 'm>
         ensures leads { IsUnder (step_of step.entry) self.entry result

@@ -32,7 +32,7 @@ pub struct ResbOpened<'a> {
     pub pool_block: &'a [u8],
     /// The first index of a string that is the file's own.
     pub limit: u32,
-    /// The same as a unit tells it.
+    /// The first index of the file's own strings, as a unit tells it.
     pub short_limit: u16,
     /// Not 0 where the keys of each table were found to ascend.
     pub ascends: u16,

@@ -57,7 +57,7 @@ pub(crate) fn length_of(answer: &Result<usize, Fault>) -> usize
     }
 }
 
-/// The same of an answer that is a number, or an error that has one, which is written too.
+/// Reports an answer that is a number, or an error that has one, which is written too.
 pub(crate) fn report(
     alloc: Global,
     answer: Result<usize, Fault>,

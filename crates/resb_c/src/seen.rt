@@ -112,7 +112,7 @@ fn integer_of(there: Standing<'_>) -> Option<Int28>
     }
 }
 
-/// The same number with its sign.
+/// The number of an integer, with its sign.
 fn signed_of(there: Standing<'_>) -> Result<i32, Fault>
     ensures { let found = option_map signed (content_integer (content_of there.entry)) in
         MatchResult result (λ x. found ≡ Some x) (λ e. (found ≡ None) × (e ≡ OtherKind)) }

@@ -152,7 +152,7 @@ pub(crate) fn value_seen(
     named(opened, entries, name)
 }
 
-/// The same of a key as the caller writes it.
+/// The value at a key, which the caller writes.
 pub(crate) fn value_at_key(
     opened: &ResbOpened<'_>,
     resource: ResbResource,

@@ -73,7 +73,7 @@ pub(crate) fn reads_beside_a_pool(alloc: Global) -> Result<bool, Refused> {
     Ok(text.is_some_and(|text| text.as_str() == "one two three") && names.len() == 2)
 }
 
-/// The same file's tree, counted, measured, and made within its bytes.
+/// Counts the tree of that file, measures it, and makes it within its bytes.
 pub(crate) fn measures_beside_a_pool(alloc: Global) -> Result<bool, Refused> {
     let pool = Some(PoolBundle::read(&POOL)?);
     let Some(limit) = measure_with_pool(alloc, &OVER_POOL, pool)?.tree_bytes() else {

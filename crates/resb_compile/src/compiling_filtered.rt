@@ -75,7 +75,7 @@ pub fn compile_icu_filtered(
     Ok(file)
 }
 
-/// The same over a pool bundle, as `Serializer::to_bytes_with_pool` writes it.
+/// Compiles a text so over a pool bundle, as `Serializer::to_bytes_with_pool` writes it.
 pub fn compile_icu_filtered_with_pool(
     alloc: Global,
     text: &str,

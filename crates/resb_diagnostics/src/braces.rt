@@ -8,7 +8,7 @@ pub(crate) trait Modes: Sized + Copy {
     ghost use Rattle.std.specs.Prelude.{◌≡◌};
     ghost use Rattle.resb_diagnostics.specs.Braces as braces;
 
-    /// The same in the words of the definitions.
+    /// This form in the words of the definitions.
     ghost form: { braces.Form Self };
 
     /// What the first byte stands in.
@@ -29,7 +29,7 @@ pub(crate) trait Modes: Sized + Copy {
 pub(crate) enum Mode {
     /// Among tokens and blanks.
     Tokens,
-    /// The same, behind a `/`.
+    /// Outside of strings and comments, behind a `/`.
     Slash,
     /// In a string in quotes.
     Quotes,
@@ -37,7 +37,7 @@ pub(crate) enum Mode {
     LineComment,
     /// In a comment up to `*/`.
     BlockComment,
-    /// The same, behind a `*`.
+    /// In a long comment, behind a `*`.
     Star,
 }
 
@@ -75,7 +75,7 @@ impl Modes for Mode {
 /// What a byte of a text of ICU's form stands in.
 #[derive(Clone, Copy, Debug, PartialEq, Eq)]
 pub(crate) enum IcuMode {
-    /// The same as in a text of the other form.
+    /// What a byte of a text of the other form may stand in too.
     As(Mode),
     /// In a string in quotes, behind a backslash.
     Escape,
@@ -165,7 +165,8 @@ pub fn innermost_open(text: &[u8]) -> Option<usize>
     innermost::<Mode>(text)
 }
 
-/// The same of a text of ICU's form, which has escapes in quotes, and whose comments end otherwise.
+/// The innermost `{` without a partner in a text of ICU's form, which has escapes in quotes, and
+/// whose comments end otherwise.
 pub fn innermost_icu_open(text: &[u8]) -> Option<usize>
     ensures { result ≡ braces.innermost_icu_open text.now }
 {

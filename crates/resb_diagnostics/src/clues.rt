@@ -40,7 +40,7 @@ pub fn long_string_before(text: &[u8], place: usize) -> Option<usize>
     long_string::<Mode>(text, place)
 }
 
-/// The same of a text of ICU's form.
+/// The last string over lines before a place of a text of ICU's form.
 pub fn long_icu_string_before(text: &[u8], place: usize) -> Option<usize>
     ensures { result ≡ clues.long_string_in icu_form text.now (min place (length text.now)) }
 {
@@ -162,7 +162,7 @@ pub fn first_outdent(alloc: Global, text: &[u8]) -> Result<Option<usize>, AllocE
     outdent::<Mode>(alloc, text)
 }
 
-/// The same in a text of ICU's form.
+/// The first line of a text of ICU's form that is indented too little for its group.
 pub fn first_icu_outdent(alloc: Global, text: &[u8]) -> Result<Option<usize>, AllocError>
     ensures { IfOk result (λ found. found ≡ clues.outdent_in icu_form text.now (length text.now)) }
 {

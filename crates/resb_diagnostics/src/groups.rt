@@ -25,7 +25,7 @@ use std::cmp::Ordering;
 enum Shape {
     /// Pairs of a string and a group, without commas.
     Pairs,
-    /// The same, and then a string.
+    /// Such pairs, and then a string.
     Key,
     /// Anything else.
     Other,

@@ -73,7 +73,7 @@ fn cut(is_negative: bool, value: u64) -> Option<i32>
     }
 }
 
-/// The same of a negative one.
+/// The number to which 28 bits cut a negative one, if they don't hold it.
 fn cut_below(value: u64) -> Option<i32>
     ensures { (n : ℕ) → value ≡ min n 4294967296 → result ≡ spec.cut true n }
 {
@@ -84,7 +84,7 @@ fn cut_below(value: u64) -> Option<i32>
     }
 }
 
-/// The same of any other one.
+/// The number to which 28 bits cut any other one, if they don't hold it.
 fn cut_above(value: u64) -> Option<i32>
     ensures { (n : ℕ) → value ≡ min n 4294967296 → result ≡ spec.cut false n }
 {

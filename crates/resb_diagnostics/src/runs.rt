@@ -33,7 +33,7 @@ fn bytes_before(text: &[u8], from: usize, byte: u8) -> usize
     resb_grammar::bytes_before(text, from, byte)
 }
 
-/// The same where the byte is thought to be near: sixteen bytes are looked at at once.
+/// The first such byte, which is thought to be near: sixteen bytes are looked at at once.
 pub(crate) fn near_byte(text: &[u8], byte: u8, from: usize, to: usize) -> Option<usize>
     requires { (from ≤ to) × (to ≤ length text.now) }
     ensures { IsFound byte text.now from to result }
@@ -68,7 +68,7 @@ pub(crate) fn string_stop(text: &[u8], from: usize) -> Option<usize>
     last_stop(text, at)
 }
 
-/// The same, byte by byte, near the text's end.
+/// The first `"` or backslash from a place on, looked for byte by byte near the text's end.
 fn last_stop(text: &[u8], from: usize) -> Option<usize>
     requires { from ≤ length text.now }
     ensures { IsStop text.now from result }

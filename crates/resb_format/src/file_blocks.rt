@@ -12,7 +12,7 @@ pub struct PoolBlocks<'a> {
     pub block: &'a [u8],
     /// The first index of a string that is the file's own.
     pub limit: u32,
-    /// The same as a unit tells it.
+    /// The first index of the file's own strings, as a unit tells it.
     pub short_limit: u16,
 }
 

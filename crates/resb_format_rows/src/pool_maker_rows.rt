@@ -33,7 +33,7 @@ k=012345678 / k=012345678 / j=0123456789 =>
     10000000451f690c6b006a0000003000310032003300340035003600370038000000aaaa;
 ";
 
-/// The same of compact pool bundles, as ICU's `genrb` 72.1 makes them: keys lie at the ends of
+/// Rows of compact pool bundles, as ICU's `genrb` 72.1 makes them: keys lie at the ends of
 /// others, of their bundle and of another one.
 const COMPACT_ROWS: &str = "xab=one two three,ab=x,b=two three / yab=one two three,b=three,ab=y =>
     0300000001040000000000000000000000000020080000000b00000013000000130000000000000003000000

@@ -137,7 +137,7 @@ pub fn skip(text: &str, from: usize, turns: &mut IcuTurns) -> usize
     skip_all(text, from, turns)
 }
 
-/// The same, where more than one space or a comment is thought to stand.
+/// Where blanks end, if more than one space or a comment is thought to stand.
 #[inline(never)]
 fn skip_all(text: &str, from: usize, turns: &mut IcuTurns) -> usize
     requires within { from ≤ length text.now }

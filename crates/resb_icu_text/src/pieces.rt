@@ -40,7 +40,7 @@ fn first_stop(text: &str, from: usize) -> Option<usize>
     far_stop(text, from)
 }
 
-/// The same, where neither need be near.
+/// The next stop, where none need be near.
 #[inline(never)]
 fn far_stop(text: &str, from: usize) -> Option<usize>
     requires within { from ≤ length text.now }

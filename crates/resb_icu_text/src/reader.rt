@@ -90,7 +90,7 @@ impl IcuReader {
         }
     }
 
-    /// The same answer as `read`. The count never falls, and rises by at most `8 n + 24` for a text
+    /// Answers as `read` does. The count never falls, and rises by at most `8 n + 24` for a text
     /// of n bytes, whatever the answer: the reading takes linearly many turns.
     pub fn read_counted<'a>(
         alloc: Global,

@@ -85,7 +85,7 @@ fn ended_texts(alloc: Global, lent: &LentTexts, own: &[&str]) -> Result<Vec<usiz
     Ok(ended)
 }
 
-/// The same in a compact file, and none in a plain one, where they don't matter.
+/// These numbers in a compact file, and none in a plain one, where they don't matter.
 pub(crate) fn ended_beside(
     alloc: Global,
     packing: Packing,

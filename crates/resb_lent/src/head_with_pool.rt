@@ -16,7 +16,7 @@ pub struct HeadWithPool {
     pub is_locale_fallback_enabled: bool,
     /// The first index of a string that is the file's own.
     pub limit: u32,
-    /// The same, as a unit tells it.
+    /// The first index of the file's own strings, as a unit tells it.
     pub short_limit: u32,
     /// By which the file and its pool know each other.
     pub checksum: u32,

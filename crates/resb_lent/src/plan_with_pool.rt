@@ -33,7 +33,7 @@ pub struct PlanWithPool {
     /// The first index of a string that is the file's own: one more than the greatest one in the
     /// pool that is used.
     pub limit: u32,
-    /// The same, as a unit tells it.
+    /// The first index of the file's own strings, as a unit tells it.
     pub short_limit: u32,
 }
 
@@ -114,7 +114,7 @@ fn behind_index(index: u32) -> u64
     if index == 0 { 0 } else { u64::from(index) + 1 }
 }
 
-/// The same of what the pool has of a text, and 0 where it lacks it.
+/// One more than the index that the pool has of a text, and 0 where the pool lacks it.
 fn behind_answer(answer: Option<u32>) -> u64
     ensures is { result ≡ limit_of (given (answer ∷ [])) }
     ensures small { result ≤ 2 ^ 32 }
@@ -232,11 +232,11 @@ impl PlanWithPool {
         PlanWithPool::by(alloc, Packing::Plain, lent, strings)
     }
 
-    /// The same of a file that is packed this way. The pool has a string of a compact file if it
-    /// has a record of just this string, or if this string has no marker and the greatest text that
-    /// ends with it, and that no other one ends with, is the pool's, where the texts are those of
-    /// the file and of the pool together. A record of the file's own that ends another one of these
-    /// texts saves nothing. (ICU's `reslist.cpp`: `compactStringsV2`.)
+    /// Plans the strings of a file that is packed this way. The pool has a string of a compact file
+    /// if it has a record of just this string, or if this string has no marker and the greatest
+    /// text that ends with it, and that no other one ends with, is the pool's, where the texts are
+    /// those of the file and of the pool together. A record of the file's own that ends another one
+    /// of these texts saves nothing. (ICU's `reslist.cpp`: `compactStringsV2`.)
     ///
     /// Refused is what `of` refuses; 2^32 texts and more are refused as want of memory.
     pub fn by(

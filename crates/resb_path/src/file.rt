@@ -42,8 +42,8 @@ pub fn find_in<'de>(
     Ok(Some(found))
 }
 
-/// The same from the root of a file beside the pool bundle that is given, if one is. It is refused
-/// by the first check of the head that fails too.
+/// Finds a path so from the root of a file, beside the pool bundle that is given, if one is. It is
+/// refused by the first check of the head that fails too.
 pub fn find_with_pool<'de>(
     bytes: &'de [u8],
     pool: Option<PoolBundle<'de>>,

@@ -214,7 +214,7 @@ fn sum_totals(
     Ok(sums)
 }
 
-/// The same, but for the hidden texts, each of which counts itself alone.
+/// These sums, but for the hidden texts, each of which counts itself alone.
 pub(crate) fn find_sums(
     alloc: Global,
     containers: &Containers,

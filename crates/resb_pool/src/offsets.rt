@@ -27,7 +27,7 @@ impl<'a> Plan<'a> {
         &self.units
     }
 
-    /// The same units, and the offset of each string in the order in which they were given.
+    /// The plan's units, and the offset of each string in the order in which they were given.
     pub fn into_parts(self) -> (Vec<u16>, Vec<u32>)
         ensures units { result.0.items ≡ plan_units self.entry }
         ensures offsets { result.1.items ≡ turn_offsets self.entry }

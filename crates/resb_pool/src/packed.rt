@@ -43,7 +43,7 @@ pub fn plan_packed<'a>(
     plan_beside(alloc, packing, strings, &[])
 }
 
-/// The same of strings beside which other texts stand, as those of a pool bundle. A record at the
+/// The plan of strings beside which other texts stand, as those of a pool bundle. A record at the
 /// end of such a text saves nothing in a compact file either: the numbers of these strings are
 /// given, and none for a plain file.
 pub fn plan_beside<'a>(

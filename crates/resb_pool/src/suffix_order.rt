@@ -238,7 +238,7 @@ fn shared_bytes(left: &[u8], right: &[u8]) -> usize
     left.len() - lefts.len()
 }
 
-/// The same, eight bytes at a time as long as both have so many.
+/// How many bytes are the same from the last one on, eight at a time as long as both have so many.
 fn shared_len(left: &[u8], right: &[u8]) -> usize
     ensures { result ≤ length left.now }
 {

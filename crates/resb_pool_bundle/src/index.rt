@@ -215,7 +215,7 @@ impl<'a> Index<'a> {
         word_at(self.body, 1) / 0x100 + 0x100_0000 * upper
     }
 
-    /// The same as a unit tells it.
+    /// The first index of the file's own strings, as a unit tells it.
     pub(crate) fn short_limit(self) -> u16
         ensures { result ≡ said.short_limit_in self.entry.bytes.now }
     {

@@ -89,7 +89,7 @@ pub fn open_file<'a>(
     }
 }
 
-/// The same of a file whose tree would take no more bytes than the limit, nor the keys of its
+/// Opens a file whose tree would take no more bytes than the limit, nor the keys of its
 /// entries: another is refused as `read_bundle` refuses it.
 pub fn open_file_within<'a>(
     alloc: Global,

@@ -47,7 +47,7 @@ pub fn compile_source(alloc: Global, source: &str) -> Result<Vec<u8>, SourceErro
     }
 }
 
-/// The same, where reading the text makes no more bytes than the limit.
+/// The file of a text, where reading the text makes no more bytes than the limit.
 pub fn compile_source_within(
     alloc: Global,
     source: &str,

@@ -151,7 +151,7 @@ pub(crate) fn size_within(file: FileBlocks<'_>, position: usize, room: usize) ->
     block_size_within(keys, at, room)
 }
 
-/// The same at a byte of a block of keys.
+/// How many bytes the key at a byte of a block of keys has, with the same bound.
 #[tactic(auto, using(crate::proofs::PlainLists::no_zero_behind))]
 fn block_size_within(keys: &[u8], at: usize, room: usize) -> Option<usize>
     ensures { let size = position_or_len (λ b. b == 0) (drop at keys.now) in

@@ -299,7 +299,7 @@ fn line_of_call(alloc: Global, ask: Ask, at: Cursor<'_>, left: usize) -> Line {
     format!(in alloc; "{said}, {left} left")
 }
 
-/// The same of the type that the call reads.
+/// The line that the call answers for the type that it reads.
 fn line_of_type(alloc: Global, ask: Ask, at: Cursor<'_>, left: usize) -> Line {
     let mut walk = Walk::new(left);
     let said = typed(alloc, ask, at, &mut walk)?;

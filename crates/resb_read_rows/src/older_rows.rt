@@ -47,7 +47,7 @@ a0000000 7 8 9 9 0 0 9 aaaa0000 =>
 80000009 7 8 b b 0 0 9 aaaa0000 1 80000009 => Invalid resource bundle data: resource budget spent;
 ";
 
-/// The same of files that are read alone.
+/// Rows of files that are read alone.
 pub(crate) const ALONE: &str = "\
 30000009 7 8 11 11 0 0 9 aaaa0000 c 4c002f 43004f 4c0041 2f0045 650062 610074 aaaa0000 =>
     Unsupported resource bundle format: resource type is not supported;
@@ -132,7 +132,7 @@ pub(crate) const ONE_TEXT: &str = "\
     Invalid resource bundle data: unexpected end of input;
 ";
 
-/// The same of a text of a million units, and what the tree adds up to that nobody makes. A look at
+/// A row of a text of a million units, and what the tree adds up to that nobody makes. A look at
 /// the whole text for each member would take minutes.
 pub(crate) const LONG_TEXT: &str = "\
 8008000a 7 8 c000b c000b 0 0 9 aaaa0000 100000 dc02d800*524288 40000 30000009*262143 0 =>

@@ -59,7 +59,7 @@ pub(crate) fn place<'a>(
     place_below(root, walk, path)
 }
 
-/// The same, below the root of a file that is read in another way.
+/// The place to which a path leads below the root of a file that is read in another way.
 pub(crate) fn place_below<'a>(
     root: Cursor<'a>,
     mut walk: Walk,

@@ -45,7 +45,7 @@ fn lengths(
     Ok((differences.len(), steps_of(alloc, &differences)?))
 }
 
-/// The same of a tree and one with this number.
+/// The lengths of the differences between a tree and one with this number.
 fn lengths_beside(
     alloc: Global,
     old: &Resource<'_>,
@@ -55,7 +55,7 @@ fn lengths_beside(
     lengths(alloc, old, &new)
 }
 
-/// The same of trees with these numbers.
+/// The lengths of the differences between trees with these numbers.
 fn lengths_of(alloc: Global, old: u32, new: u32) -> Result<(usize, Option<usize>), NoMemory> {
     let old = nested_arrays(alloc, old)?;
     lengths_beside(alloc, &old, new)

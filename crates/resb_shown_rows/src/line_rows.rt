@@ -65,7 +65,7 @@ fn cause_in(alloc: Global, bundle: &ResourceBundle<'_>) -> Result<String, AllocE
     }
 }
 
-/// The same of a text.
+/// What keeps the bundle of a text from having one.
 fn cause_of(alloc: Global, text: &str) -> Result<String, Fail> {
     let (bundle, _) = IcuReader::read(alloc, text)?;
     Ok(cause_in(alloc, &bundle)?)

@@ -67,7 +67,7 @@ pub(crate) fn find(text: &str, ticks: &mut Ticks, from: usize, b: u8) -> Option<
     find_far(text, ticks, from, b)
 }
 
-/// The same, where the byte need not be near.
+/// The first such byte, which need not be near.
 #[inline(never)]
 fn find_far(text: &str, ticks: &mut Ticks, from: usize, b: u8) -> Option<usize>
     requires within { from ≤ length text.now }

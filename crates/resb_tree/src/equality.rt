@@ -110,7 +110,7 @@ fn by_list<'s, 't, 'a, 'b>(alloc: Option<Global>, mut pair: Open<'s, 't, 'a, 'b>
     }
 }
 
-/// The same where a list can't grow: it calls itself once a level.
+/// Whether two trees are equal, where a list can't grow: it calls itself once a level.
 fn by_calls<'s, 't, 'a, 'b>(mut pair: Open<'s, 't, 'a, 'b>) -> bool
     ensures { result ≡ open_eq pair.entry }
 {

@@ -112,7 +112,7 @@ fn block_key(keys: &[u8], at: usize) -> Result<&str, BinaryDeserializerError>
     }
 }
 
-/// The same of a key of any kind: first its end is found, and then it is tested.
+/// Such a key of any kind: first its end is found, and then it is tested.
 #[tactic(auto, using(crate::proofs::Keys::at), unfolding(resb_format::specs::Strings::key_at))]
 #[inline(never)]
 fn any_key(keys: &[u8], at: usize) -> Result<&str, BinaryDeserializerError>
@@ -153,7 +153,7 @@ fn block_text(units: &[u8], unit: usize) -> Result<&[u8], BinaryDeserializerErro
     }
 }
 
-/// The same of a string with a marker or surrogates too: first it is found, and then tested.
+/// Such a string, with a marker or surrogates too: first it is found, and then tested.
 #[tactic(auto, using(crate::proofs::Placed::texts))]
 #[inline(never)]
 fn any_text(units: &[u8], unit: usize) -> Result<&[u8], BinaryDeserializerError>

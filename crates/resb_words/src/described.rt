@@ -23,7 +23,7 @@ pub(crate) struct Described<'w> {
 pub(crate) enum Takes {
     /// One word, which has to be there, without an option before it.
     Word,
-    /// The same of one or more words.
+    /// One or more words, which have to be there, without an option before them.
     Words,
     /// None: the option is there or not.
     Nothing,
@@ -31,7 +31,8 @@ pub(crate) enum Takes {
     Value,
     /// The word behind the option, which may be left out, and the option may come again.
     AtMostOne,
-    /// The same, and the option isn't shown.
+    /// The word behind the option, which may be left out. The option may come again, and isn't
+    /// shown.
     Hidden,
     /// None: the option asks for help, and isn't shown.
     Help,

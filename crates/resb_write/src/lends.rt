@@ -18,7 +18,7 @@ pub(crate) struct Lends {
     pub(crate) own_end: u32,
     /// The first index of a string that is the file's own.
     pub(crate) limit: u32,
-    /// The same, as a unit tells it.
+    /// The first index of the file's own strings, as a unit tells it.
     pub(crate) short_limit: u32,
 }
 

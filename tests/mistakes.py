@@ -4,8 +4,8 @@ of the two says first.
 
     mistakes.py [PROGRAM]        PROGRAM is `resb`, the proved one if none is named
 
-The texts are those of tests/sessions/mistakes.bash. `genrb` names a line, or none; `resb` names line
-and column. Whether a message finds the mistake is for the reader to say.
+The texts are those of tests/sessions/mistakes.bash. `genrb` names a line, or none; `resb` names
+line and column. Whether a message finds the mistake is for the reader to say.
 """
 import pathlib
 import re

@@ -81,8 +81,8 @@ fn plain_type_mistake<'s>(
     })
 }
 
-/// What is wrong with quotes of the plain form, which has no escapes. A quote that closes in the
-/// place of a `{` is none: then the `{` is missing.
+/// What is wrong with quotes of the plain form, which has no escapes. A string in quotes in the
+/// place of a `{` is no such mistake: then the `{` is missing.
 fn plain_quote_mistake<'s>(spot: &Spot<'s>, expected: Expected) -> Option<Mistake<'s>> {
     let is_unclosed = match spot.behind {
         [b'"', rest @ ..] => !rest.contains(&b'"'),

@@ -215,9 +215,9 @@ pub(crate) fn quote_mistake<'s>(
 const MOST_LONG_STRINGS: usize = 64;
 
 /// The string before a place whose closing quote may be missing. It spans lines and ends at the
-/// place, or in the line of a quote there that nothing closes. Where a quote is missing, each string
-/// behind it is taken for what stands between two, and begins in the line in which the one before
-/// it ends: so the first of such a row is told.
+/// place, or in the line of a quote there that nothing closes. Where a quote is missing, each
+/// string behind it is taken for what stands between two, and begins in the line in which the one
+/// before it ends: so the first of such a row is told.
 fn long_string(spot: &Spot<'_>, is_icu: bool, is_unclosed: bool) -> Option<usize> {
     let mut quote = long_string_at(spot, is_icu, is_unclosed)?;
     for _ in 0..MOST_LONG_STRINGS {

@@ -12,7 +12,8 @@ ghost use Rattle.resb_pool.specs.Records.{EndsWith};
 ghost use Rattle.resb_pool.specs.Inner.Tops.{IsTopOf};
 ghost use Rattle.resb_pool.specs.declared.packing.Packing.TheVariants.{Compact};
 ghost use Rattle.resb_lent.specs.Inner.Within.{record_bytes};
-ghost use Rattle.resb_lent.specs.Inner.Tops.{AreTops, AreInOrder, Precedes, numbered_text, text_of_number};
+ghost use Rattle.resb_lent.specs.Inner.Tops.{AreTops, AreInOrder, Precedes, numbered_text};
+ghost use Rattle.resb_lent.specs.Inner.Tops.{text_of_number};
 
 use crate::lent_record::LentRecord;
 use resb_pool::Packing;

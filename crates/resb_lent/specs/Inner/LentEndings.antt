@@ -17,8 +17,8 @@ use Rattle.resb_lent.specs.declared.texts.Standing.TheVariants.{Whole, End, Apar
 abbrev pub IsLentEnd : List ℕ → List ℕ → Type 0
 IsLentEnd block s = (t : List ℕ) × IsLent block t × EndsWith t s
 
--- the pool has a first record of s at this unit; or it has none, but one of a text that ends with s;
--- or no text of the pool ends with s
+-- the pool has a first record of s at this unit; or it has none, but one of a text that ends with
+-- s; or no text of the pool ends with s
 abbrev pub StandsAs : List ℕ → List ℕ → Standing → Type 0
 StandsAs block s (Whole i) = StandsWithin block s s i
 StandsAs block s End = NoneHolds block s s × IsLentEnd block s

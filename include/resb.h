@@ -1,11 +1,12 @@
 /* resb.h: ICU resource bundles, from a text to a .res file and back, checks of such files, what
- * stands at a path in one, and the offsets of time zones.
+ * stands in them, and the offsets of time zones.
  *
  * It is for strangers' texts and files: whatever bytes they have, a call stays inside its buffers,
  * ends, and says what is wrong with them.
  *
- * Link with libresb_c.a and with the toolchain's liblibc_c.a, in this order. Where both were
- * installed by `./prove c --to PREFIX`, `pkg-config --cflags --libs resb` prints the words for that.
+ * Where it was installed by `./prove c --to PREFIX`, `pkg-config --cflags --libs resb` prints the
+ * words for the compiler. They link with the shared library, or, with -static, with the archive
+ * libresb.a. By hand link with libresb_c.a and with the toolchain's liblibc_c.a, in this order.
  *
  * Texts, names and paths are UTF-8 of a given length, without a zero at their end, and may hold
  * zeros: they are uint8_t, as all bytes here are, and not char. A char pointer is cast.
@@ -26,8 +27,8 @@
  * its whole work, and answers RESB_TOO_SHORT, or RESB_OK where the answer is empty, as an empty
  * string is.
  *
- * A file that is looked into more than once is best opened: resb_open checks it as a whole, and
- * what comes after goes from resource to resource without another check. */
+ * A file that is looked into is opened: resb_open checks it as a whole, and what comes after goes
+ * from resource to resource without another check. */
 #ifndef RESB_H
 #define RESB_H
 
@@ -39,7 +40,7 @@ extern "C" {
 #endif
 
 /* The version of this header. It grows where a call, an answer, a kind or a field is added. */
-#define RESB_VERSION 5u
+#define RESB_VERSION 7u
 
 /* The version of the header that the library was built with. */
 uint32_t resb_version(void);
@@ -57,9 +58,10 @@ uint32_t resb_version(void);
 #define RESB_NO_FILE 4u
 /* The bytes are no file of a bundle, or, where a zone is asked for, none of zones. */
 #define RESB_NOT_A_FILE 5u
-/* The file has version 1.0 of the format, another order of bytes, characters of another size than 2
- * bytes, or EBCDIC. Versions 1.1 to 3.0 are read by each call, with their aliases. A version or a
- * format that isn't known at all is RESB_NOT_A_FILE. */
+/* The file has version 1.0 of the format, characters of another size than 2 bytes, EBCDIC, or the
+ * other order of bytes: call resb_swap for a little-endian file. Versions 1.1, 1.2, 1.3, 2.0 and
+ * 3.0 are read by each call, with their aliases. A version or a format that isn't known at all is
+ * RESB_NOT_A_FILE. */
 #define RESB_UNSUPPORTED 6u
 /* The file's tree has no text: its root is no table, it has an alias, or a name, key or string
  * holds a '"'. In ICU's form: its root is no table, its name is no word, or a key has a character
@@ -69,8 +71,9 @@ uint32_t resb_version(void);
 #define RESB_NO_MEMORY 8u
 /* The file uses a pool bundle, and none was given. */
 #define RESB_USES_POOL 9u
-/* The file's tree, the keys of its entries, its text or JSON, or what reading a text makes, would
- * take more bytes than the limit. Of a tree and of keys the message says how many. */
+/* The file's tree, the keys of its entries, its text or JSON, what reading a text makes, or the
+ * lines of warnings would take more bytes than the limit. Of a tree and of keys the message says
+ * how many. */
 #define RESB_OVER_LIMIT 10u
 /* The bytes that were given as a pool bundle are none. */
 #define RESB_NOT_A_POOL 11u
@@ -81,6 +84,8 @@ uint32_t resb_version(void);
 /* The zone has a fault, which the message names: its link leads nowhere, its numbers don't fit each
  * other, or its final rule is none. */
 #define RESB_NOT_A_ZONE 14u
+/* The options have another size than sizeof(resb_options), or a form that the call hasn't. */
+#define RESB_BAD_OPTIONS 15u
 
 /* The name of an answer, as "RESB_OK", for messages and logs; "RESB_UNKNOWN" for a number that this
  * header has none for. The header alone has it: it's no call of the library. */
@@ -89,7 +94,7 @@ static inline const char *resb_status_name(uint32_t status) {
       "RESB_OK",        "RESB_TOO_SHORT",   "RESB_NOT_UTF8",  "RESB_NOT_A_BUNDLE",
       "RESB_NO_FILE",   "RESB_NOT_A_FILE",  "RESB_UNSUPPORTED", "RESB_NOT_PRINTABLE",
       "RESB_NO_MEMORY", "RESB_USES_POOL",   "RESB_OVER_LIMIT", "RESB_NOT_A_POOL",
-      "RESB_NOT_FOUND", "RESB_OTHER_KIND",  "RESB_NOT_A_ZONE"};
+      "RESB_NOT_FOUND", "RESB_OTHER_KIND",  "RESB_NOT_A_ZONE", "RESB_BAD_OPTIONS"};
   return status < sizeof names / sizeof *names ? names[status] : "RESB_UNKNOWN";
 }
 
@@ -105,62 +110,98 @@ typedef struct resb_error {
   uint8_t message[256];
 } resb_error;
 
-/* Compiles a bundle's text, which is UTF-8 of text_length bytes and needs no zero at its end.
+/* The forms of a text that is read or written. */
+/* the plain form, which the Rust crate resb reads */
+#define RESB_PLAIN 0u
+/* ICU's own form, which genrb reads; docs/ICU_TEXTS.md says what it is */
+#define RESB_ICU 1u
+/* JSON, which is written and not read */
+#define RESB_JSON 2u
+
+/* What is wanted of resb_compile, resb_warnings and resb_dump. Begin with RESB_OPTIONS, and set
+ * what you want:
+ *
+ *   resb_options options = RESB_OPTIONS;
+ *   options.form = RESB_ICU;
+ *   options.limit = 1000000;
+ */
+typedef struct resb_options {
+  /* sizeof(resb_options), which RESB_OPTIONS sets */
+  size_t size;
+  /* RESB_PLAIN, RESB_ICU, or, for resb_dump, RESB_JSON */
+  uint32_t form;
+  /* for resb_compile: not 0 for a compact file, which has genrb's bytes */
+  uint32_t compact;
+  /* the most bytes that the call may make, as it says; 0 sets no limit */
+  uint64_t limit;
+  /* a pool bundle of pool_length bytes, pool.res of ICU's data, from which files of the same data
+   * take keys and strings; a length of 0 says that there is none. The call looks at the pool before
+   * the file, also for a file that uses none, and keeps nothing of it. */
+  const uint8_t *pool;
+  size_t pool_length;
+  /* for resb_dump: the bundle's name, which is UTF-8; JSON has no name */
+  const uint8_t *name;
+  size_t name_length;
+} resb_options;
+
+/* The plain form, no limit, no pool bundle, and an empty name. */
+#define RESB_OPTIONS                                                                       \
+  {                                                                                        \
+    sizeof(resb_options), RESB_PLAIN, 0, 0, (const uint8_t *)"", 0, (const uint8_t *)"", 0 \
+  }
+
+/* Compiles a bundle's text, which is UTF-8 of text_length bytes and needs no zero at its end. With
+ * a pool bundle the file leaves out what the pool has, and is read beside it.
+ *
+ * A stranger's text is compiled within a limit: a text is refused by RESB_OVER_LIMIT whose reading
+ * would take more bytes of memory. In the plain form 88 are counted for each group, 112 for each
+ * string among items, keys too, 64 for each table that has entries, 3 for each byte of a string, 1
+ * for each byte of a binary, 8 for each number of a vector, and 32 for each binary and vector. In
+ * ICU's form 88 are counted for each resource, 112 for each entry, 64 for each table that has
+ * entries, 3 for each byte of a key, a string, a path or a binary, 8 for each number of a vector,
+ * 32 for each binary and vector, and, for each string that is put together or is that of :string or
+ * :alias, 32 and 1 for each of its bytes. The reading stops before the step by which there would be
+ * more. What the file takes beside that is not within the limit.
  *
  * RESB_OK: the file is the first *length bytes of out, and the bytes behind it are as they were.
  * RESB_TOO_SHORT: out is as it was, and *length is the length of the file. Call again.
- * Else out is as it was, and *length is 0: RESB_NOT_UTF8, RESB_NOT_A_BUNDLE, RESB_NO_FILE,
- * RESB_NO_MEMORY. */
-uint32_t resb_compile(const uint8_t *text, size_t text_length, uint8_t *out, size_t out_length,
-                      size_t *length, resb_error *error);
+ * Else out is as it was, and *length is 0: RESB_BAD_OPTIONS, RESB_NOT_UTF8, RESB_NOT_A_POOL,
+ * RESB_NOT_A_BUNDLE, RESB_NO_FILE, RESB_OVER_LIMIT, RESB_NO_MEMORY. */
+uint32_t resb_compile(const uint8_t *text, size_t text_length, const resb_options *options,
+                      uint8_t *out, size_t out_length, size_t *length, resb_error *error);
 
-/* Compiles a stranger's text: as resb_compile does, but a text is refused by RESB_OVER_LIMIT whose
- * reading would take more bytes of memory than the limit. Counted are 88 for each group, 112 for
- * each string among items, keys too, 64 for each table that has entries, 3 for each byte of a
- * string, 1 for each byte of a binary, 8 for each number of a vector, and 32 for each binary and
- * vector. The reading stops before the token by which there would be more. What the file takes
- * beside that is not within the limit. */
-uint32_t resb_compile_within(const uint8_t *text, size_t text_length, uint64_t limit, uint8_t *out,
-                             size_t out_length, size_t *length, resb_error *error);
-
-/* Compiles a text of ICU's own form, which genrb reads; docs/ICU_TEXTS.md says what that form is.
- * Arguments and answers are those of resb_compile, but RESB_NOT_A_BUNDLE says that the text is no
- * bundle of that form: it can't be read on as one at the error's place. */
-uint32_t resb_compile_icu(const uint8_t *text, size_t text_length, uint8_t *out, size_t out_length,
-                          size_t *length, resb_error *error);
-
-/* Compiles a stranger's text of ICU's own form: as resb_compile_icu does, but a text is refused by
- * RESB_OVER_LIMIT whose reading would take more bytes of memory than the limit. Counted are 88 for
- * each resource, 112 for each entry, 64 for each table that has entries, 3 for each byte of a
- * key, a string, a path or a binary, 8 for each number of a vector, 32 for each binary and vector,
- * and, for each string that is put together or is that of :string or :alias, 32 and 1 for each of
- * its bytes. The reading stops before the step by which there would be more. What the file takes
- * beside that is not within the limit. */
-uint32_t resb_compile_icu_within(const uint8_t *text, size_t text_length, uint64_t limit,
-                                 uint8_t *out, size_t out_length, size_t *length,
-                                 resb_error *error);
+/* Tells what may not be meant in a text of the options' form, in the words of `resb compile`: most
+ * of it is taken otherwise by ICU's genrb. Nothing is compiled, and where resb_compile refuses the
+ * text, what is told says little. It is UTF-8, a line for each warning in the order of places, with
+ * a line feed at its end:
+ *
+ *   line 3, column 12: this number has more than 28 bits; 31564544 is kept
+ *
+ * Within a limit lines that have more bytes are refused. What the call uses beside them is not
+ * within it, and is in proportion to the text. Of the options the form and the limit alone are
+ * looked at.
+ *
+ * RESB_OK: the lines are the first *length bytes of out, and the bytes behind them are as they
+ * were; *length is 0 where there is nothing to warn of. RESB_TOO_SHORT: out is as it was, and
+ * *length is the length of the lines. Else out is as it was, and *length is 0: RESB_BAD_OPTIONS,
+ * RESB_NOT_UTF8, RESB_OVER_LIMIT, RESB_NO_MEMORY. */
+uint32_t resb_warnings(const uint8_t *text, size_t text_length, const resb_options *options,
+                       uint8_t *out, size_t out_length, size_t *length, resb_error *error);
 
 /* Writes the line and the column of a place of a text, such as that of a resb_error, or of the
  * text's end if that comes first. Both count from 1; a column is a character of UTF-8. */
 void resb_location(const uint8_t *text, size_t text_length, size_t place, size_t *line,
                    size_t *column);
 
-/* Checks a file as a whole, and makes no tree.
+/* Writes a file, or a pool bundle, in the other order of bytes: a little-endian one as ICU for Java
+ * reads it, or a big-endian one as the calls below read it. Swapped twice it is as it was.
  *
- * RESB_OK: *count is the number of resources of its tree, the root included. Else *count is 0:
- * RESB_NOT_A_FILE, RESB_UNSUPPORTED, RESB_USES_POOL, RESB_NO_MEMORY. */
-uint32_t resb_check(const uint8_t *file, size_t file_length, size_t *count, resb_error *error);
-
-/* Checks a file as resb_check does, beside a pool bundle of pool_length bytes: a .res file of keys
- * and strings, pool.res of ICU's data, from which files of the same data take theirs. A length of 0
- * says that there is none. The pool is looked at before the file, also for a file that uses none,
- * and is given only for the call: nothing of it is kept.
- *
- * RESB_OK: *count is the number of resources of the file's tree, the root included. Else *count is
- * 0: RESB_NOT_A_POOL, or a reason of resb_check. A file that uses another pool bundle is
- * RESB_NOT_A_FILE. */
-uint32_t resb_check_with_pool(const uint8_t *file, size_t file_length, const uint8_t *pool,
-                              size_t pool_length, size_t *count, resb_error *error);
+ * RESB_OK: the file is the first *length bytes of out, as many as it had, and the bytes behind it
+ * are as they were. RESB_TOO_SHORT: out is as it was, and *length is file_length. Else out is as it
+ * was, and *length is 0: RESB_NOT_A_FILE, also where a resource lies outside the file or inside
+ * another one, RESB_UNSUPPORTED, RESB_NO_MEMORY. */
+uint32_t resb_swap(const uint8_t *file, size_t file_length, uint8_t *out, size_t out_length,
+                   size_t *length, resb_error *error);
 
 /* What a file's tree adds up to; entries that are replaced count too. A sum that does not fit is
  * UINT64_MAX. */
@@ -181,97 +222,35 @@ typedef struct resb_measured {
   uint64_t tree_bytes;
 } resb_measured;
 
-/* Measures a file, which checks it as a whole, and makes no tree.
- *
- * RESB_OK: measured has the sums of its tree. Else each of them is 0, for the reasons of
- * resb_check. */
-uint32_t resb_measure(const uint8_t *file, size_t file_length, resb_measured *measured,
-                      resb_error *error);
-
-/* Measures a file as resb_measure does, beside a pool bundle of pool_length bytes. A length of 0
- * says that there is none. Nothing of the pool is kept.
+/* Checks a file as a whole, beside a pool bundle of pool_length bytes, and makes no tree. A length
+ * of 0 says that there is none. The pool is looked at before the file, and nothing of it is kept.
  *
  * RESB_OK: measured has the sums of the file's tree, those of what it takes from the pool included.
- * Else each of them is 0, for the reasons of resb_check_with_pool. */
-uint32_t resb_measure_with_pool(const uint8_t *file, size_t file_length, const uint8_t *pool,
-                                size_t pool_length, resb_measured *measured, resb_error *error);
+ * Else each of them is 0: RESB_NOT_A_POOL, RESB_NOT_A_FILE, also for a file that uses another pool
+ * bundle, RESB_UNSUPPORTED, RESB_USES_POOL, RESB_NO_MEMORY. */
+uint32_t resb_check(const uint8_t *file, size_t file_length, const uint8_t *pool,
+                    size_t pool_length, resb_measured *measured, resb_error *error);
 
-/* Prints a file's tree as the text of a bundle of that name, which is UTF-8 of name_length bytes.
- * A tree that takes more bytes than the limit, as tree_bytes counts them, or whose entries have
- * more bytes of keys (key_bytes), is refused before it is made, by RESB_OVER_LIMIT, and so is a
- * text of more bytes. UINT64_MAX is no limit.
+/* Prints a file's tree as the text of a bundle of the options' name, or as JSON, beside their pool
+ * bundle. Within a limit a tree that takes more bytes, as tree_bytes counts them, or whose entries
+ * have more bytes of keys (key_bytes), is refused before it is made, by RESB_OVER_LIMIT, and so is
+ * a text of more bytes. Tree and text are each within the limit, but for one line of the text; what
+ * the call uses beside them is not.
+ *
+ * JSON has no blanks and no line feed at its end. A table is an object, whose members stand in the
+ * order of their keys' bytes; an array and a vector are arrays; a string is a string, and a number
+ * stands with its sign. Other kinds are objects of one member: a binary is {"binary":"00ff"}, with
+ * two hex digits for each byte, and an alias {"alias":"/a/b"}, with its path as it stands. The name
+ * of the bundle and its fallback flag are not in it. Each tree has its JSON.
  *
  * RESB_OK: the text is the first *length bytes of out, with no zero behind it, and the bytes behind
  * it are as they were. RESB_TOO_SHORT: out is as it was, and *length is the length of the text.
- * Else out is as it was, and *length is 0: RESB_NOT_UTF8 for the name, which is looked at first,
- * the reasons of resb_check, RESB_OVER_LIMIT, RESB_NOT_PRINTABLE. Tree and text are each within the
- * limit, but for one line of the text; what the call uses beside them is not. */
-uint32_t resb_dump(const uint8_t *file, size_t file_length, const uint8_t *name,
-                   size_t name_length, uint64_t limit, uint8_t *out, size_t out_length,
-                   size_t *length, resb_error *error);
+ * Else out is as it was, and *length is 0: RESB_BAD_OPTIONS, RESB_NOT_UTF8 for the name, the
+ * reasons of resb_check, RESB_OVER_LIMIT, RESB_NOT_PRINTABLE. */
+uint32_t resb_dump(const uint8_t *file, size_t file_length, const resb_options *options,
+                   uint8_t *out, size_t out_length, size_t *length, resb_error *error);
 
-/* Prints a file's tree as resb_dump does, beside a pool bundle of pool_length bytes. A length of 0
- * says that there is none. Nothing of the pool is kept: the text has what the file takes from it.
- *
- * RESB_OK, RESB_TOO_SHORT: as resb_dump. Else out is as it was, and *length is 0: RESB_NOT_UTF8 for
- * the name, which is looked at first, the reasons of resb_check_with_pool, RESB_OVER_LIMIT,
- * RESB_NOT_PRINTABLE. */
-uint32_t resb_dump_with_pool(const uint8_t *file, size_t file_length, const uint8_t *pool,
-                             size_t pool_length, const uint8_t *name, size_t name_length,
-                             uint64_t limit, uint8_t *out, size_t out_length, size_t *length,
-                             resb_error *error);
-
-/* Prints a file's tree as a text of ICU's own form, which genrb reads. Arguments and answers are
- * those of resb_dump, but RESB_NOT_PRINTABLE has the reasons of that form: an alias is printed, and
- * so is a string with a '"'. */
-uint32_t resb_dump_icu(const uint8_t *file, size_t file_length, const uint8_t *name,
-                       size_t name_length, uint64_t limit, uint8_t *out, size_t out_length,
-                       size_t *length, resb_error *error);
-
-/* Prints a file's tree as resb_dump_icu does, beside a pool bundle of pool_length bytes. Arguments
- * and answers are those of resb_dump_with_pool. */
-uint32_t resb_dump_icu_with_pool(const uint8_t *file, size_t file_length, const uint8_t *pool,
-                                 size_t pool_length, const uint8_t *name, size_t name_length,
-                                 uint64_t limit, uint8_t *out, size_t out_length, size_t *length,
-                                 resb_error *error);
-
-/* Prints a file's tree as JSON, without blanks and with no line feed at its end. A table is an
- * object, whose members stand in the order of their keys' bytes; an array and a vector are arrays;
- * a string is a string, and a number stands with its sign. Other kinds are objects of one member: a
- * binary is {"binary":"00ff"}, with two hex digits for each byte, and an alias {"alias":"/a/b"},
- * with its path as it stands. The name of the bundle and its fallback flag are not in it. The limit
- * is that of resb_dump, for the tree, for its keys and for the JSON, and so are the answers, but
- * RESB_NOT_UTF8 and RESB_NOT_PRINTABLE: each tree has its JSON.
- *
- * RESB_OK: the JSON is the first *length bytes of out, with no zero behind it, and the bytes behind
- * it are as they were. RESB_TOO_SHORT: out is as it was, and *length is the length of the JSON.
- * Else out is as it was, and *length is 0: the reasons of resb_check, RESB_OVER_LIMIT. */
-uint32_t resb_dump_json(const uint8_t *file, size_t file_length, uint64_t limit, uint8_t *out,
-                        size_t out_length, size_t *length, resb_error *error);
-
-/* Prints a file's tree as resb_dump_json does, beside a pool bundle of pool_length bytes. A length
- * of 0 says that there is none. Nothing of the pool is kept.
- *
- * RESB_OK, RESB_TOO_SHORT: as resb_dump_json. Else out is as it was, and *length is 0: the reasons
- * of resb_check_with_pool, RESB_OVER_LIMIT. */
-uint32_t resb_dump_json_with_pool(const uint8_t *file, size_t file_length, const uint8_t *pool,
-                                  size_t pool_length, uint64_t limit, uint8_t *out,
-                                  size_t out_length, size_t *length, resb_error *error);
-
-/* Paths. The calls below look at what stands at a path in a file, beside a pool bundle of
- * pool_length bytes; a length of 0 says that there is none. Nothing is kept between two calls: each
- * looks at the pool, at the head of the file and at what lies on the path, and at nothing else. So
- * a file that is broken elsewhere is answered. A stranger's file may be given: no tree is made of
- * it.
- *
- * A path is UTF-8 of path_length bytes. The empty path leads to the root. Any other is names with a
- * slash between two, and one slash may stand first: "names/greeting" and "/names/greeting" say the
- * same, as for the program's `resb get`. Another ASCII character that stands first and is no
- * letter, no digit, '%' or '_' takes the slash's place: "|a/b|c" has a name with a slash.
- * A name leads into a table, to the last entry of that name, and a number from 0 into an array or a
- * vector, such as "list/0". An alias is not followed. */
-
-/* What stands at a path. */
+/* The kinds of resources. */
 #define RESB_STRING 1u
 #define RESB_TABLE 2u
 #define RESB_ARRAY 3u
@@ -288,57 +267,6 @@ static inline const char *resb_kind_name(uint32_t kind) {
                                       "int",     "intvector", "bin",   "alias"};
   return names[kind < sizeof names / sizeof names[0] ? kind : 0];
 }
-
-/* Tells of what stands at a path which kind it has, and how much is in it.
- *
- * RESB_OK: *kind is one of the kinds above. *size is the number of a table's entries, those that
- * are replaced included, of an array's members, of a vector's numbers, or of a binary's bytes; for
- * any other kind it is 0. Else both are 0: RESB_NOT_UTF8 for the path, which is looked at first,
- * RESB_NOT_FOUND, or a reason of resb_check_with_pool, for the head of the file or for what lies on
- * the path. */
-uint32_t resb_kind(const uint8_t *file, size_t file_length, const uint8_t *pool,
-                   size_t pool_length, const uint8_t *path, size_t path_length, uint32_t *kind,
-                   size_t *size, resb_error *error);
-
-/* Tells the number at a path: a RESB_INTEGER, of 28 bits or, in a vector, of 32, with its sign.
- *
- * RESB_OK: *value is the number. Else it is 0: RESB_OTHER_KIND, or a reason of resb_kind. */
-uint32_t resb_get_integer(const uint8_t *file, size_t file_length, const uint8_t *pool,
-                          size_t pool_length, const uint8_t *path, size_t path_length,
-                          int32_t *value, resb_error *error);
-
-/* Copies the text of a string at a path, as UTF-8 without a zero at its end. The path of a
- * RESB_ALIAS is no string.
- *
- * RESB_OK: the text is the first *length bytes of out, and the bytes behind it are as they were.
- * RESB_TOO_SHORT: out is as it was, and *length is the length of the text. Else out is as it was,
- * and *length is 0: RESB_OTHER_KIND, or a reason of resb_kind. */
-uint32_t resb_get_string(const uint8_t *file, size_t file_length, const uint8_t *pool,
-                         size_t pool_length, const uint8_t *path, size_t path_length, uint8_t *out,
-                         size_t out_length, size_t *length, resb_error *error);
-
-/* Copies the bytes of a binary at a path.
- *
- * RESB_OK: they are the first *length bytes of out, and the bytes behind them are as they were.
- * RESB_TOO_SHORT: out is as it was, and *length is their number. Else out is as it was, and *length
- * is 0: RESB_OTHER_KIND, or a reason of resb_kind. */
-uint32_t resb_get_bytes(const uint8_t *file, size_t file_length, const uint8_t *pool,
-                        size_t pool_length, const uint8_t *path, size_t path_length, uint8_t *out,
-                        size_t out_length, size_t *length, resb_error *error);
-
-/* Copies the key of an entry of a table at a path, as UTF-8 without a zero at its end. The entries
- * have numbers from 0 up to the size that resb_kind tells, as they stand in the file: those that
- * ICU and resb_compile write stand in the order of their keys' bytes. A separator and the key, put
- * behind the path, lead to the value of the last entry of that key, where no name of the path holds
- * the separator. A zero byte is always right: no key holds one.
- *
- * RESB_OK: the key is the first *length bytes of out, and the bytes behind it are as they were.
- * RESB_TOO_SHORT: out is as it was, and *length is the length of the key. Else out is as it was,
- * and *length is 0: RESB_OTHER_KIND where no table stands at the path, RESB_NOT_FOUND where nothing
- * does or the table has no such entry, or a reason of resb_kind. */
-uint32_t resb_key(const uint8_t *file, size_t file_length, const uint8_t *pool, size_t pool_length,
-                  const uint8_t *path, size_t path_length, size_t number, uint8_t *out,
-                  size_t out_length, size_t *length, resb_error *error);
 
 /* Files that are opened. resb_open checks a file once, and leaves what it learned in a struct of
  * the caller's. The calls that take this struct look at nothing but what they are asked for, and
@@ -382,15 +310,24 @@ typedef struct resb_opened {
 } resb_opened;
 
 /* Opens a file beside a pool bundle of pool_length bytes; a length of 0 says that there is none. It
- * is checked as a whole, as resb_check_with_pool does.
+ * is checked as a whole, as resb_check does. No tree is made, so it needs no limit: a file of n
+ * bytes has at most n / 2 resources. Strings may be shared: before you go through all of them, ask
+ * resb_check for what they add up to.
  *
  * RESB_OK: *opened is the file. Else its count is 0 and its root an empty string, for the reasons
- * of resb_check_with_pool. */
+ * of resb_check. */
 uint32_t resb_open(const uint8_t *file, size_t file_length, const uint8_t *pool,
                    size_t pool_length, resb_opened *opened, resb_error *error);
 
-/* Finds what stands at a path from a resource on: from the root it is as said above of paths. The
- * empty path leads to the resource itself, and nothing lies inside a number.
+/* Finds what stands at a path from a resource on.
+ *
+ * A path is UTF-8 of path_length bytes. The empty path leads to the resource itself. Any other is
+ * names with a slash between two, and one slash may stand first: "names/greeting" and
+ * "/names/greeting" say the same. Begin a path that isn't your own with a slash: another ASCII
+ * character that stands first and is no letter, no digit, '%' or '_' takes the slash's place, as in
+ * "|a/b|c", which has a name with a slash. The program's `resb get` has '~1' for such a slash. A
+ * name leads into a table, to the last entry of that name, and a number from 0 into an
+ * array or a vector, such as "list/0". An alias is not followed, and nothing lies inside a number.
  *
  * RESB_OK: *found is what stands there. Else it is a RESB_INTEGER, 0: RESB_NOT_FOUND, RESB_NOT_UTF8
  * for the path, RESB_NO_MEMORY for its names. */
@@ -423,8 +360,12 @@ uint32_t resb_value(const resb_opened *opened, resb_resource resource, const uin
 uint32_t resb_key_of(const resb_opened *opened, resb_resource resource, size_t number,
                      resb_bytes *key);
 
-/* Tells which kind a resource has, and how much is in it, as resb_kind does. It doesn't fail for a
- * resource of the file. */
+/* Tells which kind a resource has, and how much is in it. It doesn't fail for a resource of the
+ * file.
+ *
+ * RESB_OK: *kind is one of the kinds above. *size is the number of a table's entries, those that
+ * are replaced included, of an array's members, of a vector's numbers, or of a binary's bytes; for
+ * any other kind it is 0. Else both are 0. */
 uint32_t resb_kind_of(const resb_opened *opened, resb_resource resource, uint32_t *kind,
                       size_t *size);
 

@@ -23,7 +23,7 @@ MADE = 'made by tests/completions.py from the help of resb'
 
 # what stands for a value: a file, a folder, or neither
 FOLDERS = {'DIR'}
-NO_FILES = {'BYTES', 'ITEM', 'NAME', 'NUMBER', 'PATH', 'SIZE'}
+NO_FILES = {'BYTES', 'ITEM', 'NAME', 'NUMBER', 'ORDER', 'PATH', 'SIZE'}
 
 STATUS = (('0', 'All was done, and nothing differs.'),
           ('1', 'A text or a file is refused, nothing stands at a path, or something differs.'),

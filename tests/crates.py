@@ -1,9 +1,11 @@
 #!/usr/bin/env python3
-"""The table of crates in docs/ARCHITECTURE.md: each crate with the first sentence of its root file.
+"""The table of crates in docs/ARCHITECTURE.md: each crate with the first sentence of its root file,
+up to a colon where that leaves four words or more.
 
   crates.py           prints the table
   crates.py --write   writes it into the page
-  crates.py --check   ends with status 1 if the page has another one
+  crates.py --check   ends with status 1 if the page has another one, or proof_seconds.txt other
+                      crates than crates.txt
 """
 import pathlib
 import re
@@ -14,12 +16,24 @@ PAGE = TOP / "docs" / "ARCHITECTURE.md"
 HEAD = "| Crate | What it does |\n|---|---|\n"
 
 
-def crates():
-    """The crates of crates.txt without those of tests, lowest first."""
-    for line in (TOP / "crates.txt").read_text(encoding="utf8").split("\n# tests\n")[0].split("\n"):
+def named(text):
+    """The crates of the lines of crates.txt."""
+    for line in text.split("\n"):
         name, colon, _ = line.split("#")[0].partition(":")
         if colon:
             yield name.split()[0]
+
+
+def crates():
+    """The crates of crates.txt without those of tests, lowest first."""
+    yield from named((TOP / "crates.txt").read_text(encoding="utf8").split("\n# tests\n")[0])
+
+
+def unmatched():
+    """The crates that stand in one of crates.txt and tests/proof_seconds.txt alone."""
+    seconds = (TOP / "tests/proof_seconds.txt").read_text(encoding="utf8").split("\n")
+    timed = {line.split()[0] for line in seconds if line and not line.startswith("#")}
+    return sorted(timed ^ set(named((TOP / "crates.txt").read_text(encoding="utf8"))))
 
 
 def sentence(crate):
@@ -28,7 +42,9 @@ def sentence(crate):
     root = next(path for path in (folder / "lib.rt", folder / "main.rt") if path.exists())
     lines = root.read_text(encoding="utf8").split("\n")
     text = " ".join(line[3:].strip() for line in lines if line.startswith("//!"))
-    return re.match(r".*?[.](?= |$)", text).group()
+    whole = re.match(r".*?[.](?= |$)", text).group()
+    clause = re.split(r"[:;] ", whole)[0]
+    return whole if len(clause.split()) < 4 else clause.rstrip(".") + "."
 
 
 def table():
@@ -44,6 +60,9 @@ def main():
     elif sys.argv[1:] == ["--check"]:
         if old is None or old.group() != table():
             print("docs/ARCHITECTURE.md has another table: tests/crates.py --write")
+            return 1
+        if unmatched():
+            print("tests/proof_seconds.txt hasn't the crates of crates.txt:", *unmatched())
             return 1
     else:
         print(table(), end="")

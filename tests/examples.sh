@@ -51,7 +51,110 @@ bundle{
     "$@" --json
   expect "$language: no bundle of ICU's form" 1 \
     "1:10: fault 3: Parse error while reading ICU text:
-at byte 9: expected a known escape" 'a { b { "\\q" } }' "$@" --icu
+at byte 9: expected a known escape" 'a { b { "\\x" } }' "$@" --icu
+}
+
+# warning_rows COMMAND..: the rows of what a text is warned of, in either form
+warning_rows() {
+  expect 'C: warnings' 0 'line 1, column 13: this number has more than 28 bits; 31564544 is kept
+line 2, column 3: duplicate key, first at byte 4; genrb refuses that
+80 bytes, 2 resources, 1 entries
+bundle{
+    n:int{1}
+}' 'a { n:int { 300000000 }\n  n:int { 1 } }' "$@"
+  expect 'C: a warning of ICU'"'"'s form' 0 \
+    'line 3, column 1: this string is joined to the one before; a comma would part them
+100 bytes, 5 resources, 1 entries
+bundle{
+    k:array{
+        "x",
+        "yz",
+        "w",
+    }
+}' 'a { k { "x",\n"y"\n"z", "w" } }' "$@" --icu
+}
+
+# write_warned FILE: the program that asks what the text on standard input is warned of: in each
+# form, of which there is none for JSON, by a short buffer, and within limits of the length and of
+# one byte less. It prints each status with the length.
+write_warned() {
+  cat > "$1" << 'C'
+#include "resb.h"
+
+#include <stdio.h>
+
+static uint8_t text[1000], out[1000];
+static size_t text_length, length;
+static resb_options options = RESB_OPTIONS;
+
+static void ask(size_t room) {
+  resb_error error;
+  uint32_t status = resb_warnings(text, text_length, &options, out, room, &length, &error);
+  printf("%s %zu; ", resb_status_name(status), length);
+}
+
+int main(void) {
+  text_length = fread(text, 1, sizeof text, stdin);
+  options.form = RESB_JSON;
+  ask(sizeof out);
+  options.form = RESB_ICU;
+  ask(sizeof out);
+  options.form = RESB_PLAIN;
+  ask(sizeof out);
+  if (length == 0) return 0;
+  options.limit = length;
+  ask(length);
+  ask(length - 1);
+  options.limit--;
+  ask(sizeof out);
+  return 0;
+}
+C
+}
+
+# warned_rows COMMAND..: the rows of that program, built: a text that is warned of, one that isn't,
+# no text, and no UTF-8
+warned_rows() {
+  local none='RESB_BAD_OPTIONS 0; '
+  expect 'C: warnings by options' 0 "${none}RESB_OK 0; RESB_OK 79; RESB_OK 79; RESB_TOO_SHORT 79; \
+RESB_OVER_LIMIT 0; " 'a { k { "\\n" } }' "$@"
+  expect 'C: no warnings' 0 "${none}RESB_OK 0; RESB_OK 0; " 'a { k { "n" } }' "$@"
+  expect 'C: no warnings of nothing' 0 "${none}RESB_OK 0; RESB_OK 0; " '' "$@"
+  expect 'C: no warnings of no UTF-8' 0 "${none}RESB_NOT_UTF8 0; RESB_NOT_UTF8 0; " 'a\377' "$@"
+}
+
+# write_swapped FILE: the program that compiles the text on standard input, and asks for the file in
+# the other order by a short buffer and a long one, for what is said of that file, for the same file
+# again, and for that of no file. It prints each status with the length, and whether the last is the
+# first.
+write_swapped() {
+  cat > "$1" << 'C'
+#include "resb.h"
+
+#include <stdio.h>
+#include <string.h>
+
+static uint8_t text[1000], file[1000], big[1000], again[1000];
+static size_t length;
+static resb_error error;
+
+static void note(uint32_t status) { printf("%s %zu; ", resb_status_name(status), length); }
+
+int main(void) {
+  resb_options options = RESB_OPTIONS;
+  resb_measured measured;
+  size_t count = fread(text, 1, sizeof text, stdin), size;
+  note(resb_compile(text, count, &options, file, sizeof file, &length, &error));
+  size = length;
+  note(resb_swap(file, size, big, size - 1, &length, &error));
+  note(resb_swap(file, size, big, sizeof big, &length, &error));
+  note(resb_check(big, size, NULL, 0, &measured, &error));
+  note(resb_swap(big, size, again, sizeof again, &length, &error));
+  printf("%s; ", memcmp(file, again, size) == 0 ? "the same" : "another");
+  note(resb_swap(file, 23, again, sizeof again, &length, &error));
+  return 0;
+}
+C
 }
 
 # path_rows LANGUAGE COMMAND..: the rows of the built example that prints what stands at paths: a
@@ -65,15 +168,15 @@ path_rows() {
 -2
 d
 01ff
-fault 13, intvector, size 2
-fault 13, table, size 5
+intvector, size 2
+table, size 5
   b
   list
   n
   raw
   x/y
-fault 12: nothing stands at the path
-fault 12: nothing stands at the path' \
+fault 12
+fault 12' \
     'a { b { "c" } n:int { -5 } list:intvector { 7, -2 } "x/y" { "d" } raw:bin { 01ff } }' \
     "$@" /b /n /list/1 '|x/y' /raw '#list' '' /d /list/2
 }
@@ -125,7 +228,8 @@ static uint8_t text[4000], file[4000];
 int main(void) {
   size_t text_length = fread(text, 1, sizeof text, stdin), length;
   resb_error error;
-  uint32_t status = resb_compile(text, text_length, file, sizeof file, &length, &error);
+  const resb_options options = RESB_OPTIONS;
+  uint32_t status = resb_compile(text, text_length, &options, file, sizeof file, &length, &error);
   fwrite(file, 1, length, stdout);
   return (int)status;
 }
@@ -252,7 +356,9 @@ int main(void) {
   uint8_t file[400];
   size_t length, at = 0;
   resb_error error;
-  if (resb_compile(text, sizeof text - 1, file, sizeof file, &length, &error) != RESB_OK) return 1;
+  const resb_options options = RESB_OPTIONS;
+  if (resb_compile(text, sizeof text - 1, &options, file, sizeof file, &length, &error) != RESB_OK)
+    return 1;
   look(file, length);
   while (memcmp(file + at, places, sizeof places) != 0) at++;
   file[at + 2] = 36;
@@ -266,9 +372,9 @@ C
 }
 
 # write_statuses FILE: the program that asks each call that takes a file about the bytes of standard
-# input: check, measure and dump, in either form and as JSON, and a zone; the same beside no pool
-# bundle, and what stands at the root; and where these are the pool too. It prints each status and
-# each message, once where calls in a row say the same.
+# input: check, open and a zone, and dump in each form, beside no pool bundle and where these bytes
+# are the pool too; and dump by options that are of another size, or have no such form. It prints
+# each status and each message, once where calls in a row say the same.
 write_statuses() {
   cat > "$1" << 'C'
 #include "resb.h"
@@ -291,32 +397,23 @@ int main(void) {
   size_t length = fread(bytes, 1, sizeof bytes, stdin);
   size_t number;
   resb_measured measured;
-  uint32_t kind;
-  int32_t value;
+  resb_opened opened;
+  resb_options options = RESB_OPTIONS;
   int64_t offset;
   if (resb_version() != RESB_VERSION) return 1;
-  note(resb_check(bytes, length, &number, &error));
-  note(resb_measure(bytes, length, &measured, &error));
-  note(resb_dump(bytes, length, name, 1, UINT64_MAX, out, sizeof out, &number, &error));
-  note(resb_dump_icu(bytes, length, name, 1, UINT64_MAX, out, sizeof out, &number, &error));
-  note(resb_dump_json(bytes, length, UINT64_MAX, out, sizeof out, &number, &error));
   note(resb_zone_offset(bytes, length, name, 1, 0, &offset, &error));
+  options.pool = bytes;
   for (size_t pools = 0; pools < 2; pools++) {
-    size_t pool = pools * length;
-    note(resb_check_with_pool(bytes, length, bytes, pool, &number, &error));
-    note(resb_measure_with_pool(bytes, length, bytes, pool, &measured, &error));
-    note(resb_dump_with_pool(bytes, length, bytes, pool, name, 1, UINT64_MAX, out, sizeof out,
-                             &number, &error));
-    note(resb_dump_icu_with_pool(bytes, length, bytes, pool, name, 1, UINT64_MAX, out, sizeof out,
-                                 &number, &error));
-    note(resb_dump_json_with_pool(bytes, length, bytes, pool, UINT64_MAX, out, sizeof out, &number,
-                                  &error));
-    note(resb_kind(bytes, length, bytes, pool, name, 0, &kind, &number, &error));
-    note(resb_get_integer(bytes, length, bytes, pool, name, 0, &value, &error));
-    note(resb_get_string(bytes, length, bytes, pool, name, 0, out, sizeof out, &number, &error));
-    note(resb_get_bytes(bytes, length, bytes, pool, name, 0, out, sizeof out, &number, &error));
-    note(resb_key(bytes, length, bytes, pool, name, 0, 0, out, sizeof out, &number, &error));
+    options.pool_length = pools * length;
+    note(resb_check(bytes, length, bytes, options.pool_length, &measured, &error));
+    note(resb_open(bytes, length, bytes, options.pool_length, &opened, &error));
+    for (options.form = RESB_PLAIN; options.form <= RESB_JSON; options.form++)
+      note(resb_dump(bytes, length, &options, out, sizeof out, &number, &error));
   }
+  note(resb_dump(bytes, length, &options, out, sizeof out, &number, &error));
+  options.form = RESB_PLAIN;
+  options.size--;
+  note(resb_dump(bytes, length, &options, out, sizeof out, &number, &error));
   return 0;
 }
 C
@@ -403,10 +500,11 @@ status_rows() {
   local back='\000ResB\002\000\000\000\001\004\000\000'
   local size='characters of size other than 2 are not supported'
   local end='Invalid resource bundle data: unexpected end of input'
-  local alone=' 6 6 6 6 6 6 6 6 6 6 6 6 6 6 6 ' pools='11 11 11 11 11 11 11 11 11 11 '
+  local alone=' 6 6 6 6 6 ' pools='11 11 11 11 11 '
+  local options='15 the options are of another size or have no such form; 15 '
   expect 'C: characters of another size' 0 \
-    "6 Unsupported resource bundle format: $size;${alone}$pools" "$front\020$back" "$@"
-  expect 'C: no body' 0 "5 $end;${alone//6/5}$pools" "$front\002$back" "$@"
+    "6 Unsupported resource bundle format: $size;${alone}$pools$options" "$front\020$back" "$@"
+  expect 'C: no body' 0 "5 $end;${alone//6/5}$pools$options" "$front\002$back" "$@"
 }
 
 # built NAME COMMAND..: whether the example is built, which counts only where it fails
@@ -427,7 +525,7 @@ fi
 if command -v cc > /dev/null; then
   built 'the C example' cc -std=c99 -Wall -Wextra -Werror -O2 ${CFLAGS:-} -I "$top/include" \
     "$top/examples/c/compile.c" "$RESB_LIB/libresb_c.a" "$RATTLE_C/liblibc_c.a" \
-    -o "$folder/compile" && rows C "$folder/compile"
+    -o "$folder/compile" && rows C "$folder/compile" && warning_rows "$folder/compile"
   built 'the C example of pools' cc -std=c99 -Wall -Wextra -Werror -O2 ${CFLAGS:-} \
     -I "$top/include" "$top/examples/c/show.c" "$RESB_LIB/libresb_c.a" "$RATTLE_C/liblibc_c.a" \
     -o "$folder/show" && pool_rows "$folder/show"
@@ -448,6 +546,16 @@ if command -v cc > /dev/null; then
 table
   alpha: string one two three
   beta: string x' '' "$folder/walk" "$folder/a.res" "$folder/pool.res"
+  write_warned "$folder/warned.c"
+  built 'the program of warnings' cc -std=c99 -Wall -Wextra -Werror -O2 ${CFLAGS:-} \
+    -I "$top/include" "$folder/warned.c" "$RESB_LIB/libresb_c.a" "$RATTLE_C/liblibc_c.a" \
+    -o "$folder/warned" && warned_rows "$folder/warned"
+  write_swapped "$folder/swapped.c"
+  built 'the program of orders' cc -std=c99 -Wall -Wextra -Werror -O2 ${CFLAGS:-} \
+    -I "$top/include" "$folder/swapped.c" "$RESB_LIB/libresb_c.a" "$RATTLE_C/liblibc_c.a" \
+    -o "$folder/swapped" && expect 'C: the other order of bytes, and back' 0 \
+    'RESB_OK 80; RESB_TOO_SHORT 80; RESB_OK 80; RESB_UNSUPPORTED 80; RESB_OK 80; the same; '\
+'RESB_NOT_A_FILE 0; ' 'a { b { "c" } }' "$folder/swapped"
   write_any "$folder/any.c"
   built 'the program of any resources' cc -std=c99 -Wall -Wextra -Werror -O2 ${CFLAGS:-} \
     -I "$top/include" "$folder/any.c" "$RESB_LIB/libresb_c.a" "$RATTLE_C/liblibc_c.a" \

@@ -226,7 +226,7 @@ else
 fi
 ends 2 'folder: this is a folder' compile t.txt -o folder
 ends 2 'folder: this is a folder' compile folder -o out.res
-ends 2 'none/t.res: no such folder' compile t.txt -d none
+ends 2 'none: no such folder' compile t.txt -d none
 ends 2 'resb: --directory is the name of a folder' compile t.txt -d ''
 ends 2 ': this is no name of a file' compile t.txt -o ''
 
@@ -248,7 +248,7 @@ ends 2 'bad\xff\xc3\xa9.txt: this name is no UTF-8' compile "$bad.txt" t.txt
 holds 'the other text has its file' cmp -s t.res "$want"
 ends 2 'bad\xff\xc3\xa9.txt: this name is no UTF-8' compile "$bad.txt" -o out.res
 ends 2 'bad\xff\xc3\xa9: this name is no UTF-8' compile t.txt -o "$bad"
-ends 2 'bad\xff\xc3\xa9/t.res: this name is no UTF-8' compile t.txt -d "$bad"
+ends 2 'bad\xff\xc3\xa9: this name is no UTF-8' compile t.txt -d "$bad"
 ends 2 'bad\xff\xc3\xa9: this name is no UTF-8' dump "$bad"
 ends 2 'bad\xff\xc3\xa9: this path is no UTF-8' get t.res "$bad"
 ends 2 'resb: --limit is a number of bytes' dump t.res --limit "$bad"

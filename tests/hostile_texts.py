@@ -231,7 +231,7 @@ def keyed(one, size):
 
 
 def icu_shapes(size):
-    """The same of ICU's form."""
+    """Texts of that kind in ICU's form."""
     for opening in ('{', ':array{'):
         for one, made in (ICU_STRINGS | ICU_PIECES | ICU_GROUPS).items():
             many = max(2, size // (len(one) + 1))

@@ -2,8 +2,9 @@
 """What `./prove .. --to` installs, with stand-ins for what a proof builds. The last line counts.
 
 Looked at are each file's place, mode and bytes; the words that pkg-config gives for a C program,
-which is linked by them where a compiler is there; a folder that can't be made, a file that can't
-be put in its place; and other words.
+which is linked by them with the shared library and with the archive where a compiler is there; what
+the shared library exports, that of the archive that a proof built too, if it is there; a folder
+that can't be made, a file that can't be put in its place; and other words.
 """
 import importlib.machinery
 import importlib.util
@@ -20,12 +21,20 @@ HEADER = (TOP / "include/resb.h").read_text(encoding="utf8")
 SHARE = [str(it.relative_to(TOP)) for it in (TOP / "share").rglob("*") if it.is_file()]
 FAILED, PASSED = [], []
 
-# a library of one call, which asks for memory as the proved one does
+# the calls that the header declares
+CALLS = set(re.findall(r"^(?:uint32_t|void) (resb_\w+)\(", HEADER, re.MULTILINE))
+VERSION = re.search(r"#define RESB_VERSION (\d+)", HEADER)[1]
+SHARED = f"lib/libresb.so.{VERSION}"
+OF_C = ["include/resb.h", "lib/libresb.a", "lib/libresb_c.a", "lib/liblibc_c.a",
+        "lib/pkgconfig/resb.pc"]
+
+# a library of one call, which asks for memory as the proved one does, and has a name of its own
 LIBRARY = """
 #include "resb.h"
 #include <stddef.h>
 extern void *rattle_alloc(size_t size, size_t align);
-uint32_t resb_version(void) { return rattle_alloc(8, 8) ? RESB_VERSION : 0; }
+void *private_memory(void) { return rattle_alloc(8, 8); }
+uint32_t resb_version(void) { return private_memory() ? RESB_VERSION : 0; }
 """
 USER = """
 #include <resb.h>
@@ -74,7 +83,7 @@ def status_of(module, *words):
 def has_files(name, prefix, wanted):
     """Whether below a folder these files are and no others, the programs alone to be run."""
     found = {str(it.relative_to(prefix)): it.stat().st_mode & 0o777
-             for it in prefix.rglob("*") if it.is_file()}
+             for it in prefix.rglob("*") if it.is_file() and not it.is_symlink()}
     expect(f"{name}: {sorted(found)}", set(found) == set(wanted))
     expect(f"{name}: modes {found}",
            all(mode == (0o755 if it.startswith("bin/") else 0o644) for it, mode in found.items()))
@@ -93,24 +102,82 @@ def check_programs(module, folder):
            == (TOP / "share/man/man1/resb.1").read_bytes())
 
 
-def check_library(module, root, folder):
-    """The library for C, below a folder with a blank, and a program that is linked with it."""
-    prefix, library = folder / "of c", root / "crates/resb_c/out/libresb_c.a"
+def exported(shared):
+    """The names that a shared library has for others."""
+    said = subprocess.run(["nm", "-D", "--defined-only", shared], stdout=subprocess.PIPE,
+                          text=True, check=True).stdout
+    return {line.split()[-1] for line in said.splitlines()}
+
+
+def stand_in_archive(root, folder):
+    """The archive of the library that stands in for the one for C."""
+    library = root / "crates/resb_c/out/libresb_c.a"
     (folder / "library.c").write_text(LIBRARY, encoding="utf8")
-    (folder / "user.c").write_text(USER, encoding="utf8")
-    subprocess.run(["cc", "-I", root / "include", "-c", "library.c"], cwd=folder, check=True)
+    subprocess.run(["cc", "-fPIC", "-I", root / "include", "-c", "library.c"], cwd=folder,
+                   check=True)
     subprocess.run(["ar", "rcs", library, "library.o"], cwd=folder, check=True)
-    expect("c", status_of(module, "c", "--to", str(prefix)) == 0)
-    has_files("c", prefix, ["include/resb.h", "lib/libresb_c.a", "lib/liblibc_c.a",
-                            "lib/pkgconfig/resb.pc"])
-    version = re.search(r"#define RESB_VERSION (\d+)", HEADER)[1]
+    return library
+
+
+def check_library(module, root, folder):
+    """The library for C, below a folder with a blank, and programs that are linked with it."""
+    prefix, library = folder / "of c", stand_in_archive(root, folder)
+    for _ in range(2):
+        expect("c", status_of(module, "c", "--to", str(prefix)) == 0)
+        has_files("c", prefix, [*OF_C, SHARED])
+    expect("the shared library's link",
+           os.readlink(prefix / "lib/libresb.so") == f"libresb.so.{VERSION}")
+    expect("the shared library's names", exported(prefix / SHARED) == {"resb_version"})
     package = (prefix / "lib/pkgconfig/resb.pc").read_text(encoding="utf8")
-    expect("the version", f"\nVersion: {version}\n" in package)
-    if shutil.which("pkg-config"):
-        command = 'eval "cc user.c $(pkg-config --cflags --libs resb) -o user" && ./user'
+    expect("the version", f"\nVersion: {VERSION}\n" in package)
+    check_users(folder, prefix)
+    check_proved(module, folder)
+    library.write_text("no archive", encoding="utf8")
+    before = (prefix / SHARED).read_bytes()
+    expect("an archive that isn't linked", status_of(module, "c", "--to", str(prefix)) == 2)
+    expect("what was there stays", (prefix / SHARED).read_bytes() == before)
+    has_files("c", prefix, [*OF_C, SHARED])
+
+
+def check_users(folder, prefix):
+    """Programs that are linked by pkg-config with the shared library, and with the archive."""
+    (folder / "user.c").write_text(USER, encoding="utf8")
+    if not shutil.which("pkg-config"):
+        return
+    for name, word, needs in (("shared", "", True), ("static", "-static", False)):
+        asked = f"pkg-config {word and '--static'} --cflags --libs resb"
+        command = f'eval "cc {word} user.c $({asked}) -o {name}" && ./{name}'
         ran = subprocess.run(["sh", "-c", command], cwd=folder, check=False,
                              env={**os.environ, "PKG_CONFIG_PATH": f"{prefix}/lib/pkgconfig"})
-        expect("a program that pkg-config links", ran.returncode == 0)
+        expect(f"a {name} program that pkg-config links", ran.returncode == 0)
+        if ran.returncode == 0:
+            named = f"libresb.so.{VERSION}".encode() in (folder / name).read_bytes()
+            expect(f"what a {name} program needs", named == needs)
+
+
+def check_proved(module, folder):
+    """The shared library of the archive that a proof built: it has the header's calls alone."""
+    archive = TOP / "crates/resb_c/out/libresb_c.a"
+    if archive.exists():
+        made = folder / "proved.so"
+        module.link(str(archive), f"{module.toolchain()}/c/liblibc_c.a", "libresb.so", str(made))
+        expect("the names of the proved library", exported(made) == CALLS)
+
+
+def check_without_compiler(module, root, folder):
+    """The library for C where no compiler is: without a shared library, and without a link to an
+    older one."""
+    prefix = folder / "alone"
+    (root / "crates/resb_c/out/libresb_c.a").write_text("an archive", encoding="utf8")
+    (prefix / "lib").mkdir(parents=True)
+    (prefix / "lib/libresb.so").symlink_to("libresb.so.1")
+    which, shutil.which = shutil.which, lambda name: None if name == "cc" else which(name)
+    try:
+        expect("c without cc", status_of(module, "c", "--to", str(prefix)) == 0)
+    finally:
+        shutil.which = which
+    has_files("c without cc", prefix, OF_C)
+    expect("no older library", not (prefix / "lib/libresb.so").is_symlink())
 
 
 def check_refusals(module, folder):
@@ -136,6 +203,7 @@ def main():
         check_programs(module, folder)
         if shutil.which("cc") and shutil.which("ar"):
             check_library(module, root, folder)
+        check_without_compiler(module, root, folder)
         check_refusals(module, folder)
     for it in FAILED:
         print(f"FAIL {it}")

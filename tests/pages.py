@@ -204,7 +204,7 @@ def main():
         print("pages.py: its one word is --rules, by which nothing of the pages is run",
               file=sys.stderr)
         return 2
-    folders = ("", "docs/", "bench/", "examples/*/")
+    folders = ("", "docs/", "bench/", "examples/*/", "crates/*/")
     paths = [path for folder in folders for path in TOP.glob(f"{folder}*.md")]
     pages = {str(path.relative_to(TOP)): path.read_text(encoding="utf8") for path in sorted(paths)}
     count = Count()

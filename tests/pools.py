@@ -319,7 +319,7 @@ def read_older():
 
 
 def read_items():
-    """The same files as items of a package, and beside pools of another."""
+    """These files as items of a package, and beside pools of another."""
     items = {'x/a.res': file(A3), 'x/curr/a.res': file(A2, (2, 0)),
              'x/curr/pool.res': file(POOL2, (2, 0)), 'x/curr/c.res': file(C3)}
     write('x.dat', package(items))

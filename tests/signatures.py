@@ -14,10 +14,9 @@ TOP = pathlib.Path(__file__).resolve().parent.parent
 CRATES = TOP / "crates"
 HEAD = """# Every public call of `resb`
 
-Most programs need these: `resb::compile`, `resb::text::Reader::read`, `resb::text::print_text`,
-`resb::binary::from_bytes_with_pool` (with `None` for a file that uses no pool bundle),
-`resb::binary::count_resources_with_pool`, `resb::binary::Cursor` and
-`resb::binary::Serializer::to_bytes`.
+Most programs need these: `resb::Compile::text`, `resb::text::Reader::read`,
+`resb::text::Print`, `resb::binary::File` (whose `open` takes `None` for a file that uses no
+pool bundle), `resb::binary::Cursor` and `resb::binary::Serializer::to_bytes`.
 """
 
 

@@ -338,6 +338,11 @@ def tried_without_answers(edit, room, refusal):
     return True, f'without the answer: {how}; {right}', f'{said}\n-- the right body\n{told}'
 
 
+def first_error(said):
+    """The first error that a check printed, or its end."""
+    return next((it for it in said.split('\n') if 'error' in it), said[-200:])[:160]
+
+
 def judged(edit, room, without=False):
     """Whether a wrong body is refused as it must be, and the line that says so."""
     label = edit.label
@@ -354,8 +359,7 @@ def judged(edit, room, without=False):
     refusal = Refusal(said)
     found = refusal.found()
     if not found:
-        first = next((it for it in said.split('\n') if 'error' in it), said[-200:])
-        return False, f'{label}: it did not reach the prover: {first[:160]}', said
+        return False, f'{label}: it did not reach the prover: {first_error(said)}', said
     is_well, line = named(edit, found)
     if not is_well:
         return False, line, said
@@ -437,6 +441,8 @@ def judged_together(group, room):
             path, goal, how = others[0]
             is_well = False
             line = f'{edit.label}: {path} is not proved as it stands: {goal} ({how})'
+        elif not found:
+            is_well, line = False, f'{edit.label}: it did not reach the prover: {first_error(said)}'
         elif not goals:
             is_well, line = False, f'{edit.label}: not refused'
         else:
@@ -478,9 +484,25 @@ def of_gate(below):
     return found
 
 
+def has_function(edit):
+    """Whether the function that the gate checks for a wrong body stands in a file that the wrong
+    body changes: a check of one that isn't there refuses nothing."""
+    name = re.compile(rf'\bfn {re.escape(edit.function.split("::")[-1])}\b')
+    for file, *_ in edit.steps:
+        with open(f'{ROOT}/crates/{edit.crate}/{file}', encoding='utf-8') as it:
+            if name.search(it.read()):
+                return True
+    return False
+
+
 def standing(edits, below):
-    """Whether each wrong body can be applied, and no more are in the gate than its budget has."""
+    """Whether each wrong body can be applied, each function that the gate checks is there, and no
+    more are in the gate than its budget has."""
     passed, failed = 0, 0
+    for edit in of_gate(below):
+        if not has_function(edit):
+            print(f'FAILED: {edit.label}: {GATE_LIST} names {edit.function}, which there is not')
+            failed += 1
     for edit in edits:
         try:
             edit.texts()

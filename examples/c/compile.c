@@ -1,5 +1,6 @@
 /* Compiles the text on standard input, says how large the file is, and prints it back as a text.
- * With --icu both texts have ICU's form; with --json it is printed back as JSON. */
+ * What the text is warned of goes to standard error. With --icu both texts have ICU's form; with
+ * --json it is printed back as JSON. */
 #include "resb.h"
 
 #include <stdio.h>
@@ -24,52 +25,55 @@ static int fail_at(const uint8_t *text, size_t length, const resb_error *error) 
   return fail(error);
 }
 
-/* whether the texts have ICU's form, and whether JSON is printed in place of a text */
-static int is_icu = 0, is_json = 0;
+/* what the texts are, and what is printed */
+static resb_options wanted = RESB_OPTIONS, shown = RESB_OPTIONS;
 
-/* Prints a file to out. */
-static uint32_t dump(const uint8_t *file, size_t file_length, uint8_t *out, size_t out_length,
-                     size_t *length, resb_error *error) {
-  static const uint8_t name[] = "bundle";
-  const size_t name_length = sizeof name - 1;
-  if (is_json) return resb_dump_json(file, file_length, LIMIT, out, out_length, length, error);
-  if (is_icu)
-    return resb_dump_icu(file, file_length, name, name_length, LIMIT, out, out_length, length,
-                         error);
-  return resb_dump(file, file_length, name, name_length, LIMIT, out, out_length, length, error);
-}
-
-/* Compiles a text to out. */
-static uint32_t compile(const uint8_t *text, size_t text_length, uint8_t *out, size_t out_length,
-                        size_t *length, resb_error *error) {
-  if (is_icu)
-    return resb_compile_icu_within(text, text_length, LIMIT, out, out_length, length, error);
-  return resb_compile_within(text, text_length, LIMIT, out, out_length, length, error);
+/* Sets the options by the word of the command, if there is one. */
+static void set_options(const char *word) {
+  wanted.limit = shown.limit = LIMIT;
+  shown.name = (const uint8_t *)"bundle";
+  shown.name_length = strlen("bundle");
+  if (word != NULL && strcmp(word, "--icu") == 0) wanted.form = shown.form = RESB_ICU;
+  if (word != NULL && strcmp(word, "--json") == 0) shown.form = RESB_JSON;
 }
 
 /* The text of a file, or its JSON, of *length bytes, or null. */
 static uint8_t *text_of(const uint8_t *file, size_t file_length, size_t *length,
                         resb_error *error) {
   uint8_t none;
-  if (dump(file, file_length, &none, 0, length, error) != RESB_TOO_SHORT) return NULL;
+  if (resb_dump(file, file_length, &shown, &none, 0, length, error) != RESB_TOO_SHORT) return NULL;
   uint8_t *text = malloc(*length);
-  if (text != NULL) dump(file, file_length, text, *length, length, error);
+  if (text != NULL) resb_dump(file, file_length, &shown, text, *length, length, error);
   return text;
 }
 
 static int show(const uint8_t *file, size_t length) {
   resb_measured measured;
   resb_error error;
-  size_t count, text_length;
-  if (resb_check(file, length, &count, &error) != RESB_OK ||
-      resb_measure(file, length, &measured, &error) != RESB_OK)
-    return fail(&error);
-  printf("%zu bytes, %zu resources, %zu entries\n", length, count, (size_t)measured.entries);
+  size_t text_length;
+  /* a length of 0 says that there is no pool bundle */
+  if (resb_check(file, length, file, 0, &measured, &error) != RESB_OK) return fail(&error);
+  printf("%zu bytes, %zu resources, %zu entries\n", length, measured.resources,
+         (size_t)measured.entries);
   uint8_t *text = text_of(file, length, &text_length, &error);
   if (text == NULL) return fail(&error);
   fwrite(text, 1, text_length, stdout);
   free(text);
   return 0;
+}
+
+/* Says what may not be meant in the text. */
+static void warn(const uint8_t *text, size_t text_length) {
+  uint8_t none;
+  size_t length;
+  resb_error error;
+  uint32_t status = resb_warnings(text, text_length, &wanted, &none, 0, &length, &error);
+  /* where there is nothing to say, that buffer has room for it */
+  uint8_t *lines = status == RESB_TOO_SHORT ? malloc(length) : NULL;
+  if (lines == NULL) return;
+  if (resb_warnings(text, text_length, &wanted, lines, length, &length, &error) == RESB_OK)
+    fwrite(lines, 1, length, stderr);
+  free(lines);
 }
 
 int main(int count, char **words) {
@@ -78,15 +82,15 @@ int main(int count, char **words) {
   size_t length;
   resb_error error;
   size_t text_length = fread(text, 1, sizeof text, stdin);
-  is_icu = count > 1 && strcmp(words[1], "--icu") == 0;
-  is_json = count > 1 && strcmp(words[1], "--json") == 0;
+  set_options(count > 1 ? words[1] : NULL);
 
   /* the first call tells how much room the file needs */
-  if (compile(text, text_length, &none, 0, &length, &error) != RESB_TOO_SHORT)
+  if (resb_compile(text, text_length, &wanted, &none, 0, &length, &error) != RESB_TOO_SHORT)
     return fail_at(text, text_length, &error);
+  warn(text, text_length);
   uint8_t *file = malloc(length);
   if (file == NULL) return 1;
-  int status = compile(text, text_length, file, length, &length, &error) == RESB_OK
+  int status = resb_compile(text, text_length, &wanted, file, length, &length, &error) == RESB_OK
                    ? show(file, length)
                    : fail_at(text, text_length, &error);
   free(file);

@@ -32,30 +32,28 @@ static size_t read_file(const char *name, uint8_t *bytes) {
 }
 
 int main(int count, char **words) {
-  static const uint8_t name[] = "bundle";
   int as_json = count > 1 && strcmp(words[1], "--json") == 0;
   count -= as_json;
   words += as_json;
   if (count < 2) return 2;
-  size_t file_length = read_file(words[1], file);
+  resb_options options = RESB_OPTIONS;
+  options.form = as_json ? RESB_JSON : RESB_PLAIN;
+  options.limit = LIMIT;
+  options.name = (const uint8_t *)"bundle";
+  options.name_length = strlen("bundle");
+  options.pool = pool;
   /* a length of 0 says that there is no pool bundle */
-  size_t pool_length = count > 2 ? read_file(words[2], pool) : 0;
+  options.pool_length = count > 2 ? read_file(words[2], pool) : 0;
+  size_t file_length = read_file(words[1], file), length;
   resb_measured measured;
   resb_error error;
-  size_t resources, length;
-  if (resb_check_with_pool(file, file_length, pool, pool_length, &resources, &error) != RESB_OK ||
-      resb_measure_with_pool(file, file_length, pool, pool_length, &measured, &error) != RESB_OK)
+  if (resb_check(file, file_length, pool, options.pool_length, &measured, &error) != RESB_OK)
     return fail(&error);
-  printf("%zu resources, %zu bytes of keys\n", resources, (size_t)measured.key_bytes);
+  printf("%zu resources, %zu bytes of keys\n", measured.resources, (size_t)measured.key_bytes);
   uint8_t *text = malloc(LIMIT);
   if (text == NULL) return 2;
-  uint32_t answer =
-      as_json ? resb_dump_json_with_pool(file, file_length, pool, pool_length, LIMIT, text, LIMIT,
-                                         &length, &error)
-              : resb_dump_with_pool(file, file_length, pool, pool_length, name, sizeof name - 1,
-                                    LIMIT, text, LIMIT, &length, &error);
   int status = 0;
-  if (answer == RESB_OK)
+  if (resb_dump(file, file_length, &options, text, LIMIT, &length, &error) == RESB_OK)
     fwrite(text, 1, length, stdout);
   else
     status = fail(&error);

@@ -5,7 +5,7 @@ mkdir -p source/sub built
 printf 'de_AT{ hi{"Servus"} n:int{3} }' > source/sub/first.txt
 printf '\357\273\277root{ hi{"Hello"} list{ "a", "b" } }' > source/root.txt
 printf 'broken{ a{ "x" ' > source/broken.txt
-told 0 '' '' genrb -q -k -R -C -c -v -i elsewhere -e utf-8 --formatVersion 2 -s source -d built \
+told 0 '' '' genrb -q -k -R -C -i elsewhere -e utf-8 --formatVersion 2 -s source -d built \
   sub/first.txt root.txt
 holds built 'de_AT.res root.res'
 told 0 '' '' compile --icu source/root.txt -o wanted.res
@@ -29,14 +29,52 @@ inside this
 broken{ a{ \"x\" 
          ^" genrb -s source -d built broken.txt
 told 4 '' 'source/nope.txt: no such file' genrb -s source -d built nope.txt
-told 4 '' 'nowhere/root.res: no such folder' genrb -s source -d nowhere root.txt
-told 1 '' 'resb: --write-java isn'"'"'t done here' genrb -j -s source root.txt
+told 4 '' 'nowhere: no such folder' genrb -s source -d nowhere root.txt
+told 4 '' 'source/root.txt: this is no folder' genrb -s source -d source/root.txt root.txt
+told 1 '' "resb: --write-java isn't done here; for Java take --big-endian, for texts resb dump" \
+  genrb -j -s source root.txt
+told 1 '' "resb: --bundle-name goes with --write-java, which isn't done here" \
+  genrb -b x -s source root.txt
 told 4 '' 'x/root.txt: no such file' genrb --filterDir x -s source root.txt
-told 1 '' 'resb: --encoding is UTF-8, or UTF-16 by the mark that a text begins with' \
-  genrb -e latin1 -s source root.txt
+told 1 '' 'resb: --encoding is UTF-8, UTF-16, UTF-32, ISO-8859-1 or windows-1252' \
+  genrb -e latin2 -s source root.txt
 told 1 '' 'resb: --formatVersion is 2 or 3' genrb --formatVersion 1 -s source root.txt
-told 3 '' 'source/root.txt: its file has format 2.0, and --formatVersion asks for 3' \
-  genrb --formatVersion 3 -s source -d built root.txt
+# a file of another version, with a notice in its header, and from texts in other encodings
+mkdir -p other
+told 0 '' '' genrb -q --formatVersion 3 -s source -d other root.txt
+[ "$(cmp -l built/root.res other/root.res | xargs)" = '17 2 3' ] \
+  && passed=$((passed + 1)) || { failed=$((failed + 1)); echo 'genrb: a file of 3.0'; }
+told 0 'Processing file "source/root.txt"' '' genrb -v -c -s source -d other root.txt
+[ "$(head -c 2 other/root.res | od -An -tx1)" = ' 90 00' ] \
+  && [ "$(tail -c +33 built/root.res | cksum)" = "$(tail -c +145 other/root.res | cksum)" ] \
+  && [ "$(head -c 143 other/root.res | tail -c +26 | head -c 13)" = 'Copyright (C)' ] \
+  && passed=$((passed + 1)) || { failed=$((failed + 1)); echo 'genrb: a notice'; }
+told 0 'other/root.res: 5 resources, format 2.0, fallback, largest table 2' '' \
+  check other/root.res
+for encoding in UTF-16LE UTF-16BE UTF-32LE UTF-32BE ISO-8859-1 windows-1252; do
+  printf 'root{ hi{"Hell\303\266"} }' | iconv -f UTF-8 -t "$encoding" > source/coded.txt
+  told 0 '' '' genrb -q -e "${encoding,,}" -s source -d other coded.txt
+  told 0 $'root{\n    hi{"Hell\u00f6"}\n}' '' derb -c -s other root
+done
+rm source/coded.txt
+# the same text twice is compiled once; a folder is no text
+told 0 '' '' genrb -q -s source -d other root.txt ./root.txt
+told 3 '' 'source/sub: this is a folder' genrb -q -s source -d other sub
+# without a word nothing is made of the texts that are right where one isn't
+told 3 '' "source/broken.txt:1:10: expected '}', a comma, '{' or a type before the text ends \
+inside this
+broken{ a{ \"x\" 
+         ^
+genrb: no pool bundle is written, since a text is refused" \
+  genrb -q -s source -d other --writePoolBundle -k broken.txt root.txt
+holds other 'root.res'
+told 0 '' "source/broken.txt:1:10: expected '}', a comma, '{' or a type before the text ends \
+inside this
+broken{ a{ \"x\" 
+         ^" genrb -q -s source -d other --writePoolBundle --keep-going broken.txt root.txt
+holds other 'pool.res root.res'
+told 1 '' 'nowhere/pool.res: no such file' \
+  genrb -q -s source -d other --usePoolBundle nowhere root.txt
 # the pool bundle that ICU 72's compiler writes for texts without a key and a string
 printf 'none{}' > source/none.txt
 told 0 '' '' genrb -q -s source -d built --writePoolBundle -k none.txt
@@ -78,7 +116,11 @@ same over/c.res wanted.res
 told 0 'three' '' get --pool shared/pool.res over/c.res delta/2
 told 0 '' '' compile --icu source/c.txt -o one.res --pool shared/pool.res
 same one.res wanted.res
-told 4 '' 'source/pool.res: no such file' genrb -q -s source -d over --usePoolBundle -k a.txt
+told 0 '' '' compile --icu source/c.txt -o two.res --pool shared/pool.res --limit 100000
+same two.res one.res
+told 1 '' 'source/a.txt: reading this text takes more than the limit of 120 bytes' \
+  compile source/a.txt --pool shared/pool.res --limit 120
+told 1 '' 'source/pool.res: no such file' genrb -q -s source -d over --usePoolBundle -k a.txt
 told 1 '' 'over/a.res: Invalid resource bundle data: file is not a pool bundle' \
   compile source/a.txt --pool over/a.res
 told 2 '' 'resb: a pool bundle is read from a file alone' compile source/a.txt --pool -
@@ -100,6 +142,20 @@ told 4 '' 'rules/root.txt: no such file' genrb -q -s source -d built --filterDir
 printf -- '-/a\nb\n' > rules/root.txt
 told 9 '' 'rules/root.txt: line 2: a rule begins with + or -' \
   genrb -q -s source -d built --filterDir rules root.txt
+# a rule of 1,000 pieces, and one of 1,401, at a text of 1,500 levels take little stack: of each
+# ICU's compiler makes the file of this checksum
+python3 -c "
+levels = 1500
+open('source/deep.txt', 'w').write('deep{' + 'k{' * levels + 'x{\"y\"}' + '}' * levels + '}')
+open('first.txt', 'w').write('-' + '/k' * 1000 + '\n')
+open('second.txt', 'w').write('-' + '/k' * 1400 + '/*\n')
+"
+for sum in 'first 3294731706 8064' 'second 494146341 11272'; do
+  mv "${sum%% *}.txt" rules/deep.txt
+  stack=256 told 0 '' '' genrb -q --compact -s source -d built --filterDir rules deep.txt
+  [ "${sum%% *} $(cksum < built/deep.res)" = "$sum" ] \
+    && passed=$((passed + 1)) || { failed=$((failed + 1)); cksum built/deep.res; }
+done
 # rules of collation: refused, as they stand by the words of ICU 72's compiler, or with the binary
 # form that a file has for them
 # rules of several pieces, and private ones
@@ -205,7 +261,12 @@ than 1048576 bytes" compile --icu --limit 1000 source/self.txt
 mkdir -p printed
 told 0 '' '' derb -A -s built -d printed root
 told 0 "$(cat printed/root.txt)" '' dump --icu built/root.res
-told 0 "$(cat printed/root.txt)" '' derb -c -A -t -i elsewhere -e utf-8 -s built root.res
+told 0 "$(cat printed/root.txt)" '' derb -c -A -i elsewhere -e utf-8 -s built root.res
+told 0 $'\ufeff'"$(cat printed/root.txt)" '' derb -c --bom -s built root.res
+told 1 '' "resb: --truncate isn't done here: it would leave data out of a text" \
+  derb -c -t 20 -s built root.res
+told 1 '' "resb: --sourcedir is a folder: the data that are built into ICU aren't read" \
+  derb -c -s - root.res
 (cd built && exec -a derb "$program" -d ../printed de_AT.res none)
 holds printed 'de_AT.txt none.txt root.txt'
 told 2 '' 'built/nope.res: no such file' derb -s built nope

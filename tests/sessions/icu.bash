@@ -34,8 +34,8 @@ b{
 END
 told 1 '' $'keys.txt:5:3: duplicate key \'k_1.x\', first at line 4
   "k_1.x":array{ "4" }\n  ^' compile --icu keys.txt
-printf 'b{a{"\\q"}}' > escape.txt
-told 1 '' $'escape.txt:1:6: expected a known escape\nb{a{"\\q"}}\n     ^
+printf 'b{a{"\\x"}}' > escape.txt
+told 1 '' $'escape.txt:1:6: expected a known escape\nb{a{"\\x"}}\n     ^
 escape.txt: a backslash itself is written as \\\\' \
   compile --icu escape.txt
 printf 'b{a{"x"}' > half.txt
@@ -57,7 +57,7 @@ told 0 'vv' '' get pieces.res k
 told 1 '' 'pieces.txt: reading this text takes more than the limit of 394 bytes' \
   compile --icu --limit 394 pieces.txt
 printf 'b{k{"v" "v":' > stuck.txt
-told 1 '' $'stuck.txt:1:5: a key is one string\nb{k{"v" "v":\n    ^' \
+told 1 '' $'stuck.txt:1:9: a key is one string, and this is a second one\nb{k{"v" "v":\n        ^' \
   compile --icu --limit 355 stuck.txt
 # and each number of a vector as it comes
 told 1 '' 'vector.txt: reading this text takes more than the limit of 274 bytes' \
@@ -77,31 +77,31 @@ icu_row '{' 1 'the bundle has no name'
 icu_row 'b:int{}' 2 "expected 'table' or 'table(nofallback)'"
 icu_row 'b}' 2 "expected '{'"
 icu_row 'b{a}' 4 "expected '{' or a type"
-icu_row 'b{a:foo{}}' 4 "there is no type 'foo'" "the types are alias,${types#the types are}"
+icu_row 'b{a:foo{}}' 5 "there is no type 'foo'" "the types are alias,${types#the types are}"
 icu_row 'b{a:alias{}}' 11 'expected a string'
 icu_row 'b{a:import{}}' 4 "expected a type of a tree, and 'import' is none"
 icu_row 'b{a:include{}}' 4 "expected a type of a tree, and 'include' is none"
 icu_row 'b{a:process(x){}}' 4 "expected a type of a tree, and 'process' is none"
 icu_row 'b{a:string{}}' 12 'expected a string'
 icu_row 'b{a:string{"x",}}' 15 'a group of this type has one value'
-icu_row 'b{a:bin{"0"}}' 9 'an odd number of hex digits'
+icu_row 'b{a:bin{"0"}}' 9 'an odd number of hex digits (1): each byte has two'
 icu_row 'b{a:int{x}}' 9 'expected a number'
 icu_row 'b{a:intvector{x}}' 15 "expected a number or '}'"
 icu_row 'b{a:intvector{1 2}}' 17 "expected a comma or '}'"
-icu_row 'b{a{"\q"}}' 6 'expected a known escape' "$backslash"
+icu_row 'b{a{"\x"}}' 6 'expected a known escape' "$backslash"
 icu_row 'b{a{"x" "\u005C"}}' 10 'expected a known escape' "$backslash"
-icu_row 'b{a{"\ud800"}}' 6 'expected a known escape' "$backslash"
+icu_row 'b{a{"\ud800"}}' 6 'expected both halves of a surrogate pair, since a string is text'
 icu_row 'b{a{"\U00110000"}}' 6 'expected a known escape' "$backslash"
 icu_row 'b{a{"\u12' 6 'expected a known escape' "$backslash"
-icu_row 'b{"\q"{x}}' 4 'expected a known escape' "$backslash"
-icu_row '"b\q"{}' 3 'expected a known escape' "$backslash"
+icu_row 'b{"\q"{x}}' 4 "'\' can't stand in a key"
+icu_row '"b\q"{}' 3 "'\' can't stand in the bundle's name"
 icu_row 'b{a{"x" "y}}' 9 'expected a quote that closes this string'
 icu_row 'b{a{x}"k{y}}' 7 'expected a quote that closes this string'
 icu_row 'b{a{,}}' 5 "expected a resource or '}'"
-icu_row 'b{a:array{"x" /}}' 15 "a comment begins with '//' or '/*'"
-icu_row 'b{a{"x" y}}' 9 "expected '}', a comma, '{' or a type"
+icu_row 'b{a:array{"" /}}' 14 "a comment begins with '//' or '/*'"
+icu_row 'b{a{"" y}}' 8 "expected '}', a comma, '{' or a type"
 icu_row 'b{a{"\"" {}}}' 6 "'\\' can't stand in a key"
-icu_row 'b{a:array{"x" y}}' 15 'expected a comma between two strings'
+icu_row 'b{a:array{"" y}}' 14 'expected a comma between two strings'
 icu_row 'b{a{x} /}' 8 "a comment begins with '//' or '/*'"
 icu_row 'b{a{x} a{y}}' 8 "duplicate key 'a', first at column 3"
 icu_row 'b{a/b{x} a/b{y}}' 10 "duplicate key 'a/b', first at column 3"
@@ -132,3 +132,17 @@ told 2 '' $'error: the argument \'--icu\' cannot be used with \'--json\'
 Usage: resb dump --icu <FILE>...
 
 For more information, try \'--help\'.' dump --icu icu.res --json
+
+# escapes and numbers as genrb takes them: the tree is that of its file (ICU 72.1)
+printf 'w{a{"\\q\\ud84d\\udc56\\a"}n:int{010}h:int{0x1F}e:int{""}}' > w.txt
+told 0 '' 'w.txt:1:6: warning: no escape begins so; the backslash is dropped, and its character stays
+w.txt:1:30: warning: the 0 makes this number octal' compile --icu w.txt
+told 0 $'w{
+    a{"q\U00023456\a"}
+    e:int{0}
+    h:int{31}
+    n:int{8}
+}' '' dump w.res
+told 1 '' 'w.txt:1:6: warning: no escape begins so; the backslash is dropped, and its character stays
+w.txt:1:30: warning: the 0 makes this number octal
+w.txt: no file is written, since this has warnings' compile --icu --strict w.txt

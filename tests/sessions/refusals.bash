@@ -11,12 +11,12 @@ printf 'b{a{"x\377"}}' > bytes.txt
 told 1 '' $'bytes.txt:1:7: this is no UTF-8\nb{a{"x?"}}\n      ^' compile bytes.txt
 printf 'b{a:float{"x"}}' > type.txt
 types='the types are array, bin, binary, int, integer, intvector, string, table'
-told 1 '' $'type.txt:1:4: there is no type \'float\'\nb{a:float{"x"}}\n   ^\n'"type.txt: $types" \
+told 1 '' $'type.txt:1:5: there is no type \'float\'\nb{a:float{"x"}}\n    ^\n'"type.txt: $types" \
   compile type.txt
 printf 'b{a:int{x}}' > number.txt
 told 1 '' $'number.txt:1:9: expected a number\nb{a:int{x}}\n        ^' compile number.txt
 printf 'b{a:bin{"0"}}' > digits.txt
-told 1 '' $'digits.txt:1:9: an odd number of hex digits\nb{a:bin{"0"}}\n        ^' \
+told 1 '' $'digits.txt:1:9: an odd number of hex digits (1): each byte has two\nb{a:bin{"0"}}\n        ^' \
   compile digits.txt
 printf 'b{a{:int}}' > brace.txt
 told 1 '' $'brace.txt:1:9: expected \'{\'\nb{a{:int}}\n        ^' compile brace.txt
@@ -52,17 +52,17 @@ done << 'END'
 16@expected '}'@b{v:intvector{,1}}
 17@a comma is missing before this number@b{v:intvector{1 2}}
 17@two commas in a row@b{v:intvector{1,,}}
-4@there is no type 'import'@b{a:import{"x"}}
+5@there is no type 'import'@b{a:import{"x"}}
 5@there is no blank between ':' and a type@b{a: int{1}}
 2@the root is a table: its type is table, if it has one@b:array{}
 9@expected a number@b{i:int{x}}
 9@an integer has 28 bits: -134217728 to 268435455@b{i:int{4294967296}}
-9@an odd number of hex digits@b{d:bin{"0"}}
+9@an odd number of hex digits (1): each byte has two@b{d:bin{"0"}}
 12@' ' is no hex digit@b{d:bin{"00 ff"}}
 5@expected a resource@b{a{,}}
 9@expected a resource@b{a{"x",,}}
 4@the bundle ends before this, and a text has only one@b{}x
-4@this comment has no end@b{}/*
+4@this comment has no end: a '*/' is missing@b{}/*
 END
 printf 'b{"k\0"{"x"}}' > nul.txt
 told 1 '' 'nul.txt: Unexpected error: key contains U+0000' compile nul.txt
@@ -70,15 +70,15 @@ told 1 '' 'nul.txt: Unexpected error: key contains U+0000' compile nul.txt
 # what is said beside a refusal: what was meant, and where to look
 for word in integre:integer integr:integer strnig:string inte:int INT:int; do
   printf 'b{a:%s{5}}' "${word%:*}" > type.txt
-  told 1 '' "type.txt:1:4: there is no type '${word%:*}'; is ${word#*:} meant?
+  told 1 '' "type.txt:1:5: there is no type '${word%:*}'; is ${word#*:} meant?
 b{a:${word%:*}{5}}
-   ^
+    ^
 type.txt: $types" compile type.txt
 done
 printf 'b{a:strin{"x"}}' > type.txt
-told 1 '' "type.txt:1:4: there is no type 'strin'; is string meant?
+told 1 '' "type.txt:1:5: there is no type 'strin'; is string meant?
 b{a:strin{\"x\"}}
-   ^
+    ^
 type.txt: the types are alias,${types#the types are}" compile --icu type.txt
 printf 'b:array{}' > root.txt
 told 1 '' 'root.txt:1:2: the root is a table: its type is table, if it has one
@@ -99,14 +99,14 @@ told 1 '' "point.txt:1:9: numbers are whole
 b{a:int{3.5}}
         ^" compile --icu point.txt
 printf 'b{a:alias{"/c"}}' > alias.txt
-told 1 '' "alias.txt:1:4: there is no type 'alias'
+told 1 '' "alias.txt:1:5: there is no type 'alias'
 b{a:alias{\"/c\"}}
-   ^
+    ^
 alias.txt: texts of ICU's own form are read with --icu" compile alias.txt
 printf 'b{a{"x"} ,c{"y"}}' > comma.txt
 for form in '' --icu; do
   # shellcheck disable=SC2086
-  told 1 '' 'comma.txt:1:10: entries of a table have no commas
+  told 1 '' 'comma.txt:1:10: commas stand between members of an array, not between entries of a table
 b{a{"x"} ,c{"y"}}
          ^' compile $form comma.txt
 done
@@ -149,8 +149,8 @@ for order in LE BE; do
 done
 printf '\377\376b\0{\0}' > odd.txt
 printf '\377\376b\0{\0\0\330}\0' > half.txt
-told 1 '' 'odd.txt: this begins as UTF-16, and is none
-half.txt: this begins as UTF-16, and is none' compile odd.txt half.txt
+told 1 '' 'odd.txt: this is no UTF-16
+half.txt: this is no UTF-16' compile odd.txt half.txt
 
 # warnings change nothing
 printf 'b{a{"x\\y"}a{"z"}l:array{"p" "q"}}' > warn.txt

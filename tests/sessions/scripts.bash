@@ -153,8 +153,11 @@ same de.res alone/de.res
 printf '"../de"{a{"x"}}' > slash.txt
 told 2 '' 'slash.txt: the name of its bundle is no name of a file' compile --by-name slash.txt
 printf 'slash{a{"y"}}' > other.txt
-told 2 '' 'alone/text.txt: its file alone/de.res is that of alone/text.txt too' \
-  compile --by-name alone/text.txt alone/text.txt
+cp alone/text.txt twin.txt
+told 2 '' 'twin.txt: its file alone/de.res is that of alone/text.txt too' \
+  compile --by-name alone/text.txt twin.txt -d alone
+rm twin.txt
+told 0 '' '' compile --by-name alone/text.txt ./alone/text.txt
 printf '"slash.txt.res/../slash"{}' > up.txt
 told 2 '' 'up.txt: the name of its bundle is no name of a file' compile --by-name up.txt
 told 1 '' $'open.txt:1:2: expected \'}\' before the text ends inside this\nb{\n ^' \
@@ -184,13 +187,13 @@ told 2 '' 'two/a.txt: its file into/a.res is that of one/a.txt too' \
 told 2 '' 'texts: this is a folder' dump texts
 
 # check as JSON: what the line says, or the kind of the cause and what is said of it
-told 1 '{"path":"names.res","ok":true,"resources":8,"format":"2.0","fallback":true,'\
+told 1 '{"path":"names.res","ok":true,"resources":8,"format":"2.0","order":"little-endian","fallback":true,'\
 '"largest_table":5,"pool_bundle":false,"over":null}
 {"path":"broken.res","ok":false,"kind":"invalid data","message":"Invalid resource bundle data: '\
 'input is too short to contain file header"}
 {"path":"one.res","ok":false,"kind":"unsupported format","message":"Unsupported resource bundle '\
 'format: format version 1.0 is not supported"}
-{"path":"off.res","ok":true,"resources":2,"format":"2.0","fallback":false,"largest_table":1,'\
+{"path":"off.res","ok":true,"resources":2,"format":"2.0","order":"little-endian","fallback":false,"largest_table":1,'\
 '"pool_bundle":false,"over":null}' '' check --json names.res broken.res one.res off.res
 told 2 '{"path":"none\"\n.res","ok":false,"kind":"input","message":"no such file"}
 {"path":"nothing","ok":false,"kind":"input","message":"this folder has no .res file"}
@@ -206,9 +209,9 @@ for name, words in (('shared/pool', pools.POOL3), ('shared/a', pools.A3), ('a', 
                     ('other', pools.POOL3.replace('e31610fa', 'e31610fb'))):
     open(f'{name}.res', 'wb').write(pools.file(words))
 "
-told 1 '{"path":"shared/a.res","ok":true,"resources":3,"format":"3.0","fallback":true,'\
+told 1 '{"path":"shared/a.res","ok":true,"resources":3,"format":"3.0","order":"little-endian","fallback":true,'\
 '"largest_table":2,"pool_bundle":false,"over":"shared/pool.res"}
-{"path":"shared/pool.res","ok":true,"resources":1,"format":"3.0","fallback":false,'\
+{"path":"shared/pool.res","ok":true,"resources":1,"format":"3.0","order":"little-endian","fallback":false,'\
 '"largest_table":0,"pool_bundle":true,"over":null}
 {"path":"a.res","ok":false,"kind":"pool bundle","message":"this file uses a pool bundle, and '\
 'there is no pool.res beside it; name one by --pool"}' '' check --json shared a.res
@@ -275,7 +278,7 @@ told 0 '' '' dump --json small.res -d shown
 [ "$(cat shown/small.json)" = '{"k":"v"}' ] && passed=$((passed + 1)) || failed=$((failed + 1))
 told 2 '' 'shown/small.res: its file shown/small.txt is that of small.res too' \
   dump small.res shown/small.res -d shown
-told 2 '' 'nowhere/small.txt: no such folder' dump small.res -d nowhere
+told 2 '' 'nowhere: no such folder' dump small.res -d nowhere
 told 2 '' 'resb: the texts of several files go to a folder, named by --directory' \
   dump small.res key.res
 told 2 '' 'resb: --directory is the name of a folder' dump small.res -d ''

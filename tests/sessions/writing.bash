@@ -141,14 +141,26 @@ printf 'i{a:include{"n n.txt"}}' > w/in/i.txt
 printf 'n' > 'w/in/n n.txt'
 told 0 '' '' compile --icu w/in/i.txt w/in/k.txt -d w/out --depfile w/out/all.d
 printf 'w/out/i.res: \\\n  w/in/i.txt \\\n  w/in/n\\ n.txt\nw/out/k.res: \\\n  w/in/k.txt\n' > wanted.d
+printf '\nw/in/n\\ n.txt:\n' >> wanted.d
 same w/out/all.d wanted.d
 printf -- '-/b\n' > w/sub/k.txt
-told 0 '' '' genrb -q -s w/in -d w/out --writePoolBundle w/sub -k k.txt
+told 0 '' '' genrb -q -s w/in -d w/out --writePoolBundle w/sub -k k.txt i.txt
+touch -d 2001-01-01 w/sub/pool.res
+told 0 '' '' genrb -q -s w/in -d w/out --if-changed --writePoolBundle w/sub --depfile w/k.d k.txt i.txt
+[ "$(stat -c %Y w/sub/pool.res)" = "$(date -d 2001-01-01 +%s)" ] \
+  && passed=$((passed + 1)) || { failed=$((failed + 1)); echo 'pool.res is new'; }
+printf 'w/out/k.res: \\\n  w/in/k.txt\nw/out/i.res: \\\n  w/in/i.txt \\\n  w/in/n\\ n.txt\n' > wanted.d
+printf 'w/sub/pool.res: \\\n  w/in/i.txt \\\n  w/in/k.txt \\\n  w/in/n\\ n.txt\n' >> wanted.d
+printf '\nw/in/n\\ n.txt:\n' >> wanted.d
+same w/k.d wanted.d
 told 0 '' '' genrb -q -s w/in -d w/out --usePoolBundle w/sub --filterDir w/sub --depfile w/k.d k.txt
 printf 'w/out/k.res: \\\n  w/in/k.txt \\\n  w/sub/k.txt \\\n  w/sub/pool.res\n' > wanted.d
+printf '\nw/sub/k.txt:\n\nw/sub/pool.res:\n' >> wanted.d
 same w/k.d wanted.d
 told 2 '' 'w/in/k.txt: writing w/in/k.txt would replace w/in/k.txt, which this call reads' \
   compile --icu w/in/k.txt -d w/out --depfile w/in/k.txt
+# a folder that isn't there is told once
+told 2 '' 'w/nowhere: no such folder' compile --icu w/in/i.txt w/in/k.txt -d w/nowhere
 # the rules stay where a text is refused, and where nothing is written
 printf 'i{a:include{"nowhere.txt"}}' > w/in/i.txt
 told 2 '' 'w/in/i.txt:1:4: this takes in w/in/nowhere.txt: no such file' \
@@ -163,12 +175,15 @@ printf 'k{a{"y"}}' > 'w/in/k=.txt'
 told 2 '' "w/out/k=.res: --depfile can't say this name to make" \
   compile --icu --quiet 'w/in/k=.txt' -d w/out --depfile w/k.d
 
-# a folder of more names than the system gives at a time
-mkdir w/many
-python3 -c "
-for n in range(2000):
-    open(f'w/many/{n:04}' + 'x' * (n % 240) + '.res', 'wb').write(open('small.res', 'rb').read())"
-(exec -a resb "$program" check w/many) > out 2> err
-[ $? = 0 ] && [ "$(wc -l < out)" = 2000 ] && [ ! -s err ] \
-  && passed=$((passed + 1)) || { failed=$((failed + 1)); wc -l out; cat err; }
+# folders of 1, 40, 1,000 and 20,000 names, of which the system doesn't give all at a time
+for count in 1 40 1000 20000; do
+  mkdir w/many w/made
+  python3 -c "
+for n in range($count):
+    open(f'w/many/{n:05}' + 'x' * (n % 240) + '.txt', 'w').write('b{a{\"x\"}}')"
+  { "$program" compile --quiet -d w/made w/many && "$program" check w/made; } > out 2> err
+  [ $? = 0 ] && [ "$(wc -l < out)" = "$count" ] && [ ! -s err ] \
+    && passed=$((passed + 1)) || { failed=$((failed + 1)); wc -l out; head -3 err; }
+  rm -r w/many w/made
+done
 rm -r w

@@ -1,2 +1,3 @@
--- For this crate alone.
+-- For the crates above: which files are refused. For this crate alone: how files are read back.
+pub mod RefusedFiles
 mod ReadBack

@@ -1,7 +1,7 @@
 -- A written file is read back as its tree, and so is a compiled text; a text of a bundle, in either
 -- form, is read back as that bundle; and what isn't read as a tree denotes none.
 use Rattle.std.proofs.Common.{◌⊎◌, ◌≤◌, ◌<◌, ◌≡◌, ℕ, Result, Ok, Err, inl, inr, Bool, true, false}
-use Rattle.std.proofs.Common.{List, Some, refl, sym, ap, ◌∙◌, subst, arith, ◌==◌}
+use Rattle.std.proofs.Common.{List, Option, Some, None, refl, sym, ap, ◌∙◌, subst, arith, ◌==◌}
 use Rattle.std.specs.Prelude.{◌/◌, ◌%◌, ◌^◌, ◌&&◌, ◌||◌, nat_le, if◌then◌else◌}
 use Rattle.std.specs.Result.{IfErr}
 use Rattle.resb_tree.specs.declared.resource.Resource.{Resource}
@@ -13,6 +13,7 @@ use Rattle.resb_read.specs.Reading.{LacksOrMemory}
 use Rattle.resb_read.specs.Leaves.{CountsOf}
 use Rattle.resb_read.specs.Resources.{DenPlace}
 use Rattle.resb_read.specs.Roots.{Whole, HoldsAt}
+use Rattle.resb_read.specs.WithPool.{over}
 use Rattle.resb_tree.specs.Tree.{Tree, tree_count}
 use Rattle.resb_format.proofs.Denoting.{unique}
 use Rattle.resb_pool.specs.declared.packing.Packing.{Packing}
@@ -20,7 +21,7 @@ use Rattle.resb_pool.specs.declared.packing.Packing.TheVariants.{Plain}
 use Rattle.resb_layout.specs.Written.{WrittenBy}
 use Rattle.resb_pool_bundle.specs.Fields.{index_length, major, minor}
 use Rattle.resb_pool_bundle.specs.Laws.{IsOwnFile}
-use Rattle.resb_pool_bundle.specs.Pool.{parts_with}
+use Rattle.resb_pool_bundle.specs.Pool.{Pool, parts_with}
 use Rattle.resb_pool_bundle.proofs.OwnFiles.{own_files_denote_the_same}
 use Rattle.resb_grammar.specs.BundleText.{BundleText}
 use Rattle.resb_icu_grammar.specs.Bundle.{IcuText}
@@ -32,9 +33,10 @@ use Rattle.resb_grammar.proofs.GrammarLaws.{one_bundle}
 use Rattle.resb_grammar.proofs.NoAlias.{bundle_none}
 use Rattle.resb_icu_grammar.proofs.Groups.{one_icu_text}
 use Rattle.resb.specs.Laws.{WrittenIsRead, CompiledIsRead, TextIsRead}
-use Rattle.resb.specs.Laws.{WrittenIsReadWithPool, IcuCompiledIsRead}
-use Rattle.resb.specs.Laws.{WrittenOverPoolIsRead, CompiledWithPoolIsRead}
-use Rattle.resb.specs.Laws.{IcuCompiledWithPoolIsRead}
+use Rattle.resb.specs.Laws.{WrittenIsReadWithPool, WrittenOverPoolIsRead, CompiledByIsRead}
+use Rattle.resb.specs.Laws.{ReadsAsTree, IsTree}
+use Rattle.resb_write.specs.Layouts.{IsFileBy, pool_of}
+use Rattle.resb_compile.specs.Compiling.{left_by}
 
 pub written_is_read : WrittenIsRead
 written_is_read q bytes t f ks (Ok r) none lacks w h =
@@ -89,10 +91,6 @@ written_is_read_with_pool q pool bytes t f ks (Err e) w (inr lacks) =
     let d = (own_files_denote_the_same pool bytes (own_file w) t (tree_count t)).0 w.tree in
     absurd (lacks (tree_count t) (record { head = d.head; root = (t, d.root) }) w.within_budget)
 
-pub icu_compiled_is_read : IcuCompiledIsRead
-icu_compiled_is_read q pool text bytes c r h =
-    written_is_read_with_pool q pool bytes c.bundle.tree c.bundle.fallback c.bundle.keys r c.file h
-
 pub written_over_pool_is_read : WrittenOverPoolIsRead
 written_over_pool_is_read q pool bytes t f ks (Ok r) w h =
     (unique (parts_with (Some pool) bytes) h.1.root.0 w.tree.root).0
@@ -101,15 +99,24 @@ written_over_pool_is_read q pool bytes t f ks (Err e) w (inr lacks) =
     absurd (lacks (tree_count t) (record { head = w.tree.head; root = (t, w.tree.root) })
     w.within_budget)
 
-pub compiled_with_pool_is_read : CompiledWithPoolIsRead
-compiled_with_pool_is_read pool text bytes c r h =
-    let b = c.bundle in
-    written_over_pool_is_read Plain pool bytes b.tree b.fallback b.keys r c.file h
+-- a file that is laid out over a pool bundle or over none is read back beside that, or beside any
+file_is_read : (q : Packing) (lent pool : Option Pool) (bytes : List ℕ) (t : Tree) (fallback : Bool)
+    (ks : List (List ℕ)) (r : Result Resource ReadingError)
+    → IsFileBy q lent bytes t fallback ks → (lent ≡ None) ⊎ (lent ≡ pool)
+    → ReadsAsTree (over pool bytes) r → IsTree t r
+file_is_read q None pool bytes t f ks r w is h =
+    written_is_read_with_pool q pool bytes t f ks r w h
+file_is_read q (Some lent) pool bytes t f ks r w (inl none) h =
+    absurd (let no : Some lent ≡ None = none in cc)
+file_is_read q (Some lent) pool bytes t f ks r w (inr is) h =
+    written_over_pool_is_read q lent bytes t f ks r w
+    (subst (λ p. ReadsAsTree (over p bytes) r) (sym is) h)
 
-pub icu_compiled_with_pool_is_read : IcuCompiledWithPoolIsRead
-icu_compiled_with_pool_is_read q pool text bytes c r h =
-    let b = c.bundle in
-    written_over_pool_is_read q pool bytes b.tree b.fallback b.keys r c.file h
+pub compiled_by_is_read : CompiledByIsRead
+compiled_by_is_read way pool text bytes c r is h =
+    let b = c.compiled.bundle in
+    file_is_read way.layout.packing (pool_of way.layout) pool bytes (left_by way.rules b.tree)
+    b.fallback b.keys r c.compiled.file is h
 
 -- where no tree is counted, none is denoted
 pub tree_or_none : (w : Whole)

@@ -1,15 +1,16 @@
 -- What the laws of the whole way say.
---     ReadsAsTree w r         what `from_bytes::<Resource>` and `from_bytes_with_pool::<Resource>`
---                             promise of their answers, by what the file comes to
+--     ReadsAsTree w r         what `from_bytes::<Resource>` and `File::read::<Resource>` promise of
+--                             their answers, by what the file comes to
 --     WrittenIsRead           a file of a tree is read back as that tree, memory aside
 --     WrittenIsReadWithPool   so it is by the calls that take a pool, aliases too
 --     WrittenOverPoolIsRead   a file over a pool is read back beside it, memory aside
+--     PlainIsCompiled         what is compiled with no option is a compiled text
 --     CompiledIsRead          a compiled text is read back as its tree, memory aside
---     IcuCompiledIsRead       so is a compiled text of ICU's form
---     CompiledWithPoolIsRead, IcuCompiledWithPoolIsRead   and a text that is compiled over a pool
+--     CompiledByIsRead        so is a text that is compiled in any way
 --     TextIsRead IsText IsNone e      a text of a form's bundle is read back as that bundle, unless
 --                             memory is wanted, which the error e says
-use Rattle.std.specs.Prelude.{◌≡◌, ◌≤◌, ◌⊎◌, ℕ, Bool, false, List, Option, Some, Result, Ok, Err}
+use Rattle.std.specs.Prelude.{◌≡◌, ◌≤◌, ◌⊎◌, ℕ, Bool, false, List, Option, Some, None, Result}
+use Rattle.std.specs.Prelude.{Ok, Err}
 use Rattle.std.specs.declared.vec.Vec.{Vec}
 use Rattle.std.specs.declared.alloc.Global.{Global}
 use Rattle.resb_tree.specs.Aliases.{has_alias}
@@ -32,9 +33,11 @@ use Rattle.resb_read.specs.Roots.{HoldsAt, Whole, alone}
 use Rattle.resb_read.specs.WithPool.{over}
 use Rattle.resb_pool.specs.declared.packing.Packing.{Packing}
 use Rattle.resb_layout.specs.Written.{WrittenBy, LacksEmpty}
-use Rattle.resb_write.specs.WrittenWith.{WrittenWith, WrittenWithBy}
-use Rattle.resb_compile.specs.Compiled.{Compiled}
-use Rattle.resb_compile.specs.Compiling.{IsCompiled}
+use Rattle.resb_write.specs.WrittenWith.{WrittenWithBy}
+use Rattle.resb_write.specs.Layouts.{pool_of}
+use Rattle.resb_compile.specs.Compiling.{IsCompiled, IsCompiledBy, left_by, new}
+use Rattle.resb_compile.specs.declared.compiling.Compile.{Compile}
+use Rattle.resb_compile.specs.declared.compiling.TextForm.TheVariants.{Plain}
 
 -- what reading a file as a tree promises: a tree at the root, paid for, or memory, or no such tree
 abbrev pub ReadsAsTree : Whole → Result Resource ReadingError → Type 0
@@ -74,35 +77,26 @@ WrittenOverPoolIsRead =
     → WrittenWithBy q pool bytes t fallback ks → ReadsAsTree (over (Some pool) bytes) r
     → IsTree t r
 
+-- the file that is compiled of a text of the plain form, with no option, is a written file of the
+-- bundle that the text is
+abbrev pub PlainIsCompiled : Type 0
+PlainIsCompiled =
+    (text bytes : List ℕ) → IsCompiledBy (new Plain) text bytes → IsCompiled text bytes
+
 -- whatever reads a compiled file as a tree answers the text's tree, memory aside
 abbrev pub CompiledIsRead : Type 0
 CompiledIsRead =
     (text bytes : List ℕ) (c : IsCompiled text bytes) (r : Result Resource ReadingError)
     → ReadsAsTree (alone bytes) r → IsTree c.bundle.tree r
 
--- whatever reads a compiled text of ICU's form as a tree, by the calls that take a pool bundle,
--- answers the text's tree, memory aside, whether the file is compact or not
-abbrev pub IcuCompiledIsRead : Type 0
-IcuCompiledIsRead =
-    (q : Packing) (pool : Option Pool) (text bytes : List ℕ)
-    (c : Compiled (IcuText text) (WrittenBy q bytes)) (r : Result Resource ReadingError)
-    → ReadsAsTree (over pool bytes) r → IsTree c.bundle.tree r
-
--- whatever reads a text that was compiled over a pool bundle as a tree, by the calls that are given
--- this pool bundle, answers the text's tree, memory aside
-abbrev pub CompiledWithPoolIsRead : Type 0
-CompiledWithPoolIsRead =
-    (pool : Pool) (text bytes : List ℕ) (c : Compiled (BundleText text) (WrittenWith pool bytes))
-    (r : Result Resource ReadingError) → ReadsAsTree (over (Some pool) bytes) r
-    → IsTree c.bundle.tree r
-
--- whatever reads a text of ICU's form that was compiled over a pool bundle, compact or not, as a
--- tree, by the calls that are given this pool bundle, answers the text's tree, memory aside
-abbrev pub IcuCompiledWithPoolIsRead : Type 0
-IcuCompiledWithPoolIsRead =
-    (q : Packing) (pool : Pool) (text bytes : List ℕ)
-    (c : Compiled (IcuText text) (WrittenWithBy q pool bytes)) (r : Result Resource ReadingError)
-    → ReadsAsTree (over (Some pool) bytes) r → IsTree c.bundle.tree r
+-- whatever reads a file that was compiled in this way as a tree, by the calls that take a pool
+-- bundle, answers what the way's rules leave of the text's tree, memory aside: given the way's pool
+-- bundle, or any or none where the way has none
+abbrev pub CompiledByIsRead : Type 0
+CompiledByIsRead =
+    (way : Compile) (pool : Option Pool) (text bytes : List ℕ) (c : IsCompiledBy way text bytes)
+    (r : Result Resource ReadingError) → (pool_of way.layout ≡ None) ⊎ (pool_of way.layout ≡ pool)
+    → ReadsAsTree (over pool bytes) r → IsTree (left_by way.rules c.compiled.bundle.tree) r
 
 -- what reading a text promises: the bundle that it is, or want of memory, or that it is none
 abbrev pub ReadsAsBundle : {E : Type 0} → Texts → (List ℕ → Type 0) → E → List ℕ

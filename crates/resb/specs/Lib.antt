@@ -85,6 +85,13 @@ pub use Rattle.resb_package.specs.Checks as PackageChecks
 pub use Rattle.resb_package.specs.Items as PackageItems
 pub use Rattle.resb_package.specs.Message as PackageMessage
 pub use Rattle.resb_package.specs.Laws as PackageLaws
+pub use Rattle.resb_swap.specs.Numbers as SwapNumbers
+pub use Rattle.resb_swap.specs.Bodies as SwapBodies
+pub use Rattle.resb_swap.specs.Roles as SwapRoles
+pub use Rattle.resb_swap.specs.Swapped
+pub use Rattle.resb_swap.specs.Faults as SwapFaults
+pub use Rattle.resb_swap.specs.Message as SwapMessage
+pub use Rattle.resb_swap.specs.Laws as SwapLaws
 pub use Rattle.resb_pool_bundle.specs.Fields as HeadFields
 pub use Rattle.resb_pool_bundle.specs.Pool as PoolBundles
 pub use Rattle.resb_pool_bundle.specs.Checks as PoolBundleChecks
@@ -155,7 +162,6 @@ pub use Rattle.resb_pool_maker.specs.PoolFault
 pub use Rattle.resb_pool_maker.specs.Laws as PoolMakerLaws
 pub use Rattle.resb_compile.specs.Compiled
 pub use Rattle.resb_compile.specs.Compiling
-pub use Rattle.resb_compile.specs.CompilingIcu
-pub use Rattle.resb_compile.specs.CompilingFiltered
+pub use Rattle.resb_compile.specs.Errors as CompileErrors
 pub mod Headline
 pub mod Laws

@@ -14,14 +14,12 @@ pub use resb_head::{
 };
 pub use resb_lent::Pool;
 pub use resb_pool::{Plan, PlanError, pool};
-pub use resb_pool_bundle::{FileHead, PoolBundle, read_with_pool};
+pub use resb_pool_bundle::{FileHead, PoolBundle};
 pub use resb_pool_maker::{PoolMaker, PoolMakerError};
 pub use resb_read::{
     Cursor, Deserialize, File, IntVectorDeserializer, KeyDeserializer, Manner, MapAccess, Measured,
     Resource16BitDeserializer, SeqAccess, SortedTable, Spot, Sums, TableView, Walk,
-    count_resources, count_resources_with_pool, determine_endianness, from_bytes,
-    from_bytes_counted, from_bytes_counted_with_pool, from_bytes_with_pool, from_words, lay_words,
-    measure, measure_with_pool, tree_from_bytes, tree_from_bytes_with_pool, tree_from_bytes_within,
-    tree_from_bytes_within_with_pool,
+    determine_endianness, from_bytes, from_bytes_counted, from_words, lay_words,
 };
+pub use resb_swap::{PackageSwapError, SwapError, swapped, swapped_package};
 pub use resb_write::{BinarySerializerError, Layout, Serializer};

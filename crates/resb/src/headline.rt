@@ -18,6 +18,7 @@ ghost use Rattle.resb.specs.Headline.{DenotesWithinBeside, DenotesNoneBeside};
 
 use resb_format::{Key, ReadingError, Resource, ResourceBundle};
 use resb_pool_bundle::PoolBundle;
+use resb_read::File;
 use resb_text::{Reader, TextParserError, Turns};
 use resb_write::{BinarySerializerError, Serializer};
 use std::alloc::Global;
@@ -112,5 +113,6 @@ pub fn read_tree_with_pool<'a, 'm>(
     ensures refused { IfErr result (λ e. IsWantOfMemory e
         ⊎ DenotesNoneBeside (option_map pool_in pool.entry) file.entry.now) }
 {
-    resb_read::from_bytes_with_pool::<Resource<'a>>(alloc, file, pool)
+    let opened = File::open(file, pool)?;
+    opened.read::<Resource<'a>>(alloc)
 }

@@ -7,10 +7,10 @@ ghost use Rattle.resb_text.specs.Answer.{IsNoBundle};
 ghost use Rattle.resb_text.specs.Refusal.{want_of_memory};
 ghost use Rattle.resb_icu_text.specs.Answer.{IsNoIcuText};
 ghost use Rattle.resb_icu_text.specs.Refusal.{want_of_memory as icu_want_of_memory};
-ghost use Rattle.resb.specs.Laws.{TextIsRead, CompiledIsRead, WrittenIsRead};
-ghost use Rattle.resb.specs.Laws.{WrittenIsReadWithPool, IcuCompiledIsRead};
-ghost use Rattle.resb.specs.Laws.{WrittenOverPoolIsRead, CompiledWithPoolIsRead};
-ghost use Rattle.resb.specs.Laws.{IcuCompiledWithPoolIsRead};
+ghost use Rattle.resb.specs.Laws.{TextIsRead, PlainIsCompiled, CompiledIsRead};
+ghost use Rattle.resb.specs.Laws.{WrittenIsRead};
+ghost use Rattle.resb.specs.Laws.{WrittenIsReadWithPool, WrittenOverPoolIsRead};
+ghost use Rattle.resb.specs.Laws.{CompiledByIsRead};
 
 // Trees and integers.
 
@@ -91,6 +91,9 @@ pub use resb_print::laws::printed_is_linear;
 pub use resb_head::laws::header_passes;
 // The checks of a file's head let through exactly the bundle files.
 pub use resb_head::laws::bundle_file_passes;
+// The checks of a head let through exactly the pool bundles, and exactly the files that can be read
+// beside a pool bundle.
+pub use resb_pool_bundle::laws::files_pass;
 // A file of version 2.0 that neither is nor uses a pool bundle has beside any the refusal that it
 // has alone, and its parts, of which aliases are read; and it denotes what it does where they are.
 pub use resb_pool_bundle::laws::{own_files_are_the_same, own_files_denote_the_same};
@@ -128,6 +131,16 @@ pub use resb_package::laws::one_package;
 pub use resb_package::laws::names_differ;
 // The checks of a package let through exactly the packages.
 pub use resb_package::laws::package_passes;
+// A file that was swapped to the other order of bytes is swapped back to the same bytes.
+pub use resb_swap::laws::swapped_back;
+// A swapped file is as long as the file.
+pub use resb_swap::laws::swapped_is_as_long;
+// A file has one swapped file.
+pub use resb_swap::laws::one_swap;
+// A package that was swapped to the other order of bytes is swapped back to the same bytes.
+pub use resb_swap::laws::package_swapped_back;
+// A package has one swapped package.
+pub use resb_swap::laws::one_package_swap;
 // Units of a block are well-formed exactly by their two ends and their neighbours.
 pub use resb_blocks::laws::ranges_by_links;
 // A place in a key has a key exactly where a character begins.
@@ -205,12 +218,12 @@ pub use resb_head::laws::index_survives;
 
 // And back again.
 
-/// A text of a bundle, as one that `print_text` gives, is read back as that bundle, memory aside.
+/// A text of a bundle, as one that `Print` gives, is read back as that bundle, memory aside.
 pub fn bundle_text_is_read()
     ensures { TextIsRead BundleText IsNoBundle want_of_memory }
 {}
 
-/// A text of a bundle in ICU's form, as one that `print_icu_text` gives, is read back as that
+/// A text of a bundle in ICU's form, as one that `Print` gives, is read back as that
 /// bundle, memory aside.
 pub fn icu_text_is_read()
     ensures { TextIsRead IcuText IsNoIcuText icu_want_of_memory }
@@ -222,16 +235,16 @@ pub fn written_is_read()
     ensures { WrittenIsRead }
 {}
 
-/// What was written of any tree, compact or not, is read back by
-/// `from_bytes_with_pool::<Resource>` as that tree, memory aside.
+/// What was written of any tree, compact or not, is read back by `File::read::<Resource>`, once
+/// `File::open` has opened it, as that tree, memory aside.
 pub fn written_is_read_with_pool()
     ensures { WrittenIsReadWithPool }
 {}
 
-/// A compiled text of ICU's form, compact or not, is read back by
-/// `from_bytes_with_pool::<Resource>` as the text's tree, memory aside.
-pub fn icu_compiled_is_read()
-    ensures { IcuCompiledIsRead }
+/// What is compiled of a text of the plain form, with no option, is a written file of the text's
+/// bundle.
+pub fn plain_is_compiled()
+    ensures { PlainIsCompiled }
 {}
 
 /// A compiled text is read back by `from_bytes::<Resource>` as the text's tree, memory aside.
@@ -239,20 +252,14 @@ pub fn compiled_is_read()
     ensures { CompiledIsRead }
 {}
 
-/// What was written over a pool bundle, compact or not, is read back by
-/// `from_bytes_with_pool::<Resource>` beside that pool bundle as its tree, memory aside.
+/// What was written over a pool bundle, compact or not, is read back by `File::read::<Resource>`
+/// beside that pool bundle as its tree, memory aside.
 pub fn written_over_pool_is_read()
     ensures { WrittenOverPoolIsRead }
 {}
 
-/// A text that was compiled over a pool bundle is read back beside it as the text's tree, memory
-/// aside.
-pub fn compiled_with_pool_is_read()
-    ensures { CompiledWithPoolIsRead }
-{}
-
-/// A text of ICU's form that was compiled over a pool bundle, compact or not, is read back beside
-/// it as the text's tree, memory aside.
-pub fn icu_compiled_with_pool_is_read()
-    ensures { IcuCompiledWithPoolIsRead }
+/// A text that was compiled in any way is read back by `File::read::<Resource>`, beside the way's
+/// pool bundle, if it has one, as what the way's rules leave of the text's tree, memory aside.
+pub fn compiled_by_is_read()
+    ensures { CompiledByIsRead }
 {}

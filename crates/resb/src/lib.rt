@@ -16,8 +16,4 @@ pub mod package;
 pub mod path;
 pub mod text;
 
-pub use resb_compile::{
-    CompileError, CompileWithinError, IcuCompileError, IcuCompileWithinError, compile, compile_icu,
-    compile_icu_compact, compile_icu_compact_with_pool, compile_icu_with_pool, compile_icu_within,
-    compile_with_pool, compile_within, keys_of,
-};
+pub use resb_compile::{Compile, CompileError, TextForm, keys_of};

@@ -1,7 +1,7 @@
 -- Nothing is passed on.
 mod HeadLemmas
+mod HandedLemmas
 mod PathLemmas
-mod ThereLemmas
 mod ZoneLemmas
 mod OpenedLemmas
 mod AscendingLemmas
@@ -9,3 +9,6 @@ mod WithinLemmas
 mod NamedLemmas
 mod SeenLemmas
 mod OpeningLemmas
+mod SourceLemmas
+mod CompilingLemmas
+mod DumpingLemmas

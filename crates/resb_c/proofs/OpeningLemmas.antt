@@ -3,14 +3,14 @@ use Rattle.std.proofs.Common.{◌≡◌, ℕ, List, Option, Some, Ok, Err, inl, 
 use Rattle.std.proofs.Common.{◌∙◌, [], refl, false, cond, None}
 use Rattle.std.proofs.lemmas.Bool.{false≢true}
 use Rattle.resb_tree.specs.Tree.{string}
-use Rattle.resb_format.specs.Error.{refusal_of, IsWantOfMemory}
+use Rattle.resb_format.specs.Error.{IsWantOfMemory}
 use Rattle.resb_format.specs.Content.{word, content_at, leaf}
 use Rattle.resb_format.specs.Denotes.{den_leaf}
 use Rattle.resb_format.specs.Parts.{Parts, reads_older}
 use Rattle.resb_format.specs.declared.error.ReadingError.{ReadingError}
 use Rattle.resb_head.specs.File.{root_word}
-use Rattle.resb_pool_bundle.specs.Checks.{refusal_with}
 use Rattle.resb_pool_bundle.specs.Pool.{Pool, parts_with}
+use Rattle.resb_pool_bundle.proofs.PassingFiles.{file_passes}
 use Rattle.resb_path.specs.Finding.{tree_spot}
 use Rattle.resb_read.specs.Resources.{DenSpot}
 use Rattle.resb_read.specs.Roots.{AnswersCountOf}
@@ -24,7 +24,6 @@ use Rattle.resb_c.specs.Pools.{given}
 use Rattle.resb_c.specs.declared.fault.Fault.TheVariants.{Reading}
 use Rattle.resb_c.specs.declared.opened.ResbOpened.{ResbOpened}
 use Rattle.resb_c.proofs.HeadLemmas.{passes_given}
-use Rattle.resb_c.proofs.OpenedLemmas.{none_some}
 
 -- the struct of these parts is that of the file
 pub is_opened : (pool file : List ℕ) (lent : Option Pool) (q : Parts) (root : ℕ) (o : ResbOpened)
@@ -80,20 +79,13 @@ is_closed o root never count body keys block pool_keys pool_block = record {
   pool_block = pool_block;
 }
 
--- a file that was counted passes each check of its head
-pub counted_passes : (pool file : List ℕ) (lent : Option Pool) (e : ReadingError) (n : ℕ)
-    → lent ≡ given pool → AnswersCountOf (over (given pool) file) (Ok n)
-    → refusal_with lent file ≡ Some (refusal_of e) → ⊥
-counted_passes pool file lent e n is (t, d, less) h =
-    none_some (sym d.head ∙ ap (λ l. refusal_with l file) (sym is) ∙ h)
-
 -- once a file was counted, memory may be wanted
 pub memory_wanted : (pool file : List ℕ) (n : ℕ) (e : ReadingError) → CountsFile pool file (Ok n)
     → IsWantOfMemory e → CountsFile pool file (Err (Reading e))
 memory_wanted pool file n e (is, (t, d, less)) want = (
   is,
   (
-    passes_given (given pool) file d.head,
+    passes_given (given pool) file (file_passes (given pool) file d.head),
     inr (d.head, inl want, λ fault. absurd (fault.not_memory want.kind_is)),
   ),
 )

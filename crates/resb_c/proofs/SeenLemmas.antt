@@ -1,16 +1,19 @@
 -- What is told of a resource of an opened file is so of its tree.
-use Rattle.std.proofs.Common.{◌≡◌, ◌≤◌, ℕ, List, Option, Some, None, refl, sym, ap, subst, ◌∙◌}
+use Rattle.std.proofs.Common.{◌≡◌, ◌≤◌, ℕ, List, [], Option, Some, None, refl, sym, ap, subst, ◌∙◌}
 use Rattle.std.proofs.Common.{length, slice_get}
 use Rattle.std.specs.Prelude.{option_map}
+use Rattle.std.specs.Char.Utf16.{utf16_chars}
 use Rattle.std.proofs.lemmas.Option.{same_Some}
 use Rattle.resb_tree.specs.Inner.Dropping.{IsNoCollection}
 use Rattle.resb_tree.specs.Int28.{signed}
 use Rattle.resb_tree.specs.Tree.{Tree, string, alias, array, table, binary, integer, int_vector}
 use Rattle.resb_tree.specs.Tree.{Entries, Trees, map_of}
+use Rattle.resb_format.specs.Bytes.{units_of}
 use Rattle.resb_format.specs.Content.{Content, Member, leaf, list, entry_list}
 use Rattle.resb_format.specs.Denotes.{DenEntries}
 use Rattle.resb_format.specs.Lookups.{key_in}
 use Rattle.resb_format.specs.Parts.{Parts}
+use Rattle.resb_walk.specs.Inner.Members.{text_of_bytes}
 use Rattle.resb_path.specs.Finding.{Spot, tree_spot, number_spot}
 use Rattle.resb_c.specs.AtPlaces.{content_from, found_kind, kind_number, leaf_size, size_in}
 use Rattle.resb_c.specs.AtPlaces.{tree_kind, HasKey}
@@ -28,6 +31,11 @@ use Rattle.resb_c.specs.declared.resource.ResbResource.{ResbResource}
 use Rattle.resb_c.proofs.OpenedLemmas.{shown_fits, spot_fits, none_some, Fits, EntryAs, entries_at}
 use Rattle.resb_c.proofs.OpenedLemmas.{each_length, entries_length, same_entries}
 use Rattle.resb_c.proofs.WithinLemmas.{get_first, get_past}
+
+-- no units are the empty text
+pub empty_text : text_of_bytes [] ≡ []
+unfolding utf16_chars units_of
+empty_text = refl
 
 module _ (o : ResbOpened) (r : ResbResource) (c : Content)
     (h : content_from (parts_of o) (spot_of r) ≡ Some c) (s : Spot) (shows : Shows o r s) where

@@ -1,14 +1,10 @@
 -- What stands at a place of a file, as the caller in C gets it.
 --     content_from parts spot     what stands there
 --     kind_number c, size_in c    its kind, as the header numbers it, and how much is in it
---     kind_from parts spot    both, of what stands at a spot
 --     found_kind s            the kind of what is found in a tree
---     IsOfOther kind parts spot   what stands there is of another kind
---     integer_from spot       the number that stands there, with its sign
 --     spot_refusal parts spot     why what stands there isn't read
---     HasTable place P        a table stands there, of whose entries this is so
 --     HasKey, HasBadKey p number  the key of an entry, and why it isn't read
-use Rattle.std.specs.Prelude.{◌≡◌, ◌≢◌, ◌≤◌, ℕ, ℤ, List, ◌∷◌, length, drop, Option, Some, None}
+use Rattle.std.specs.Prelude.{◌≡◌, ◌≤◌, ℕ, List, ◌∷◌, length, drop, Option, Some, None}
 use Rattle.std.specs.Prelude.{option_map}
 use Rattle.resb_tree.specs.Tree.{Tree, string, alias, array, table, binary, integer, int_vector}
 use Rattle.resb_format.specs.Content.{Content, Member, leaf, list, entry_list, content_at}
@@ -18,8 +14,6 @@ use Rattle.resb_format.specs.Lookups.{index_in, key_in}
 use Rattle.resb_format.specs.declared.error.ReadingError.{ReadingError}
 use Rattle.resb_format.specs.Parts.{Parts}
 use Rattle.resb_walk.specs.BlockRefusals.{word_refusal, text_refusal_in, key_refusal_in, Says}
-use Rattle.resb_read.specs.Leaves.{signed_at}
-use Rattle.resb_read.specs.Places.{Place}
 use Rattle.resb_path.specs.Finding as finding
 use Rattle.resb_read.specs.declared.cursor.Spot.{Spot}
 use Rattle.resb_read.specs.declared.cursor.Spot.TheVariants as spot
@@ -70,33 +64,12 @@ size_in (leaf t) = leaf_size t
 size_in (list ms) = length ms
 size_in (entry_list es) = length es
 
--- its kind and its size; a number of a vector is an integer
-abbrev pub kind_from : Parts → Spot → Option (ℕ × ℕ)
-kind_from p (spot.Descriptor w) = option_map (λ c. (kind_number c, size_in c)) (content_at p w)
-kind_from p (spot.Unit u) =
-    option_map (λ c. (kind_number c, size_in c)) (text_leaf p (index_in p u))
-kind_from p (spot.Word n) = Some (4, 0)
-kind_from p (spot.Key k) = None
-
--- what stands there is of another kind than this
-abbrev pub IsOfOther : ℕ → Parts → Spot → Type 0
-IsOfOther kind p s = (k : ℕ × ℕ) × (kind_from p s ≡ Some k) × (k.0 ≢ kind)
-
--- an integer's 28 bits with bit 27 as the sign, or a number of a vector
-abbrev pub integer_from : Spot → Option ℤ
-integer_from s = option_map (λ x. x.0) (signed_at s)
-
 -- why what stands at a spot of a resource isn't read; a key is none, and lies elsewhere
 abbrev pub spot_refusal : Parts → Spot → Refusal
 spot_refusal p (spot.Descriptor w) = word_refusal p w
 spot_refusal p (spot.Unit u) = text_refusal_in p (index_in p u)
 spot_refusal p (spot.Word n) = end_of_input
 spot_refusal p (spot.Key k) = end_of_input
-
--- a table stands there, of whose entries this is so
-abbrev pub HasTable : Place → (List (ℕ × Member) → Type 0) → Type 0
-HasTable p P =
-    (es : List (ℕ × Member)) × (content_from p.parts p.at ≡ Some (entry_list es)) × P es
 
 -- behind so many entries one stands whose key has this position
 abbrev pub IsBehind : List (ℕ × Member) → ℕ → ℕ → Type 0

@@ -3,7 +3,7 @@
 --     Tells r status e               the status and the error that the caller gets of an answer
 --     Reports r status n e           the same with the number that he gets
 use Rattle.std.specs.Prelude.{◌≡◌, ◌≤◌, ◌<◌, ◌⊎◌, ℕ, List, ◌++◌, length, drop, take}
-use Rattle.std.specs.Prelude.{Result, Ok, Err, IsUtf8, replicate}
+use Rattle.std.specs.Prelude.{Result, Ok, Err, IsUtf8, replicate, ℤ, pos}
 use Rattle.std.specs.Str.Lossy.{utf8_valid_len}
 use Rattle.resb_read.specs.Roots.{AnswersCountOf}
 use Rattle.resb_read.specs.WithPool.{over}
@@ -60,6 +60,11 @@ Tells (Err fault) status e =
 abbrev pub number_told : Result ℕ Fault → ℕ
 number_told (Ok n) = n
 number_told (Err fault) = needed_of fault
+
+-- the number with a sign that the caller gets of an answer: the answer, or 0
+abbrev pub integer_told : Result ℤ Fault → ℤ
+integer_told (Ok x) = x
+integer_told (Err fault) = pos 0
 
 -- the status and the error tell of the answer, and the number is the one that the caller gets
 abbrev pub Reports : Result ℕ Fault → ℕ → ℕ → ResbError → Type 0

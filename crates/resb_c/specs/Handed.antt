@@ -2,8 +2,8 @@
 --     status_of r             the status of an answer
 --     IsOpenedAs r o          the struct that the caller gets where a file is opened
 --     HandsOn r status m      the status and the resource that he gets of an answer
---     HandsPart read x status b   the status and the bytes that he gets of what is there
---     HandsUnits x status b       the same of a text, whose units are handed on
+--     HandsPart f x status b      the status and the bytes that he gets of what is there
+--     units_handed text       the bytes of a text's units
 --     TellsKeyOf o r k s status b     the same of the key of the kth entry
 use Rattle.std.specs.Prelude.{◌≡◌, ℕ, List, [], Option, Some, None, Result, Ok, Err, slice_get}
 use Rattle.resb_tree.specs.Tree.{Tree, string, alias, array, table, binary, integer, int_vector}
@@ -33,17 +33,14 @@ abbrev pub HandsOn : Result ResbResource Fault → ℕ → ResbResource → Type
 HandsOn (Ok r) status new = (status ≡ 0) × (new ≡ r)
 HandsOn (Err fault) status new = (status ≡ number_of fault) × (spot_of new ≡ spot.Word 0)
 
--- the status is 0, and the bytes are read as this; or it is 13, and there are none
+-- the status is 0, and the bytes are those of what is there; or it is 13, and there are none
 abbrev pub HandsPart : (List ℕ → List ℕ) → Option (List ℕ) → ℕ → ResbBytes → Type 0
-HandsPart read (Some x) status b = (status ≡ 0) × (read b.bytes.now ≡ x)
-HandsPart read None status b = (status ≡ 13) × (b.bytes.now ≡ [])
+HandsPart bytes_of (Some x) status b = (status ≡ 0) × (b.bytes.now ≡ bytes_of x)
+HandsPart bytes_of None status b = (status ≡ 13) × (b.bytes.now ≡ [])
 
--- the status is 0, and the bytes are those of the text's units of 16 bits, the lower byte of each
--- first; or it is 13, and there are none
-abbrev pub HandsUnits : Option (List ℕ) → ℕ → ResbBytes → Type 0
-HandsUnits (Some text) status b =
-    (status ≡ 0) × (b.bytes.now ≡ units_as_bytes (units text))
-HandsUnits None status b = (status ≡ 13) × (b.bytes.now ≡ [])
+-- the bytes of a text's units of 16 bits, the lower one of each first
+abbrev pub units_handed : List ℕ → List ℕ
+units_handed text = units_as_bytes (units text)
 
 -- the status is 0, and the bytes are the entry's key; or it is 12, and there are none
 abbrev pub HandsKey : Option (List ℕ × Tree) → ℕ → ResbBytes → Type 0

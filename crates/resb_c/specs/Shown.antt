@@ -13,7 +13,7 @@ use Rattle.resb_tree.specs.Maps.{get}
 use Rattle.resb_tree.specs.Tree.{Tree, string, alias, array, table, binary, integer, int_vector}
 use Rattle.resb_tree.specs.Int28.{signed}
 use Rattle.resb_path.specs.Finding.{Spot, tree_spot, number_spot, found_at}
-use Rattle.resb_c.specs.AtPaths.{names_in}
+use Rattle.resb_c.specs.Paths.{names_in}
 use Rattle.resb_c.specs.Calls.{Fills, IsNotUtf8}
 use Rattle.resb_c.specs.Opened.{Shows, HoldsEntries}
 use Rattle.resb_c.specs.declared.fault.Fault.{Fault}

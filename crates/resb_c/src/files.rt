@@ -3,16 +3,15 @@
 ghost use Rattle.std.specs.Prelude.{◌≡◌, ℕ, IfOk, IfErr, IsUtf8, option_map};
 ghost use Rattle.resb_format.specs.declared.error.ReadingError.{ReadingError};
 ghost use Rattle.resb_pool_bundle.specs.Pool.{pool_in};
-ghost use Rattle.resb_c.specs.Calls.{CountsFile, Fills, IsNotUtf8};
-ghost use Rattle.resb_c.specs.Dumping.{DumpsInto, HasNoBundle, IsBundleToDump};
+ghost use Rattle.resb_c.specs.Calls.{Fills, IsNotUtf8};
+ghost use Rattle.resb_c.specs.Dumping.{HasNoBundle, IsBundleToDump};
+ghost use Rattle.resb_c.specs.Inner.Heads.{HasNoSource, IsSource, fault_said};
 ghost use Rattle.resb_c.specs.Measures.{MeasuresFile};
 ghost use Rattle.resb_c.specs.Pools.{given, IsGiven, RefusesPool};
 
 use crate::fault::Fault;
-use crate::form::Form;
-use crate::printing::print_within;
 use resb_pool_bundle::PoolBundle;
-use resb_program::{FileError, read_bundle};
+use resb_program::{BundleFile, FileError, open_file, read_bundle};
 use resb_read::Measured;
 use resb_tree::ResourceBundle;
 use std::alloc::Global;
@@ -22,15 +21,6 @@ use std::alloc::Global;
 pub(crate) struct Input<'a> {
     pub(crate) file: &'a [u8],
     pub(crate) pool: &'a [u8],
-}
-
-/// The text that is wanted of a file: its form, the name of its bundle, and the most bytes that the
-/// tree and the text may take.
-#[derive(Clone, Copy)]
-pub(crate) struct Wanted<'a> {
-    pub(crate) form: Form,
-    pub(crate) name: &'a [u8],
-    pub(crate) limit: u64,
 }
 
 /// Copies an answer to the front of the buffer where it has room, and gives its length, which is
@@ -74,17 +64,27 @@ pub(crate) fn pool_of(bytes: &[u8]) -> Result<Option<PoolBundle<'_>>, Fault>
     }
 }
 
-/// The number of resources of a file's tree.
-pub(crate) fn count_file(alloc: Global, input: Input<'_>) -> Result<usize, Fault>
-    ensures { CountsFile input.entry.pool.now input.entry.file.now result }
+/// The fault of a file that isn't had.
+fn fault_in(e: FileError) -> Fault
+    ensures { result ≡ fault_said e }
+{
+    match e {
+        FileError::UsesPool => Fault::UsesPool,
+        FileError::Larger { bytes, limit } => Fault::Larger { bytes, limit },
+        FileError::LongKeys { bytes, limit } => Fault::LongKeys { bytes, limit },
+        FileError::Reading(e) => Fault::Reading(e),
+    }
+}
+
+/// Opens a file beside the pool bundle that is given, if one is.
+pub(crate) fn source_of<'a>(input: Input<'a>) -> Result<BundleFile<'a>, Fault>
+    ensures ok { IfOk result (IsSource input.entry.pool.now input.entry.file.now) }
+    ensures err { IfErr result (HasNoSource input.entry.pool.now input.entry.file.now) }
 {
     let pool = pool_of(input.pool)?;
-    match resb_program::count_file(alloc, input.file, pool) {
-        Ok((count, _)) => Ok(count),
-        Err(FileError::UsesPool) => Err(Fault::UsesPool),
-        Err(FileError::Larger { bytes, limit }) => Err(Fault::Larger { bytes, limit }),
-        Err(FileError::LongKeys { bytes, limit }) => Err(Fault::LongKeys { bytes, limit }),
-        Err(FileError::Reading(e)) => Err(Fault::Reading(e)),
+    match open_file(input.file, pool) {
+        Ok(source) => Ok(source),
+        Err(e) => Err(fault_in(e)),
     }
 }
 
@@ -92,56 +92,28 @@ pub(crate) fn count_file(alloc: Global, input: Input<'_>) -> Result<usize, Fault
 pub(crate) fn measure_file(alloc: Global, input: Input<'_>) -> Result<Measured, Fault>
     ensures { MeasuresFile input.entry.pool.now input.entry.file.now result }
 {
-    let pool = pool_of(input.pool)?;
-    match resb_program::measure_file(alloc, input.file, pool) {
+    let source = source_of(input)?;
+    match source.file.measure(alloc) {
         Ok(measured) => Ok(measured),
-        Err(FileError::UsesPool) => Err(Fault::UsesPool),
-        Err(FileError::Larger { bytes, limit }) => Err(Fault::Larger { bytes, limit }),
-        Err(FileError::LongKeys { bytes, limit }) => Err(Fault::LongKeys { bytes, limit }),
-        Err(FileError::Reading(e)) => Err(Fault::Reading(e)),
+        Err(e) => Err(Fault::Reading(e)),
     }
 }
 
-/// A file's bundle, whose tree takes no more bytes than the limit, nor do the keys of its entries.
+/// A file's bundle, whose tree takes no more bytes than the limit, if there is one, nor do the keys
+/// of its entries.
 pub(crate) fn bundle_of<'a>(
     alloc: Global,
     name: &'a str,
     input: Input<'a>,
-    limit: u64,
+    limit: Option<u64>,
 ) -> Result<ResourceBundle<'a>, Fault>
     ensures ok { IfOk result
         (IsBundleToDump input.entry.pool.now input.entry.file.now name.entry.now limit) }
     ensures err { IfErr result (HasNoBundle input.entry.pool.now input.entry.file.now limit) }
 {
-    let pool = pool_of(input.pool)?;
-    match read_bundle(alloc, name, input.file, pool, Some(limit)) {
+    let source = source_of(input)?;
+    match read_bundle(alloc, name, &source, limit) {
         Ok(bundle) => Ok(bundle),
-        Err(FileError::UsesPool) => Err(Fault::UsesPool),
-        Err(FileError::Larger { bytes, limit }) => Err(Fault::Larger { bytes, limit }),
-        Err(FileError::LongKeys { bytes, limit }) => Err(Fault::LongKeys { bytes, limit }),
-        Err(FileError::Reading(e)) => Err(Fault::Reading(e)),
-    }
-}
-
-/// Prints a file's tree to the front of the buffer, as the text that is wanted, which has no more
-/// bytes than the limit.
-pub(crate) fn dump_into(
-    alloc: Global,
-    input: Input<'_>,
-    wanted: Wanted<'_>,
-    out: &mut [u8],
-) -> Result<usize, Fault>
-    ensures { DumpsInto wanted.entry.form input.entry.pool.now input.entry.file.now
-        wanted.entry.name.now wanted.entry.limit out.old out.new result }
-{
-    let name = text_of(wanted.name)?;
-    let bundle = bundle_of(alloc, name, input, wanted.limit)?;
-    match print_within(alloc, wanted.form, &bundle, wanted.limit) {
-        Ok(Some(text)) => match fill(text.as_bytes(), out) {
-            Ok(count) => Ok(count),
-            Err(needed) => Err(Fault::TooShort(needed)),
-        },
-        Ok(None) => Err(Fault::LongText(wanted.limit)),
-        Err(e) => Err(Fault::Printing(e)),
+        Err(e) => Err(fault_in(e)),
     }
 }

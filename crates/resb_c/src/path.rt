@@ -1,8 +1,8 @@
 //! The names of a path, as the caller in C writes it.
 //! Where they lead in a file is found in `resb_path`.
 ghost use Rattle.std.specs.Prelude.{◌≡◌, IfOk, map};
-ghost use Rattle.resb_c.specs.AtPaths as paths;
-ghost use Rattle.resb_c.specs.AtPaths.{names_in};
+ghost use Rattle.resb_c.specs.Paths as paths;
+ghost use Rattle.resb_c.specs.Paths.{names_in};
 
 use std::alloc::{AllocError, Global};
 

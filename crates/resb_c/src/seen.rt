@@ -1,13 +1,14 @@
 //! What stands at a resource of an opened file: its kind and its size, and what a leaf holds.
 //! What is inside arrays, tables and vectors is found in `within`.
-ghost use Rattle.std.specs.Prelude.{◌≡◌, ℕ, Some, None, option_map, IfOk, IfErr, IfSome};
-ghost use Rattle.std.specs.Prelude.{MatchResult};
+ghost use Rattle.std.specs.Prelude.{◌≡◌, ◌%◌, ℕ, Some, None, option_map, IfOk, IfErr, IfSome};
+ghost use Rattle.std.specs.Prelude.{MatchResult, length};
 ghost use Rattle.resb_format.specs.Bytes.{units_as_bytes, words_of};
 ghost use Rattle.resb_format.specs.Units.{units};
+ghost use Rattle.resb_layout.specs.Laid.{words};
 ghost use Rattle.resb_tree.specs.Int28.{signed};
 ghost use Rattle.resb_path.specs.Finding as finding;
 ghost use Rattle.resb_path.specs.Finding.{number_spot};
-ghost use Rattle.resb_walk.specs.Inner.Members.{content_of, text_of_bytes, AreUtf16, HasUtf16};
+ghost use Rattle.resb_walk.specs.Inner.Members.{content_of, text_of_bytes, AreUtf16, IsWellSpelled};
 ghost use Rattle.resb_c.specs.AtPlaces.{content_from, found_kind};
 ghost use Rattle.resb_c.specs.Inner.Contents.{content_bytes, content_integer, content_numbers};
 ghost use Rattle.resb_c.specs.Inner.Contents.{content_text};
@@ -35,7 +36,7 @@ pub(crate) fn standing<'a>(
         content_from (parts_of opened.now) (spot_of resource) ≡ Some (content_of s)) }
     ensures err { IfErr result (λ e. (s : finding.Spot) → Shows opened.now resource s
         → (n : ℕ) × (s ≡ number_spot n) × (e ≡ OtherKind)) }
-    ensures form { IfOk result HasUtf16 }
+    ensures form { IfOk result IsWellSpelled }
 {
     let at = resource.spot();
     if let Spot::Word(_) = at {
@@ -57,9 +58,9 @@ fn spelled(bytes: &[u8]) -> &[u8]
 }
 
 /// The units of a string.
-#[tactic(auto, using(crate::proofs::ThereLemmas::empty_text))]
+#[tactic(auto, using(crate::proofs::SeenLemmas::empty_text))]
 fn text_of(there: Standing<'_>) -> Option<&[u8]>
-    requires { HasUtf16 there }
+    requires { IsWellSpelled there }
     ensures text { option_map (λ units. text_of_bytes units.now) result
         ≡ content_text (content_of there.entry) }
     ensures units { IfSome result
@@ -87,13 +88,24 @@ fn bytes_of(there: Standing<'_>) -> Option<&[u8]>
     }
 }
 
+/// Bytes of whole words, which are those of the words that they spell.
+fn whole(bytes: &[u8]) -> &[u8]
+    requires { length bytes.now % 4 ≡ 0 }
+    ensures is { result.now ≡ bytes.entry.now }
+    ensures words { result.now ≡ words (words_of result.now) }
+{
+    bytes
+}
+
 /// The numbers of a vector, four bytes for each.
 fn numbers_of(there: Standing<'_>) -> Option<&[u8]>
-    ensures { option_map (λ bytes. words_of bytes.now) result
+    requires { IsWellSpelled there }
+    ensures numbers { option_map (λ bytes. words_of bytes.now) result
         ≡ content_numbers (content_of there.entry) }
+    ensures words { IfSome result (λ bytes. bytes.now ≡ words (words_of bytes.now)) }
 {
     match there {
-        Standing::Leaf(Leaf::Numbers(numbers)) => Some(numbers),
+        Standing::Leaf(Leaf::Numbers(numbers)) => Some(whole(numbers)),
         Standing::Leaf(Leaf::Alias(_) | Leaf::Text(_) | Leaf::Empty) => None,
         Standing::Leaf(Leaf::Integer(_) | Leaf::Binary(_)) => None,
         Standing::List(_) | Standing::Table(_) => None,
@@ -177,9 +189,10 @@ pub(crate) fn numbers_seen<'a>(
     opened: &ResbOpened<'a>,
     resource: ResbResource,
 ) -> Result<&'a [u8], Fault>
-    ensures { (s : finding.Spot) → Shows opened.now resource s → MatchResult result
+    ensures shown { (s : finding.Spot) → Shows opened.now resource s → MatchResult result
         (λ bytes. numbers_shown s ≡ Some (words_of bytes.now))
         (λ e. (numbers_shown s ≡ None) × (e ≡ OtherKind)) }
+    ensures words { IfOk result (λ bytes. bytes.now ≡ words (words_of bytes.now)) }
 {
     let there = standing(opened, resource)?;
     match numbers_of(there) {

@@ -1,15 +1,27 @@
 //! The offset of a time zone at a moment, out of ICU's file of zones.
 //! What such a file holds, and how an offset follows from it, is said in `resb_zoneinfo`.
-ghost use Rattle.std.specs.Prelude.{IfOk, IfErr};
+ghost use Rattle.std.specs.Prelude.{None, IfOk, IfErr};
 ghost use Rattle.resb_zoneinfo.specs.Reading.{ReadsInfo, RefusesInfo};
+ghost use Rattle.resb_c.specs.Inner.Heads.{IsToldAs};
 ghost use Rattle.resb_c.specs.Zones.{HasNoInfo, TellsOffset};
 
 use crate::fault::Fault;
 use crate::files::text_of;
-use crate::found::fault_of;
 use resb_fields::Fields;
+use resb_format::BinaryDeserializerError;
+use resb_pool_bundle::FileHead;
 use resb_zoneinfo::{InfoFields, ZoneInfo};
 use std::alloc::Global;
+
+/// Why a file has no records: that it uses a pool bundle, or the reader's refusal.
+fn fault_of(file: &[u8], refusal: BinaryDeserializerError) -> Fault
+    ensures { IsToldAs None file.now refusal.entry result }
+{
+    match FileHead::read(file) {
+        Ok(head) if head.uses_pool() => Fault::UsesPool,
+        _ => Fault::Reading(refusal),
+    }
+}
 
 /// The records of a file, which uses no pool bundle.
 fn info_of<'f>(alloc: Global, file: &'f [u8]) -> Result<ZoneInfo<'f>, Fault>
@@ -21,7 +33,7 @@ fn info_of<'f>(alloc: Global, file: &'f [u8]) -> Result<ZoneInfo<'f>, Fault>
 {
     match ZoneInfo::from_bytes(alloc, file) {
         Ok(info) => Ok(info),
-        Err(refusal) => Err(fault_of(file, None, refusal)),
+        Err(refusal) => Err(fault_of(file, refusal)),
     }
 }
 

@@ -5,10 +5,8 @@ use crate::example::{BINARIES, FILE, OVER_POOL, POOL, STRINGS, TEXT, WORDS};
 use crate::outcome::{Outcome, Refused, outcome_of};
 use resb::binary::helpers::vec_utf_16;
 use resb::binary::{
-    BinHeader, BinIndex, BinReprInfo, Cursor, PoolBundle, count_resources,
-    count_resources_with_pool, from_bytes, from_bytes_counted, from_bytes_with_pool, from_words,
-    lay_words, measure, measure_with_pool, tree_from_bytes, tree_from_bytes_with_pool,
-    tree_from_bytes_within, tree_from_bytes_within_with_pool,
+    BinHeader, BinIndex, BinReprInfo, Cursor, File, PoolBundle, from_bytes, from_bytes_counted,
+    from_words, lay_words,
 };
 use resb::bundle::{Key, Resource};
 use resb::text::Reader;
@@ -28,20 +26,19 @@ pub(crate) fn reads_a_tree(alloc: Global) -> Result<bool, Refused> {
 
 pub(crate) fn counts(alloc: Global) -> Result<bool, Refused> {
     let (tree, count) = from_bytes_counted::<Resource>(alloc, &FILE)?;
-    Ok(count_resources(alloc, &FILE)? == count && is_example(alloc, &tree)?)
+    let file = File::alone(&FILE)?;
+    Ok(file.count(alloc)? == count && is_example(alloc, &tree)?)
 }
 
 pub(crate) fn measures(alloc: Global) -> Result<bool, Refused> {
-    let measured = measure(alloc, &FILE)?;
-    let Some(limit) = measured.tree_bytes() else {
-        return Ok(false);
-    };
-    let tree = tree_from_bytes_within(alloc, &FILE, limit)?;
-    is_example(alloc, &tree)
+    let file = File::alone(&FILE)?;
+    let limit = file.measure(alloc)?.tree_bytes();
+    let tree = file.tree(alloc, limit)?;
+    Ok(limit.is_some() && is_example(alloc, &tree)?)
 }
 
 pub(crate) fn reads_by_a_cursor(alloc: Global) -> Result<bool, Refused> {
-    let tree = tree_from_bytes(alloc, &FILE)?;
+    let tree = File::alone(&FILE)?.tree(alloc, None)?;
     let (root, mut walk) = Cursor::root(&FILE)?;
     let again = root.read_resource(alloc, &mut walk)?;
     let (strings, mut walk) = Cursor::root(&STRINGS)?;
@@ -68,20 +65,20 @@ pub(crate) fn reads_views(alloc: Global) -> Result<bool, Refused> {
 /// The names of a file over a pool bundle, by their keys.
 pub(crate) fn reads_beside_a_pool(alloc: Global) -> Result<bool, Refused> {
     let pool = PoolBundle::read(&POOL)?;
-    let names: BTreeMap<&str, String> = from_bytes_with_pool(alloc, &OVER_POOL, Some(pool))?;
+    let file = File::open(&OVER_POOL, Some(pool))?;
+    let names: BTreeMap<&str, String> = file.read(alloc)?;
     let text = names.get("alpha");
     Ok(text.is_some_and(|text| text.as_str() == "one two three") && names.len() == 2)
 }
 
 /// Counts the tree of that file, measures it, and makes it within its bytes.
 pub(crate) fn measures_beside_a_pool(alloc: Global) -> Result<bool, Refused> {
-    let pool = Some(PoolBundle::read(&POOL)?);
-    let Some(limit) = measure_with_pool(alloc, &OVER_POOL, pool)?.tree_bytes() else {
-        return Ok(false);
-    };
-    let tree = tree_from_bytes_within_with_pool(alloc, &OVER_POOL, pool, limit)?;
-    let again = tree_from_bytes_with_pool(alloc, &OVER_POOL, pool)?;
-    Ok(count_resources_with_pool(alloc, &OVER_POOL, pool)? == 3 && tree.equals(&again))
+    let file = File::open(&OVER_POOL, Some(PoolBundle::read(&POOL)?))?;
+    let limit = file.measure(alloc)?.tree_bytes();
+    let tree = file.tree(alloc, limit)?;
+    let (again, count) = file.read_counted::<Resource>(alloc)?;
+    let is_one = tree.equals(&again) && file.count(alloc)? == count;
+    Ok(limit.is_some() && count == 3 && is_one)
 }
 
 /// Where memory is wanted for the bytes of the words, the buffer is empty.

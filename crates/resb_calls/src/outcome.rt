@@ -1,11 +1,11 @@
 //! What comes of a call: whether its answer is right, or memory was wanted.
 //! The calls themselves are in `texts` and `files`.
 
+use resb::CompileError;
 use resb::binary::{BinarySerializerError, PlanError, PoolMakerError, ReadingError};
 use resb::bundle::NoMemory;
 use resb::filter::RuleError;
 use resb::text::{Expected, IcuExpected, IcuTextError, LimitError, TextParserError};
-use resb::{CompileError, IcuCompileError};
 use std::alloc::AllocError;
 
 /// What comes of a call, the worst last.
@@ -62,15 +62,6 @@ impl From<IcuTextError> for Refused {
     }
 }
 
-impl From<IcuCompileError> for Refused {
-    fn from(e: IcuCompileError) -> Refused {
-        match e {
-            IcuCompileError::Reading(e) => Refused::from(e),
-            IcuCompileError::Writing(e) => Refused::from(e),
-        }
-    }
-}
-
 impl From<LimitError> for Refused {
     fn from(e: LimitError) -> Refused {
         match e {
@@ -122,9 +113,8 @@ impl<'m> From<ReadingError<'m>> for Refused {
 
 impl From<CompileError> for Refused {
     fn from(e: CompileError) -> Refused {
-        match e {
-            CompileError::Reading(e) => Refused::from(e),
-            CompileError::Writing(e) => Refused::from(e),
+        Refused {
+            is_memory: e.is_out_of_memory(),
         }
     }
 }

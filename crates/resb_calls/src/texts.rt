@@ -3,11 +3,11 @@
 
 use crate::example::{FILE, OTHERS, OVER_POOL, POOL, TEXT};
 use crate::outcome::{Outcome, Refused};
-use resb::binary::{Pool, PoolBundle, PoolMaker, Serializer, pool, tree_from_bytes};
+use resb::binary::{File, Layout, Pool, PoolBundle, PoolMaker, Serializer, pool};
 use resb::bundle::Key;
 use resb::filter::Rules;
 use resb::text::{Expected, IcuReader, Reader, Turns};
-use resb::{CompileError, compile, compile_icu, compile_icu_with_pool, compile_with_pool};
+use resb::{Compile, CompileError, TextForm};
 use std::alloc::Global;
 
 pub(crate) fn reads(alloc: Global) -> Result<bool, Refused> {
@@ -33,7 +33,7 @@ pub(crate) fn writes(alloc: Global) -> Result<bool, Refused> {
 }
 
 pub(crate) fn compiles(alloc: Global) -> Result<bool, Refused> {
-    let file = compile(alloc, TEXT)?;
+    let file = Compile::new(TextForm::Plain).text(alloc, TEXT)?;
     Ok(file.as_slice() == FILE.as_slice())
 }
 
@@ -41,8 +41,9 @@ pub(crate) fn compiles(alloc: Global) -> Result<bool, Refused> {
 pub(crate) fn compiles_icu(alloc: Global) -> Result<bool, Refused> {
     let text = "\u{feff}b { a { \"x\\n\" \"y\" } e {} l { {\"z\"} } }";
     let (bundle, keys) = IcuReader::read(alloc, text)?;
-    let file = compile_icu(alloc, text)?;
-    let other = compile(alloc, "b{a{\"x\ny\"}e:array{}l:array{{\"z\"}}}")?;
+    let file = Compile::new(TextForm::Icu).text(alloc, text)?;
+    let plain = Compile::new(TextForm::Plain);
+    let other = plain.text(alloc, "b{a{\"x\ny\"}e:array{}l:array{{\"z\"}}}")?;
     Ok(bundle.name() == "b" && keys.len() == 3 && file.as_slice() == other.as_slice())
 }
 
@@ -50,10 +51,12 @@ pub(crate) fn compiles_icu(alloc: Global) -> Result<bool, Refused> {
 pub(crate) fn compiles_over_a_pool(alloc: Global) -> Result<bool, Refused> {
     let pool = Pool::open(alloc, &POOL)?;
     let text = "a{alpha{\"one two three\"}beta{\"x\"}}";
-    let file = compile_with_pool(alloc, text, &pool)?;
-    let icu_file = compile_icu_with_pool(alloc, text, &pool)?;
+    let file = Compile::new(TextForm::Plain).over(&pool).text(alloc, text)?;
+    let icu_file = Compile::new(TextForm::Icu).over(&pool).text(alloc, text)?;
     let (bundle, keys) = Reader::read(alloc, text)?;
-    let written = Serializer::to_bytes_with_pool(alloc, &bundle, keys.as_slice(), &pool)?;
+    let written = Layout::plain()
+        .over(&pool)
+        .write(alloc, &bundle, keys.as_slice())?;
     let over = OVER_POOL.as_slice();
     Ok(file.as_slice() == over && icu_file.as_slice() == over && written.as_slice() == over)
 }
@@ -67,15 +70,16 @@ pub(crate) fn filters(alloc: Global) -> Result<bool, Refused> {
     let mut maker = PoolMaker::new(alloc);
     maker.add_draft(alloc, &root, keys.as_slice())?;
     let pool = maker.finish(alloc)?;
-    let file = Serializer::draft_to_bytes(alloc, root, true, keys.as_slice())?;
-    let left = compile_icu(alloc, "b{a{x{\"one two three\"}}}")?;
+    let way = Compile::new(TextForm::Icu);
+    let file = way.filtered(&rules).text(alloc, text)?;
+    let left = way.text(alloc, "b{a{x{\"one two three\"}}}")?;
     Ok(PoolBundle::read(&pool).is_ok() && file.as_slice() == left.as_slice())
 }
 
 /// Whether the text has a file that ends with this, and that is read back as the text's tree.
 fn compiles_to(alloc: Global, text: &str, body: &[u8]) -> Result<bool, Refused> {
-    let file = compile(alloc, text)?;
-    let tree = tree_from_bytes(alloc, &file)?;
+    let file = Compile::new(TextForm::Plain).text(alloc, text)?;
+    let tree = File::alone(&file)?.tree(alloc, None)?;
     let (bundle, _keys) = Reader::read(alloc, text)?;
     Ok(file.get(32..) == Some(body) && tree.equals(bundle.root()))
 }
@@ -91,7 +95,7 @@ pub(crate) fn compiles_others(alloc: Global) -> Result<bool, Refused> {
 
 /// A text whose last group is open is refused at its end, after much of it was read.
 pub(crate) fn refuses(alloc: Global) -> Result<bool, Refused> {
-    match compile(alloc, r#"b{t{k{"v"}}d:bin{"00ff"}a:array{"x"{y}"#) {
+    match Compile::new(TextForm::Plain).text(alloc, r#"b{t{k{"v"}}d:bin{"00ff"}a:array{"x"{y}"#) {
         Err(CompileError::Reading(e)) if e.expected() == Expected::Item => Ok(e.position() == 38),
         Err(e) => Err(Refused::from(e)),
         Ok(_) => Ok(false),

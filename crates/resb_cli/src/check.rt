@@ -12,8 +12,8 @@ use crate::unread::Unread;
 use crate::words::MARK;
 use resb_head::FormatVersion;
 use resb_json::json_text;
-use resb_pool_bundle::FileHead;
-use resb_program::count_file;
+use resb_pool_bundle::{FileHead, PoolBundle};
+use resb_program::{FileError, open_file};
 use resb_tree::Resource;
 use resb_words::CheckWords;
 use std::alloc::{AllocError, Global};
@@ -26,6 +26,8 @@ struct Summary<'f> {
     /// How many resources its tree has.
     count: usize,
     head: FileHead<'f>,
+    /// Whether it is in big-endian order.
+    is_big: bool,
     /// The name of the pool bundle that it uses.
     pool: Option<&'f str>,
 }
@@ -115,9 +117,15 @@ fn check_beside(
         Err(status) => return without_pool(rt, name, status, wanted),
     };
     let (file, pool) = (opened.bytes, beside.name());
-    match count_file(rt.alloc(), file, bundle) {
+    match counted(rt.alloc(), file, bundle) {
         Ok((count, head)) => {
-            let summary = Summary { count, head, pool };
+            let is_big = opened.is_big;
+            let summary = Summary {
+                count,
+                head,
+                is_big,
+                pool,
+            };
             say_summary(rt, name, summary, wanted.is_json)
         }
         Err(e) if wanted.is_json => {
@@ -125,6 +133,19 @@ fn check_beside(
             print_fault(rt, name, e.kind, e).max(1)
         }
         Err(e) => refuse(rt, name, file, &e, pool),
+    }
+}
+
+/// How many resources a file has, beside the pool bundle that it uses, and its head.
+fn counted<'f>(
+    alloc: Global,
+    file: &'f [u8],
+    pool: Option<PoolBundle<'f>>,
+) -> Result<(usize, FileHead<'f>), FileError> {
+    let source = open_file(file, pool)?;
+    match source.file.count(alloc) {
+        Ok(count) => Ok((count, source.head)),
+        Err(e) => Err(FileError::Reading(e)),
     }
 }
 
@@ -158,9 +179,10 @@ impl fmt::Display for Summary<'_> {
         };
         let (count, version) = (self.count, spelled(self.head.version()));
         let largest = self.head.largest_table();
+        let order = if self.is_big { ", big-endian" } else { "" };
         write!(
             f,
-            "{count} resources, format {version}, {fallback}, largest table {largest}"
+            "{count} resources, format {version}{order}, {fallback}, largest table {largest}"
         )?;
         if self.head.is_pool() {
             f.write_str(", pool bundle")?;
@@ -190,16 +212,21 @@ pub(crate) fn spelled(version: FormatVersion) -> &'static str {
 /// The line of JSON of a file that is right.
 fn object_of(alloc: Global, name: &str, summary: Summary<'_>) -> Result<String, AllocError> {
     let Summary { count, head, .. } = summary;
+    let order = if summary.is_big {
+        "big-endian"
+    } else {
+        "little-endian"
+    };
     let (version, largest) = (spelled(head.version()), head.largest_table());
     let (fallback, is_pool) = (head.has_fallback(), head.is_pool());
     let mut line = front_of(alloc, name)?;
     write!(
         line,
-        "true,\"resources\":{count},\"format\":\"{version}\",\"fallback\":{fallback}"
+        "true,\"resources\":{count},\"format\":\"{version}\",\"order\":\"{order}\""
     )?;
     write!(
         line,
-        ",\"largest_table\":{largest},\"pool_bundle\":{is_pool},\"over\":"
+        ",\"fallback\":{fallback},\"largest_table\":{largest},\"pool_bundle\":{is_pool},\"over\":"
     )?;
     match summary.pool {
         Some(pool) => line.push_str(json_string(alloc, pool)?.as_str())?,

@@ -1,10 +1,12 @@
 //! The command `compile`: each text to a file of its own.
 //! What a text's file is, and why it has none, is in `resb_program`.
-use crate::depfile::{add_rule, can_be_spelled};
+use crate::copyright::with_notice;
+use crate::depfile::{Rules, can_be_spelled};
 use crate::drafted::drafted_file;
 use crate::encoding::utf8_of;
 use crate::filter::rules_name;
-use crate::folders::{Named, TEXTS, named_files};
+use crate::folders::{Named, TEXTS, check_folder, named_files};
+use crate::genrb::{ILLEGAL_CHAR, UNREAD_POOL};
 use crate::input::{Input, lending_name};
 use crate::place::{Place, place_of};
 use crate::progress::Progress;
@@ -12,22 +14,26 @@ use crate::save::{
     Bytes, Manner, Part, Until, cause_of_writing, save, save_until, saved, stands_there,
 };
 use crate::say::{complain, fail, fail_input, or_fail, refuse, refuse_memory, refuse_source};
-use crate::show::settled;
+use crate::show::{settled, status_of};
 use crate::shown::Shown;
 use crate::streams::{NO_MEMORY, made, read_input};
 use crate::taken::Taken;
 use crate::texts::{SourceText, taken_in};
 use crate::warn::{warn, warn_of_name};
 use crate::words::{NO_UTF8, is_marked};
-use resb_compile::compile_with_pool;
+use resb_compile::{Compile, TextForm};
 use resb_lent::Pool;
 use resb_pool_maker::PoolMaker;
-use resb_program::{SourceError, bundle_name, compile_source, compile_source_within, text_of};
-use resb_words::CompileWords;
+use resb_program::{SourceError, bundle_name, text_of};
+use resb_swap::swapped;
+use resb_words::{CompileWords, Encoding, WritingWords};
 use std::alloc::{AllocError, Global};
 use std::cell::RefCell;
 use std::mem;
 use std::path::{Path, PathBuf};
+
+/// What is said of a name that has no spelling for `make`.
+const UNSPELLED: &str = "--depfile can't say this name to make";
 
 /// What is said of a text whose file has no name.
 const NO_NAME: &str = "this has no name for a file; say one by --output";
@@ -72,7 +78,9 @@ pub(crate) struct Call {
     /// The name of the pool bundle over which files are written.
     pool: Option<String>,
     /// The rules for `make` of the files that were written.
-    rules: String,
+    rules: Rules,
+    /// The name of the pool bundle that was made of the texts, if one was.
+    made_pool: Option<String>,
     /// Whether there are several texts.
     has_several: bool,
     /// The files that wait until all texts are read.
@@ -93,7 +101,8 @@ impl Call {
         Call {
             taken: Taken::new(rt),
             pool: None,
-            rules: String::new(rt.alloc()),
+            rules: Rules::new(rt.alloc()),
+            made_pool: None,
             has_several: false,
             waiting: Vec::new(rt.alloc()),
         }
@@ -134,44 +143,67 @@ impl Call {
     /// Ends a call in which nothing failed: writes the rules for `make`, if they are asked for and
     /// files are written; or gives the status, once it is said why they aren't. Where something
     /// failed, the rules of the last call stay, so that `make` forgets none.
-    pub(crate) fn end(&mut self, rt: &HostRuntime, depfile: Option<&str>) -> Result<(), u8> {
+    pub(crate) fn end(mut self, rt: &HostRuntime, depfile: Option<&str>) -> Result<(), u8> {
         let Some(name) = depfile else {
             return Ok(());
         };
         let place = or_fail(rt, name, place_of(rt, name))?;
         self.taken.take_or_say(rt, name, &place)?;
-        let done = save(rt, &place, &Bytes(self.rules.as_bytes()));
+        let Call {
+            rules,
+            made_pool,
+            ..
+        } = self;
+        let pool = match &made_pool {
+            Some(pool) => Some(pool.as_str()),
+            None => None,
+        };
+        let rules = or_fail(rt, name, made(rules.into_text(pool)))?;
+        let done = save(rt, &place, &Bytes(rules.as_bytes()));
         or_fail(rt, name, saved(&place, done))
     }
 
-    /// Adds the rule for `make` of a file that was made of a text and of others.
+    /// Notes the name of the pool bundle that was made of the texts, for the rules.
+    pub(crate) fn note_pool(&mut self, rt: &HostRuntime, name: &str) -> Result<(), u8> {
+        if !can_be_spelled(name) {
+            return Err(fail(rt, name, UNSPELLED));
+        }
+        let pool = String::from_str(rt.alloc(), name).map_err(|_| refuse_memory(rt, name))?;
+        self.made_pool = Some(pool);
+        Ok(())
+    }
+
+    /// Adds the rule for `make` of a file that was made of a text, of others, and of the pool.
     fn add_rule(
         &mut self,
         alloc: Global,
         file: &str,
         text: &str,
-        others: Vec<String>,
+        mut others: Vec<String>,
     ) -> Result<(), AllocError> {
-        let mut sources = Vec::new(alloc);
-        sources.push(String::from_str(alloc, text)?)?;
-        for other in others {
-            sources.push(other)?;
-        }
         if let Some(pool) = &self.pool {
-            sources.push(String::from_str(alloc, pool.as_str())?)?;
+            others.push(String::from_str(alloc, pool.as_str())?)?;
         }
-        add_rule(&mut self.rules, file, sources.as_slice())
+        self.rules.add(alloc, file, text, others)
     }
 }
 
 /// Compiles each text. One that fails doesn't stop the others; the status says whether one did.
 pub(crate) fn compile(rt: &HostRuntime, wanted: &CompileWords<'_>) -> u8 {
+    settled(compile_all(rt, wanted))
+}
+
+/// Compiles each text, and ends the call where none failed.
+fn compile_all(rt: &HostRuntime, wanted: &CompileWords<'_>) -> Result<u8, u8> {
+    if let Some(folder) = wanted.folder {
+        check_folder(rt, folder)?;
+    }
     let mut call = Call::new(rt);
     let status = compile_into(rt, wanted, None, &mut call);
-    if status != 0 || wanted.is_check {
-        return status;
+    if status == 0 && !wanted.is_check {
+        call.end(rt, wanted.writing.depfile)?;
     }
-    settled(call.end(rt, wanted.writing.depfile).map(|()| 0))
+    Ok(status)
 }
 
 /// Compiles each text, and adds its bundle to those of which a pool bundle is made, if one is.
@@ -187,7 +219,11 @@ pub(crate) fn compile_into<'w>(
         maker,
     };
     match wanted.file.pool {
-        Some(name) => settled(compile_over(rt, work, name, call)),
+        Some(name) => match compile_over(rt, work, name, call) {
+            Ok(status) => status,
+            Err(_) if is_icu_compiler(wanted) => UNREAD_POOL,
+            Err(status) => status,
+        },
         None => compile_texts(rt, work, call),
     }
 }
@@ -216,8 +252,8 @@ fn compile_over(
 
 /// Compiles the texts that the words name, each folder's among them.
 fn compile_texts(rt: &HostRuntime, work: Work<'_, '_, '_>, call: &mut Call) -> u8 {
-    // the file of one text is named: that isn't one of a folder's
-    let kind = if work.wanted.output.is_some() {
+    // the file of one text is named: that isn't one of a folder's, and ICU's compiler takes none
+    let kind = if work.wanted.output.is_some() || is_icu_compiler(work.wanted) {
         None
     } else {
         Some(TEXTS)
@@ -242,10 +278,15 @@ fn compile_each(rt: &HostRuntime, work: Work<'_, '_, '_>, texts: &[Named], call:
     let mut progress = Progress::new(rt, shown);
     for text in texts {
         let name = text.name.as_str();
-        status = status.max(match text.fault {
+        let own = match text.fault {
             Some(cause) => fail(rt, name, cause),
             None => settled(compile_one(rt, name, work, call)),
-        });
+        };
+        status = if work.wanted.counts_last {
+            own
+        } else {
+            status.max(own)
+        };
         progress.one_more(rt);
     }
     progress.end(rt);
@@ -266,8 +307,19 @@ fn compile_one(
     } else {
         Some(target_of(rt, name, output_of(rt.alloc(), name, wanted))?)
     };
-    let source = source_of(rt, name, wanted.limit)?;
-    let read = text_in(rt, name, source.as_slice())?;
+    let source = source_of(rt, name, wanted.encoding, wanted.limit).map_err(
+        |status| status_of_unread(rt, name, status, wanted),
+    )?;
+    if wanted.is_verbose {
+        say_processed(rt, name)?;
+    }
+    let read = text_in(rt, name, source.as_slice()).map_err(|status| {
+        if is_icu_compiler(wanted) {
+            ILLEGAL_CHAR
+        } else {
+            status
+        }
+    })?;
     let whole = if wanted.is_icu {
         taken_in(rt, name, read, &wanted.file, wanted.limit)?
     } else {
@@ -284,6 +336,25 @@ fn compile_one(
         None => &[],
     };
     target.put(rt, Made { name, file, others }, wanted, call)
+}
+
+/// The status of a text that isn't read. To ICU's compiler a folder is a text that it refuses.
+fn status_of_unread(rt: &HostRuntime, name: &str, status: u8, wanted: &CompileWords<'_>) -> u8 {
+    if is_icu_compiler(wanted) && Path::new(name).is_dir(rt) {
+        1
+    } else {
+        status
+    }
+}
+
+/// Names a text on standard output, as ICU's compiler does.
+fn say_processed(rt: &HostRuntime, name: &str) -> Result<(), u8> {
+    let name = Shown(name);
+    let line = println!(rt; "Processing file \"{name}\"");
+    match status_of(rt, line.is_ok()) {
+        0 => Ok(()),
+        status => Err(status),
+    }
 }
 
 /// Where a text's file goes, or the status, once it is said why that is nowhere.
@@ -348,8 +419,7 @@ impl Target {
         for source in sources.iter() {
             note_source(rt, name, source.as_str(), call)?;
         }
-        call.taken.take_or_say(rt, name, &self.place)?;
-        if wanted.is_check {
+        if !call.taken.take_for_text(rt, name, &self.place)? || wanted.is_check {
             return Ok(0);
         }
         if wanted.writing.depfile.is_some() {
@@ -374,7 +444,7 @@ impl Target {
             .chain(others)
             .find(|name| !can_be_spelled(name))
         {
-            Some(name) => Err(fail(rt, name, "--depfile can't say this name to make")),
+            Some(name) => Err(fail(rt, name, UNSPELLED)),
             None => Ok(()),
         }
     }
@@ -393,11 +463,7 @@ impl Target {
         if writing.is_if_changed && stands_there(rt, &self.place, bytes) {
             return Ok(());
         }
-        let until = if writing.is_synced {
-            Until::OnDisk
-        } else {
-            Until::Given
-        };
+        let until = until_of(writing);
         let output = self.output.as_path().as_str();
         let waits = wanted.is_icu && call.has_several;
         if let (Place::Beside(path, Some(old)), true) = (&self.place, waits) {
@@ -409,6 +475,15 @@ impl Target {
         }
         let done = save_until(rt, &self.place, &Bytes(bytes), until);
         or_fail(rt, output, saved(&self.place, done))
+    }
+}
+
+/// When what is written counts as written.
+pub(crate) fn until_of(writing: &WritingWords<'_>) -> Until {
+    if writing.is_synced {
+        Until::OnDisk
+    } else {
+        Until::Given
     }
 }
 
@@ -458,14 +533,19 @@ fn copied(alloc: Global, names: &[String]) -> Result<Vec<String>, AllocError> {
     Ok(copies)
 }
 
-/// The bytes of a text, made of UTF-16 where it is that, or the status, once it is said why there
-/// are none.
-pub(crate) fn source_of(rt: &HostRuntime, name: &str, limit: Option<u64>) -> Result<Vec<u8>, u8> {
+/// The bytes of a text in UTF-8, of which this is the encoding where it has no mark; or the status,
+/// once it is said why there are none.
+pub(crate) fn source_of(
+    rt: &HostRuntime,
+    name: &str,
+    encoding: Encoding,
+    limit: Option<u64>,
+) -> Result<Vec<u8>, u8> {
     let source = match read_input(rt, name, limit) {
         Ok(source) => source,
         Err(e) => return Err(fail_input(rt, name, e)),
     };
-    match utf8_of(rt.alloc(), source) {
+    match utf8_of(rt.alloc(), source, encoding) {
         Ok(source) => Ok(source),
         Err(cause) => {
             complain(rt, name, cause);
@@ -490,8 +570,26 @@ fn file_of<'t>(
     work: Work<'_, '_, '_>,
 ) -> Result<BundleFile<'t>, u8> {
     let mut file = file_at_once(rt, name, text, work)?;
+    if work.wanted.file.is_big_endian {
+        file.bytes = big_endian(rt, name, file.bytes.as_slice())?;
+    }
+    if work.wanted.file.has_copyright {
+        let noted = with_notice(rt.alloc(), file.bytes.as_slice());
+        file.bytes = noted.map_err(|_| refuse_memory(rt, name))?;
+    }
     file.status = file.status.max(warned(rt, name, text, work.wanted));
     Ok(file)
+}
+
+/// The file of a name in big-endian order, or the status, once it is said why there is none.
+pub(crate) fn big_endian(rt: &HostRuntime, name: &str, file: &[u8]) -> Result<Vec<u8>, u8> {
+    match swapped(rt.alloc(), file) {
+        Ok(bytes) => Ok(bytes),
+        Err(e) => {
+            complain(rt, name, e);
+            Err(1)
+        }
+    }
 }
 
 /// A text's file, and nothing is said of warnings. A text in ICU's own form is compiled by its
@@ -542,10 +640,15 @@ fn warned(rt: &HostRuntime, name: &str, text: SourceText<'_>, wanted: &CompileWo
     }
 }
 
+/// Whether the words are those of ICU's compiler, which looks for the files that texts depend on.
+fn is_icu_compiler(wanted: &CompileWords<'_>) -> bool {
+    wanted.dependencies.is_some()
+}
+
 /// Whether a file of the text's own name may be looked for: where the words name no file, nor ask
 /// for the bundle's name. ICU's compiler goes by that unasked.
 fn has_wanted_name(name: &str, wanted: &CompileWords<'_>) -> bool {
-    let asks_for_name = wanted.is_by_name && wanted.dependencies.is_none();
+    let asks_for_name = wanted.is_by_name && !is_icu_compiler(wanted);
     wanted.output.is_none() && !asks_for_name && name != "-"
 }
 
@@ -558,14 +661,19 @@ fn may_pass(length: usize, limit: Option<u64>) -> bool {
     }
 }
 
-/// The bytes of the file of a text in the plain form, over the pool bundle, or where reading the
-/// text keeps within the limit, if there is one.
+/// The bytes of the file of a text in the plain form, over the pool bundle, if there is one, where
+/// reading the text keeps within the limit, if there is one.
 fn compiled(alloc: Global, text: &str, work: Work<'_, '_, '_>) -> Result<Vec<u8>, SourceError> {
-    match (work.pool, work.wanted.limit) {
-        (Some(pool), _) => compile_with_pool(alloc, text, pool).map_err(SourceError::Refused),
-        (None, Some(limit)) => compile_source_within(alloc, text, limit),
-        (None, None) => compile_source(alloc, text),
-    }
+    let way = Compile::new(TextForm::Plain);
+    let way = match work.pool {
+        Some(pool) => way.over(pool),
+        None => way,
+    };
+    let way = match work.wanted.limit {
+        Some(limit) => way.within(limit),
+        None => way,
+    };
+    way.text(alloc, text).map_err(SourceError::Refused)
 }
 
 /// The name of a text's file: the one that was said, or the text's with `.res`, in the folder that

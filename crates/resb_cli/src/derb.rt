@@ -34,6 +34,7 @@ fn dump_files(rt: &HostRuntime, wanted: &DerbWords<'_>, files: &[PathBuf]) -> u8
             is_lenient: false,
             limit: None,
             pool: None,
+            has_mark: wanted.has_mark,
         },
     )
 }

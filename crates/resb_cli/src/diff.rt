@@ -4,7 +4,8 @@ use crate::changes::{Sink, write_changes};
 use crate::input::{Beside, Input};
 use crate::least::uncounted_in;
 use crate::say::{fail, refuse_memory};
-use crate::show::{Length, TooLong, bundle_of, opened_of, refuse_long, status_of};
+use crate::show::{Length, TooLong, refuse_long, status_of};
+use crate::subject::Subject;
 use resb_diff::{Differences, differences_between};
 use resb_tree::{Resource, ResourceBundle};
 use resb_words::DiffWords;
@@ -56,10 +57,11 @@ fn tree_of<'f>(
     beside: &'f Beside<'f>,
     limit: Option<u64>,
 ) -> Result<ResourceBundle<'f>, u8> {
+    let subject = Subject::open(rt, name, file, beside)?;
     if limit.is_some() {
-        let _ = opened_of(rt, name, file, beside, limit)?;
+        let _ = subject.index(rt, limit)?;
     }
-    bundle_of(rt, name, file, beside, limit)
+    subject.bundle(rt, limit)
 }
 
 /// Prints what differs between two trees.

@@ -7,20 +7,20 @@ ghost use Rattle.resb_draft.specs.Drafts.{is_ready};
 use crate::collation::{Said, first_left, has_form, refuse_form, say_unbuilt, unbuilt_in};
 use crate::compile::{BundleFile, NO_FILE_NAME, Work, is_file_name};
 use crate::filter::{draft_of, filtered, refuse_text, without_rules};
-use crate::format_version::check_version;
+use crate::format_version::in_version;
 use crate::forms::{Built, Forms, why_lacking, with_forms};
 use crate::input::{Beside, Input};
 use crate::key_order::{ReadKeys, laid_keys};
 use crate::say::{complain, or_fail, refuse_memory};
-use crate::show::opened_of;
 use crate::streams::made;
+use crate::subject::Subject;
 use crate::texts::SourceText;
-use resb_compile::IcuCompileError;
+use resb_compile::CompileError;
 use resb_draft::{Draft, DraftBundle};
 use resb_pool_maker::PoolMaker;
 use resb_tree::Key;
 use resb_words::Collation;
-use resb_write::Serializer;
+use resb_write::Layout;
 use std::alloc::{AllocError, Global};
 use std::cell::RefCell;
 
@@ -148,7 +148,7 @@ fn built_file(
     let input = Input::read(rt, file, limit)?;
     let opened = input.open(rt, file)?;
     let beside = opened.pool(rt, file, None, limit)?;
-    let built = opened_of(rt, file, opened.bytes, &beside, None)?;
+    let built = Subject::open(rt, file, opened.bytes, &beside)?.index(rt, None)?;
     let root = built.root();
     // taken apart, so that the text is lent for as long as the forms
     let Source { name, text } = source;
@@ -234,28 +234,29 @@ fn written<'t>(
 {
     let Work { wanted, pool, .. } = work;
     let bundle = without_rules(rt, name, bundle, wanted.file.omits_rules)?;
-    let has_fallback = bundle.is_locale_fallback_enabled;
-    let (alloc, root, is_compact) = (rt.alloc(), bundle.root, wanted.file.is_compact);
-    let keys = laid_keys(alloc, &root, read, is_compact).map_err(|_| refuse_memory(rt, name))?;
+    let (alloc, is_compact) = (rt.alloc(), wanted.file.is_compact);
+    let keys = laid_keys(alloc, &bundle.root, read, is_compact).map_err(|_| refuse_memory(
+        rt, name,
+    ))?;
     let keys = keys.as_slice();
-    add_to_pool(rt, name, &root, keys, work.maker)?;
-    let file = match (pool, is_compact) {
-        (None, false) => Serializer::draft_to_bytes(alloc, root, has_fallback, keys),
-        (None, true) => Serializer::draft_to_bytes_compact(alloc, root, has_fallback, keys),
-        (Some(pool), false) => {
-            Serializer::draft_to_bytes_with_pool(alloc, root, has_fallback, keys, pool)
-        }
-        (Some(pool), true) => {
-            Serializer::draft_to_bytes_compact_with_pool(alloc, root, has_fallback, keys, pool)
-        }
+    add_to_pool(rt, name, &bundle.root, keys, work.maker)?;
+    let layout = if is_compact {
+        Layout::compact()
+    } else {
+        Layout::plain()
+    };
+    let layout = match pool {
+        Some(pool) => layout.over(pool),
+        None => layout,
     };
     // what the writer refuses has no place in the text
-    let file = file.map_err(|e| refuse_text(
-        rt,
-        name,
-        SourceText::new("", None),
-        IcuCompileError::Writing(e),
-    ))?;
-    check_version(rt, name, file.as_slice(), wanted.file.version)?;
-    Ok(file)
+    let file = layout
+        .write_draft(alloc, bundle, keys)
+        .map_err(|e| refuse_text(
+            rt,
+            name,
+            SourceText::new("", None),
+            CompileError::Writing(e),
+        ))?;
+    in_version(rt, name, file, wanted.file.version)
 }

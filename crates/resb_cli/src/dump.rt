@@ -1,5 +1,6 @@
 //! The command `dump`: the text of a file to standard output, or of each file to a folder.
 //! What is made of a file is in `show`, and how bytes come to a place in `save`.
+use crate::folders::check_folder;
 use crate::input::{Beside, Input};
 use crate::note::Note;
 use crate::place::{Place, place_of};
@@ -7,13 +8,15 @@ use crate::progress::Progress;
 use crate::save::{Content, save, saved};
 use crate::say::{NoText, fail, or_fail, refuse_memory};
 use crate::show::{
-    Form, Showing, bundle_name, bundle_of, opened_of, print_content, say_cause, settled,
+    Showing, bundle_name, form_ending, print_as, print_content, refuse_print, say_cause, settled,
 };
 use crate::streams::{NO_MEMORY, made};
+use crate::subject::Subject;
 use crate::taken::Taken;
 use crate::unread::Unread;
+use resb_lines::{PrintForm, Printable, ShownBundle};
 use resb_opened::Ascending;
-use resb_pool_bundle::FileHead;
+use resb_print::PrintError;
 use resb_shown::Shown;
 use resb_tree::ResourceBundle;
 use resb_words::DumpWords;
@@ -25,8 +28,6 @@ use std::path::{Path, PathBuf};
 #[derive(Clone, Copy)]
 struct Source<'f> {
     name: &'f str,
-    bytes: &'f [u8],
-    beside: &'f Beside<'f>,
     wanted: &'f DumpWords<'f>,
 }
 
@@ -35,6 +36,11 @@ struct Source<'f> {
 pub(crate) fn dump(rt: &HostRuntime, wanted: &DumpWords<'_>) -> u8 {
     if wanted.files.iter().filter(|name| **name == "-").count() > 1 {
         return fail(rt, "resb", "standard input is read once alone");
+    }
+    if let Some(folder) = wanted.folder {
+        if let Err(status) = check_folder(rt, folder) {
+            return status;
+        }
     }
     let mut taken = Taken::new(rt);
     for name in wanted.files.iter().copied().chain(wanted.pool) {
@@ -83,21 +89,17 @@ fn dump_one(
         beside => beside?,
     };
     note_pool(rt, name, &beside, taken)?;
-    let source = Source {
-        name,
-        bytes: opened.bytes,
-        beside: &beside,
-        wanted,
-    };
+    let source = Source { name, wanted };
     if wanted.is_lenient
         && let Some(note) = note_of(rt, name, opened.bytes, &beside)
     {
-        return source.send(rt, &note, Form::Text.ending(), taken);
+        return source.send(rt, &note, form_ending(PrintForm::Plain), taken);
     }
-    if let Some(status) = source.dump_opened(rt, taken)? {
+    let subject = Subject::open(rt, name, opened.bytes, &beside)?;
+    if let Some(status) = source.dump_opened(rt, &subject, taken)? {
         return Ok(status);
     }
-    source.dump_tree(rt, taken)
+    source.dump_tree(rt, &subject, taken)
 }
 
 /// Notes a pool bundle that is read, if it is a file of its own.
@@ -113,7 +115,7 @@ fn note_pool(
                 .add_input(rt, pool.as_str())
                 .map_err(|_| refuse_memory(rt, name))
         }
-        Beside::Item(_, _) | Beside::Nowhere => Ok(()),
+        Beside::Item(_, _) | Beside::Mirrored(_, _) | Beside::Nowhere => Ok(()),
     }
 }
 
@@ -133,21 +135,13 @@ fn note_of<'f>(
 
 impl Source<'_> {
     /// The form that is wanted.
-    fn form(self) -> Form {
+    fn form(self) -> PrintForm {
         if self.wanted.is_json {
-            Form::Json
+            PrintForm::Json
         } else if self.wanted.is_icu {
-            Form::IcuText
+            PrintForm::Icu
         } else {
-            Form::Text
-        }
-    }
-
-    /// Whether the file's head turns fallback on.
-    fn has_fallback(self) -> bool {
-        match FileHead::read(self.bytes) {
-            Ok(head) => head.has_fallback(),
-            Err(_) => false,
+            PrintForm::Plain
         }
     }
 
@@ -168,28 +162,37 @@ impl Source<'_> {
 
     /// Shows the file without its tree, if that can be: where its tables ascend, and it has what is
     /// wanted.
-    fn dump_opened(self, rt: &HostRuntime, taken: &mut Taken) -> Result<Option<u8>, u8> {
-        let file = opened_of(rt, self.name, self.bytes, self.beside, self.wanted.limit)?;
+    fn dump_opened(
+        self,
+        rt: &HostRuntime,
+        subject: &Subject<'_>,
+        taken: &mut Taken,
+    ) -> Result<Option<u8>, u8> {
+        let file = subject.index(rt, self.wanted.limit)?;
         let Some(root) = Ascending::of(file.root()) else {
             return Ok(None);
         };
-        let showing = Showing {
+        let shown = ShownBundle {
             name: bundle_name(self.name),
             root,
-            has_fallback: self.has_fallback(),
-            form: self.form(),
+            is_locale_fallback_enabled: subject.source.head.has_fallback(),
         };
-        match showing.is_had(rt.alloc()) {
-            Ok(true) => Ok(Some(self.put(rt, &showing, taken)?)),
-            Ok(false) => Ok(None),
-            Err(_) => Err(refuse_memory(rt, self.name)),
+        let form = self.form();
+        match print_as(form, self.wanted.limit).printable(rt.alloc(), &shown) {
+            Ok(content) => Ok(Some(self.put(rt, &self.showing(content, form), taken)?)),
+            Err(PrintError::NotPrintable(_)) => Ok(None),
+            Err(e) => Err(refuse_print(rt, self.name, form, &shown, e)),
         }
     }
 
     /// Shows the file by its tree.
-    fn dump_tree(self, rt: &HostRuntime, taken: &mut Taken) -> Result<u8, u8> {
-        let limit = self.wanted.limit;
-        let bundle = bundle_of(rt, self.name, self.bytes, self.beside, limit)?;
+    fn dump_tree(
+        self,
+        rt: &HostRuntime,
+        subject: &Subject<'_>,
+        taken: &mut Taken,
+    ) -> Result<u8, u8> {
+        let bundle = subject.bundle(rt, self.wanted.limit)?;
         let done = self.dump_bundle(rt, &bundle, taken);
         let_go(bundle, self.wanted.files.len() == 1);
         done
@@ -202,23 +205,46 @@ impl Source<'_> {
         bundle: &ResourceBundle<'_>,
         taken: &mut Taken,
     ) -> Result<u8, u8> {
-        let mut showing = Showing {
+        let shown = ShownBundle {
             name: bundle_name(self.name),
             root: bundle.root(),
-            has_fallback: self.has_fallback(),
-            form: self.form(),
+            is_locale_fallback_enabled: bundle.is_locale_fallback_enabled,
         };
-        match showing.is_had(rt.alloc()) {
-            Ok(true) => {}
-            Ok(false) => {
-                showing.form = Form::Json;
-                let fits = showing.fits(rt.alloc(), self.wanted.limit);
-                let missing = self.missing(matches!(fits, Ok(true)));
-                say_cause(rt, self.name, bundle, missing)?;
-            }
-            Err(_) => return Err(refuse_memory(rt, self.name)),
+        let form = self.form();
+        match print_as(form, self.wanted.limit).printable(rt.alloc(), &shown) {
+            Ok(content) => self.put(rt, &self.showing(content, form), taken),
+            Err(PrintError::NotPrintable(_)) => self.dump_instead(rt, bundle, taken),
+            Err(e) => Err(refuse_print(rt, self.name, form, &shown, e)),
         }
-        self.put(rt, &showing, taken)
+    }
+
+    /// Says why the file's bundle has no text of the form that is wanted, and shows its JSON.
+    fn dump_instead(
+        self,
+        rt: &HostRuntime,
+        bundle: &ResourceBundle<'_>,
+        taken: &mut Taken,
+    ) -> Result<u8, u8> {
+        let (form, shown) = (PrintForm::Json, ShownBundle::of(bundle));
+        let made = print_as(form, self.wanted.limit).printable(rt.alloc(), &shown);
+        say_cause(rt, self.name, bundle, self.missing(made.is_ok()))?;
+        match made {
+            Ok(content) => self.put(rt, &self.showing(content, form), taken),
+            Err(e) => Err(refuse_print(rt, self.name, form, &shown, e)),
+        }
+    }
+
+    /// What is printed of a bundle.
+    fn showing<'s, S: Shown<'s>>(
+        self,
+        content: Printable<'s, S>,
+        form: PrintForm,
+    ) -> Showing<'s, S> {
+        Showing {
+            content,
+            form,
+            has_mark: self.wanted.has_mark,
+        }
     }
 
     /// Prints what is shown, or writes it to the folder.
@@ -228,8 +254,7 @@ impl Source<'_> {
         showing: &Showing<'s, S>,
         taken: &mut Taken,
     ) -> Result<u8, u8> {
-        showing.check(rt, self.name, self.wanted.limit)?;
-        self.send(rt, showing, showing.form.ending(), taken)
+        self.send(rt, showing, form_ending(showing.form), taken)
     }
 
     /// Prints a content, or writes it to the folder, to a file with this ending.

@@ -8,7 +8,7 @@ use crate::input::bytes_of;
 use crate::key_order::ReadKeys;
 use crate::say::{complain, fail, refuse_memory, refuse_source};
 use crate::texts::SourceText;
-use resb_compile::IcuCompileError;
+use resb_compile::CompileError;
 use resb_draft::{Draft, DraftBundle};
 use resb_filter::{RuleError, Rules};
 use resb_icu_text::{IcuLimitError, IcuReader};
@@ -36,7 +36,7 @@ pub(crate) fn draft_of<'t>(
             rt,
             name,
             text,
-            IcuCompileError::Reading(e),
+            CompileError::ReadingIcu(e),
         ))?,
         Some(limit) => IcuReader::read_draft_within(rt.alloc(), text.whole(), limit).map_err(
             |e| refuse_limited(rt, name, text, limit, e),
@@ -59,8 +59,8 @@ fn refuse_limited(
     e: IcuLimitError,
 ) -> u8 {
     match e {
-        IcuLimitError::Text(e) => refuse_text(rt, name, text, IcuCompileError::Reading(e)),
-        IcuLimitError::Larger => refuse_source(rt, name, text, &SourceError::Larger(limit)),
+        IcuLimitError::Text(e) => refuse_text(rt, name, text, CompileError::ReadingIcu(e)),
+        IcuLimitError::Larger => refuse_text(rt, name, text, CompileError::Larger(limit)),
     }
 }
 
@@ -151,9 +151,9 @@ pub(crate) fn refuse_text(
     rt: &HostRuntime,
     name: &str,
     text: SourceText<'_>,
-    e: IcuCompileError,
+    e: CompileError,
 ) -> u8 {
-    refuse_source(rt, name, text, &SourceError::IcuRefused(e))
+    refuse_source(rt, name, text, &SourceError::Refused(e))
 }
 
 /// The name of the file of a text's rules: what leads from the texts' folder to the text leads from

@@ -1,8 +1,10 @@
 //! Folders in the place of files: one stands for the files right inside it that have an ending, in
 //! the order of their names, as `FOLDER/*.txt` does for a shell.
 //! What is done with the files is in the modules of the commands.
+use crate::save::cause_of_writing;
+use crate::say::fail;
 use crate::streams::{NO_MEMORY, cause_of, made};
-use crate::words::text_of;
+use crate::words::{NO_UTF8, is_marked, text_of};
 use std::alloc::{AllocError, Global};
 use std::fs;
 use std::io::{self, Read};
@@ -103,6 +105,17 @@ pub(crate) fn pipe_fault(rt: &HostRuntime, name: &str) -> Option<&'static str> {
         Ok(found) if !found.is_file() && !found.is_dir() => Some("this is a device or a pipe"),
         _ => None,
     }
+}
+
+/// Says why no file is written into a folder, where that isn't there, and gives the status.
+pub(crate) fn check_folder(rt: &HostRuntime, name: &str) -> Result<(), u8> {
+    let cause = match fs::metadata(rt, name) {
+        _ if is_marked(name) => NO_UTF8,
+        Ok(found) if found.is_dir() => return Ok(()),
+        Ok(_) => "this is no folder",
+        Err(e) => cause_of_writing(&e),
+    };
+    Err(fail(rt, name, cause))
 }
 
 /// The names of the files in a folder that have this ending, sorted. One that is no UTF-8 is

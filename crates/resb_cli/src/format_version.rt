@@ -1,41 +1,30 @@
-//! Whether a file has the version of the format for which the words of ICU's compiler ask.
+//! The version of the format in a file's header, for which the words of ICU's compiler ask.
 //! Which versions are written where is said in `resb_write` and `resb_pool_maker`.
 use crate::say::complain;
-use std::fmt;
 
 /// The place of the version's first byte in a file (ICU's `udata.h`).
 const PLACE: usize = 16;
 
-/// A file has another version than is asked for.
-#[derive(Clone, Copy)]
-struct OtherVersion {
-    written: u8,
-    wanted: u8,
-}
-
-impl fmt::Display for OtherVersion {
-    fn fmt<W: fmt::Write>(&self, f: &mut fmt::Formatter<W>) -> fmt::Result {
-        let (written, wanted) = (self.written, self.wanted);
-        write!(
-            f,
-            "its file has format {written}.0, and --formatVersion asks for {wanted}"
-        )
-    }
-}
-
-/// Refuses a file of another version of the format than is asked for, if one is.
-pub(crate) fn check_version(
+/// The file of a name in a version of the format, if one is asked for. One that is of version 2.0
+/// is one of 3.0 under another number. A file of 3.0 is refused where 2.0 is asked for: it leaves
+/// strings to a pool bundle, or is a pool bundle that has strings.
+pub(crate) fn in_version(
     rt: &HostRuntime,
     name: &str,
-    file: &[u8],
+    mut file: Vec<u8>,
     wanted: Option<u8>,
-) -> Result<(), u8> {
-    let (Some(wanted), Some(written)) = (wanted, file.get(PLACE).copied()) else {
-        return Ok(());
-    };
-    if written == wanted {
-        return Ok(());
+) -> Result<Vec<u8>, u8> {
+    match (wanted, file.get_mut(PLACE)) {
+        (Some(2), Some(3)) => {
+            complain(
+                rt,
+                name,
+                "its file has format 3.0, and --formatVersion asks for 2",
+            );
+            return Err(1);
+        }
+        (Some(3), Some(version)) => *version = 3,
+        _ => {}
     }
-    complain(rt, name, OtherVersion { written, wanted });
-    Err(1)
+    Ok(file)
 }

@@ -1,16 +1,16 @@
 //! The command `get`: what stands at paths in a file. What has nothing inside, as a string, is read
 //! alone, and nothing else in the file is looked at; arrays and tables are read as parts of the
 //! whole tree. How files are read and shown as a whole is in `show`.
-use crate::input::{Beside, Input, uses_pool};
+use crate::input::Input;
 use crate::paths::{BETWEEN, names_of};
-use crate::refusal::refuse;
 use crate::say::{fail, refuse_memory};
-use crate::show::{bundle_of, opened_of, settled, show_json, status_of};
+use crate::show::{settled, show_json, status_of};
 use crate::shown::Shown;
+use crate::subject::Subject;
 use crate::words::is_marked;
 use resb_format::{BinaryDeserializerError, ResourceReprType};
 use resb_opened::{Ascending, Found as Seen, Handle, Kind, Opened};
-use resb_path::{Found, find, find_with_pool};
+use resb_path::{Found, find, find_in};
 use resb_program::FileError;
 use resb_read::{Cursor, Walk};
 use resb_tree::{Resource, ResourceBundle};
@@ -27,16 +27,14 @@ enum Along<'f> {
     Number(u32),
     /// What has nothing inside: no array and no table.
     Leaf(Resource<'f>),
-    /// An array or a table; or the file's pool bundle is wanted, and there is none.
+    /// An array or a table.
     More,
 }
 
 /// A file of which things are shown.
 #[derive(Clone, Copy)]
 struct Source<'f> {
-    name: &'f str,
-    bytes: &'f [u8],
-    beside: &'f Beside<'f>,
+    subject: Subject<'f>,
     limit: Option<u64>,
     /// Whether its tree has to be right, whatever is asked for.
     is_checked: bool,
@@ -72,9 +70,7 @@ fn get_found(rt: &HostRuntime, wanted: &GetWords<'_>) -> Result<u8, u8> {
     let opened = input.open(rt, name)?;
     let beside = opened.pool(rt, name, wanted.pool, limit)?;
     let source = Source {
-        name,
-        bytes: opened.bytes,
-        beside: &beside,
+        subject: Subject::open(rt, name, opened.bytes, &beside)?,
         limit,
         is_checked: wanted.is_checked || limit.is_some(),
     };
@@ -96,19 +92,13 @@ fn get_each(rt: &HostRuntime, source: Source<'_>, paths: &[&str]) -> u8 {
 /// A file as a whole, or the status, once it is said why it isn't had. A tree is made where the
 /// keys of some table aren't seen to ascend.
 fn whole_of<'f>(rt: &HostRuntime, source: Source<'f>) -> Whole<'f> {
-    let Source {
-        name,
-        bytes,
-        beside,
-        limit,
-        ..
-    } = source;
-    match opened_of(rt, name, bytes, beside, limit) {
+    let Source { subject, limit, .. } = source;
+    match subject.index(rt, limit) {
         Ok(file) if Ascending::of(file.root()).is_some() => return Whole::Opened(file),
         Ok(_) => {}
         Err(status) => return Whole::Refused(status),
     }
-    match bundle_of(rt, name, bytes, beside, limit) {
+    match subject.bundle(rt, limit) {
         Ok(bundle) => Whole::Read(bundle),
         Err(status) => Whole::Refused(status),
     }
@@ -121,7 +111,7 @@ fn get_one<'f>(
     whole: &mut Whole<'f>,
     path: &str,
 ) -> Result<u8, u8> {
-    let name = source.name;
+    let name = source.subject.name;
     let Ok(names) = names_of(rt.alloc(), path) else {
         return Err(refuse_memory(rt, name));
     };
@@ -129,7 +119,7 @@ fn get_one<'f>(
         return Err(refuse_memory(rt, name));
     };
     if !source.is_checked {
-        match look_along(rt, source, names.as_slice())? {
+        match look_along(rt, source.subject, names.as_slice())? {
             Along::Nothing => return Err(say_nothing(rt, name, path)),
             Along::Number(number) => return Ok(show_found(rt, name, Found::Number(number), None)),
             Along::Leaf(leaf) => return Ok(show_found(rt, name, Found::Resource(&leaf), None)),
@@ -163,25 +153,15 @@ fn say_nothing(rt: &HostRuntime, name: &str, path: &str) -> u8 {
 
 /// What stands at a path, by a look along it alone; or the status, once it is said why the way
 /// there is no right one.
-fn look_along<'f>(rt: &HostRuntime, source: Source<'f>, names: &[&str]) -> Result<Along<'f>, u8> {
-    let Source {
-        name,
-        bytes,
-        beside,
-        ..
-    } = source;
-    let pool = beside.bundle(rt, name)?;
-    if pool.is_none() && uses_pool(bytes) {
-        return Ok(Along::More);
-    }
-    let found = match find_with_pool(bytes, pool, names) {
+fn look_along<'f>(rt: &HostRuntime, subject: Subject<'f>, names: &[&str]) -> Result<Along<'f>, u8> {
+    let found = match find_in(&subject.source.file, names) {
         Ok(Some(at)) => read_alone(rt.alloc(), at),
         Ok(None) => Ok(Along::Nothing),
         Err(e) => Err(e),
     };
     match found {
         Ok(found) => Ok(found),
-        Err(e) => Err(refuse(rt, name, bytes, &FileError::Reading(e), beside.name())),
+        Err(e) => Err(subject.refuse(rt, &FileError::Reading(e))),
     }
 }
 

@@ -1,7 +1,7 @@
 //! What is said in a line more of a text that is refused, and which type a word is near to.
 //! Which mistake is at a place is told by `mistaken`; what is expected there is said in `say`.
 use crate::mistakes::{Mistake, What};
-use resb_compile::{CompileError, IcuCompileError};
+use resb_compile::CompileError;
 use resb_grammar::Expected;
 use resb_icu_grammar::IcuExpected;
 use resb_program::SourceError;
@@ -84,7 +84,7 @@ pub(crate) fn hint_at(
                 None
             }
         }
-        SourceError::IcuRefused(IcuCompileError::Reading(e)) => match e.expected() {
+        SourceError::Refused(CompileError::ReadingIcu(e)) => match e.expected() {
             IcuExpected::Escape => Some(Hint::Backslash),
             IcuExpected::GroupType if asks_for_types(mistake) => Some(Hint::Types(&ICU_TYPES)),
             _ => None,

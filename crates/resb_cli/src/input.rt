@@ -1,5 +1,6 @@
 //! Files by their names, which may be those of items inside a package, and the pool bundles beside
 //! them. How bytes are read is in `streams`; what is said of files is in `show`.
+use crate::order::{mirrored, with_little_table};
 use crate::packages::{found, package_in};
 use crate::say::{fail, fail_input, or_fail, refuse_memory};
 use crate::shown::Shown;
@@ -8,6 +9,7 @@ use crate::unread::Unread;
 use resb_package::Package;
 use resb_pool_bundle::{FileHead, PoolBundle};
 use std::alloc::{AllocError, Global};
+use std::fmt::Display;
 use std::path::{Path, PathBuf};
 
 /// What a pool bundle's file is called.
@@ -19,18 +21,23 @@ const FILE_ALONE: &str = "a pool bundle is read from a file alone";
 /// What is read of a package whatever limit is said, in bytes: ICU's own has some 30 MB.
 const LEAST_PACKAGE: u64 = 1 << 26;
 
-/// The bytes of a file; or those of a package, its name, and that of an item of it.
+/// The bytes of a file; or those of a package, its name, and that of an item of it. What is in
+/// big-endian order is mirrored.
 #[derive(Drop)]
 pub(crate) struct Input {
     bytes: Vec<u8>,
     package: String,
     item: Option<String>,
+    /// The little-endian file, if that which was read is big-endian.
+    mirrored: Option<Vec<u8>>,
 }
 
 /// A file's bytes; and the package that it stands in, with its name there, if it is an item of one.
 #[derive(Clone, Copy)]
 pub(crate) struct Opened<'f> {
     pub bytes: &'f [u8],
+    /// Whether the file was in big-endian order.
+    pub is_big: bool,
     folder: Option<(Package<'f>, &'f str)>,
 }
 
@@ -41,6 +48,8 @@ pub(crate) enum Beside<'f> {
     Nowhere,
     /// It is an item of the file's own package.
     Item(String, &'f [u8]),
+    /// It is such an item that was in big-endian order.
+    Mirrored(String, Vec<u8>),
     /// It is a file of its own, or an item of another package.
     File(String, Input),
 }
@@ -79,18 +88,14 @@ impl Input {
     fn take(rt: &HostRuntime, name: &str, limit: Option<u64>) -> Result<Input, Unread> {
         let Some((package, item)) = split_package(rt, name) else {
             let bytes = read_input(rt, name, limit).map_err(Unread::Input)?;
-            let package = String::new(rt.alloc());
-            return Ok(Input {
-                bytes,
-                package,
-                item: None,
-            });
+            return Input::of_file(rt.alloc(), bytes);
         };
         let most = match limit {
             Some(limit) => Some(limit.max(LEAST_PACKAGE)),
             None => None,
         };
         let bytes = read_input(rt, package, most).map_err(Unread::Input)?;
+        let bytes = with_little_table(rt.alloc(), bytes)?;
         Input::of_item(rt.alloc(), bytes, package, item)
     }
 
@@ -111,8 +116,25 @@ impl Input {
         Input::of_item(rt.alloc(), before.bytes, package, item)
     }
 
+    /// A file of these bytes.
+    fn of_file(alloc: Global, bytes: Vec<u8>) -> Result<Input, Unread> {
+        let bytes = with_little_table(alloc, bytes)?;
+        let mirrored = mirrored(alloc, bytes.as_slice())?;
+        let package = String::new(alloc);
+        Ok(Input {
+            bytes,
+            package,
+            item: None,
+            mirrored,
+        })
+    }
+
     /// An item of a package of these bytes.
     fn of_item(alloc: Global, bytes: Vec<u8>, package: &str, item: &str) -> Result<Input, Unread> {
+        let mirrored = match item_in(alloc, bytes.as_slice(), item) {
+            Ok((_, file)) => mirrored(alloc, file)?,
+            Err(_) => None,
+        };
         match (
             String::from_str(alloc, package),
             String::from_str(alloc, item),
@@ -121,6 +143,7 @@ impl Input {
                 bytes,
                 package,
                 item: Some(item),
+                mirrored,
             }),
             _ => Err(Unread::Memory),
         }
@@ -138,19 +161,41 @@ impl Input {
     pub(crate) fn opened(&self, alloc: Global) -> Result<Opened<'_>, Unread> {
         let bytes = self.bytes.as_slice();
         let Some(item) = &self.item else {
-            let folder = None;
-            return Ok(Opened { bytes, folder });
+            return Ok(self.with(bytes, None));
         };
         let item = item.as_str();
-        let package = package_in(bytes).map_err(Unread::Package)?;
-        match found(alloc, &package, item) {
-            Ok(Some(bytes)) => {
-                let folder = Some((package, item));
-                Ok(Opened { bytes, folder })
-            }
-            Ok(None) => Err(Unread::NoItem),
-            Err(_) => Err(Unread::Memory),
+        let (package, bytes) = item_in(alloc, bytes, item)?;
+        Ok(self.with(bytes, Some((package, item))))
+    }
+
+    /// The file of these bytes, or the mirrored one.
+    fn with<'f>(&'f self, bytes: &'f [u8], folder: Option<(Package<'f>, &'f str)>) -> Opened<'f> {
+        match &self.mirrored {
+            Some(mirrored) => Opened {
+                bytes: mirrored.as_slice(),
+                is_big: true,
+                folder,
+            },
+            None => Opened {
+                bytes,
+                is_big: false,
+                folder,
+            },
         }
+    }
+}
+
+/// The package that these bytes are, and its item of this name.
+fn item_in<'f>(
+    alloc: Global,
+    bytes: &'f [u8],
+    item: &str,
+) -> Result<(Package<'f>, &'f [u8]), Unread> {
+    let package = package_in(bytes).map_err(Unread::Package)?;
+    match found(alloc, &package, item) {
+        Ok(Some(bytes)) => Ok((package, bytes)),
+        Ok(None) => Err(Unread::NoItem),
+        Err(_) => Err(Unread::Memory),
     }
 }
 
@@ -251,14 +296,35 @@ fn pool_item<'f>(
         return Err(refuse_memory(rt, name));
     };
     match found(rt.alloc(), package, pool.as_str()) {
-        Ok(Some(bytes)) => Ok(Beside::Item(path, bytes)),
+        Ok(Some(bytes)) => mirrored_item(rt, name, path, bytes),
         Ok(None) => Ok(Beside::Nowhere),
         Err(_) => Err(refuse_memory(rt, name)),
     }
 }
 
+/// The pool bundle of a file that is an item of this path, in little-endian order.
+fn mirrored_item<'f>(
+    rt: &HostRuntime,
+    file: &str,
+    path: String,
+    bytes: &'f [u8],
+) -> Result<Beside<'f>, u8> {
+    match mirrored(rt.alloc(), bytes) {
+        Ok(Some(mirrored)) => Ok(Beside::Mirrored(path, mirrored)),
+        Ok(None) => Ok(Beside::Item(path, bytes)),
+        Err(e) => Err(refuse_pool(rt, file, path.as_str(), e)),
+    }
+}
+
+/// Says why a file's pool bundle is none, and gives the status of that.
+fn refuse_pool<C: Display + Drop>(rt: &HostRuntime, file: &str, name: &str, cause: C) -> u8 {
+    let (file, name) = (Shown(file), Shown(name));
+    let _ = eprintln!(rt; "{file}: its pool bundle {name}: {cause}");
+    1
+}
+
 /// Whether a file's head says that it uses a pool bundle.
-pub(crate) fn uses_pool(file: &[u8]) -> bool {
+fn uses_pool(file: &[u8]) -> bool {
     match FileHead::read(file) {
         Ok(head) => head.uses_pool(),
         Err(_) => false,
@@ -273,15 +339,18 @@ fn pool_name(alloc: Global, name: &str) -> Result<String, AllocError> {
     }
 }
 
-/// The name of the pool bundle over which files are written: this one, or that in this folder.
+/// The name of the pool bundle over which files are written: this one, or that in this folder. What
+/// isn't there is a folder's name, unless it ends as a file's does.
 pub(crate) fn lending_name(rt: &HostRuntime, name: &str) -> Result<String, u8> {
     if name == "-" {
         return Err(fail(rt, "resb", FILE_ALONE));
     }
-    let path = if Path::new(name).is_dir(rt) {
-        pool_in(rt.alloc(), name)
-    } else {
+    let path = Path::new(name);
+    let is_file = !path.is_dir(rt) && (name.ends_with(".res") || path.exists(rt));
+    let path = if is_file {
         made(PathBuf::from_str(rt.alloc(), name))
+    } else {
+        pool_in(rt.alloc(), name)
     };
     let path = or_fail(rt, name, path)?;
     or_fail(
@@ -301,7 +370,9 @@ impl Beside<'_> {
     pub(crate) fn name(&self) -> Option<&str> {
         match self {
             Beside::Nowhere => None,
-            Beside::Item(name, _) | Beside::File(name, _) => Some(name.as_str()),
+            Beside::Item(name, _) | Beside::Mirrored(name, _) | Beside::File(name, _) => {
+                Some(name.as_str())
+            }
         }
     }
 
@@ -315,6 +386,7 @@ impl Beside<'_> {
         let (name, bytes) = match self {
             Beside::Nowhere => return Ok(None),
             Beside::Item(name, bytes) => (name.as_str(), *bytes),
+            Beside::Mirrored(name, bytes) => (name.as_str(), bytes.as_slice()),
             Beside::File(name, input) => {
                 let name = name.as_str();
                 (name, input.open(rt, name)?.bytes)
@@ -322,11 +394,7 @@ impl Beside<'_> {
         };
         match PoolBundle::read(bytes) {
             Ok(pool) => Ok(Some(pool)),
-            Err(e) => {
-                let (file, name) = (Shown(file), Shown(name));
-                let _ = eprintln!(rt; "{file}: its pool bundle {name}: {e}");
-                Err(1)
-            }
+            Err(e) => Err(refuse_pool(rt, file, name, e)),
         }
     }
 }

@@ -1,10 +1,9 @@
 //! How deep the collections of a file lie in one another, where a limit counts that.
 //! What a walk keeps for each level is in the crates that go through files and print them.
-use crate::input::Beside;
 use crate::say::refuse_memory;
 use crate::show::{Length, TooLong, refuse_long};
 use resb_format::FileBlocks;
-use resb_pool_bundle::read_with_pool;
+use resb_head::CheckedFile;
 use resb_walk::{Member, Members, Standing, standing_at};
 use std::alloc::{AllocError, Global};
 
@@ -12,19 +11,13 @@ use std::alloc::{AllocError, Global};
 /// kept for it has 184 bytes at most, in a list that is copied where it grows.
 const LEVEL_BYTES: u64 = 368;
 
-/// Refuses a file whose levels take more bytes than the limit: the status, once that is said. A
-/// file that has no tree has none.
+/// Refuses a file whose levels take more bytes than the limit: the status, once that is said.
 pub(crate) fn check_levels(
     rt: &HostRuntime,
     name: &str,
-    file: &[u8],
-    beside: &Beside<'_>,
+    parts: CheckedFile<'_>,
     limit: u64,
 ) -> Result<(), u8> {
-    let pool = beside.bundle(rt, name)?;
-    let Ok(parts) = read_with_pool(file, pool) else {
-        return Ok(());
-    };
     match are_within(rt.alloc(), parts.file, parts.root, limit / LEVEL_BYTES) {
         Ok(true) => Ok(()),
         Ok(false) => {

@@ -1,5 +1,5 @@
-//! The program `resb` that people call: compile, check, dump, get, diff, list, extract, and
-//! ICU's genrb and derb.
+//! The program `resb` that people call: compile, check, dump, get, diff, list, extract, swap,
+//! and ICU's genrb and derb.
 //! What its words ask for is in `resb_words`, and what it does with bytes in `resb_program`.
 #![tactic(auto)]
 
@@ -8,6 +8,7 @@ mod changes;
 mod check;
 mod collation;
 mod compile;
+mod copyright;
 mod depfile;
 mod derb;
 mod diff;
@@ -32,6 +33,7 @@ mod mistaken_values;
 mod mistakes;
 mod names;
 mod note;
+mod order;
 mod packages;
 mod paths;
 mod place;
@@ -43,6 +45,8 @@ mod say;
 mod show;
 mod shown;
 mod streams;
+mod subject;
+mod swap;
 mod taken;
 mod texts;
 mod unread;
@@ -100,6 +104,7 @@ fn perform_request(rt: &HostRuntime, request: &Request<'_>) -> u8 {
             say::fail(rt, words.item, words::NO_UTF8)
         }
         Request::Extract(words) => packages::extract(rt, words),
+        Request::Swap(words) => swap::swap(rt, words),
         Request::Genrb(words) => genrb::genrb(rt, words),
         Request::Derb(words) => derb::derb(rt, words),
     }

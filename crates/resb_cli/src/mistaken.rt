@@ -8,12 +8,12 @@ use crate::mistaken_keys::{
 };
 use crate::mistaken_values::{
     comment_mistake, digits_mistake, end_mistake, icu_number_mistake, is_in_vector,
-    one_value_mistake, open_group_mistake, plain_number_mistake, plain_value_mistake,
-    quote_mistake, slash_mistake,
+    one_value_mistake, open_group_behind, open_group_mistake, plain_number_mistake,
+    plain_value_mistake, quote_mistake, slash_mistake, slash_mistake_before,
 };
 use crate::mistakes::{Mistake, Spot, What};
 use crate::repeated::repeated_key;
-use resb_compile::{CompileError, IcuCompileError};
+use resb_compile::CompileError;
 use resb_diagnostics::first_icu_word;
 use resb_grammar::Expected;
 use resb_icu_grammar::IcuExpected;
@@ -34,7 +34,7 @@ pub(crate) fn mistake_at<'s>(
         SourceError::Refused(CompileError::Reading(e)) => {
             plain_mistake(alloc, &spot, e.expected())
         }
-        SourceError::IcuRefused(IcuCompileError::Reading(e)) => {
+        SourceError::Refused(CompileError::ReadingIcu(e)) => {
             icu_mistake(alloc, &spot, e.expected())
         }
         _ => Ok(None),
@@ -66,7 +66,7 @@ fn plain_type_mistake<'s>(
     alloc: Global,
     spot: &Spot<'s>,
 ) -> Result<Option<Mistake<'s>>, AllocError> {
-    let found = type_mistake(alloc, spot, &TYPES)?;
+    let found = type_mistake(alloc, spot, &TYPES, false)?;
     let has_blank = matches!(
         found,
         Some(Mistake {
@@ -135,7 +135,7 @@ fn icu_mistake<'s>(
 ) -> Result<Option<Mistake<'s>>, AllocError> {
     match expected {
         IcuExpected::KeysOnce => repeated_key(alloc, spot),
-        IcuExpected::GroupType => type_mistake(alloc, spot, &ICU_TYPES),
+        IcuExpected::GroupType => type_mistake(alloc, spot, &ICU_TYPES, true),
         _ => Ok(comment_mistake(spot, true).or(icu_token_mistake(spot, expected))),
     }
 }
@@ -144,10 +144,8 @@ fn icu_mistake<'s>(
 fn icu_token_mistake<'s>(spot: &Spot<'s>, expected: IcuExpected) -> Option<Mistake<'s>> {
     match expected {
         IcuExpected::Name => icu_key_mistake(spot, Role::Name),
-        IcuExpected::Entry | IcuExpected::Key => {
-            slash_mistake(spot).or(icu_key_mistake(spot, Role::Key))
-        }
-        IcuExpected::String => slash_mistake(spot),
+        IcuExpected::Key => icu_key_mistake(spot, Role::Key).or(open_group_behind(spot)),
+        IcuExpected::Entry => icu_key_mistake(spot, Role::Key),
         IcuExpected::Number => icu_number_mistake(spot, What::IntegerRange),
         IcuExpected::NumberOrRightBrace => icu_number_mistake(spot, What::VectorRange),
         IcuExpected::HexPairs => digits_mistake(spot, true),
@@ -158,10 +156,9 @@ fn icu_token_mistake<'s>(spot: &Spot<'s>, expected: IcuExpected) -> Option<Mista
         }
         IcuExpected::RightBrace => quote_mistake(spot, true, false).or(one_value_mistake(spot)),
         IcuExpected::Member if ends_in_comma(spot) => spot.here(What::TwoCommas),
-        IcuExpected::Member => slash_mistake(spot),
-        IcuExpected::CommaOrMember => slash_mistake(spot).or(quote_mistake(spot, true, false)),
-        IcuExpected::Comma => quote_mistake(spot, true, false),
+        IcuExpected::CommaOrMember | IcuExpected::Comma => quote_mistake(spot, true, false),
         IcuExpected::Group if begins_string(spot) => spot.here(What::NoBraceOpen),
+        IcuExpected::Group => slash_mistake_before(spot),
         _ => None,
     }
 }

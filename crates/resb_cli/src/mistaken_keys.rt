@@ -65,7 +65,11 @@ fn quoted_mistake<'s>(spot: &Spot<'s>, role: Role) -> Option<Mistake<'s>> {
     }
     match spot.behind.split_at_checked(key.len().saturating_add(2)) {
         Some((_, rest)) if rest.trim_ascii_start().starts_with(b"\"") => {
-            spot.here(What::KeyOfPieces)
+            let second = spot
+                .behind
+                .len()
+                .saturating_sub(rest.trim_ascii_start().len());
+            spot.on(second, What::KeyOfPieces)
         }
         _ => None,
     }
@@ -82,6 +86,7 @@ fn unquoted_mistake<'s>(spot: &Spot<'s>, role: Role) -> Option<Mistake<'s>> {
     let second = spot.behind.len().saturating_sub(next.len());
     match next {
         [b'=' | b'[' | b'(', ..] => return spot.on(second, What::NoBrace(word)),
+        [b'"', ..] if role == Role::Key => return spot.on(second, What::NoBraceOpen),
         [b'\\', ..] => return spot.on(second, role.character('\\')),
         _ => {}
     }
@@ -171,7 +176,7 @@ fn key_without_group<'s>(before: &'s [u8]) -> Option<Mistake<'s>> {
 }
 
 /// The word of the plain form with which bytes end.
-fn word_at_end(bytes: &[u8]) -> &[u8] {
+pub(crate) fn word_at_end(bytes: &[u8]) -> &[u8] {
     for number in 0..bytes.len() {
         let at = bytes.len() - 1 - number;
         if !is_word(bytes[at]) {
@@ -192,24 +197,27 @@ pub(crate) fn quoted_character<'s>(spot: &Spot<'s>) -> Option<Mistake<'s>> {
     }
 }
 
-/// What is wrong where a type is to stand, of which these are all.
+/// What is wrong where a type is to stand, of which these are all. Blanks may stand before it, or
+/// not.
 pub(crate) fn type_mistake<'s>(
     alloc: Global,
     spot: &Spot<'s>,
     names: &'static [&'static str],
+    takes_blanks: bool,
 ) -> Result<Option<Mistake<'s>>, AllocError> {
     let Some(rest) = spot.behind.strip_prefix(b":") else {
         return Ok(None);
     };
     let value = rest.trim_ascii_start();
     let has_blank = value.len() < rest.len();
+    let place = spot.behind.len().saturating_sub(value.len());
     let word = word_of_type(value);
     let found = nearest(alloc, names, word)?;
     Ok(match value {
-        [b'{' | b'}' | b',' | b':', ..] | [] => None,
-        _ if has_blank && found.is_some() => spot.on(1, What::BlankBehindColon),
-        _ if has_blank => spot.here(What::ValueBehindColon),
+        [b'{' | b'}' | b',' | b':' | b'/', ..] | [] => None,
+        _ if has_blank && found.is_none() => spot.here(What::ValueBehindColon),
+        _ if has_blank && !takes_blanks => spot.on(1, What::BlankBehindColon),
         [b'"' | b'[' | b'\'' | b'-' | b'0'..=b'9', ..] => spot.here(What::ValueBehindColon),
-        _ => spot.here(What::UnknownType(word, found)),
+        _ => spot.on(place, What::UnknownType(word, found)),
     })
 }

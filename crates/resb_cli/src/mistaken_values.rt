@@ -1,6 +1,6 @@
 //! What is wrong in a value, and where a group, a string or the bundle ends.
 //! Mistakes in keys, names and types are found in `mistaken_keys`.
-use crate::mistaken_keys::has_line_end;
+use crate::mistaken_keys::{has_line_end, word_at_end};
 use crate::mistakes::{Mistake, Spot, What};
 use crate::repeated::key_at;
 use resb_diagnostics::{first_icu_word, long_icu_string_before, long_string_before};
@@ -17,6 +17,8 @@ pub(crate) fn comment_mistake<'s>(spot: &Spot<'s>, is_icu: bool) -> Option<Mista
             };
             if has_comment_end(inside) {
                 None
+            } else if spot.behind.starts_with(b"/**/") {
+                spot.here(What::EmptyComment)
             } else {
                 spot.here(What::OpenComment)
             }
@@ -26,7 +28,18 @@ pub(crate) fn comment_mistake<'s>(spot: &Spot<'s>, is_icu: bool) -> Option<Mista
     }
 }
 
-/// A string without quotes that begins with a slash.
+/// A slash that stands alone right before a place: a person means a comment.
+pub(crate) fn slash_mistake_before<'s>(spot: &Spot<'s>) -> Option<Mistake<'s>> {
+    match spot.before {
+        [.., b' ' | b'\t' | b'\r' | b'\n' | b'{' | b'}', b'/'] => Some(Mistake {
+            place: spot.before.len().saturating_sub(1),
+            what: What::NoComment,
+        }),
+        _ => None,
+    }
+}
+
+/// A string without quotes that begins with a slash, in the plain form.
 pub(crate) fn slash_mistake<'s>(spot: &Spot<'s>) -> Option<Mistake<'s>> {
     match spot.behind {
         [b'/', b'/' | b'*', ..] => None,
@@ -50,7 +63,7 @@ fn has_comment_end(bytes: &[u8]) -> bool {
 /// What is wrong where a number of ICU's form is to stand, whose range is told by this.
 pub(crate) fn icu_number_mistake<'s>(spot: &Spot<'s>, range: What<'s>) -> Option<Mistake<'s>> {
     let digits = match spot.behind {
-        [b'"', ..] => return spot.here(What::QuotedNumber),
+        [b'"', ..] => return spot.here(What::NoQuotedNumber),
         [b'+' | b'-', rest @ ..] => icu_word(rest),
         all => icu_word(all),
     };
@@ -152,10 +165,9 @@ pub(crate) fn digits_mistake<'s>(spot: &Spot<'s>, is_icu: bool) -> Option<Mistak
             return spot.on(at.saturating_add(start), What::NoDigit(c));
         }
     }
-    if content.len() % 2 == 1 {
-        spot.here(What::OddDigits)
-    } else {
-        None
+    match content.len() {
+        count if count % 2 == 1 => spot.here(What::OddDigits(count)),
+        _ => None,
     }
 }
 
@@ -206,7 +218,23 @@ pub(crate) fn quote_mistake<'s>(
     }
     match spot.before.last() {
         Some(b' ' | b'\t' | b'\r' | b'\n' | b'{' | b'}' | b',' | b':' | b'"') => None,
-        Some(_) if spot.behind.starts_with(b"\"") => spot.here(What::NoOpeningQuote),
+        Some(_) if spot.behind.starts_with(b"\"") => match quote_before_word(spot.before) {
+            Some(place) if is_icu => Some(Mistake {
+                place,
+                what: What::QuoteInside,
+            }),
+            _ => spot.here(What::NoOpeningQuote),
+        },
+        _ => None,
+    }
+}
+
+/// The place of the quote that stands right before the word at the end of a text, if one does.
+fn quote_before_word(text: &[u8]) -> Option<usize> {
+    let front = text.len().checked_sub(word_at_end(text).len())?;
+    let place = front.checked_sub(1)?;
+    match text.get(place) {
+        Some(b'"') => Some(place),
         _ => None,
     }
 }
@@ -279,4 +307,17 @@ pub(crate) fn open_group_mistake<'s>(spot: &Spot<'s>) -> Option<Mistake<'s>> {
         [b'{' | b':', ..] => spot.here(What::NoBraceBefore),
         _ => None,
     }
+}
+
+/// An entry before which a `}` is missing, behind a string that can't be a key: it goes on with
+/// the entry's key.
+pub(crate) fn open_group_behind<'s>(spot: &Spot<'s>) -> Option<Mistake<'s>> {
+    let key = key_at(spot.source, spot.before.len(), true);
+    let quotes = if spot.behind.starts_with(b"\"") { 2 } else { 0 };
+    let (_, rest) = spot
+        .behind
+        .split_at_checked(key.len().saturating_add(quotes))?;
+    let next = rest.trim_ascii_start();
+    let place = spot.source.len().saturating_sub(next.len());
+    open_group_mistake(&Spot::new(spot.source, place)?)
 }

@@ -28,6 +28,8 @@ pub(crate) enum What<'s> {
     /// The key stands in its table before.
     Repeated(Repeated<'s>),
     OpenComment,
+    /// ICU's form reads `/**/` as the start of a comment.
+    EmptyComment,
     NoComment,
     Slash,
     Comma,
@@ -55,9 +57,11 @@ pub(crate) enum What<'s> {
     VectorRange,
     Fraction,
     QuotedNumber,
+    NoQuotedNumber,
     NoNumberComma,
     SeveralValues,
-    OddDigits,
+    /// So many hex digits, one of which has no other.
+    OddDigits(usize),
     NoDigit(char),
     BraceTooMany,
     EarlyEnd,
@@ -126,6 +130,10 @@ impl fmt::Display for What<'_> {
             What::NameCharacter(c) => write_of(f, *c, "can't stand in the bundle's name"),
             What::QuotedCharacter(c) => write_of(f, *c, "needs quotes round its string"),
             What::NoDigit(c) => write_of(f, *c, "is no hex digit"),
+            What::OddDigits(count) => write!(
+                f,
+                "an odd number of hex digits ({count}): each byte has two"
+            ),
             What::NoBrace(word) => {
                 let word = Shown(word);
                 write!(f, "there is no '{{' behind '{word}'")
@@ -153,16 +161,18 @@ impl What<'_> {
     /// What is said of a mistake by words alone; of others, nothing.
     fn words(&self) -> &'static str {
         match self {
-            What::OpenComment => "this comment has no end",
+            What::OpenComment => "this comment has no end: a '*/' is missing",
+            What::EmptyComment => "for ICU '/**/' is a comment without an end: write '/* */'",
             What::NoComment => "a comment begins with '//' or '/*'",
             What::Slash => "a string that begins with '/' needs quotes",
-            What::Comma => "entries of a table have no commas",
+            What::Comma =>
+                "commas stand between members of an array, not between entries of a table",
             What::Semicolon => "entries of a table have no semicolons",
             What::NoKey => "this value has no key",
             What::NoName => "the bundle has no name",
             What::KeyOfWords => "a key of several words needs quotes",
             What::NameOfWords => "the bundle's name is one word",
-            What::KeyOfPieces => "a key is one string",
+            What::KeyOfPieces => "a key is one string, and this is a second one",
             What::TypeFirst => "a type stands behind its key, with a ':' before it",
             What::BlankBehindColon => "there is no blank between ':' and a type",
             What::ValueBehindColon => "a value stands in braces, and a type behind ':'",
@@ -180,15 +190,16 @@ impl What<'_> {
     fn words_of_value(&self) -> &'static str {
         match self {
             What::NotDecimal => "a number is decimal",
-            What::LeadingZero => "a number is decimal, without a leading zero",
+            What::LeadingZero =>
+                "behind a first 0 stand octal digits, 0 to 7, or an x and hex digits",
             What::IntegerRange => { "an integer has 28 bits: -134217728 to 268435455" }
             What::VectorRange => { "a vector's numbers have 32 bits: -2147483648 to 4294967295" }
             What::Fraction => "numbers are whole",
             What::QuotedNumber => "a number has no quotes",
+            What::NoQuotedNumber => "these quotes hold no number, or one of more than 32 bits",
             What::NoNumberComma => "a comma is missing before this number",
             What::SeveralValues => "a group of this type has one value",
             What::TwoCommas => "two commas in a row",
-            What::OddDigits => "an odd number of hex digits",
             What::QuoteInside => "a quote inside a string needs a backslash before it",
             What::NoOpeningQuote => "a quote is missing where this string begins",
             What::NoClosingQuote => "nothing closes this quote",

@@ -1,6 +1,7 @@
 //! The commands `list` and `extract`: the items of a package of ICU's data.
 //! What a package is, is in `resb_package`.
 use crate::input::bytes_of;
+use crate::order::with_little_table;
 use crate::place::place_of;
 use crate::save::{Bytes, save, saved};
 use crate::say::{complain, or_fail, refuse_memory};
@@ -8,6 +9,7 @@ use crate::show::{settled, show};
 use crate::shown::Shown;
 use crate::streams::made;
 use crate::taken::Taken;
+use crate::unread::Unread;
 use resb_package::{Package, PackageError};
 use resb_words::ExtractWords;
 use std::alloc::{AllocError, Global};
@@ -19,11 +21,20 @@ pub(crate) fn list(rt: &HostRuntime, name: &str) -> u8 {
 
 /// Prints the names: the status, or that of a file that is no package.
 fn list_items(rt: &HostRuntime, name: &str) -> Result<u8, u8> {
-    let file = bytes_of(rt, name, None)?;
+    let file = package_bytes(rt, name)?;
     let package = package_of(rt, name, file.as_slice())?;
     match names_of(rt.alloc(), &package) {
         Ok(names) => Ok(show(rt, names.as_str())),
         Err(_) => Err(refuse_memory(rt, name)),
+    }
+}
+
+/// The bytes of a package, its table in little-endian order; or the status, once it is said why
+/// there are none.
+fn package_bytes(rt: &HostRuntime, name: &str) -> Result<Vec<u8>, u8> {
+    match with_little_table(rt.alloc(), bytes_of(rt, name, None)?) {
+        Ok(bytes) => Ok(bytes),
+        Err(e) => Err(Unread::from(e).say(rt, name)),
     }
 }
 
@@ -82,7 +93,7 @@ pub(crate) fn extract(rt: &HostRuntime, wanted: &ExtractWords<'_>) -> u8 {
 /// Writes the item: the status, or that of what kept it from being written.
 fn extract_item(rt: &HostRuntime, wanted: &ExtractWords<'_>) -> Result<u8, u8> {
     let (name, output) = (wanted.file, wanted.output.unwrap_or("-"));
-    let file = bytes_of(rt, name, None)?;
+    let file = package_bytes(rt, name)?;
     let package = package_of(rt, name, file.as_slice())?;
     let bytes = item_of(rt, &package, name, wanted.item)?;
     let place = or_fail(rt, output, place_of(rt, output))?;

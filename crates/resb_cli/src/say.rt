@@ -5,14 +5,13 @@ use crate::mistaken::mistake_at;
 use crate::mistaken_values::last_long_string;
 use crate::mistakes::{Mistake, What};
 use crate::paths::{Step, push_step};
-use crate::show::Form;
+use crate::show::form_name;
 use crate::shown::Shown;
 use crate::streams::{InputError, NO_MEMORY};
 use crate::texts::SourceText;
-use resb_compile::{CompileError, IcuCompileError};
+use resb_compile::CompileError;
 use resb_diagnostics::{Location, first_icu_outdent, first_outdent, location_of, pointed_line};
-use resb_grammar::Expected;
-use resb_icu_grammar::IcuExpected;
+use resb_lines::PrintForm;
 use resb_print::PathStep;
 use resb_program::{Blame, SourceError, where_to_look};
 use std::alloc::{AllocError, Global};
@@ -78,7 +77,7 @@ pub(crate) fn say_lines<R: Eprint + AllocGlobal, C: Display>(rt: &R, cause: &C) 
 #[derive(Clone, Copy)]
 pub(crate) struct NoText {
     /// The form.
-    pub(crate) form: Form,
+    pub(crate) form: PrintForm,
     /// What is said of where it has a text, or nothing.
     pub(crate) hint: &'static str,
     /// What is said of the JSON that stands in its place, or nothing.
@@ -97,7 +96,7 @@ pub(crate) fn say_no_text<R: Eprint + AllocGlobal, C: Display + Drop>(
     let Ok(at) = path_text(rt.alloc(), path) else {
         return Err(refuse_memory(rt, name));
     };
-    let (name, what) = (Shown(name), missing.form.name());
+    let (name, what) = (Shown(name), form_name(missing.form));
     let (hint, end) = (missing.hint, missing.instead);
     if at.is_empty() {
         let _ = eprintln!(rt; "{name}: this has no {what}, since {cause}{hint}{end}");
@@ -262,8 +261,8 @@ fn say_long_string<R: Eprint>(
 /// The last string that spans lines before a place at which a text is refused.
 fn long_string(source: &[u8], place: usize, error: &SourceError) -> Option<usize> {
     match error {
-        SourceError::Refused(_) => last_long_string(source, place, false),
-        SourceError::IcuRefused(_) => last_long_string(source, place, true),
+        SourceError::Refused(CompileError::Reading(_)) => last_long_string(source, place, false),
+        SourceError::Refused(CompileError::ReadingIcu(_)) => last_long_string(source, place, true),
         _ => None,
     }
 }
@@ -271,7 +270,7 @@ fn long_string(source: &[u8], place: usize, error: &SourceError) -> Option<usize
 /// The first line that is indented too little for the group it stands in.
 fn outdent(alloc: Global, source: &[u8], error: &SourceError) -> Result<Option<usize>, AllocError> {
     match error {
-        SourceError::IcuRefused(_) => first_icu_outdent(alloc, source),
+        SourceError::Refused(CompileError::ReadingIcu(_)) => first_icu_outdent(alloc, source),
         _ => first_outdent(alloc, source),
     }
 }
@@ -296,13 +295,8 @@ pub(crate) fn say_at<R: Eprint, C: Display + Drop>(rt: &R, name: &str, at: Locat
 /// Whether it was memory that was wanted.
 fn wants_memory(error: &SourceError) -> bool {
     match error {
-        SourceError::Refused(CompileError::Reading(e)) => e.expected() == Expected::Memory,
-        SourceError::IcuRefused(IcuCompileError::Reading(e)) => {
-            e.expected() == IcuExpected::Memory
-        }
-        SourceError::Refused(CompileError::Writing(e))
-        | SourceError::IcuRefused(IcuCompileError::Writing(e)) => e.is_out_of_memory(),
-        _ => false,
+        SourceError::Refused(e) => e.is_out_of_memory(),
+        SourceError::NotUtf8(_) => false,
     }
 }
 

@@ -1,18 +1,11 @@
 //! What is shown of a file as a whole: its text, in either form, and its JSON, from its tree or
-//! from the opened file. Where that goes is said by the commands, and why a file has no tree in
-//! `refusal`.
-use crate::input::Beside;
+//! from the opened file. Where that goes is said by the commands, and what is had of a file in
+//! `subject`.
 use crate::least::uncounted_in;
-use crate::levels::check_levels;
-use crate::refusal::refuse;
 use crate::save::{Bytes, Content, cause_of_printing, print};
 use crate::say::{NoText, complain, fail, refuse_memory, say_no_text};
-use resb_icu_print::IcuPrintError;
-use resb_json::{json_length_within, write_json};
-use resb_lines::{Icu, Plain, ShownBundle, find_cause, has_text, lines_length_within, write_lines};
-use resb_opened::Opened;
+use resb_lines::{Print, PrintForm, Printable, ShownBundle};
 use resb_print::{Cause, PrintError};
-use resb_program::{open_file, open_file_within, read_bundle};
 use resb_shown::Shown;
 use resb_tree::ResourceBundle;
 use std::alloc::{AllocError, Global};
@@ -28,141 +21,99 @@ pub(crate) fn status_of(rt: &HostRuntime, is_written: bool) -> u8 {
     fail(rt, "resb", "standard output cannot be written")
 }
 
-/// A form in which something is shown.
-#[derive(Clone, Copy)]
-pub(crate) enum Form {
-    /// The plain text form.
-    Text,
-    /// ICU's text form.
-    IcuText,
-    /// JSON, with a line feed.
-    Json,
-}
-
-impl Form {
-    /// What it is called.
-    pub(crate) fn name(self) -> &'static str {
-        match self {
-            Form::Text => "text",
-            Form::IcuText => "text in ICU's form",
-            Form::Json => "JSON",
-        }
-    }
-
-    /// What the name of a file in it ends with.
-    pub(crate) fn ending(self) -> &'static str {
-        match self {
-            Form::Text | Form::IcuText => ".txt",
-            Form::Json => ".json",
-        }
+/// What a form is called.
+pub(crate) fn form_name(form: PrintForm) -> &'static str {
+    match form {
+        PrintForm::Plain => "text",
+        PrintForm::Icu => "text in ICU's form",
+        PrintForm::Json => "JSON",
     }
 }
 
-/// A bundle that is shown in a form, whatever holds it: a tree, or an opened file.
+/// What the name of a file in a form ends with.
+pub(crate) fn form_ending(form: PrintForm) -> &'static str {
+    match form {
+        PrintForm::Plain | PrintForm::Icu => ".txt",
+        PrintForm::Json => ".json",
+    }
+}
+
+/// How a bundle is printed in a form, within the limit, if there is one.
+pub(crate) fn print_as(form: PrintForm, limit: Option<u64>) -> Print {
+    let print = Print::new(form);
+    match limit {
+        Some(limit) => print.within(limit),
+        None => print,
+    }
+}
+
+/// A bundle that is shown in a form, whatever holds it: a tree, or an opened file. Its JSON ends
+/// with a line feed.
 #[derive(Drop)]
 pub(crate) struct Showing<'s, S: Copy> {
-    /// The bundle's name, which JSON doesn't have.
-    pub(crate) name: &'s str,
-    /// Its root.
-    pub(crate) root: S,
-    /// Whether fallback is on, which JSON doesn't have.
-    pub(crate) has_fallback: bool,
+    /// The bundle, as it is written.
+    pub(crate) content: Printable<'s, S>,
     /// The form.
-    pub(crate) form: Form,
-}
-
-impl<'s, S: Shown<'s>> Showing<'s, S> {
-    /// The bundle.
-    fn bundle(&self) -> ShownBundle<'s, S> {
-        ShownBundle {
-            name: self.name,
-            root: self.root,
-            is_locale_fallback_enabled: self.has_fallback,
-        }
-    }
-
-    /// Whether the bundle can be shown in the form.
-    pub(crate) fn is_had(&self, alloc: Global) -> Result<bool, AllocError> {
-        match self.form {
-            Form::Text => has_text(alloc, Plain, self.bundle()),
-            Form::IcuText => has_text(alloc, Icu, self.bundle()),
-            Form::Json => Ok(true),
-        }
-    }
-
-    /// How many bytes what is shown has, if those are no more than a limit: those of JSON without
-    /// its line feed.
-    fn length_within(&self, alloc: Global, limit: u64) -> Result<Option<u64>, AllocError> {
-        match self.form {
-            Form::Text => lines_length_within(alloc, Plain, self.bundle(), limit),
-            Form::IcuText => lines_length_within(alloc, Icu, self.bundle(), limit),
-            Form::Json => json_length_within(alloc, self.root, limit),
-        }
-    }
-
-    /// Whether what is shown has no more bytes than the limit, if there is one.
-    pub(crate) fn fits(&self, alloc: Global, limit: Option<u64>) -> Result<bool, AllocError> {
-        match limit {
-            Some(limit) => Ok(self.length_within(alloc, limit)?.is_some()),
-            None => Ok(true),
-        }
-    }
-
-    /// How many bytes what is shown has. A tree is not counted for the bytes of its binaries, so
-    /// that they may be far over the limit: where they and the keys alone are over it, no more is
-    /// counted. Else all is made and counted, which is some ten times the limit at most.
-    fn length(&self, alloc: Global, limit: u64) -> Result<Length, AllocError> {
-        let least = uncounted_in(alloc, self.root)?.least();
-        if least > limit {
-            return Ok(Length::AtLeast(least));
-        }
-        match self.length_within(alloc, u64::MAX)? {
-            Some(length) => Ok(Length::Exactly(length)),
-            None => Ok(Length::AtLeast(u64::MAX)),
-        }
-    }
-
-    /// Refuses what takes more bytes than the limit, if there is one, before any of it is written:
-    /// the status, once that is said.
-    pub(crate) fn check(&self, rt: &HostRuntime, name: &str, limit: Option<u64>) -> Result<(), u8> {
-        let Ok(fits) = self.fits(rt.alloc(), limit) else {
-            return Err(refuse_memory(rt, name));
-        };
-        match limit {
-            Some(limit) if !fits => Err(self.refuse_long(rt, name, limit)),
-            _ => Ok(()),
-        }
-    }
-
-    /// Says that what is shown takes more bytes than the limit, and how many, and gives the status
-    /// of that.
-    fn refuse_long(&self, rt: &HostRuntime, name: &str, limit: u64) -> u8 {
-        let what = self.form.name();
-        match self.length(rt.alloc(), limit) {
-            Ok(length) => refuse_long(
-                rt,
-                name,
-                TooLong {
-                    what,
-                    length,
-                    limit,
-                },
-            ),
-            Err(_) => refuse_memory(rt, name),
-        }
-    }
+    pub(crate) form: PrintForm,
+    /// Whether a byte order mark stands before it.
+    pub(crate) has_mark: bool,
 }
 
 impl<'s, S: Shown<'s>> Content for Showing<'s, S> {
     fn write_to<W: Write>(&self, alloc: Global, out: &mut W) -> io::Result<()> {
-        match self.form {
-            Form::Text => write_lines(alloc, out, Plain, self.bundle()),
-            Form::IcuText => write_lines(alloc, out, Icu, self.bundle()),
-            Form::Json => {
-                write_json(alloc, out, self.root)?;
-                out.write_all(b"\n")
-            }
+        if self.has_mark {
+            out.write_all("\u{FEFF}".as_bytes())?;
         }
+        self.content.to(alloc, out)?;
+        if self.form == PrintForm::Json {
+            out.write_all(b"\n")?;
+        }
+        Ok(())
+    }
+}
+
+/// Says that what would be shown of a bundle takes more bytes than the limit, and how many, or that
+/// memory was wanted, and gives the status of that.
+pub(crate) fn refuse_print<'s, S: Shown<'s>>(
+    rt: &HostRuntime,
+    name: &str,
+    form: PrintForm,
+    shown: &ShownBundle<'s, S>,
+    error: PrintError,
+) -> u8 {
+    let PrintError::Larger(limit) = error else {
+        return refuse_memory(rt, name);
+    };
+    let what = form_name(form);
+    match length_of(rt.alloc(), form, shown, limit) {
+        Ok(length) => {
+            let long = TooLong {
+                what,
+                length,
+                limit,
+            };
+            refuse_long(rt, name, long)
+        }
+        Err(_) => refuse_memory(rt, name),
+    }
+}
+
+/// How many bytes what is shown of a bundle has. A tree is not counted for the bytes of its
+/// binaries, so that they may be far over the limit: where they and the keys alone are over it, no
+/// more is counted. Else all is made and counted, which is some ten times the limit at most.
+fn length_of<'s, S: Shown<'s>>(
+    alloc: Global,
+    form: PrintForm,
+    shown: &ShownBundle<'s, S>,
+    limit: u64,
+) -> Result<Length, AllocError> {
+    let least = uncounted_in(alloc, shown.root)?.least();
+    if least > limit {
+        return Ok(Length::AtLeast(least));
+    }
+    match Print::new(form).length(alloc, shown)? {
+        Some(length) => Ok(Length::Exactly(length)),
+        None => Ok(Length::AtLeast(u64::MAX)),
     }
 }
 
@@ -184,46 +135,6 @@ pub(crate) fn bundle_name(file: &str) -> &str {
     Path::new(file).file_stem().unwrap_or("bundle")
 }
 
-/// A file's bundle, beside its pool bundle, or the status, once it is said why there is none.
-pub(crate) fn bundle_of<'f>(
-    rt: &HostRuntime,
-    name: &'f str,
-    file: &'f [u8],
-    beside: &'f Beside<'f>,
-    limit: Option<u64>,
-) -> Result<ResourceBundle<'f>, u8> {
-    let pool = beside.bundle(rt, name)?;
-    read_bundle(rt.alloc(), bundle_name(name), file, pool, limit).map_err(|e| refuse(
-        rt,
-        name,
-        file,
-        &e,
-        beside.name(),
-    ))
-}
-
-/// A file that is opened beside its pool bundle, or the status, once it is said why it isn't. A
-/// limit refuses it for the bytes that its tree would take, as `bundle_of` does, and for what is
-/// kept for its levels.
-pub(crate) fn opened_of<'f>(
-    rt: &HostRuntime,
-    name: &'f str,
-    file: &'f [u8],
-    beside: &'f Beside<'f>,
-    limit: Option<u64>,
-) -> Result<Opened<'f>, u8> {
-    let pool = beside.bundle(rt, name)?;
-    let opened = match limit {
-        Some(limit) => open_file_within(rt.alloc(), file, pool, limit),
-        None => open_file(rt.alloc(), file, pool),
-    };
-    let opened = opened.map_err(|e| refuse(rt, name, file, &e, beside.name()))?;
-    if let Some(limit) = limit {
-        check_levels(rt, name, file, beside, limit)?;
-    }
-    Ok(opened)
-}
-
 /// The status of what was done, or of what kept it from being done.
 pub(crate) fn settled(answer: Result<u8, u8>) -> u8 {
     match answer {
@@ -239,30 +150,18 @@ pub(crate) fn say_cause(
     bundle: &ResourceBundle<'_>,
     missing: NoText,
 ) -> Result<(), u8> {
-    let (alloc, shown) = (rt.alloc(), ShownBundle::of(bundle));
-    if let Form::IcuText = missing.form {
-        match find_cause(alloc, Icu, shown) {
-            Ok(Some((path, cause))) => {
-                let cause = IcuPrintError::NotPrintable(cause);
-                say_no_text(rt, name, missing, cause, path.as_slice())
-            }
-            Ok(None) => Ok(()),
-            Err(_) => Err(refuse_memory(rt, name)),
+    match Print::new(missing.form).cause(rt.alloc(), &ShownBundle::of(bundle)) {
+        Ok(Some((path, Cause::Alias))) => {
+            let hint = ", which --icu prints";
+            let missing = NoText { hint, ..missing };
+            say_no_text(rt, name, missing, "an alias stands", path.as_slice())
         }
-    } else {
-        match find_cause(alloc, Plain, shown) {
-            Ok(Some((path, Cause::Alias))) => {
-                let hint = ", which --icu prints";
-                let missing = NoText { hint, ..missing };
-                say_no_text(rt, name, missing, "an alias stands", path.as_slice())
-            }
-            Ok(Some((path, cause))) => {
-                let cause = PrintError::NotPrintable(cause);
-                say_no_text(rt, name, missing, cause, path.as_slice())
-            }
-            Ok(None) => Ok(()),
-            Err(_) => Err(refuse_memory(rt, name)),
+        Ok(Some((path, cause))) => {
+            let cause = PrintError::NotPrintable(cause);
+            say_no_text(rt, name, missing, cause, path.as_slice())
         }
+        Ok(None) => Ok(()),
+        Err(_) => Err(refuse_memory(rt, name)),
     }
 }
 
@@ -274,15 +173,22 @@ pub(crate) fn show_json<'s, S: Shown<'s>>(
     root: S,
     limit: Option<u64>,
 ) -> u8 {
-    let showing = Showing {
+    let form = PrintForm::Json;
+    let shown = ShownBundle {
         name,
         root,
-        has_fallback: false,
-        form: Form::Json,
+        is_locale_fallback_enabled: false,
     };
-    match showing.check(rt, name, limit) {
-        Ok(()) => print_content(rt, name, &showing),
-        Err(status) => status,
+    match print_as(form, limit).printable(rt.alloc(), &shown) {
+        Ok(content) => {
+            let showing = Showing {
+                content,
+                form,
+                has_mark: false,
+            };
+            print_content(rt, name, &showing)
+        }
+        Err(e) => refuse_print(rt, name, form, &shown, e),
     }
 }
 

@@ -53,6 +53,19 @@ pub(crate) enum Conflict {
     IsWritten(String, String),
 }
 
+impl Conflict {
+    /// Whether a place is taken for what is the same file as that of a name.
+    fn is_of_text(&self, rt: &HostRuntime, name: &str) -> bool {
+        let Conflict::IsWritten(_, other) = self else {
+            return false;
+        };
+        match (fs::metadata(rt, name), fs::metadata(rt, other.as_str())) {
+            (Ok(one), Ok(other)) => FileId::of(&one) == FileId::of(&other),
+            _ => false,
+        }
+    }
+}
+
 impl From<AllocError> for Conflict {
     fn from(_: AllocError) -> Conflict {
         Conflict::Memory
@@ -155,6 +168,27 @@ impl Taken {
         match self.take(rt, name, place) {
             Ok(()) => Ok(()),
             Err(conflict) => {
+                complain(rt, name, conflict);
+                Err(2)
+            }
+        }
+    }
+
+    /// Takes the place of the file of the text of a name, or gives the status, once it is said what
+    /// stands against it. The answer is no where this call has written the file of that very text
+    /// before, under this name or another.
+    pub(crate) fn take_for_text(
+        &mut self,
+        rt: &HostRuntime,
+        name: &str,
+        place: &Place,
+    ) -> Result<bool, u8> {
+        match self.take(rt, name, place) {
+            Ok(()) => Ok(true),
+            Err(conflict) => {
+                if conflict.is_of_text(rt, name) {
+                    return Ok(false);
+                }
                 complain(rt, name, conflict);
                 Err(2)
             }

@@ -5,6 +5,7 @@ use crate::say::{complain, fail_input, refuse_memory};
 use crate::shown::Shown;
 use crate::streams::{InputError, NO_MEMORY};
 use resb_package::PackageError;
+use resb_swap::{PackageSwapError, SwapError};
 use std::fmt;
 
 /// Why no file is had.
@@ -14,8 +15,12 @@ pub(crate) enum Unread {
     Input(InputError),
     /// What has the front of its name is no package.
     Package(PackageError),
+    /// The package is of another order of bytes, and its table isn't mirrored.
+    Table(PackageSwapError),
     /// The package has no item of this name.
     NoItem,
+    /// The file is of another order of bytes, and isn't mirrored.
+    Order(SwapError),
     /// A request for memory was refused.
     Memory,
 }
@@ -27,10 +32,12 @@ impl Unread {
         match self {
             Unread::Input(e) => return fail_input(rt, front, e),
             Unread::Package(e) => complain(rt, front, e),
+            Unread::Table(e) => complain(rt, front, e),
             Unread::NoItem => {
                 let (front, item) = (Shown(front), Shown(item));
                 let _ = eprintln!(rt; "{front}: no item is named {item}");
             }
+            Unread::Order(e) => complain(rt, name, e),
             Unread::Memory => return refuse_memory(rt, name),
         }
         1
@@ -50,7 +57,27 @@ impl Unread {
             Unread::Input(InputError::Failed(NO_MEMORY)) | Unread::Memory => "out of memory",
             Unread::Input(InputError::Failed(_)) => "input",
             Unread::Input(InputError::Larger(_)) => "limit",
-            Unread::Package(_) | Unread::NoItem => "package",
+            Unread::Package(_) | Unread::Table(_) | Unread::NoItem => "package",
+            Unread::Order(SwapError::Ebcdic) => "unsupported format",
+            Unread::Order(_) => "invalid data",
+        }
+    }
+}
+
+impl From<SwapError> for Unread {
+    fn from(e: SwapError) -> Unread {
+        match e {
+            SwapError::NoMemory => Unread::Memory,
+            e => Unread::Order(e),
+        }
+    }
+}
+
+impl From<PackageSwapError> for Unread {
+    fn from(e: PackageSwapError) -> Unread {
+        match e {
+            PackageSwapError::NoMemory => Unread::Memory,
+            e => Unread::Table(e),
         }
     }
 }
@@ -60,7 +87,9 @@ impl fmt::Display for Unread {
         match self {
             Unread::Input(e) => write!(f, "{e}"),
             Unread::Package(e) => write!(f, "{e}"),
+            Unread::Table(e) => write!(f, "{e}"),
             Unread::NoItem => write!(f, "the package has no item of this name"),
+            Unread::Order(e) => write!(f, "{e}"),
             Unread::Memory => write!(f, "{NO_MEMORY}"),
         }
     }

@@ -148,34 +148,7 @@ impl fmt::Display for Told<'_> {
                 let repeated = Repeated { key, first, line };
                 write!(f, "warning: {repeated}; genrb refuses that")
             }
-            Reason::Backslash => f.write_str(
-                "warning: this backslash is a character here, and an escape for genrb",
-            ),
-            Reason::StringsInRow => f.write_str(
-                "warning: this string is an item of its own here; genrb joins it to the one before",
-            ),
-            Reason::CommaBehindPairs => {
-                f.write_str("warning: pairs with commas are an Array; genrb refuses this")
-            }
-            Reason::LoneString => f.write_str(
-                "warning: this string has no group, so that all are an Array; genrb refuses this",
-            ),
-            Reason::EmptyGroup => f.write_str(
-                "warning: the empty group that ends here is a Table, and an Array for genrb",
-            ),
-            Reason::LeadingZero => f.write_str(
-                "warning: this number is decimal here; genrb takes its 0 for that of an octal one",
-            ),
-            Reason::CutNumber(kept) => write!(
-                f,
-                "warning: this number has more than 28 bits; {kept} is kept"
-            ),
-            Reason::JoinedOverLine => f.write_str(
-                "warning: this string is joined to the one before; a comma would part them",
-            ),
-            Reason::UnquotedGroup => f.write_str(
-                "warning: this group is a string of its own; braces that are meant need quotes",
-            ),
+            reason => write!(f, "warning: {reason}"),
         }
     }
 }

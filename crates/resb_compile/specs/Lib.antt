@@ -15,8 +15,8 @@ pub use Rattle.resb_layout.specs.TreeFaults
 pub use Rattle.resb_layout.specs.Written
 pub use Rattle.resb_write.specs.FaultOf
 pub use Rattle.resb_write.specs.WrittenWith
+pub use Rattle.resb_write.specs.Layouts
 pub use Rattle.resb_pool_bundle.specs.Pool
 pub mod Compiled
 pub mod Compiling
-pub mod CompilingIcu
-pub mod CompilingFiltered
+pub mod Errors

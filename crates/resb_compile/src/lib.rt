@@ -1,21 +1,13 @@
-//! From a text to its file, in either form: `compile` and `compile_icu`, each also within a limit;
-//! compact, over a pool bundle, or without what rules leave out; and the keys with which a tree is
-//! written.
+//! From a text to its file: `Compile`, which says what form the text has, how the file is laid out,
+//! which rules leave something out, and within which limit the text is read; and the keys with
+//! which a tree is written.
 //! Texts are read, and files written, in the crates below; nothing here reads a file.
 #![tactic(auto)]
 
 mod compiling;
-mod compiling_compact;
-mod compiling_filtered;
-mod compiling_icu;
-mod compiling_with_pool;
+mod error;
 mod keys;
 
-pub use compiling::{CompileError, CompileWithinError, compile, compile_within};
-pub use compiling_compact::{compile_icu_compact, compile_icu_compact_with_pool};
-pub use compiling_filtered::{
-    compile_icu_filtered, compile_icu_filtered_with_pool, read_icu_filtered,
-};
-pub use compiling_icu::{IcuCompileError, IcuCompileWithinError, compile_icu, compile_icu_within};
-pub use compiling_with_pool::{compile_icu_with_pool, compile_with_pool};
+pub use compiling::{Compile, TextForm};
+pub use error::CompileError;
 pub use keys::keys_of;

@@ -515,6 +515,10 @@ told text n reason.LeadingZero place h = octal_told text n place h
 told text n (reason.CutNumber z) place h = cut_told text n z place h
 told text n reason.JoinedOverLine place h = absurd h
 told text n reason.UnquotedGroup place h = absurd h
+told text n reason.OctalNumber place h = absurd h
+told text n reason.UnknownEscape place h = absurd h
+told text n reason.TextBehind place h = absurd h
+told text n reason.MixedQuotes place h = absurd h
 
 -- in a text of ICU's form
 pub icu_due : (text : List ℕ) (n : ℕ) (w : Warning) → Contains (icu_repeated text n) w

@@ -7,9 +7,10 @@ use Rattle.std.proofs.lemmas.Bool.{false≢true}
 use Rattle.std.proofs.lemmas.Option.{none-some, same_Some}
 use Rattle.std.proofs.lemmas.List.Elements.{Contains-append_left, Contains-append_right}
 use Rattle.std.proofs.lemmas.List.Elements.{Contains-append_cases}
-use Rattle.resb_diagnostics.specs.Warnings.{warning_at, is_negative, number_of, cut}
+use Rattle.resb_diagnostics.specs.Warnings.{warning_at, is_negative, cut}
 use Rattle.resb_diagnostics.specs.IcuWarnings.{icu_token_at, is_string, line_ended}
 use Rattle.resb_diagnostics.specs.IcuWarnings.{first_joined, without_sign, kept_at, of_integer}
+use Rattle.resb_diagnostics.specs.IcuWarnings.{says_octal, icu_number}
 use Rattle.resb_diagnostics.specs.IcuWarnings.{of_joined, of_icu_token, of_some_token, and_one}
 use Rattle.resb_diagnostics.specs.IcuWarnings.{icu_last_at, icu_warned, behind_some}
 use Rattle.resb_diagnostics.specs.IcuCauses.{is_some_string, start_of, IsFirstIn, IsFirstInteger}
@@ -22,7 +23,7 @@ use Rattle.resb_diagnostics.specs.declared.icu_tokens.IcuLast.TheVariants as las
 use Rattle.resb_diagnostics.specs.declared.warning.Reason.{Reason}
 use Rattle.resb_diagnostics.specs.declared.warning.Reason.TheVariants as reason
 use Rattle.resb_diagnostics.specs.declared.warning.Warning.{Warning}
-use Rattle.resb_diagnostics.specs.IcuCauses.{IsUnquoted, IsIcuDue, tokens_before}
+use Rattle.resb_diagnostics.specs.IcuCauses.{IsUnquoted, IsIcuDue, tokens_before, IsIcuOctal}
 use Rattle.resb_diagnostics.proofs.UnquotedLemmas.{lasts, lasts_at, ends_so}
 use Rattle.resb_diagnostics.proofs.UnquotedEnds.{digit_ends, valued_ends}
 use Rattle.resb_diagnostics.proofs.Passing.{up}
@@ -82,7 +83,12 @@ told_on text n k t w low e h =
 -- for what a token brings a warning out
 pub data TellsFor (text : List ℕ) (t : IcuToken) (l : IcuLast) (w : Warning) : Type 0 where
   a_cut : (from to : ℕ) → t ≡ token.Word from to → l ≡ last.Integer
-      → of_integer from (slice_range text from to) ≡ Some w → TellsFor text t l w
+      → says_octal (without_sign (slice_range text from to)) ≡ false
+      → kept_at from (cut (is_negative (slice_range text from to))
+      (icu_number (without_sign (slice_range text from to)))) ≡ Some w → TellsFor text t l w
+  an_octal : (from to : ℕ) → t ≡ token.Word from to → l ≡ last.Integer
+      → says_octal (without_sign (slice_range text from to)) ≡ true
+      → w ≡ warning_at reason.OctalNumber from → TellsFor text t l w
   unquoted : (m : ℕ) → t ≡ token.Close → (l ≡ last.Digit m) ⊎ (l ≡ last.Valued m)
       → w ≡ warning_at reason.UnquotedGroup m → TellsFor text t l w
   first_row : (joined : Option ℕ) → t ≡ token.Comma → l ≡ last.First joined
@@ -96,9 +102,20 @@ by_member : (text : List ℕ) (t : IcuToken) (joined : Option ℕ) (w : Warning)
 by_member text t joined w true s e = absurd (none-some w e)
 by_member text t joined w false s e = member_row joined s refl e
 
+by_number : (text : List ℕ) (from to : ℕ) (w : Warning) (b : Bool)
+    → says_octal (without_sign (slice_range text from to)) ≡ b
+    → (if b then Some (warning_at reason.OctalNumber from)
+    else kept_at from (cut (is_negative (slice_range text from to))
+    (icu_number (without_sign (slice_range text from to))))) ≡ Some w
+    → TellsFor text (token.Word from to) last.Integer w
+by_number text from to w true s e =
+    an_octal from to refl refl s (sym (same_Some (warning_at reason.OctalNumber from) w e))
+by_number text from to w false s e = a_cut from to refl refl s e
+
 pub tells_for : (text : List ℕ) (t : IcuToken) (l : IcuLast) (w : Warning)
     → of_icu_token text t l ≡ Some w → TellsFor text t l w
-tells_for text (token.Word from to) last.Integer w e = a_cut from to refl refl e
+tells_for text (token.Word from to) last.Integer w e =
+    by_number text from to w (says_octal (without_sign (slice_range text from to))) refl e
 tells_for text token.Close (last.Digit n) w e =
     unquoted n refl (inl refl) (sym (same_Some (warning_at reason.UnquotedGroup n) w e))
 tells_for text token.Close (last.Valued n) w e =
@@ -112,6 +129,7 @@ abbrev tag : Reason → ℕ
 tag (reason.CutNumber z) = 1
 tag reason.UnquotedGroup = 2
 tag reason.JoinedOverLine = 3
+tag reason.OctalNumber = 4
 tag _ = 0
 
 abbrev kept_in : Reason → ℤ
@@ -145,11 +163,12 @@ joined_due text n place c =
         → icu_token_at text t.at ≡ Some k
         → TellsFor text k (icu_last_at text t.at) (warning_at reason.JoinedOverLine place)
         → IsJoined text n place
-    by_case t k e (a_cut from to s l o) =
+    by_case t k e (a_cut from to s l p o) =
         let z = kept_is from (cut (is_negative (slice_range text from to))
-        (number_of (without_sign (slice_range text from to))))
+        (icu_number (without_sign (slice_range text from to))))
         (warning_at reason.JoinedOverLine place) o in
         absurd (omega (arith, ap (λ v. tag v.reason) z.2))
+    by_case t k e (an_octal from to s l p i) = absurd (omega (arith, ap (λ v. tag v.reason) i))
     by_case t k e (unquoted m s l i) = absurd (omega (arith, ap (λ v. tag v.reason) i))
     by_case t k e (first_row joined s l o) =
         let m = joined_is joined (warning_at reason.JoinedOverLine place) o in
@@ -205,9 +224,9 @@ cut_due text n z place c =
         → icu_token_at text t.at ≡ Some k
         → TellsFor text k (icu_last_at text t.at) (warning_at (reason.CutNumber z) place)
         → IsIcuCut text n z place
-    by_case t k e (a_cut from to s l o) =
+    by_case t k e (a_cut from to s l p o) =
         let m = kept_is from (cut (is_negative (slice_range text from to))
-        (number_of (without_sign (slice_range text from to))))
+        (icu_number (without_sign (slice_range text from to))))
         (warning_at (reason.CutNumber z) place) o in
         let f : from ≡ place = sym (ap (λ v. v.place) m.2) in
         let kept : m.0 ≡ z = sym (ap (λ v. kept_in v.reason) m.2) in record {
@@ -216,9 +235,11 @@ cut_due text n z place c =
           to = to;
           stands = e ∙ ap Some s ∙ ap (λ i. Some (token.Word i to)) f;
           first = known text t.at last.Integer l;
+          plain = sym (ap (λ i. says_octal (without_sign (slice_range text i to))) f) ∙ p;
           is_cut = sym (ap (λ i. cut (is_negative (slice_range text i to))
-              (number_of (without_sign (slice_range text i to)))) f) ∙ m.1 ∙ ap Some kept;
+              (icu_number (without_sign (slice_range text i to)))) f) ∙ m.1 ∙ ap Some kept;
         }
+    by_case t k e (an_octal from to s l p i) = absurd (omega (arith, ap (λ v. tag v.reason) i))
     by_case t k e (unquoted m s l i) = absurd (omega (arith, ap (λ v. tag v.reason) i))
     by_case t k e (first_row joined s l o) =
         let m = joined_is joined (warning_at (reason.CutNumber z) place) o in
@@ -355,7 +376,22 @@ cut_told text n z place h =
     told_on text n h.at (token.Word place h.to) (warning_at (reason.CutNumber z) place) h.within
     h.stands
     (ap (of_icu_token text (token.Word place h.to)) l
+    ∙ ap (λ b. if b then Some (warning_at reason.OctalNumber place)
+    else kept_at place (cut (is_negative (slice_range text place h.to))
+    (icu_number (without_sign (slice_range text place h.to))))) h.plain
     ∙ ap (kept_at place) h.is_cut)
+
+octal_told : (text : List ℕ) (n : ℕ) (place : ℕ) → IsIcuOctal text n place
+    → Contains (icu_warned text n) (warning_at reason.OctalNumber place)
+octal_told text n place h =
+    let l = integer_last (icu_last_at text h.at)
+    (integer_state text h.at (state_of (icu_last_at text h.at)) (shows text h.at) h.first) in
+    told_on text n h.at (token.Word place h.to) (warning_at reason.OctalNumber place) h.within
+    h.stands
+    (ap (of_icu_token text (token.Word place h.to)) l
+    ∙ ap (λ b. if b then Some (warning_at reason.OctalNumber place)
+    else kept_at place (cut (is_negative (slice_range text place h.to))
+    (icu_number (without_sign (slice_range text place h.to))))) h.octal)
 
 -- how a row goes on from what stands before it
 abbrev after : State → Option ℕ → State
@@ -517,10 +553,19 @@ icu_due text n w c =
 
     by_case : (t : ToldAt text n w) (k : IcuToken) → icu_token_at text t.at ≡ Some k
         → TellsFor text k (icu_last_at text t.at) w → IsIcuDue text n w.reason w.place
-    by_case t k e (a_cut from to s l o) =
+    by_case t k e (a_cut from to s l p o) =
         let z = kept_is from (cut (is_negative (slice_range text from to))
-        (number_of (without_sign (slice_range text from to)))) w o in
+        (icu_number (without_sign (slice_range text from to)))) w o in
         due_as (warning_at (reason.CutNumber z.0) from) z.2 (cut_due text n z.0 from)
+    by_case t k e (an_octal from to s l p i) =
+        due_as (warning_at reason.OctalNumber from) i (λ _. record {
+          at = t.at;
+          within = t.within;
+          to = to;
+          stands = e ∙ ap Some s;
+          first = known text t.at last.Integer l;
+          octal = p;
+        })
     by_case t k e (unquoted m s l i) =
         due_as (warning_at reason.UnquotedGroup m) i
         (λ _. unquoted_at text n m t.at t.within (e ∙ ap Some s) l)
@@ -554,6 +599,7 @@ unquoted_told text n place h =
 pub icu_told : (text : List ℕ) (n : ℕ) (r : Reason) (place : ℕ) → IsIcuDue text n r place
     → Contains (icu_warned text n) (warning_at r place)
 icu_told text n (reason.CutNumber z) place h = cut_told text n z place h
+icu_told text n reason.OctalNumber place h = octal_told text n place h
 icu_told text n reason.JoinedOverLine place h = joined_told text n place h
 icu_told text n reason.UnquotedGroup place h = unquoted_told text n place h
 icu_told text n (reason.RepeatedKey first) place h = absurd h
@@ -563,3 +609,6 @@ icu_told text n reason.CommaBehindPairs place h = absurd h
 icu_told text n reason.LoneString place h = absurd h
 icu_told text n reason.EmptyGroup place h = absurd h
 icu_told text n reason.LeadingZero place h = absurd h
+icu_told text n reason.UnknownEscape place h = absurd h
+icu_told text n reason.TextBehind place h = absurd h
+icu_told text n reason.MixedQuotes place h = absurd h

@@ -4,7 +4,7 @@ use Rattle.std.proofs.Common.{◌||◌, ◌==◌, List, length, refl, sym, ap, s
 use Rattle.std.proofs.Common.{Some, None, inl, inr}
 use Rattle.std.specs.Prelude.{slice_index, not, if◌then◌else◌, ◌⊎◌}
 use Rattle.std.proofs.lemmas.Bool.{cases_lt, false≢true}
-use Rattle.resb_grammar.specs.Ascii.{slash, star, line_feed, carriage_return}
+use Rattle.resb_grammar.specs.Ascii.{slash, star, colon, line_feed, carriage_return}
 use Rattle.resb_grammar.specs.ByteRuns.{is_line_end}
 use Rattle.resb_grammar.specs.Lexical.{Closer}
 use Rattle.resb_icu_grammar.specs.Unquoted.{begins_comment}
@@ -13,7 +13,7 @@ use Rattle.resb_diagnostics.specs.Braces.{has_icu_tokens}
 use Rattle.resb_diagnostics.specs.IcuWarnings.{is_icu_quoted, is_in_word, icu_word_start}
 use Rattle.resb_diagnostics.specs.IcuWarnings.{icu_token_of}
 use Rattle.resb_diagnostics.specs.Inner.IcuTokens.{icu_mode_at, IsIcuBetween, IcuPasses}
-use Rattle.resb_diagnostics.specs.Inner.IcuTokens.{IsIcuQuiet, IsIcuLineRest, IsStringless}
+use Rattle.resb_diagnostics.specs.Inner.IcuTokens.{IsIcuQuiet, IsIcuLineRest, IsSilent}
 use Rattle.resb_diagnostics.specs.Inner.Tokens.{IsBlockRest}
 use Rattle.resb_diagnostics.specs.declared.braces.IcuMode.{IcuMode}
 use Rattle.resb_diagnostics.specs.declared.braces.IcuMode.TheVariants.{As, BlockStart}
@@ -21,8 +21,9 @@ use Rattle.resb_diagnostics.specs.declared.braces.Mode.TheVariants as modes
 use Rattle.resb_diagnostics.specs.declared.icu_tokens.IcuToken.TheVariants as token
 use Rattle.resb_diagnostics.proofs.Passing.{up}
 use Rattle.resb_diagnostics.proofs.IcuPassing.{one_token, one_silent, then_quiet, open_mode}
-use Rattle.resb_diagnostics.proofs.IcuPassing.{stringless_more, between_behind, silent_word}
+use Rattle.resb_diagnostics.proofs.IcuPassing.{more_silent, between_behind, silent_word}
 use Rattle.resb_diagnostics.proofs.IcuPassing.{last_word, no_word, not_comment, no_string}
+use Rattle.resb_diagnostics.proofs.IcuPassing.{other_colon, silent_colon}
 
 -- a comment begins with a slash, and goes on with another one or with a star
 pub begins_slash : (text : List ℕ) (at : ℕ) → begins_comment text at ≡ true
@@ -67,7 +68,7 @@ star_token text n h =
 record InComment (text : List ℕ) (at k : ℕ) (m : IcuMode) : Type 0 where
   pub mode : icu_mode_at text k ≡ m
   pub passes : IcuPasses text at k None
-  pub stringless : IsStringless text at k
+  pub silence : IsSilent text at k
 
 -- a byte more, that is no token
 silent_more : (text : List ℕ) (at k : ℕ) (m n : IcuMode) → k < length text
@@ -78,8 +79,9 @@ silent_more text at k m n fits no_tokens plain behind so_far =
     let silent = ap has_icu_tokens so_far.mode ∙ no_tokens in record {
       mode = ap (λ i. icu_mode_behind i (slice_index text k)) so_far.mode ∙ behind;
       passes = then_quiet text at k (suc k) None so_far.passes (one_silent text k fits silent);
-      stringless = stringless_more text at k so_far.stringless
-          (no_string text k (ap is_icu_quoted so_far.mode ∙ plain) (silent_word text k silent));
+      silence = more_silent text at k so_far.silence
+          (no_string text k (ap is_icu_quoted so_far.mode ∙ plain) (silent_word text k silent))
+          (silent_colon text k silent);
     }
 
 -- behind the slash with which a comment begins
@@ -91,8 +93,9 @@ behind_slash text at fits between begins =
       mode = between.next ∙ ap (λ b. As (behind_token b)) e;
       passes = one_token text at None fits between.tokens
           (ap (icu_token_of text at) e ∙ slash_token text at other);
-      stringless = stringless_more text at at (λ k low high. absurd (omega (arith, low, high)))
-          (no_string text at (open_mode (icu_mode_at text at) between.tokens) other);
+      silence = more_silent text at at (λ k low high. absurd (omega (arith, low, high)))
+          (no_string text at (open_mode (icu_mode_at text at) between.tokens) other)
+          (other_colon text at slash e refl);
     }
 
 -- a comment begins with two bytes
@@ -100,8 +103,8 @@ comment_opens : (text : List ℕ) (at c : ℕ) (m : IcuMode) → at + 1 < length
     → IsIcuBetween text at → begins_comment text at ≡ true → slice_index text (at + 1) ≡ c
     → icu_mode_behind (As modes.Slash) c ≡ m → has_icu_tokens m ≡ false
     → (is_in_word text (suc at) ≡ false → icu_token_of text (suc at) c ≡ None)
-    → InComment text at (suc (suc at)) m
-comment_opens text at c m fits between begins f behind silent not_so =
+    → (c == colon) ≡ false → InComment text at (suc (suc at)) m
+comment_opens text at c m fits between begins f behind silent not_so no_colon =
     let so_far = behind_slash text at (omega arith) between begins in
     let next : suc at ≡ at + 1 = omega arith in
     let f' : slice_index text (suc at) ≡ c = ap (slice_index text) next ∙ f in
@@ -113,8 +116,9 @@ comment_opens text at c m fits between begins f behind silent not_so =
       passes = then_quiet text at (suc at) (suc (suc at)) None so_far.passes
           (one_token text (suc at) None (omega arith) (ap has_icu_tokens so_far.mode)
           (ap (icu_token_of text (suc at)) f' ∙ not_so other));
-      stringless = stringless_more text at (suc at) so_far.stringless
-          (no_string text (suc at) (ap is_icu_quoted so_far.mode) other);
+      silence = more_silent text at (suc at) so_far.silence
+          (no_string text (suc at) (ap is_icu_quoted so_far.mode) other)
+          (other_colon text (suc at) c f' no_colon);
     }
 
 -- a byte that ends no line keeps the comment going, and one that does ends it
@@ -152,14 +156,14 @@ line_comment text at to fits between begins f rest = by (cases_lt (suc (suc at))
   where
     start : InComment text at (suc (suc at)) (As modes.LineComment)
     start = comment_opens text at slash (As modes.LineComment) fits between begins f refl refl
-        (slash_token text (suc at))
+        (slash_token text (suc at)) refl
 
     by : (suc (suc at) < to) ⊎ (to ≤ suc (suc at)) → IsIcuQuiet text at to
     by (inr le) =
         let is : suc (suc at) ≡ to = omega (arith, rest.order) in record {
           more = omega (arith, rest.order);
           passes = subst (λ n. IcuPasses text at n None) is start.passes;
-          stringless = subst (IsStringless text at) is start.stringless;
+          silence = subst (IsSilent text at) is start.silence;
           between = λ lt. absurd (omega (arith, (rest.ends lt).0));
         }
     by (inl lt) =
@@ -177,7 +181,7 @@ line_comment text at to fits between begins f rest = by (cases_lt (suc (suc at))
         (ap (λ m. icu_mode_behind m (slice_index text k)) (sym last.mode)) last in record {
           more = omega arith;
           passes = subst (λ n. IcuPasses text at n None) is whole.passes;
-          stringless = subst (IsStringless text at) is whole.stringless;
+          silence = subst (IsSilent text at) is whole.silence;
           between = λ more.
               let ends = (rest.ends more).1 in
               subst (IsIcuBetween text) is (between_behind text k
@@ -256,13 +260,13 @@ pub bare_block : (text : List ℕ) (at : ℕ) → at + 2 ≡ length text → IsI
     → IsIcuQuiet text at (at + 2)
 bare_block text at last between begins f =
     let start = comment_opens text at star BlockStart (omega arith) between begins f refl refl
-    (star_token text (suc at)) in
+    (star_token text (suc at)) refl in
     let next : suc (suc at) ≡ at + 2 = omega arith in
     subst (IsIcuQuiet text at) next
     (record {
       more = omega arith;
       passes = start.passes;
-      stringless = start.stringless;
+      silence = start.silence;
       between = λ lt. absurd (omega (arith, lt));
     })
 
@@ -276,7 +280,7 @@ block_comment text at to fits between begins f rest = by (cases_lt (suc (suc (su
         silent_more text at (suc (suc at)) BlockStart (As modes.BlockComment) (omega arith) refl
         refl refl
         (comment_opens text at star BlockStart (omega arith) between begins f refl refl
-        (star_token text (suc at)))
+        (star_token text (suc at)) refl)
 
     inside : (k : ℕ) → at + 3 ≤ k → k < to → InStars text at (at + 3) k
     inside k low high =
@@ -290,7 +294,7 @@ block_comment text at to fits between begins f rest = by (cases_lt (suc (suc (su
         let is : suc (suc (suc at)) ≡ to = omega (arith, rest.order) in record {
           more = omega (arith, rest.order);
           passes = subst (λ n. IcuPasses text at n None) is start.passes;
-          stringless = subst (IsStringless text at) is start.stringless;
+          silence = subst (IsSilent text at) is start.silence;
           between = λ lt. absurd (omega (arith, (rest.ends lt).0));
         }
     by (inl lt) =
@@ -301,7 +305,7 @@ block_comment text at to fits between begins f rest = by (cases_lt (suc (suc (su
         (inside k (omega arith) (omega arith)) in record {
           more = omega arith;
           passes = subst (λ n. IcuPasses text at n None) is whole.passes;
-          stringless = subst (IsStringless text at) is whole.stringless;
+          silence = subst (IsSilent text at) is whole.silence;
           between = λ more.
               let (low, closer) = rest.ends more in
               let j = to - 2 in

@@ -17,7 +17,8 @@ use Rattle.resb_diagnostics.specs.IcuWarnings.{last_named, is_digit, first_joine
 use Rattle.resb_diagnostics.specs.IcuWarnings.{behind_plain_word, behind_icu_token, behind_some}
 use Rattle.resb_diagnostics.specs.IcuWarnings.{icu_last_at, line_ended, without_sign, is_string}
 use Rattle.resb_diagnostics.specs.IcuWarnings.{of_icu_token, of_some_token, and_one, icu_warned}
-use Rattle.resb_diagnostics.specs.Warnings.{is_negative, number_of, cut}
+use Rattle.resb_diagnostics.specs.IcuWarnings.{icu_number}
+use Rattle.resb_diagnostics.specs.Warnings.{is_negative, cut}
 use Rattle.resb_diagnostics.specs.declared.named.Named.{Named}
 use Rattle.resb_diagnostics.specs.declared.named.Named.TheVariants as named
 use Rattle.resb_diagnostics.specs.declared.icu_tokens.IcuToken.{IcuToken}
@@ -27,7 +28,8 @@ use Rattle.resb_diagnostics.specs.declared.icu_tokens.IcuLast.TheVariants as las
 use Rattle.resb_diagnostics.specs.declared.warning.Warning.{Warning}
 use Rattle.resb_diagnostics.proofs.RepeatsLemmas.{never, single}
 use Rattle.resb_diagnostics.proofs.IcuTokenRuns.{word_token, word_byte}
-use Rattle.resb_diagnostics.proofs.IcuCausesLemmas.{TellsFor, a_cut, unquoted, first_row}
+use Rattle.resb_diagnostics.proofs.IcuCausesLemmas.{TellsFor, a_cut, an_octal, unquoted}
+use Rattle.resb_diagnostics.proofs.IcuCausesLemmas.{first_row}
 use Rattle.resb_diagnostics.proofs.IcuCausesLemmas.{member_row, tells_for, joined_is, kept_is}
 
 -- where tokens stand
@@ -278,12 +280,16 @@ member_mark text token.Comma joined h = refl
 
 tells : (text : List ℕ) (n : ℕ) (t : IcuToken) (l : IcuLast) (w : Warning)
     → TellsFor text t l w → Tells text n t l w
-tells text n t l w (a_cut from to e f o) =
+tells text n t l w (a_cut from to e f p o) =
     let z = kept_is from (cut (is_negative (slice_range text from to))
-    (number_of (without_sign (slice_range text from to)))) w o in record {
+    (icu_number (without_sign (slice_range text from to)))) w o in record {
       place = inr (ap (λ v. v.place) z.2 ∙ sym (ap (begin n) e));
       no_mark = (λ i. mark (behind_icu_token text (e i) (f i))) ∙ integer_mark text from to;
     }
+tells text n t l w (an_octal from to e f p i) = record {
+  place = inr (ap (λ v. v.place) i ∙ sym (ap (begin n) e));
+  no_mark = (λ j. mark (behind_icu_token text (e j) (f j))) ∙ integer_mark text from to;
+}
 tells text n t l w (unquoted m e (inl f) o) = record {
   place = inl (ap mark f ∙ ap Some (sym (ap (λ v. v.place) o)));
   no_mark = (λ i. mark (behind_icu_token text (e i) (f i)));

@@ -1,9 +1,10 @@
 -- Passing the bytes of a text of ICU's form one after another: which token two passings are.
-use Rattle.std.proofs.Common.{◌≡◌, ◌∙◌, ℕ, suc, ◌<◌, ◌≤◌, Bool, true, false, ◌&&◌, ◌||◌}
+use Rattle.std.proofs.Common.{◌≡◌, ◌∙◌, ℕ, suc, ◌<◌, ◌≤◌, Bool, true, false, ◌&&◌, ◌||◌, ◌==◌}
 use Rattle.std.proofs.Common.{List, length, refl, ap, subst, arith, Option, Some, None}
 use Rattle.std.proofs.Common.{inl, inr}
 use Rattle.std.specs.Prelude.{slice_index, not, if◌then◌else◌, ◌⊎◌}
 use Rattle.std.proofs.lemmas.Bool.{cases_lt, false≢true}
+use Rattle.resb_grammar.specs.Ascii.{colon}
 use Rattle.resb_grammar.specs.ByteRuns.{is_line_end}
 use Rattle.resb_icu_grammar.specs.Bytes.{is_unquoted}
 use Rattle.resb_icu_grammar.specs.Unquoted.{begins_comment}
@@ -12,11 +13,11 @@ use Rattle.resb_diagnostics.specs.IcuWarnings.{is_icu_quoted, line_ended, icu_wo
 use Rattle.resb_diagnostics.specs.IcuWarnings.{word_goes_on, is_in_word, is_in_string, icu_last_at}
 use Rattle.resb_diagnostics.specs.IcuWarnings.{icu_warned, icu_token_of, icu_token_at}
 use Rattle.resb_diagnostics.specs.IcuWarnings.{of_some_token}
-use Rattle.resb_diagnostics.specs.IcuWarnings.{and_one, behind_icu_word}
+use Rattle.resb_diagnostics.specs.IcuWarnings.{and_one, behind_icu_word, is_colon, is_behind_colon}
 use Rattle.resb_diagnostics.specs.IcuKeys.{icu_word_piece}
 use Rattle.resb_diagnostics.specs.Groups.{behind_piece}
 use Rattle.resb_diagnostics.specs.Inner.IcuTokens.{icu_mode_at, IsIcuBetween, IcuPasses}
-use Rattle.resb_diagnostics.specs.Inner.IcuTokens.{IsStringless}
+use Rattle.resb_diagnostics.specs.Inner.IcuTokens.{IsSilent}
 use Rattle.resb_diagnostics.specs.declared.braces.IcuMode.{IcuMode}
 use Rattle.resb_diagnostics.specs.declared.braces.IcuMode.TheVariants.{As, Escape, BlockStart}
 use Rattle.resb_diagnostics.specs.declared.braces.Mode.TheVariants as modes
@@ -158,16 +159,41 @@ pub ends_none : (text : List ℕ) (k : ℕ) → is_in_string text k ≡ true
 ends_none text k h =
     ap (λ i. not i && (is_line_end (slice_index text k) || line_ended text k)) h
 
--- one byte more of no word that isn't in quotes
-pub stringless_more : (text : List ℕ) (from k : ℕ) → IsStringless text from k
-    → is_in_string text k ≡ false → IsStringless text from (suc k)
-stringless_more text from k h here j low high = by (cases_lt j k)
+-- another byte is no colon
+pub other_colon : (text : List ℕ) (k b : ℕ) → slice_index text k ≡ b → (b == colon) ≡ false
+    → is_colon text k ≡ false
+other_colon text k b e h =
+    let open_there = has_icu_tokens (icu_mode_at text k) in
+    ap (λ c. open_there && c == colon) e ∙ ap (λ c. open_there && c) h ∙ never open_there
+
+-- nor is one in quotes or in a comment
+pub silent_colon : (text : List ℕ) (k : ℕ) → has_icu_tokens (icu_mode_at text k) ≡ false
+    → is_colon text k ≡ false
+silent_colon text k h = ap (λ b. b && slice_index text k == colon) h
+
+-- one byte more of no word that isn't in quotes, and is no colon
+pub more_silent : (text : List ℕ) (from k : ℕ) → IsSilent text from k
+    → is_in_string text k ≡ false → is_colon text k ≡ false → IsSilent text from (suc k)
+more_silent text from k h here other j low high = by (cases_lt j k)
   where
-    by : (j < k) ⊎ (k ≤ j) → is_in_string text j ≡ false
+    by : (j < k) ⊎ (k ≤ j) → (is_in_string text j ≡ false) × (is_colon text j ≡ false)
     by (inl lt) = h j low lt
     by (inr le) =
         let same : k ≡ j = omega arith in
-        subst (λ i. is_in_string text i ≡ false) same here
+        subst (λ i. (is_in_string text i ≡ false) × (is_colon text i ≡ false)) same (here, other)
+
+-- behind a byte of a word or in quotes nothing is behind a colon
+pub colon_none : (text : List ℕ) (k : ℕ) → is_in_string text k ≡ true
+    → is_behind_colon text (suc k) ≡ false
+colon_none text k h = ap (λ i. not i && (is_colon text k || is_behind_colon text k)) h
+
+-- behind a byte among tokens, that is none of a word, what is behind it, or was before
+pub colon_byte : (text : List ℕ) (k : ℕ) → is_in_string text k ≡ false
+    → has_icu_tokens (icu_mode_at text k) ≡ true
+    → is_behind_colon text (suc k) ≡ (slice_index text k == colon || is_behind_colon text k)
+colon_byte text k plain tokens =
+    ap (λ q. not q && (is_colon text k || is_behind_colon text k)) plain
+    ∙ ap (λ t. (t && slice_index text k == colon) || is_behind_colon text k) tokens
 
 -- such a byte that ends no line
 pub ended_same : (text : List ℕ) (k : ℕ) → is_in_string text k ≡ false
@@ -193,16 +219,26 @@ between_behind text k e other = record {
 }
 
 -- where a line ended, as long as no byte of a word or in quotes stands
-pub ended_stays : (text : List ℕ) (from to : ℕ) → from ≤ to → IsStringless text from to
+pub ended_stays : (text : List ℕ) (from to : ℕ) → from ≤ to → IsSilent text from to
     → line_ended text from ≡ true → line_ended text to ≡ true
-ended_stays text from to order stringless e =
+ended_stays text from to order silence e =
     up (λ k. line_ended text k ≡ true) from to e order
     (λ k low high so_far.
     ap (λ q. not q && (is_line_end (slice_index text k) || line_ended text k))
-    (stringless k low high)
+    (silence k low high).0
     ∙ ap (λ l. is_line_end (slice_index text k) || l) so_far
     ∙ either_way (is_line_end (slice_index text k)))
   where
     either_way : (b : Bool) → (b || true) ≡ true
     either_way true = refl
     either_way false = refl
+
+-- what was behind a colon is, and nothing else, as long as none follows, nor a byte of a word or in
+-- quotes
+pub colon_stays : (text : List ℕ) (from to : ℕ) → from ≤ to → IsSilent text from to
+    → is_behind_colon text to ≡ is_behind_colon text from
+colon_stays text from to order silence =
+    up (λ k. is_behind_colon text k ≡ is_behind_colon text from) from to refl order
+    (λ k low high so_far.
+    ap (λ q. not q && (is_colon text k || is_behind_colon text k)) (silence k low high).0
+    ∙ ap (λ c. c || is_behind_colon text k) (silence k low high).1 ∙ so_far)

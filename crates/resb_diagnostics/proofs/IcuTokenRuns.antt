@@ -8,7 +8,7 @@ use Rattle.std.proofs.lemmas.Bool.{cases_lt, false≢true}
 use Rattle.std.proofs.lemmas.Option.{none-some}
 use Rattle.resb_grammar.specs.ByteRuns.{is_white, is_line_end, Run}
 use Rattle.resb_grammar.specs.Ascii.{quote, slash, star, left_brace, right_brace, comma, line_feed}
-use Rattle.resb_grammar.specs.Ascii.{carriage_return}
+use Rattle.resb_grammar.specs.Ascii.{carriage_return, colon}
 use Rattle.resb_icu_grammar.specs.Bytes.{is_unquoted}
 use Rattle.resb_icu_grammar.specs.Unquoted.{begins_comment}
 use Rattle.resb_diagnostics.specs.Braces.{mode_behind, icu_mode_behind, has_tokens}
@@ -17,19 +17,21 @@ use Rattle.resb_diagnostics.specs.IcuWarnings.{word_goes_on, is_in_word, is_in_s
 use Rattle.resb_diagnostics.specs.IcuWarnings.{line_ended, icu_word_start}
 use Rattle.resb_diagnostics.specs.IcuWarnings.{icu_token_of}
 use Rattle.resb_diagnostics.specs.Inner.IcuTokens.{icu_sign, icu_mode_at, IsIcuBetween, IcuPasses}
-use Rattle.resb_diagnostics.specs.Inner.IcuTokens.{IsIn, BeginsAt, IsEndedAt, IsStringless}
+use Rattle.resb_diagnostics.specs.Inner.IcuTokens.{IsIn, BeginsAt, IsBefore, IsBeforeSome, IsSilent}
 use Rattle.resb_diagnostics.specs.Inner.IcuTokens.{IsWordRest, IsIcuQuiet, IsIcuStep}
 use Rattle.resb_diagnostics.specs.Inner.IcuTokens.{IsQuotedRest}
 use Rattle.resb_diagnostics.specs.declared.braces.IcuMode.TheVariants.{As, BlockStart}
 use Rattle.resb_diagnostics.specs.declared.braces.Mode.TheVariants as modes
+use Rattle.resb_diagnostics.specs.declared.icu_runs.Before.{Before}
 use Rattle.resb_diagnostics.specs.declared.icu_tokens.IcuToken.{IcuToken}
 use Rattle.resb_diagnostics.specs.declared.icu_tokens.IcuToken.TheVariants as token
 use Rattle.resb_diagnostics.proofs.Passing.{up}
 use Rattle.resb_diagnostics.proofs.TokenRuns.{white_cases}
 use Rattle.resb_diagnostics.proofs.IcuPassing.{still, one_token, one_silent, then_quiet, then_word}
-use Rattle.resb_diagnostics.proofs.IcuPassing.{open_mode, quoted_mode, stringless_more, ended_same}
+use Rattle.resb_diagnostics.proofs.IcuPassing.{open_mode, quoted_mode, more_silent, ended_same}
 use Rattle.resb_diagnostics.proofs.IcuPassing.{between_behind, silent_word, no_word, not_unquoted}
-use Rattle.resb_diagnostics.proofs.IcuPassing.{no_string, ends_none}
+use Rattle.resb_diagnostics.proofs.IcuPassing.{no_string, ends_none, other_colon, colon_none}
+use Rattle.resb_diagnostics.proofs.IcuPassing.{colon_byte}
 
 -- a byte that begins neither a string nor a comment
 pub record IsIcuSign (text : List ℕ) (n b : ℕ) (t : Option IcuToken) : Type 0 where
@@ -58,12 +60,16 @@ sign_alone : (text : List ℕ) (n : ℕ) → is_unquoted (slice_index text n) �
     → is_in_word text n ≡ false
 sign_alone text n h = no_word text n (not_unquoted text n h)
 
+-- a white character is no colon
+white_colon : (b : ℕ) → is_white b ≡ true → (b == colon) ≡ false
+white_colon b h = white_cases (λ c. (c == colon) ≡ false) refl refl refl refl b h
+
 -- behind a run of blanks
 pub behind_blanks : (text : List ℕ) (from to : ℕ) → IsIcuBetween text from
     → Run is_white text from to
-    → IsIcuBetween text to × IcuPasses text from to None × IsStringless text from to
+    → IsIcuBetween text to × IcuPasses text from to None × IsSilent text from to
 behind_blanks text from to between run =
-    up (λ k. IsIcuBetween text k × IcuPasses text from k None × IsStringless text from k) from to (
+    up (λ k. IsIcuBetween text k × IcuPasses text from k None × IsSilent text from k) from to (
       between,
       still text from (omega (arith, run.order, run.fits)),
       λ k low high. absurd (omega (arith, low, high)),
@@ -75,8 +81,10 @@ behind_blanks text from to between run =
       between_behind text k (here.next ∙ ap As sign.stays) alone,
       then_quiet text from k (suc k) None passes
           (one_token text k None (omega (arith, run.fits)) here.tokens (sign.token alone)),
-      stringless_more text from k plain
-          (no_string text k (open_mode (icu_mode_at text k) here.tokens) alone),
+      more_silent text from k plain
+          (no_string text k (open_mode (icu_mode_at text k) here.tokens) alone)
+          (other_colon text k (slice_index text k) refl
+          (white_colon (slice_index text k) (run.each k low high))),
     ))
 
 -- a byte that may stand in an unquoted string is not this one, which may not
@@ -266,9 +274,9 @@ within_word text from to k between rest after before =
 -- a word is passed
 pub word_step : (text : List ℕ) (from to : ℕ) → from < length text
     → IsIcuBetween text from → word_goes_on text from ≡ true → IsWordRest text from to
-    → IsIcuStep text from
-    (record { token = Some (token.Word from to); has_ended = false; end = to })
-word_step text from to fits between first rest =
+    → (b : Before) → b.has_ended ≡ false → b.has_colon ≡ false
+    → IsIcuStep text from (record { token = Some (token.Word from to); before = b; end = to })
+word_step text from to fits between first rest b no_end no_colon =
     let more = some_word text from to rest first in
     let last = to - 1 in
     let is : last + 1 ≡ to = omega arith in
@@ -296,7 +304,10 @@ word_step text from to fits between first rest =
           so_far.among.tokens ends));
       inside = (more, rest.fits);
       begins = refl;
-      ended = λ _. sym (ends_none text last string) ∙ ap (line_ended text) later;
+      before = λ _. subst (λ n. IsBefore text n b) later (record {
+        ended = no_end ∙ sym (ends_none text last string);
+        colon = no_colon ∙ sym (colon_none text last string);
+      });
       between = λ _. subst (IsIcuBetween text) later
           (record {
             tokens = among.tokens;
@@ -389,25 +400,28 @@ piece_sign text n b t e =
     by false _ false _ false _ g = absurd (none-some t (sym g))
 
 -- such a byte is passed
-pub sign_step : (text : List ℕ) (at : ℕ) (t : Option IcuToken) (has_ended : Bool)
+pub sign_step : (text : List ℕ) (at : ℕ) (t : Option IcuToken) (old new : Before)
     → at < length text → IsIcuBetween text at → is_white (slice_index text at) ≡ false
     → IsIcuSign text at (slice_index text at) t → t ≡ icu_sign at (slice_index text at)
-    → has_ended ≡ line_ended text at
-    → IsIcuStep text at (record { token = t; has_ended = has_ended; end = at + 1 })
-sign_step text at t has_ended fits between dark sign is ended =
+    → IsBefore text at old → new.has_ended ≡ old.has_ended
+    → new.has_colon ≡ (slice_index text at == colon || old.has_colon)
+    → IsIcuStep text at (record { token = t; before = new; end = at + 1 })
+sign_step text at t old new fits between dark sign is before ended behind =
     let b = slice_index text at in
     let later : suc at ≡ at + 1 = omega arith in
     let alone = sign_alone text at sign.other in
-    subst (λ n. IsIcuStep text at (record { token = t; has_ended = has_ended; end = n })) later
+    let plain = no_string text at (open_mode (icu_mode_at text at) between.tokens) alone in
+    subst (λ n. IsIcuStep text at (record { token = t; before = new; end = n })) later
     (record {
       more = omega arith;
       passes = one_token text at t fits between.tokens (sign.token alone);
       inside = subst (IsIn text) (sym is) (sign_inside text at b).0;
       begins = subst (BeginsAt at) (sym is) (sign_inside text at b).1;
-      ended = λ _. ended
-          ∙ sym (ended_same text at
-          (no_string text at (open_mode (icu_mode_at text at) between.tokens) alone)
-          (dark_no_end b dark));
+      before = λ _. record {
+        ended = ended ∙ before.ended ∙ sym (ended_same text at plain (dark_no_end b dark));
+        colon = behind ∙ ap (λ c. b == colon || c) before.colon
+            ∙ sym (colon_byte text at plain between.tokens);
+      };
       between = λ _. between_behind text at (between.next ∙ ap As sign.stays) alone;
     })
 
@@ -425,9 +439,9 @@ quoted_passes text from to rest =
 -- a piece in quotes is passed
 pub piece_step : (text : List ℕ) (at to : ℕ) → at < length text → IsIcuBetween text at
     → slice_index text at ≡ quote → IsQuotedRest text (at + 1) to
-    → IsIcuStep text at
-    (record { token = Some (token.Piece at); has_ended = false; end = to })
-piece_step text at to fits between e rest =
+    → (b : Before) → b.has_ended ≡ false → b.has_colon ≡ false
+    → IsIcuStep text at (record { token = Some (token.Piece at); before = b; end = to })
+piece_step text at to fits between e rest b no_end no_colon =
     let later : suc at ≡ at + 1 = omega arith in
     let last = to - 1 in
     record {
@@ -439,13 +453,16 @@ piece_step text at to fits between e rest =
           (quoted_passes text (at + 1) to rest);
       inside = fits;
       begins = refl;
-      ended = λ lt.
+      before = λ lt.
           let (more, quotes, closes) = rest.ends lt in
           let is : suc last ≡ to = omega (arith, more) in
           let string : is_in_string text last ≡ true =
           ap (λ q. q || is_in_word text last)
           (rest.quoted last (omega (arith, more)) (omega (arith, more))) in
-          sym (ends_none text last string) ∙ ap (line_ended text) is;
+          subst (λ n. IsBefore text n b) is (record {
+            ended = no_end ∙ sym (ends_none text last string);
+            colon = no_colon ∙ sym (colon_none text last string);
+          });
       between = λ lt.
           let (more, quotes, closes) = rest.ends lt in
           let is : suc last ≡ to = omega (arith, more) in
@@ -457,24 +474,24 @@ piece_step text at to fits between e rest =
     }
 
 -- what is quiet is passed
-pub quiet_step : (text : List ℕ) (at end : ℕ) (has_ended : Bool) → IsIcuQuiet text at end
-    → has_ended ≡ line_ended text end
-    → IsIcuStep text at (record { token = None; has_ended = has_ended; end = end })
-quiet_step text at end has_ended quiet ended = record {
+pub quiet_step : (text : List ℕ) (at end : ℕ) (b : Before) → IsIcuQuiet text at end
+    → IsBefore text end b
+    → IsIcuStep text at (record { token = None; before = b; end = end })
+quiet_step text at end b quiet before = record {
   more = quiet.more;
   passes = quiet.passes;
   inside = tt;
   begins = tt;
-  ended = λ _. ended;
+  before = λ _. before;
   between = quiet.between;
 }
 
--- before a token that begins at a place a line ended where one ended before that place
-pub ended_at : (text : List ℕ) (at : ℕ) (t : Option IcuToken) (ended : Bool) → BeginsAt at t
-    → ended ≡ line_ended text at → IsEndedAt text t ended
-ended_at text at None ended b e = tt
-ended_at text at (Some (token.Piece n)) ended b e = e ∙ ap (line_ended text) (sym b)
-ended_at text at (Some (token.Word from to)) ended b e = e ∙ ap (line_ended text) (sym b)
-ended_at text at (Some (token.Open n)) ended b e = tt
-ended_at text at (Some token.Close) ended b e = tt
-ended_at text at (Some token.Comma) ended b e = tt
+-- what stands before a place stands before the token that begins there
+pub before_some : (text : List ℕ) (at : ℕ) (t : Option IcuToken) (b : Before) → BeginsAt at t
+    → IsBefore text at b → IsBeforeSome text t b
+before_some text at None b e h = tt
+before_some text at (Some (token.Piece n)) b e h = subst (λ k. IsBefore text k b) (sym e) h
+before_some text at (Some (token.Word from to)) b e h = subst (λ k. IsBefore text k b) (sym e) h
+before_some text at (Some (token.Open n)) b e h = tt
+before_some text at (Some token.Close) b e h = tt
+before_some text at (Some token.Comma) b e h = tt

@@ -33,5 +33,7 @@ mod RepeatsLemmas
 mod StringPlaces
 mod StringRuns
 mod TokenRuns
+mod ToldLemmas
 mod UnquotedEnds
 mod UnquotedLemmas
+mod MarksLemmas

@@ -268,6 +268,10 @@ tag reason.LeadingZero = 6
 tag (reason.CutNumber z) = 7
 tag reason.JoinedOverLine = 8
 tag reason.UnquotedGroup = 9
+tag reason.UnknownEscape = 10
+tag reason.TextBehind = 11
+tag reason.OctalNumber = 12
+tag reason.MixedQuotes = 13
 
 tag_if : (b : Bool) (x w : Warning) → Contains (if b then x ∷ [] else []) w
     → tag w.reason ≡ tag x.reason

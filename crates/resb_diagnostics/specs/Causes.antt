@@ -164,6 +164,10 @@ IsDue text n reason.LeadingZero place = IsOctal text n place
 IsDue text n (reason.CutNumber kept) place = IsCut text n kept place
 IsDue text n reason.JoinedOverLine place = ⊥
 IsDue text n reason.UnquotedGroup place = ⊥
+IsDue text n reason.OctalNumber place = ⊥
+IsDue text n reason.UnknownEscape place = ⊥
+IsDue text n reason.TextBehind place = ⊥
+IsDue text n reason.MixedQuotes place = ⊥
 
 -- a key that a warning is about stands in the innermost group that is open behind the first n bytes
 -- of a text of ICU's form, with one before it that is spelled the same

@@ -1,15 +1,17 @@
 -- For what the warnings of a text of ICU's form are due, apart from the walk by which `icu_warned`
 -- finds them.
 --     IsIcuCut text n kept place   a number loses bits
+--     IsIcuOctal text n place      a number is octal
 --     IsJoined text n place        a string is joined over a line's end to one member of an array
 --     IsUnquoted text n place      a group of one digit without quotes
 use Rattle.std.specs.Prelude.{◌≡◌, ◌<◌, ℕ, zero, suc, ℤ, Bool, true, false, not, ◌&&◌, ◌||◌}
 use Rattle.std.specs.Prelude.{List, [], ◌∷◌, Option, Some, None, slice_range, if◌then◌else◌}
 use Rattle.resb_diagnostics.specs.Groups.{named_by}
 use Rattle.resb_diagnostics.specs.Items.{IsRightBefore, IsLastBefore}
-use Rattle.resb_diagnostics.specs.Warnings.{is_negative, number_of, cut, is_nothing}
+use Rattle.resb_diagnostics.specs.Warnings.{is_negative, cut, is_nothing}
 use Rattle.resb_diagnostics.specs.IcuWarnings.{icu_token_at, is_behind_colon, is_string, line_ended}
-use Rattle.resb_diagnostics.specs.IcuWarnings.{first_joined, without_sign, is_digit}
+use Rattle.resb_diagnostics.specs.IcuWarnings.{first_joined, without_sign, is_digit, icu_number}
+use Rattle.resb_diagnostics.specs.IcuWarnings.{says_octal}
 use Rattle.resb_diagnostics.specs.declared.named.Named.{Named}
 use Rattle.resb_diagnostics.specs.declared.named.Named.TheVariants as named
 use Rattle.resb_diagnostics.specs.declared.icu_tokens.IcuToken.{IcuToken}
@@ -29,7 +31,7 @@ start_of (token.Piece n) = n
 start_of (token.Word from to) = from
 start_of _ = 0
 
--- the type that a token names: a word right behind a `:`
+-- the type that a token names: a word behind a `:`
 abbrev pub type_of : List ℕ → Option IcuToken → Named
 type_of text (Some (token.Word from to)) =
     if is_behind_colon text from then named_by (slice_range text from to) else named.Nothing
@@ -83,8 +85,18 @@ pub record IsIcuCut (text : List ℕ) (n : ℕ) (kept : ℤ) (place : ℕ) : Typ
   pub to : ℕ
   pub stands : icu_token_at text at ≡ Some (token.Word place to)
   pub first : IsFirstInteger text at
+  pub plain : says_octal (without_sign (slice_range text place to)) ≡ false
   pub is_cut : cut (is_negative (slice_range text place to))
-      (number_of (without_sign (slice_range text place to))) ≡ Some kept
+      (icu_number (without_sign (slice_range text place to))) ≡ Some kept
+
+-- one that begins at a place is octal, and more than 7
+pub record IsIcuOctal (text : List ℕ) (n : ℕ) (place : ℕ) : Type 0 where
+  pub at : ℕ
+  pub within : at < n
+  pub to : ℕ
+  pub stands : icu_token_at text at ≡ Some (token.Word place to)
+  pub first : IsFirstInteger text at
+  pub octal : says_octal (without_sign (slice_range text place to)) ≡ true
 
 -- pieces and words that are no types stand in a row from a place up to another, and nothing else:
 -- one of them, or more, of which this is the first, but for the first of all, before which a line
@@ -175,6 +187,7 @@ pub record IsUnquoted (text : List ℕ) (n place : ℕ) : Type 0 where
 -- ICU's form
 abbrev pub IsIcuDue : List ℕ → ℕ → Reason → ℕ → Type 0
 IsIcuDue text n (reason.CutNumber kept) place = IsIcuCut text n kept place
+IsIcuDue text n reason.OctalNumber place = IsIcuOctal text n place
 IsIcuDue text n reason.JoinedOverLine place = IsJoined text n place
 IsIcuDue text n reason.UnquotedGroup place = IsUnquoted text n place
 IsIcuDue text n _ place = ⊥

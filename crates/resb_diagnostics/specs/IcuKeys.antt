@@ -33,7 +33,7 @@ pub record IsFirstWord (bytes word : List ℕ) : Type 0 where
   pub ends : word_goes_on bytes to ≡ false
   pub means : word ≡ slice_range bytes 0 to
 
--- a word: the name of a type right behind a `:`, else a string
+-- a word: the name of a type behind a `:`, else a string
 abbrev pub icu_word_piece : List ℕ → ℕ → ℕ → TextPiece
 icu_word_piece text from to =
     if is_behind_colon text from then a_type (slice_range text from to)

@@ -6,9 +6,9 @@
 -- types. A key is one piece or one word alone. So pieces in a row, or words, are a member of an
 -- array, but where they are all that stands in a group that is not `:array`.
 use Rattle.std.specs.Prelude.{ℕ, zero, suc, Bool, true, false, ◌&&◌, ◌||◌, not, ◌==◌, List}
-use Rattle.std.specs.Prelude.{◌+◌, ℤ, [], ◌∷◌, ◌++◌}
+use Rattle.std.specs.Prelude.{◌+◌, ◌-◌, ◌*◌, ℤ, [], ◌∷◌, ◌++◌, fold, nat_le}
 use Rattle.std.specs.Prelude.{slice_index, slice_range, if◌then◌else◌, Option, Some, None}
-use Rattle.std.specs.Char.{is_ascii_digit}
+use Rattle.std.specs.Char.{is_ascii_digit, digit_value}
 use Rattle.resb_diagnostics.specs.Braces.{mode_in, icu_form, has_icu_tokens}
 use Rattle.resb_diagnostics.specs.Groups.{named_by}
 use Rattle.resb_diagnostics.specs.Warnings.{warning_at, is_quoted, is_negative, number_of, cut}
@@ -23,9 +23,10 @@ use Rattle.resb_diagnostics.specs.declared.icu_tokens.IcuLast.TheVariants as las
 use Rattle.resb_diagnostics.specs.declared.warning.Reason.TheVariants as reason
 use Rattle.resb_diagnostics.specs.declared.warning.Warning.{Warning}
 use Rattle.resb_grammar.specs.Ascii.{quote, dash, left_brace, right_brace, comma}
-use Rattle.resb_grammar.specs.Ascii.{colon, plus}
+use Rattle.resb_grammar.specs.Ascii.{colon, plus, digit_0}
 use Rattle.resb_grammar.specs.ByteRuns.{is_line_end}
 use Rattle.resb_icu_grammar.specs.Bytes.{is_unquoted}
+use Rattle.resb_icu_grammar.specs.Numbers.{is_hex_letter}
 use Rattle.resb_icu_grammar.specs.Unquoted.{begins_comment}
 
 -- what is in quotes, escapes included
@@ -78,10 +79,16 @@ icu_token_at text n =
     if icu_form.has_tokens (mode_in icu_form text n)
     then icu_token_of text n (slice_index text n) else None
 
--- a `:` stands right before this place
+-- among tokens, a `:` stands at a place
+abbrev pub is_colon : List ℕ → ℕ → Bool
+is_colon text n = has_icu_tokens (mode_in icu_form text n) && slice_index text n == colon
+
+-- a `:` stands before this place, and between them no byte of a word, and nothing in quotes: in a
+-- bundle nothing but blanks
 abbrev pub is_behind_colon : List ℕ → ℕ → Bool
 is_behind_colon text zero = false
-is_behind_colon text (suc n) = slice_index text n == colon
+is_behind_colon text (suc n) =
+    not (is_in_string text n) && (is_colon text n || is_behind_colon text n)
 
 -- the last token is a type of this name, that of the root or of another group
 abbrev pub last_named : Named → IcuLast → IcuLast
@@ -128,7 +135,7 @@ behind_plain_word n ended false (last.Value m) = last.Key
 behind_plain_word n ended _ last.Open = last.Key
 behind_plain_word n ended _ l = behind_string n ended l
 
--- behind a word: it is the name of a type right behind a `:`
+-- behind a word: it is the name of a type behind a `:`
 abbrev pub behind_icu_word : List ℕ → ℕ → ℕ → IcuLast → IcuLast
 behind_icu_word text from to l =
     if is_behind_colon text from then last_named (named_by (slice_range text from to)) l
@@ -175,14 +182,44 @@ abbrev pub without_sign : List ℕ → List ℕ
 without_sign [] = []
 without_sign (b ∷ bs) = if b == dash || b == plus then bs else b ∷ bs
 
+-- the number that hex digits say
+abbrev pub hex_number : List ℕ → ℕ
+hex_number digits = fold (λ n b. n * 16 + digit_value b) 0 digits
+
+-- the number that octal digits say
+abbrev pub octal_number : List ℕ → ℕ
+octal_number digits = fold (λ n b. n * 8 + (b - digit_0)) 0 digits
+
+-- what stands behind the 0 with which a number begins: an `x` and hex digits, or octal ones
+abbrev pub number_behind_zero : List ℕ → ℕ
+number_behind_zero [] = 0
+number_behind_zero (b ∷ bs) = if is_hex_letter b then hex_number bs else octal_number (b ∷ bs)
+
+-- the number that a number's bytes say behind its sign
+abbrev pub icu_number : List ℕ → ℕ
+icu_number [] = 0
+icu_number (b ∷ bs) = if b == digit_0 then number_behind_zero bs else number_of (b ∷ bs)
+
+-- the bytes behind a 0 are octal digits, and say more than 7
+abbrev pub is_octal_rest : List ℕ → Bool
+is_octal_rest [] = false
+is_octal_rest (b ∷ bs) = not (is_hex_letter b) && nat_le 8 (octal_number (b ∷ bs))
+
+-- a number's bytes behind its sign are a 0 and octal digits that say more than 7
+abbrev pub says_octal : List ℕ → Bool
+says_octal [] = false
+says_octal (b ∷ bs) = b == digit_0 && is_octal_rest bs
+
 -- the warning of a number of which only this is kept
 abbrev pub kept_at : ℕ → Option ℤ → Option Warning
 kept_at n None = None
 kept_at n (Some z) = Some (warning_at (reason.CutNumber z) n)
 
--- the warning of an integer at a place that 28 bits don't hold
+-- the warning of an integer at a place that is octal, or that 28 bits don't hold
 abbrev pub of_integer : ℕ → List ℕ → Option Warning
-of_integer n bytes = kept_at n (cut (is_negative bytes) (number_of (without_sign bytes)))
+of_integer n bytes =
+    if says_octal (without_sign bytes) then Some (warning_at reason.OctalNumber n)
+    else kept_at n (cut (is_negative bytes) (icu_number (without_sign bytes)))
 
 -- the warning of a string that is joined over a line's end, at the first piece or word behind one
 abbrev pub of_joined : Option ℕ → Option Warning

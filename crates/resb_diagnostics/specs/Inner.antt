@@ -2,3 +2,4 @@
 pub mod IcuTokens
 pub mod Looks
 pub mod Tokens
+pub mod Marks

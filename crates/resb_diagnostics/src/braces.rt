@@ -112,7 +112,7 @@ impl Modes for IcuMode {
 }
 
 /// How many braces are open behind a byte among tokens or not.
-fn depth_behind(has_tokens: bool, byte: u8, depth: usize) -> usize
+pub(crate) fn depth_behind(has_tokens: bool, byte: u8, depth: usize) -> usize
     requires { depth < 2 ^ 63 }
     ensures { result ≡ braces.depth_behind has_tokens byte depth }
 {

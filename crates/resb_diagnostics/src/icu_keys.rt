@@ -6,11 +6,12 @@ ghost use Rattle.resb_diagnostics.specs.Groups.{Nesting, groups_behind};
 ghost use Rattle.resb_diagnostics.specs.IcuKeys as spec;
 ghost use Rattle.resb_diagnostics.specs.IcuKeys.{icu_piece, icu_repeated, IsFirstWord};
 ghost use Rattle.resb_diagnostics.specs.Inner.IcuTokens.{HasListed, Fits, IsIn};
+ghost use Rattle.resb_diagnostics.specs.Inner.IcuTokens.{IsBeforeSome, IsBeforeToken};
 ghost use Rattle.resb_diagnostics.specs.Inner.Looks.{text_piece_of, ShowsNesting};
 
 use crate::groups::Groups;
-use crate::icu_runs::icu_word_end;
-use crate::icu_tokens::{IcuToken, is_behind_colon};
+use crate::icu_runs::{Before, icu_word_end};
+use crate::icu_tokens::IcuToken;
 use crate::icu_walk::IcuWalk;
 use crate::text_pieces::{Piece, StringAt};
 use crate::warning::Warning;
@@ -68,28 +69,31 @@ impl<'a> Keys<'a> {
         if self.walk.at == self.walk.text.len() {
             return Ok(());
         }
+        let before = self.walk.before;
         let token = self.walk.pass_token();
-        self.take(token)
+        self.take(token, before)
     }
 
-    /// Goes on behind a token, if one comes.
-    fn take(&mut self, token: Option<IcuToken>) -> Result<(), AllocError>
-        requires { IsIn self.old.walk.text.now token }
+    /// Goes on behind a token, if one comes, before which this stands.
+    fn take(&mut self, token: Option<IcuToken>, before: Before) -> Result<(), AllocError>
+        requires inside { IsIn self.old.walk.text.now token }
+        requires before { IsBeforeSome self.old.walk.text.now token before }
         ensures walk { self.new.walk ≡ self.old.walk }
         ensures groups { OnOk result ((g : Nesting) → ShowsNesting self.old.groups g
             → ShowsNesting self.new.groups
             (groups_behind (option_map (icu_piece self.old.walk.text.now) token) g)) }
     {
         match token {
-            Some(token) => self.groups.take(piece_of(self.walk.text, token)),
+            Some(token) => self.groups.take(piece_of(self.walk.text, token, before)),
             None => Ok(()),
         }
     }
 }
 
-/// What a token is to the groups.
-fn piece_of(text: &[u8], token: IcuToken) -> Piece<'_>
-    requires { Fits text.now token }
+/// What a token is to the groups, before which this stands.
+fn piece_of(text: &[u8], token: IcuToken, before: Before) -> Piece<'_>
+    requires fits { Fits text.now token }
+    requires before { IsBeforeToken text.now token before }
     ensures { text_piece_of result ≡ icu_piece text.now token }
 {
     match token {
@@ -97,7 +101,7 @@ fn piece_of(text: &[u8], token: IcuToken) -> Piece<'_>
             content: content_in_quotes(&text[place + 1..]),
             place,
         }),
-        IcuToken::Word(from, to) if is_behind_colon(text, from) => Piece::Type(&text[from..to]),
+        IcuToken::Word(from, to) if before.has_colon => Piece::Type(&text[from..to]),
         IcuToken::Word(from, to) => Piece::String(StringAt {
             content: &text[from..to],
             place: from,

@@ -1,17 +1,28 @@
 //! Where a word, a string in quotes or a comment of a text of ICU's form ends, and whether a line
-//! ended on the way.
+//! ended or a `:` stood on the way.
 //! Blanks are passed in `resb_grammar`; what stands at a place is found in `icu_steps`.
-ghost use Rattle.std.specs.Prelude.{◌≡◌, ◌+◌, ◌<◌, ◌≤◌, length, slice_index, true};
+ghost use Rattle.std.specs.Prelude.{◌≡◌, ◌+◌, ◌<◌, ◌≤◌, ◌||◌, ◌==◌, length, slice_index, true};
+ghost use Rattle.std.specs.Prelude.{false};
+ghost use Rattle.resb_grammar.specs.Ascii as ascii;
 ghost use Rattle.resb_grammar.specs.ByteRuns as bytes;
 ghost use Rattle.resb_icu_grammar.specs.Bytes as words;
 ghost use Rattle.resb_icu_grammar.specs.Unquoted as unquoted;
 ghost use Rattle.resb_diagnostics.specs.IcuWarnings as spec;
 ghost use Rattle.resb_diagnostics.specs.IcuWarnings.{line_ended};
-ghost use Rattle.resb_diagnostics.specs.Inner.IcuTokens.{IsIcuBetween, IsIcuQuiet, IsStringless};
+ghost use Rattle.resb_diagnostics.specs.Inner.IcuTokens.{IsIcuBetween, IsIcuQuiet, IsSilent};
 ghost use Rattle.resb_diagnostics.specs.Inner.IcuTokens.{IsInQuotes, IsQuotedRest, IsIcuLineRest};
-ghost use Rattle.resb_diagnostics.specs.Inner.IcuTokens.{IsWordRest};
+ghost use Rattle.resb_diagnostics.specs.Inner.IcuTokens.{IsWordRest, IsBefore};
 
 use crate::runs::{block_end, string_stop};
+
+/// What stands before a place.
+#[derive(Clone, Copy)]
+pub(crate) struct Before {
+    /// Whether a line ended there, behind the last byte of a word or in quotes.
+    pub has_ended: bool,
+    /// Whether a `:` stands there, behind the last byte of a word or in quotes.
+    pub has_colon: bool,
+}
 
 /// Whether this byte ends a line: LF or CR.
 #[inline(always)]
@@ -23,7 +34,7 @@ fn is_line_end(byte: u8) -> bool
 
 /// Whether a byte may stand in an unquoted string.
 #[inline(always)]
-fn is_unquoted(byte: u8) -> bool
+pub(crate) fn is_unquoted(byte: u8) -> bool
     ensures { result ≡ words.is_unquoted byte }
 {
     match byte {
@@ -122,10 +133,10 @@ pub(crate) fn icu_comment_end(text: &[u8], at: usize) -> usize
 /// Whether a line ended before a place, behind the last byte of a word or in quotes. No such byte
 /// stands from another place on, before which a line ended or not.
 #[inline(always)]
-pub(crate) fn ended_behind(text: &[u8], from: usize, to: usize, has_ended: bool) -> bool
+fn ended_behind(text: &[u8], from: usize, to: usize, has_ended: bool) -> bool
     requires order { from ≤ to }
     requires fits { to ≤ length text.now }
-    requires stringless { IsStringless text.now from to }
+    requires silence { IsSilent text.now from to }
     requires ended { has_ended ≡ line_ended text.now from }
     ensures { result ≡ line_ended text.now to }
 {
@@ -138,4 +149,45 @@ pub(crate) fn ended_behind(text: &[u8], from: usize, to: usize, has_ended: bool)
         }
     }
     false
+}
+
+/// What stands before a place behind another one, of which this is said. Between them is no byte of
+/// a word or in quotes, and no `:`.
+#[inline(always)]
+pub(crate) fn passed(text: &[u8], from: usize, to: usize, before: Before) -> Before
+    requires order { from ≤ to }
+    requires fits { to ≤ length text.now }
+    requires silence { IsSilent text.now from to }
+    requires before { IsBefore text.now from before }
+    ensures { IsBefore text.now to result }
+{
+    Before {
+        has_ended: ended_behind(text, from, to, before.has_ended),
+        has_colon: before.has_colon,
+    }
+}
+
+/// What stands before the place behind a byte that is none of a word, and ends no line.
+#[inline(always)]
+pub(crate) fn passed_byte(byte: u8, before: Before) -> Before
+    ensures ended { result.has_ended ≡ before.has_ended }
+    ensures colon { result.has_colon ≡ (byte == ascii.colon || before.has_colon) }
+{
+    Before {
+        has_ended: before.has_ended,
+        has_colon: byte == b':' || before.has_colon,
+    }
+}
+
+impl Before {
+    /// Behind a word or what stands in quotes, or at the start of a text.
+    #[inline(always)]
+    pub(crate) fn nothing() -> Before
+        ensures { (result.has_ended ≡ false) × (result.has_colon ≡ false) }
+    {
+        Before {
+            has_ended: false,
+            has_colon: false,
+        }
+    }
 }

@@ -5,10 +5,13 @@ ghost use Rattle.std.specs.Prelude.{◌≡◌, ◌+◌, ◌<◌, length, slice_i
 ghost use Rattle.resb_grammar.specs.Ascii as ascii;
 ghost use Rattle.resb_grammar.specs.ByteRuns as bytes;
 ghost use Rattle.resb_icu_grammar.specs.Unquoted as unquoted;
-ghost use Rattle.resb_diagnostics.specs.IcuWarnings.{line_ended, word_goes_on};
-ghost use Rattle.resb_diagnostics.specs.Inner.IcuTokens.{IsIcuBetween, IsIcuStep, icu_sign};
+ghost use Rattle.resb_diagnostics.specs.IcuWarnings.{word_goes_on};
+ghost use Rattle.resb_diagnostics.specs.Inner.IcuTokens.{IsIcuBetween, IsIcuStep, IsBefore};
+ghost use Rattle.resb_diagnostics.specs.Inner.IcuTokens.{icu_sign};
 
-use crate::icu_runs::{ended_behind, icu_comment_end, icu_word_end, quotes_end, word_goes_on};
+use crate::icu_runs::{
+    Before, icu_comment_end, icu_word_end, passed, passed_byte, quotes_end, word_goes_on,
+};
 use crate::icu_tokens::IcuToken;
 
 /// What stands at a place between tokens.
@@ -16,18 +19,18 @@ use crate::icu_tokens::IcuToken;
 pub(crate) struct IcuStep {
     /// The token that it is, if it is one.
     pub token: Option<IcuToken>,
-    /// Whether a line ended before its end, behind the last byte of a word or in quotes.
-    pub has_ended: bool,
+    /// What stands before its end.
+    pub before: Before,
     /// Behind it.
     pub end: usize,
 }
 
-/// What stands at a place between tokens where no blank does, and before which a line ended or not.
+/// What stands at a place between tokens where no blank does, and before which this stands.
 #[inline(always)]
-pub(crate) fn next_step(text: &[u8], at: usize, has_ended: bool) -> IcuStep
+pub(crate) fn next_step(text: &[u8], at: usize, before: Before) -> IcuStep
     requires fits { at < length text.now }
     requires between { IsIcuBetween text.now at }
-    requires ended { has_ended ≡ line_ended text.now at }
+    requires before { IsBefore text.now at before }
     requires dark { bytes.is_white (slice_index text.now at) ≡ false }
     ensures { IsIcuStep text.now at result }
 {
@@ -38,7 +41,7 @@ pub(crate) fn next_step(text: &[u8], at: usize, has_ended: bool) -> IcuStep
     if let Some(token) = sign(at, byte) {
         return IcuStep {
             token: Some(token),
-            has_ended,
+            before: passed_byte(byte, before),
             end: at + 1,
         };
     }
@@ -46,11 +49,11 @@ pub(crate) fn next_step(text: &[u8], at: usize, has_ended: bool) -> IcuStep
         return word(text, at);
     }
     if byte == b'/' {
-        return comment(text, at, has_ended);
+        return comment(text, at, before);
     }
     IcuStep {
         token: None,
-        has_ended,
+        before: passed_byte(byte, before),
         end: at + 1,
     }
 }
@@ -65,7 +68,7 @@ fn piece(text: &[u8], at: usize) -> IcuStep
 {
     IcuStep {
         token: Some(IcuToken::Piece(at)),
-        has_ended: false,
+        before: Before::nothing(),
         end: quotes_end(text, at + 1),
     }
 }
@@ -81,23 +84,23 @@ fn word(text: &[u8], at: usize) -> IcuStep
     let end = icu_word_end(text, at);
     IcuStep {
         token: Some(IcuToken::Word(at, end)),
-        has_ended: false,
+        before: Before::nothing(),
         end,
     }
 }
 
 /// The comment that begins at a place.
-fn comment(text: &[u8], at: usize, has_ended: bool) -> IcuStep
+fn comment(text: &[u8], at: usize, before: Before) -> IcuStep
     requires fits { at + 1 < length text.now }
     requires between { IsIcuBetween text.now at }
-    requires ended { has_ended ≡ line_ended text.now at }
+    requires before { IsBefore text.now at before }
     requires begins { unquoted.begins_comment text.now at ≡ true }
     ensures { IsIcuStep text.now at result }
 {
     let end = icu_comment_end(text, at);
     IcuStep {
         token: None,
-        has_ended: ended_behind(text, at, end, has_ended),
+        before: passed(text, at, end, before),
         end,
     }
 }

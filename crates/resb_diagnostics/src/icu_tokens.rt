@@ -4,9 +4,9 @@
 //! `icu_keys`.
 ghost use Rattle.std.specs.Prelude.{◌≡◌, ◌≤◌, ◌<◌, length};
 ghost use Rattle.resb_diagnostics.specs.IcuWarnings as spec;
-ghost use Rattle.resb_diagnostics.specs.IcuWarnings.{line_ended};
-ghost use Rattle.resb_diagnostics.specs.Inner.IcuTokens.{Fits, IsEndedBefore};
+ghost use Rattle.resb_diagnostics.specs.Inner.IcuTokens.{Fits, IsBefore, IsBeforeToken};
 
+use crate::icu_runs::Before;
 use crate::named::{Named, named_by};
 
 /// A token. Places are in bytes from the text's start.
@@ -64,15 +64,6 @@ pub(crate) enum IcuLast {
     Member(Option<usize>),
 }
 
-/// Whether a `:` stands right before a place.
-#[inline(always)]
-pub(crate) fn is_behind_colon(text: &[u8], place: usize) -> bool
-    requires { place < length text.now }
-    ensures { result ≡ spec.is_behind_colon text.now place }
-{
-    0 < place && text[place - 1] == b':'
-}
-
 /// Whether this is one decimal digit.
 #[inline(always)]
 fn is_digit(word: &[u8]) -> bool
@@ -85,20 +76,19 @@ fn is_digit(word: &[u8]) -> bool
 }
 
 impl IcuLast {
-    /// The last token behind a word that stands between two places, where a line ended before it or
-    /// not.
+    /// The last token behind a word that stands between two places, before which this stands.
     #[inline(always)]
-    fn behind_word(self, text: &[u8], from: usize, to: usize, has_ended: bool) -> IcuLast
+    fn behind_word(self, text: &[u8], from: usize, to: usize, before: Before) -> IcuLast
         requires order { from < to }
         requires fits { to ≤ length text.now }
-        requires ended { has_ended ≡ line_ended text.now from }
+        requires before { IsBefore text.now from before }
         ensures { result ≡ spec.behind_icu_word text.now from to self }
     {
         let word = &text[from..to];
-        if is_behind_colon(text, from) {
+        if before.has_colon {
             return self.behind_type(named_by(word));
         }
-        self.behind_plain_word(from, has_ended, is_digit(word))
+        self.behind_plain_word(from, before.has_ended, is_digit(word))
     }
 
     /// The last token behind a type of this name.
@@ -175,16 +165,16 @@ impl IcuLast {
         }
     }
 
-    /// The last token behind one more, where a line ended before it or not.
+    /// The last token behind one more, before which this stands.
     #[inline(always)]
-    pub(crate) fn behind(self, text: &[u8], token: IcuToken, has_ended: bool) -> IcuLast
+    pub(crate) fn behind(self, text: &[u8], token: IcuToken, before: Before) -> IcuLast
         requires inside { Fits text.now token }
-        requires ended { IsEndedBefore text.now token has_ended }
+        requires before { IsBeforeToken text.now token before }
         ensures { result ≡ spec.behind_icu_token text.now token self }
     {
         match token {
-            IcuToken::Piece(place) => self.behind_string(place, has_ended),
-            IcuToken::Word(from, to) => self.behind_word(text, from, to, has_ended),
+            IcuToken::Piece(place) => self.behind_string(place, before.has_ended),
+            IcuToken::Word(from, to) => self.behind_word(text, from, to, before),
             IcuToken::Open(place) => self.behind_open(place),
             IcuToken::Close => self.behind_close(),
             IcuToken::Comma => IcuLast::Other,

@@ -5,7 +5,7 @@ ghost use Rattle.std.specs.Prelude.{◌≡◌, ◌<◌, length, slice_index, fal
 ghost use Rattle.resb_grammar.specs.ByteRuns as bytes;
 ghost use Rattle.resb_diagnostics.specs.Inner.IcuTokens.{IcuPasses, IsIcuWalk, IsIn, BeginsAt};
 
-use crate::icu_runs::ended_behind;
+use crate::icu_runs::{Before, passed};
 use crate::icu_steps::next_step;
 use crate::icu_tokens::IcuToken;
 use resb_grammar::blanks_end;
@@ -16,8 +16,8 @@ pub(crate) struct IcuWalk<'a> {
     pub text: &'a [u8],
     /// A place between two tokens, or the text's end.
     pub at: usize,
-    /// Whether a line ended before it, behind the last byte of a word or in quotes.
-    pub has_ended: bool,
+    /// What stands before it.
+    pub before: Before,
 }
 
 impl<'a> IcuWalk<'a> {
@@ -29,7 +29,7 @@ impl<'a> IcuWalk<'a> {
         IcuWalk {
             text,
             at: 0,
-            has_ended: false,
+            before: Before::nothing(),
         }
     }
 
@@ -44,7 +44,7 @@ impl<'a> IcuWalk<'a> {
         ensures dark { bytes.is_white (slice_index self.old.text.now self.new.at) ≡ false }
     {
         let end = blanks_end(self.text, self.at);
-        self.has_ended = ended_behind(self.text, self.at, end, self.has_ended);
+        self.before = passed(self.text, self.at, end, self.before);
         self.at = end;
     }
 
@@ -61,8 +61,8 @@ impl<'a> IcuWalk<'a> {
         ensures inside { IsIn self.old.text.now result }
         ensures begins { BeginsAt self.old.at result }
     {
-        let step = next_step(self.text, self.at, self.has_ended);
-        self.has_ended = step.has_ended;
+        let step = next_step(self.text, self.at, self.before);
+        self.before = step.before;
         self.at = step.end;
         step.token
     }

@@ -1,18 +1,22 @@
 //! What a person may not have meant in a text that is a bundle of ICU's form.
 //! Where its tokens stand is found in `icu_walk`; the warnings of the other form are in `warning`.
-ghost use Rattle.std.specs.Prelude.{◌≡◌, ◌<◌, ◌≤◌, length, slice_index, false, IfOk, OnOk};
+ghost use Rattle.std.specs.Prelude.{◌≡◌, ◌<◌, ◌≤◌, length, slice_index, false, IfOk, OnOk, ◌++◌};
 ghost use Rattle.std.specs.Prelude.{IsPermutation};
 ghost use Rattle.std.specs.List.Sorted.{IsSortedByKey};
 ghost use Rattle.std.specs.Ordering.{nat_cmp};
 ghost use Rattle.resb_grammar.specs.ByteRuns as bytes;
 ghost use Rattle.resb_diagnostics.specs.IcuWarnings as spec;
+ghost use Rattle.resb_diagnostics.specs.IcuMarks.{icu_marked};
 ghost use Rattle.resb_diagnostics.specs.IcuWarnings.{icu_warned};
 ghost use Rattle.resb_diagnostics.specs.declared.icu_tokens.IcuLast.TheVariants as last;
-ghost use Rattle.resb_diagnostics.specs.Inner.IcuTokens.{HasLooked, Fits, IsIn, IsEndedAt};
+ghost use Rattle.resb_diagnostics.specs.Inner.IcuTokens.{HasLooked, Fits, IsIn, IsBeforeSome};
+ghost use Rattle.resb_diagnostics.specs.Inner.IcuTokens.{IsBeforeToken};
 
-use crate::icu_tokens::{IcuLast, IcuToken, is_behind_colon};
+use crate::icu_marks::mark;
+use crate::icu_runs::Before;
+use crate::icu_tokens::{IcuLast, IcuToken};
 use crate::icu_walk::IcuWalk;
-use crate::numbers::cut_integer;
+use crate::numbers::{cut_integer, says_octal};
 use crate::warning::{Reason, Warning};
 use std::alloc::{AllocError, Global};
 
@@ -20,7 +24,8 @@ use std::alloc::{AllocError, Global};
 /// bundle of that form; for any other one they say little.
 pub fn icu_warnings(alloc: Global, text: &str) -> Result<Vec<Warning>, AllocError>
     ensures exact { IfOk result
-        (λ found. IsPermutation (icu_warned text.now (length text.now)) found.items) }
+        (λ found. IsPermutation (icu_warned text.now (length text.now)
+        ++ icu_marked text.now (length text.now)) found.items) }
     ensures order { IfOk result (λ found. IsSortedByKey (λ w. w.place) nat_cmp found.items) }
 {
     let mut look = Look::new(alloc, text.as_bytes());
@@ -28,6 +33,7 @@ pub fn icu_warnings(alloc: Global, text: &str) -> Result<Vec<Warning>, AllocErro
         look.advance()?;
     }
     let mut found = look.found;
+    mark(text.as_bytes(), &mut found)?;
     found.sort_unstable();
     Ok(found)
 }
@@ -64,17 +70,17 @@ impl<'a> Look<'a> {
         if self.walk.at == self.walk.text.len() {
             return Ok(());
         }
-        let has_ended = self.walk.has_ended;
+        let before = self.walk.before;
         let token = self.walk.pass_token();
-        self.take(token, has_ended)
+        self.take(token, before)
     }
 
-    /// Adds the warning that a token brings out, if one comes, and goes on behind it. A line ended
-    /// before it or not.
+    /// Adds the warning that a token brings out, if one comes, and goes on behind it. This stands
+    /// before it.
     #[inline(always)]
-    fn take(&mut self, token: Option<IcuToken>, has_ended: bool) -> Result<(), AllocError>
+    fn take(&mut self, token: Option<IcuToken>, before: Before) -> Result<(), AllocError>
         requires inside { IsIn self.old.walk.text.now token }
-        requires ended { IsEndedAt self.old.walk.text.now token has_ended }
+        requires before { IsBeforeSome self.old.walk.text.now token before }
         ensures walk { self.new.walk ≡ self.old.walk }
         ensures last { OnOk result (self.new.last
             ≡ spec.behind_some self.old.walk.text.now token self.old.last) }
@@ -85,18 +91,19 @@ impl<'a> Look<'a> {
             return Ok(());
         };
         let text = self.walk.text;
-        if let Some(warning) = told(text, token, self.last) {
+        if let Some(warning) = told(text, token, before, self.last) {
             self.found.push(warning)?;
         }
-        self.last = self.last.behind(text, token, has_ended);
+        self.last = self.last.behind(text, token, before);
         Ok(())
     }
 }
 
-/// The warning that a token brings out behind the last one.
+/// The warning that a token brings out behind the last one. This stands before it.
 #[inline(always)]
-fn told(text: &[u8], token: IcuToken, last: IcuLast) -> Option<Warning>
-    requires { Fits text.now token }
+fn told(text: &[u8], token: IcuToken, before: Before, last: IcuLast) -> Option<Warning>
+    requires fits { Fits text.now token }
+    requires before { IsBeforeToken text.now token before }
     ensures { result ≡ spec.of_icu_token text.now token last }
 {
     match last {
@@ -106,25 +113,25 @@ fn told(text: &[u8], token: IcuToken, last: IcuLast) -> Option<Warning>
             Some(Warning { place, reason })
         }
         IcuLast::First(joined) if matches!(token, IcuToken::Comma) => of_joined(joined),
-        IcuLast::Member(joined) if !is_string(text, token) => of_joined(joined),
+        IcuLast::Member(joined) if !is_string(text, token, before) => of_joined(joined),
         _ => None,
     }
 }
 
-/// Whether a string in a row may go on with this token.
+/// Whether a string in a row may go on with this token, before which this stands.
 #[inline(always)]
-fn is_string(text: &[u8], token: IcuToken) -> bool
-    requires { Fits text.now token }
+fn is_string(text: &[u8], token: IcuToken, before: Before) -> bool
+    requires { IsBeforeToken text.now token before }
     ensures { result ≡ spec.is_string text.now token }
 {
     match token {
         IcuToken::Piece(_) => true,
-        IcuToken::Word(from, _) => !is_behind_colon(text, from),
+        IcuToken::Word(_, _) => !before.has_colon,
         _ => false,
     }
 }
 
-/// The warning of an integer, if this token is one that 28 bits don't hold.
+/// The warning of an integer, if this token is one that is octal, or that 28 bits don't hold.
 fn of_integer(text: &[u8], token: IcuToken) -> Option<Warning>
     requires { Fits text.now token }
     ensures { result ≡ spec.of_icu_token text.now token last.Integer }
@@ -132,7 +139,14 @@ fn of_integer(text: &[u8], token: IcuToken) -> Option<Warning>
     let IcuToken::Word(from, to) = token else {
         return None;
     };
-    match cut_integer(&text[from..to]) {
+    let number = &text[from..to];
+    if says_octal(number) {
+        return Some(Warning {
+            place: from,
+            reason: Reason::OctalNumber,
+        });
+    }
+    match cut_integer(number) {
         Some(kept) => Some(Warning {
             place: from,
             reason: Reason::CutNumber(kept),

@@ -1,6 +1,7 @@
 //! What another reader takes otherwise in a number.
 //! Which strings are numbers is known by their groups, in `groups`.
 ghost use Rattle.std.specs.Prelude.{◌≡◌, ◌++◌, ℕ, true, false, min, OnOk};
+ghost use Rattle.std.specs.Char.{digit_value};
 ghost use Rattle.resb_diagnostics.specs.IcuWarnings as icu;
 ghost use Rattle.resb_diagnostics.specs.Warnings as spec;
 ghost use Rattle.resb_diagnostics.specs.Warnings.{of_octal, of_cut, of_number, number_of};
@@ -140,10 +141,66 @@ fn without_sign(number: &[u8]) -> &[u8]
     }
 }
 
+/// The value of a digit or a letter, and 36 for any other byte.
+fn digit_value(b: u8) -> u64
+    ensures { result ≡ digit_value b }
+{
+    match b {
+        b'0'..=b'9' => u64::from(b - b'0'),
+        b'A'..=b'Z' => u64::from(b - b'A') + 10,
+        b'a'..=b'z' => u64::from(b - b'a') + 10,
+        _ => 36,
+    }
+}
+
+/// The number that hex digits say, or 2 ^ 32 where it is larger.
+fn hex_value(digits: &[u8]) -> u64
+    ensures { result ≡ min (icu.hex_number digits.now) 4294967296 }
+{
+    let mut value = 0u64;
+    for byte in digits {
+        value = (value * 16 + digit_value(*byte)).min(1 << 32);
+    }
+    value
+}
+
+/// The number that octal digits say, or 2 ^ 32 where it is larger.
+fn octal_value(digits: &[u8]) -> u64
+    ensures { result ≡ min (icu.octal_number digits.now) 4294967296 }
+{
+    let mut value = 0u64;
+    for byte in digits {
+        value = (value * 8 + u64::from(byte.saturating_sub(b'0'))).min(1 << 32);
+    }
+    value
+}
+
+/// What a number of ICU's form says behind its sign, or 2 ^ 32 where that is larger.
+fn icu_value(number: &[u8]) -> u64
+    ensures { result ≡ min (icu.icu_number number.now) 4294967296 }
+{
+    match number {
+        [b'0', b'x' | b'X', digits @ ..] => hex_value(digits),
+        [b'0', digits @ ..] => octal_value(digits),
+        _ => value_of(number),
+    }
+}
+
+/// Whether an integer of ICU's form begins with a 0 and octal digits that say more than 7.
+pub(crate) fn says_octal(number: &[u8]) -> bool
+    ensures { result ≡ icu.says_octal (icu.without_sign number.now) }
+{
+    match without_sign(number) {
+        [b'0', b'x' | b'X', ..] => false,
+        [b'0', digits @ ..] => octal_value(digits) > 7,
+        _ => false,
+    }
+}
+
 /// What is kept of an integer of ICU's form that 28 bits don't hold.
 pub(crate) fn cut_integer(number: &[u8]) -> Option<i32>
     ensures { result
-        ≡ spec.cut (spec.is_negative number.now) (number_of (icu.without_sign number.now)) }
+        ≡ spec.cut (spec.is_negative number.now) (icu.icu_number (icu.without_sign number.now)) }
 {
-    cut(is_negative(number), value_of(without_sign(number)))
+    cut(is_negative(number), icu_value(without_sign(number)))
 }

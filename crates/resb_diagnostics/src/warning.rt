@@ -56,6 +56,17 @@ pub enum Reason {
     /// A group begins with a group of one digit without quotes, in a text of ICU's form; or a word
     /// without quotes and such a group are all of one that has no type and isn't the root.
     UnquotedGroup,
+    /// The integer begins with a 0 in a text of ICU's form, and is more than 7: it is octal.
+    OctalNumber,
+    /// The backslash stands before a letter or a digit, with which no escape of ICU's form begins:
+    /// it stands for that character.
+    UnknownEscape,
+    /// Behind the root of a text in ICU's form stands more than blanks, the first of it here:
+    /// nothing of it is read.
+    TextBehind,
+    /// The unquoted string goes on with the one in quotes before it, in a text of ICU's form: a
+    /// blank stands between them, and a comma or a quote may be missing.
+    MixedQuotes,
 }
 
 /// The warnings of a text, in order of place. They are right for a text that is a bundle; for any

@@ -2,7 +2,7 @@
 //! Offsets of zones are read in `zones`.
 ghost use Rattle.std.specs.Prelude.{codes, ◌∷◌, []};
 
-use resb::binary::{BinaryDeserializerError, Cursor, PoolBundle};
+use resb::binary::{BinaryDeserializerError, File, PoolBundle};
 use resb::fields::{Maybe, Record, Table};
 use std::alloc::Global;
 
@@ -47,7 +47,7 @@ pub fn language_name<'a>(
     pool: Option<PoolBundle<'a>>,
     code: &str,
 ) -> Result<Option<String>, BinaryDeserializerError> {
-    let (root, mut walk) = Cursor::root_with_pool(file, pool)?;
+    let (root, mut walk) = File::open(file, pool)?.root();
     let bundle = root.read_table(&mut walk)?;
     let Some(languages) = bundle.get("Languages") else {
         return Ok(None);
@@ -64,7 +64,7 @@ pub fn zone_names<'a>(
     pool: Option<PoolBundle<'a>>,
     zone: &str,
 ) -> Result<Option<ZoneNames>, BinaryDeserializerError> {
-    let (root, mut walk) = Cursor::root_with_pool(file, pool)?;
+    let (root, mut walk) = File::open(file, pool)?.root();
     let bundle = root.read_table(&mut walk)?;
     let Some(zones) = bundle.get("zoneStrings") else {
         return Ok(None);

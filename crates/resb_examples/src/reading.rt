@@ -1,7 +1,7 @@
 //! Reading without a type of one's own: by the given types, by look-ups of keys, and by a plain
 //! function over cursors.
 //! A type of one's own is shown in `records`, and one with relations of its own in `zones`.
-use resb::binary::{BinaryDeserializerError, Cursor, File, PoolBundle, from_bytes};
+use resb::binary::{BinaryDeserializerError, File, PoolBundle};
 use std::alloc::Global;
 use std::collections::BTreeMap;
 
@@ -11,7 +11,8 @@ pub fn base_of(
     file: &[u8],
     zone: &str,
 ) -> Result<Option<i32>, BinaryDeserializerError> {
-    let zones: BTreeMap<&str, BTreeMap<&str, i32>> = from_bytes(alloc, file)?;
+    let file = File::open(file, None)?;
+    let zones: BTreeMap<&str, BTreeMap<&str, i32>> = file.read(alloc)?;
     let Some(fields) = zones.get(zone) else {
         return Ok(None);
     };
@@ -36,7 +37,7 @@ pub fn base_by_key(
     file: &[u8],
     zone: &str,
 ) -> Result<Option<i32>, BinaryDeserializerError> {
-    let (root, mut walk) = Cursor::root(file)?;
+    let (root, mut walk) = File::open(file, None)?.root();
     let zones = root.read_table(&mut walk)?;
     let Some(fields) = zones.get(zone) else {
         return Ok(None);
@@ -48,7 +49,7 @@ pub fn base_by_key(
 /// The number `base` of a zone, in a file of tables that may hold anything beside it. No memory is
 /// asked for, and what isn't looked for is skipped.
 pub fn base_by_cursor(file: &[u8], zone: &str) -> Result<Option<i32>, BinaryDeserializerError> {
-    let (root, mut walk) = Cursor::root(file)?;
+    let (root, mut walk) = File::open(file, None)?.root();
     let mut zones = root.read_map(&mut walk)?;
     for _ in 0..zones.size_hint() {
         let Some((name, fields)) = zones.next_entry_cursor()? else {

@@ -3,7 +3,7 @@
 //! Reading without such a type is shown in `reading`.
 ghost use Rattle.std.specs.Prelude.{codes, ◌∷◌, []};
 
-use resb::binary::{BinaryDeserializerError, from_bytes};
+use resb::binary::{BinaryDeserializerError, File, PoolBundle, from_bytes};
 use resb::blame::{Blame, from_bytes_blaming};
 use resb::fields::{Maybe, Record, Table};
 use std::alloc::Global;
@@ -49,6 +49,17 @@ pub fn digits_of(
         return Ok(None);
     };
     Ok(Some(currency.0.digits))
+}
+
+/// How many digits the currency has that is the root of a file over a pool bundle.
+pub fn digits_over_a_pool(
+    alloc: Global,
+    file: &[u8],
+    pool: &[u8],
+) -> Result<i32, BinaryDeserializerError> {
+    let pool = PoolBundle::read(pool)?;
+    let currency: Table<Currency, CurrencyFields> = File::open(file, Some(pool))?.read(alloc)?;
+    Ok(currency.0.digits)
 }
 
 /// How many digits a currency has, or what is to blame in a file that isn't one of currencies.

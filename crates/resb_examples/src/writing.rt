@@ -1,8 +1,8 @@
 //! Writing a tree that a program made, and one that it put together from two texts.
-//! Texts that stand by themselves are written by `resb::compile`.
-use resb::binary::{BinaryDeserializerError, BinarySerializerError, Serializer, from_bytes};
+//! Texts that stand by themselves are written by `resb::Compile`.
+use resb::binary::{BinaryDeserializerError, BinarySerializerError, Pool, Serializer, from_bytes};
 use resb::bundle::{Int28, Key, NoMemory, Resource, ResourceBundle, Table};
-use resb::{CompileError, compile, keys_of};
+use resb::{Compile, CompileError, TextForm, keys_of};
 use std::alloc::{AllocFailed, Global};
 use std::borrow::CowStr;
 use std::collections::BTreeMap;
@@ -58,10 +58,18 @@ fn both<'a>(alloc: Global, first: &'a [u8], second: &'a [u8]) -> Result<Table<'a
 /// The file of two texts, with locale fallback: the entries of both, and of an equal key those of
 /// the second.
 pub fn merge(alloc: Global, first: &str, second: &str) -> Result<Vec<u8>, WritingError> {
-    let first_file = compile(alloc, first)?;
-    let second_file = compile(alloc, second)?;
+    let first_file = Compile::new(TextForm::Plain).text(alloc, first)?;
+    let second_file = Compile::new(TextForm::Plain).text(alloc, second)?;
     let table = both(alloc, &first_file, &second_file)?;
     let bundle = ResourceBundle::new(CowStr::Borrowed("merged"), Resource::Table(table), true);
     let keys = keys_of(alloc, bundle.root())?;
     Ok(Serializer::to_bytes(alloc, &bundle, &keys)?)
+}
+
+/// The file of a text in ICU's form over a pool bundle, with `genrb`'s bytes. Reading the text may
+/// make 10 MB.
+pub fn file_over(alloc: Global, pool: &[u8], text: &str) -> Result<Vec<u8>, WritingError> {
+    let pool = Pool::open(alloc, pool)?;
+    let way = Compile::new(TextForm::Icu).compact().over(&pool);
+    Ok(way.within(10_000_000).text(alloc, text)?)
 }

@@ -3,10 +3,10 @@ use Rattle.std.proofs.Common.{◌≡◌, ◌≢◌, ℕ, Bool, true, false, ◌|
 use Rattle.std.proofs.Common.{sym}
 use Rattle.std.proofs.Common.{◌∙◌, ◌+◌, ◌<◌, ◌≤◌, ◌++◌, length, subst, arith, map, take, get_or}
 use Rattle.std.proofs.Common.{append-nil}
-use Rattle.std.specs.Prelude.{◌==◌, nat_eq, nat_lt, Ok, Err, Result, Option, None, Some, is_some}
+use Rattle.std.specs.Prelude.{◌==◌, nat_eq, Ok, Err, Result, Option, None, Some, is_some}
 use Rattle.std.specs.Prelude.{IsErrAnd, IfErr, if◌then◌else◌}
 use Rattle.std.specs.List.{list_any, slice_split, flat_map}
-use Rattle.std.proofs.lemmas.Bool.{false≢true, eqb-true, ltb-true, lt-ltb, and_from}
+use Rattle.std.proofs.lemmas.Bool.{false≢true, eqb-true, and_from}
 use Rattle.std.proofs.lemmas.List.{map_push, take_more, take_all, length-map, take-map, get_or-map}
 use Rattle.std.proofs.lemmas.List.Concat.{flat_map-append}
 use Rattle.resb_tree.specs.Borrowing.{all_true}
@@ -20,7 +20,6 @@ use Rattle.resb_filter.specs.declared.error.RuleError.{RuleError}
 use Rattle.resb_filter.specs.declared.error.RuleError.TheVariants.{Line, OutOfMemory}
 use Rattle.resb_filter.specs.declared.error.RuleFault.{RuleFault}
 use Rattle.resb_filter.specs.declared.error.RuleFault.TheVariants.{NoSign, NoSlash, EmptyPiece}
-use Rattle.resb_filter.specs.declared.error.RuleFault.TheVariants.{TooManyPieces}
 
 -- one of the texts is empty where one of the borrowed ones is
 pub any_texts : (ks : List (Bor (List ℕ)))
@@ -64,34 +63,19 @@ pub pieces_some : (path : List ℕ) → (length path == 0) ≡ false
 pieces_some [] h = absurd (false≢true (sym h))
 pieces_some (b ∷ bs) h = refl
 
--- what pieces say by two tests
-abbrev said_by : Bool → Bool → Bool → List (List ℕ) → Result (Option Rule) RuleFault
-said_by empty many keeps ps =
-    if empty then Err EmptyPiece
-    else (if many then Err TooManyPieces else Ok (Some (keeps, ps)))
+-- what pieces say by a test
+abbrev said_by : Bool → Bool → List (List ℕ) → Result (Option Rule) RuleFault
+said_by empty keeps ps = if empty then Err EmptyPiece else Ok (Some (keeps, ps))
 
 -- one of the pieces is empty
 pub empty_say : (ps : List (List ℕ)) (keeps : Bool) → has_empty ps ≡ true
     → pieces_say keeps ps ≡ Err EmptyPiece
-empty_say ps keeps h = ap (λ e. said_by e (nat_lt 1000 (length ps)) keeps ps) h
+empty_say ps keeps h = ap (λ e. said_by e keeps ps) h
 
--- none is, and they are too many
-pub many_say : (ps : List (List ℕ)) (keeps : Bool) → has_empty ps ≡ false → 1000 < length ps
-    → pieces_say keeps ps ≡ Err TooManyPieces
-many_say ps keeps h g =
-    let many : nat_lt 1000 (length ps) ≡ true = lt-ltb 1000 (length ps) g in
-    λ i. said_by (h i) (many i) keeps ps
-
-few : (n : ℕ) (t : Bool) → nat_lt 1000 n ≡ t → n ≤ 1000 → nat_lt 1000 n ≡ false
-few n true e h = absurd (omega (arith, ltb-true 1000 n e, h))
-few n false e h = e
-
--- none is, and they are few enough
-pub rule_say : (ps : List (List ℕ)) (keeps : Bool) → has_empty ps ≡ false → length ps ≤ 1000
+-- none is
+pub rule_say : (ps : List (List ℕ)) (keeps : Bool) → has_empty ps ≡ false
     → pieces_say keeps ps ≡ Ok (Some (keeps, ps))
-rule_say ps keeps h g =
-    let small = few (length ps) (nat_lt 1000 (length ps)) refl g in
-    λ i. said_by (h i) (small i) keeps ps
+rule_say ps keeps h = ap (λ e. said_by e keeps ps) h
 
 -- the lines so far with the next one
 lines_more : (ls : List (Bor (List ℕ))) (i : ℕ) (d : Bor (List ℕ)) → i < length ls

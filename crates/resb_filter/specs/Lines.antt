@@ -6,7 +6,7 @@
 --     IsRead text rs      the text is read as these rules
 --     IsOfLine n l e      an error says what is wrong with this line, or is want of memory
 --     Refuses text e      an error says what is wrong with the first wrong line of the text
-use Rattle.std.specs.Prelude.{◌≡◌, ◌<◌, ◌+◌, ◌==◌, ℕ, Bool, true, false, nat_eq, nat_lt}
+use Rattle.std.specs.Prelude.{◌≡◌, ◌<◌, ◌+◌, ◌==◌, ℕ, Bool, true, false, nat_eq}
 use Rattle.std.specs.Prelude.{List, [], ◌∷◌, Option, Some, None, Result, Ok, Err, length, take}
 use Rattle.std.specs.Prelude.{map, get_or, if◌then◌else◌}
 use Rattle.std.specs.List.{slice_split, flat_map, list_any}
@@ -16,7 +16,6 @@ use Rattle.resb_filter.specs.declared.error.RuleError.{RuleError}
 use Rattle.resb_filter.specs.declared.error.RuleError.TheVariants.{Line, OutOfMemory}
 use Rattle.resb_filter.specs.declared.error.RuleFault.{RuleFault}
 use Rattle.resb_filter.specs.declared.error.RuleFault.TheVariants.{NoSign, NoSlash, EmptyPiece}
-use Rattle.resb_filter.specs.declared.error.RuleFault.TheVariants.{TooManyPieces}
 
 -- the lines of a text: what stands between its line feeds, which are the byte 10
 abbrev pub lines_of : List ℕ → List (List ℕ)
@@ -32,11 +31,9 @@ pieces_in (c ∷ cs) = slice_split (λ b. nat_eq b 47) (c ∷ cs)
 abbrev pub has_empty : List (List ℕ) → Bool
 has_empty ps = list_any (λ p. length p == 0) ps
 
--- what a sign and these pieces say: a rule, if none is empty and there are at most 1000
+-- what a sign and these pieces say: a rule, if none is empty
 abbrev pub pieces_say : Bool → List (List ℕ) → Result (Option Rule) RuleFault
-pieces_say keeps ps =
-    if has_empty ps then Err EmptyPiece
-    else (if nat_lt 1000 (length ps) then Err TooManyPieces else Ok (Some (keeps, ps)))
+pieces_say keeps ps = if has_empty ps then Err EmptyPiece else Ok (Some (keeps, ps))
 
 -- what a sign and what stands behind it say: that has to begin with `/`
 abbrev pub path_says : Bool → List ℕ → Result (Option Rule) RuleFault

@@ -7,14 +7,12 @@ use Rattle.resb_filter.specs.declared.error.RuleError.{RuleError}
 use Rattle.resb_filter.specs.declared.error.RuleError.TheVariants.{Line, OutOfMemory}
 use Rattle.resb_filter.specs.declared.error.RuleFault.{RuleFault}
 use Rattle.resb_filter.specs.declared.error.RuleFault.TheVariants.{NoSign, NoSlash, EmptyPiece}
-use Rattle.resb_filter.specs.declared.error.RuleFault.TheVariants.{TooManyPieces}
 
 -- what is wrong with a line, as it is printed
 abbrev pub fault_message : RuleFault → List ℕ
 fault_message NoSign = codes "a rule begins with + or -"
 fault_message NoSlash = codes "a rule's path begins with /"
 fault_message EmptyPiece = codes "a piece of a rule's path is empty"
-fault_message TooManyPieces = codes "a rule's path has more than 1000 pieces"
 
 -- what an error prints as
 abbrev pub message_of : RuleError → List ℕ

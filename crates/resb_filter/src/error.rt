@@ -18,9 +18,6 @@ pub enum RuleFault {
     NoSlash,
     /// Nothing stands between two `/` of its path, or behind the last one.
     EmptyPiece,
-    /// Its path has more than 1000 pieces. Each takes a call inside another where a tree is
-    /// filtered, so that no rule can use up the stack. ICU has no such limit.
-    TooManyPieces,
 }
 
 impl fmt::Display for RuleFault {
@@ -31,7 +28,6 @@ impl fmt::Display for RuleFault {
             RuleFault::NoSign => write!(f, "a rule begins with + or -"),
             RuleFault::NoSlash => write!(f, "a rule's path begins with /"),
             RuleFault::EmptyPiece => write!(f, "a piece of a rule's path is empty"),
-            RuleFault::TooManyPieces => write!(f, "a rule's path has more than 1000 pieces"),
         }
     }
 }

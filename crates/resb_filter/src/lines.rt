@@ -9,9 +9,6 @@ ghost use Rattle.resb_filter.specs.Lines.{lines_of, line_says, path_says, pieces
 use crate::error::RuleFault;
 use std::alloc::{AllocError, Global};
 
-/// The most pieces that a rule's path has.
-const MOST_PIECES: usize = 1000;
-
 /// The lines of a text, without the line feeds at their ends.
 pub(crate) fn lines_in(alloc: Global, text: &str) -> Result<Vec<&str>, AllocError>
     ensures { IfOk result (λ v. texts v.items ≡ lines_of text.now) }
@@ -73,8 +70,6 @@ pub(crate) fn pieces_fault(pieces: &[&str]) -> Option<RuleFault>
 {
     if one_is_empty(pieces) {
         Some(RuleFault::EmptyPiece)
-    } else if pieces.len() > MOST_PIECES {
-        Some(RuleFault::TooManyPieces)
     } else {
         None
     }

@@ -6,7 +6,7 @@ mod IndexSteps
 mod SupportSteps
 mod Apart
 mod Survival
-mod Passing
+pub mod Passing
 pub mod FileSteps
 mod IndexSurvival
 mod HeaderSurvival

@@ -26,7 +26,7 @@ use Rattle.resb_icu_files.specs.Writing.{a_text, some_bytes, behind_mark, said_o
 use Rattle.resb_icu_files.specs.Writing.{not_a_text, not_rules}
 use Rattle.resb_icu_files.specs.declared.file.TextFile.{TextFile}
 use Rattle.resb_icu_files.specs.declared.way.Way.{Way}
-use Rattle.resb_icu_files.proofs.WaysLemmas.{FileGroup-one, SameGroup, way_colon}
+use Rattle.resb_icu_files.proofs.WaysLemmas.{FileGroup-one, SameGroup}
 
 -- where nothing is skipped, no blank stands
 solid_stays : (text : List ℕ) (at to : ℕ) → IsSolid text at → at < to → Skip text at to → ⊥
@@ -60,7 +60,7 @@ seems_slash text at e = eqb-true _ _ (and_parts _ _ e).0
 -- a group that takes a file in stands at a colon
 group_colon : (text : List ℕ) (at brace last : ℕ) (kind : Way) (name : List ℕ)
     → FileGroup text at kind brace last name → slice_index text at ≡ ascii.colon
-group_colon text at brace last kind name g = way_colon text at kind g.spelt
+group_colon text at brace last kind name g = g.colon
 
 -- where such a group stands, the text doesn't end
 group_ends : (text : List ℕ) (at brace last : ℕ) (kind : Way) (name : List ℕ)

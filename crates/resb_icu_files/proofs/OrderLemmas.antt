@@ -4,7 +4,7 @@ use Rattle.resb_icu_grammar.specs.Blanks.{Skip, Blanks, Comment, none, white, co
 use Rattle.resb_icu_grammar.specs.Escapes as escapes
 use Rattle.resb_icu_grammar.specs.Pieces as pieces
 use Rattle.resb_icu_grammar.specs.Unquoted.{UnquotedRow, last_one, one_more}
-use Rattle.resb_icu_grammar.specs.Words.{Text, a_row, quoted}
+use Rattle.resb_icu_grammar.specs.Words.{Part, a_row, quoted, Text, one_part, more_parts}
 use Rattle.resb_icu_files.specs.Ways.{FileGroup, spelling}
 use Rattle.resb_icu_files.specs.declared.way.Way.{Way}
 
@@ -32,11 +32,10 @@ row_order text from to bytes (one_more _ mid next _ some later u w s r) =
 -- an escape
 escape_order : (text : List ℕ) (at to : ℕ) (bytes : List ℕ) → escapes.Escape text at to bytes
     → at ≤ to
-escape_order text at to bytes (escapes.itself l n) = omega arith
-escape_order text at to bytes (escapes.line_feed e) = omega arith
-escape_order text at to bytes (escapes.carriage_return e) = omega arith
-escape_order text at to bytes (escapes.tab e) = omega arith
-escape_order text at to bytes (escapes.four_digits c e h i s n) = omega arith
+escape_order text at to bytes (escapes.itself l n m) = omega arith
+escape_order text at to bytes (escapes.letter e) = omega arith
+escape_order text at to bytes (escapes.four_digits c d s n) = omega arith
+escape_order text at to bytes (escapes.pair high low h g e l w) = omega arith
 escape_order text at to bytes (escapes.eight_digits c e h i l n) = omega arith
 escape_order text at to bytes (escapes.control e l h) = omega arith
 escape_order text at to bytes (escapes.short_hex c _ e s n) = omega (arith, s.some)
@@ -67,16 +66,26 @@ joined_order text from to bytes (pieces.one_more _ mid next _ some later q s r) 
   joined_order text next to later r,
 )
 
+part_order : (text : List ℕ) (from to : ℕ) (bytes : List ℕ) → Part text from to bytes → from ≤ to
+part_order text from to bytes (a_row r) = row_order text from to bytes r
+part_order text from to bytes (quoted j) = joined_order text from to bytes j
+
 text_order : (text : List ℕ) (from to : ℕ) (bytes : List ℕ) → Text text from to bytes → from ≤ to
-text_order text from to bytes (a_row r) = row_order text from to bytes r
-text_order text from to bytes (quoted j) = joined_order text from to bytes j
+text_order text from to bytes (one_part _ _ next _ p s e) = part_order text from to bytes p
+text_order text from to bytes (more_parts _ mid next _ some later p s e r) = omega (
+  arith,
+  part_order text from mid some p,
+  skip_order text mid next s,
+  text_order text next to later r,
+)
 
 -- a group that takes a file in ends behind its begin
 pub group_order : (text : List ℕ) (at brace last : ℕ) (kind : Way) (name : List ℕ)
     → FileGroup text at kind brace last name → at ≤ last
 group_order text at brace last kind name g = omega (
   arith,
-  skip_order text (at + length (spelling kind)) brace g.between,
+  skip_order text (at + 1) g.place g.behind,
+  skip_order text (g.place + length (spelling kind)) brace g.between,
   skip_order text (brace + 1) g.from g.before,
   text_order text g.from g.to name g.names,
   skip_order text g.to last g.after,

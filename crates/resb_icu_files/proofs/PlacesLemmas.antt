@@ -17,7 +17,6 @@ use Rattle.resb_icu_files.specs.declared.way.Way.{Way}
 use Rattle.resb_icu_files.specs.declared.way.Way.TheVariants as way
 use Rattle.resb_icu_files.proofs.OrderLemmas.{group_order}
 use Rattle.resb_icu_files.proofs.TakingLemmas.{IsCloser, closer_stands}
-use Rattle.resb_icu_files.proofs.WaysLemmas.{way_colon}
 use Rattle.resb_icu_files.specs.declared.taken.Change.{Change}
 
 -- a place as far behind the end of a change, or the last one that is counted
@@ -270,7 +269,7 @@ taken_row : (files : List TextFile) (text : List ℕ) (from : ℕ) (m a : Output
 taken_row files text from m a small j (ends _ to closer _ s e) =
     ended_row text from closer m small (closer_stands text from to closer s) j
 taken_row files text from m a small j (group _ at brace last closer kind name bytes _ _ s g w t) =
-    let high = inside text at ascii.colon (way_colon text at kind g.spelt) (omega arith) in
+    let high = inside text at ascii.colon g.colon (omega arith) in
     let r = rewritten_step text from at (last + 1) bytes m
     (stretch_order text from at None closer s) (omega (arith, high))
     (omega (arith, group_order text at brace last kind name g)) small j in

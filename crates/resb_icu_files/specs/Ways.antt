@@ -1,10 +1,12 @@
 -- Groups of ICU's text form that take another file in, and files that stand beside a text.
-use Rattle.std.specs.Prelude.{◌≡◌, ◌+◌, ℕ, Bool, true, false, Option, Some, None, List, [], ◌∷◌}
-use Rattle.std.specs.Prelude.{length, drop, slice_index, codes, nat_eq, if◌then◌else◌}
+use Rattle.std.specs.Prelude.{◌≡◌, ◌+◌, ◌==◌, ◌||◌, ℕ, Bool, true, false, Option, Some, None}
+use Rattle.std.specs.Prelude.{List, [], ◌∷◌, length, drop, slice_index, codes, nat_eq}
+use Rattle.std.specs.Prelude.{if◌then◌else◌}
 use Rattle.std.specs.List.{starts_with}
 use Rattle.std.specs.Cmp.Lexicographic.{pointwise}
 use Rattle.std.specs.String.{string_bytes}
 use Rattle.resb_grammar.specs.Ascii as ascii
+use Rattle.resb_grammar.specs.ByteRuns.{is_white}
 use Rattle.resb_icu_grammar.specs.Blanks.{Skip}
 use Rattle.resb_icu_grammar.specs.Words.{Text}
 use Rattle.resb_icu_files.specs.declared.file.TextFile.{TextFile}
@@ -18,13 +20,13 @@ bytes_named (file ∷ files) name =
     if pointwise nat_eq (string_bytes file.name) name then Some file.bytes.items
     else bytes_named files name
 
--- the type of a group that takes a file in, as a text spells it behind a key
+-- the type of a group that takes a file in, as a text spells it behind a `:`
 abbrev pub spelling : Way → List ℕ
-spelling way.Dependency = codes ":process(dependency)"
-spelling way.Include = codes ":include"
-spelling way.Import = codes ":import"
-spelling way.Rules = codes ":process(transliterator)"
-spelling way.CollationRules = codes ":process(uca_rules)"
+spelling way.Dependency = codes "process(dependency)"
+spelling way.Include = codes "include"
+spelling way.Import = codes "import"
+spelling way.Rules = codes "process(transliterator)"
+spelling way.CollationRules = codes "process(uca_rules)"
 
 -- a group of this type takes a file in: all but a dependency's, which take its name alone
 abbrev pub takes_file : Way → Bool
@@ -49,14 +51,21 @@ way_at text at =
     else if stands_at text at (spelling way.Rules) then Some way.Rules
     else if stands_at text at (spelling way.CollationRules) then Some way.CollationRules else None
 
--- a group that takes a file in: its type, `{`, the file's name as a string, and `}`, with nothing
--- but blanks between them; `brace` and `last` are the places of the two braces
+-- a byte right behind which such a type may stand: a `:`, a white character, and the `/` of a comment
+abbrev pub may_precede : ℕ → Bool
+may_precede b = b == ascii.colon || (is_white b || b == ascii.slash)
+
+-- a group that takes a file in: a `:`, its type, `{`, the file's name as a string, and `}`, with
+-- nothing but blanks between them; `brace` and `last` are the places of the two braces
 pub record FileGroup (text : List ℕ) (at : ℕ) (kind : Way) (brace last : ℕ)
     (name : List ℕ) : Type 0 where
+  pub place : ℕ
   pub from : ℕ
   pub to : ℕ
-  pub spelt : way_at text at ≡ Some kind
-  pub between : Skip text (at + length (spelling kind)) brace
+  pub colon : slice_index text at ≡ ascii.colon
+  pub behind : Skip text (at + 1) place
+  pub spelt : way_at text place ≡ Some kind
+  pub between : Skip text (place + length (spelling kind)) brace
   pub opens : slice_index text brace ≡ ascii.left_brace
   pub before : Skip text (brace + 1) from
   pub names : Text text from to name

@@ -58,10 +58,14 @@ pub(crate) fn group_at<'a>(
     ensures none { IfOk result (λ g. IfNone g (NoFileGroup text.now at)) }
 {
     let mut turns = IcuTurns::new();
-    let Some(kind) = way_at(text.as_bytes(), at) else {
+    if byte(text, at) != b':' {
+        return Ok(None);
+    }
+    let place = skip(text, at + 1, &mut turns);
+    let Some(kind) = way_at(text.as_bytes(), place) else {
         return Ok(None);
     };
-    let brace = skip(text, at + kind.spelling().len(), &mut turns);
+    let brace = skip(text, place + kind.spelling().len(), &mut turns);
     if byte(text, brace) != b'{' {
         return Ok(None);
     }

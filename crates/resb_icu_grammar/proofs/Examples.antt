@@ -1,19 +1,21 @@
 -- Accepted and refused texts of ICU's form, by the definitions alone; and one that gets stuck.
 use Rattle.std.proofs.Common.{◌≡◌, ◌≢◌, ℕ, zero, suc, ◌+◌, ◌≤◌, true, false, List, [], inl, inr}
-use Rattle.std.proofs.Common.{◌∷◌, length, refl, sym, ap, arith, lit≤, subst, encode_utf8, ◌<◌}
-use Rattle.std.specs.Prelude.{slice_index, slice_range, codes, ◌&&◌}
+use Rattle.std.proofs.Common.{◌∷◌, length, refl, sym, ap, arith, lit≤, subst, encode_utf8, ◌<◌, ◌∙◌}
+use Rattle.std.specs.Prelude.{slice_index, slice_range, codes, ◌&&◌, ◌==◌, not, if◌then◌else◌}
 use Rattle.std.proofs.lemmas.Bool.{false≢true}
+use Rattle.std.specs.Char.Utf16.{is_high_surrogate}
 use Rattle.resb_tree.specs.Tree.{Tree, string, alias, array, table, trees_of, map_of}
 use Rattle.resb_grammar.specs.ByteRuns.{is_white, Run}
 use Rattle.resb_icu_grammar.specs.Kinds.{Kind, Names, string_kind, alias_kind, array_kind}
 use Rattle.resb_icu_grammar.specs.Kinds.{table_kind, binary_kind, integer_kind, vector_kind}
 use Rattle.resb_icu_grammar.specs.Bytes.{is_word, is_key_byte, are_key_bytes}
 use Rattle.resb_icu_grammar.specs.Blanks.{Comment, line, block, none, white, Skip, without_a_mark}
-use Rattle.resb_icu_grammar.specs.Escapes.{Escape, itself, line_feed, carriage_return, tab}
-use Rattle.resb_icu_grammar.specs.Escapes.{four_digits, eight_digits, control, short_hex, octal}
+use Rattle.resb_icu_grammar.specs.Escapes.{Escape, itself, letter, four_digits, pair, eight_digits}
+use Rattle.resb_icu_grammar.specs.Escapes.{control, short_hex, octal}
 use Rattle.resb_icu_grammar.specs.Pieces.{QuotedBytes, ends, byte, escape, Joined, last_piece}
 use Rattle.resb_icu_grammar.specs.Pieces.{one_more}
-use Rattle.resb_icu_grammar.specs.Faults.{NoEscapeAt, StringFault, this_piece, later_piece}
+use Rattle.resb_icu_grammar.specs.Faults.{NoEscapeAt, StringFault, this_part, this_piece}
+use Rattle.resb_icu_grammar.specs.Faults.{later_piece}
 use Rattle.resb_icu_grammar.specs.Faults as fault
 use Rattle.resb_icu_grammar.specs.Words as words
 use Rattle.resb_icu_grammar.specs.Unquoted.{Unquoted, UnquotedRow, last_one, goes_on, may_begin}
@@ -35,6 +37,7 @@ use Rattle.resb_icu_grammar.specs.Stuck.{Stuck, in_root, inside, no_group, TypeS
 use Rattle.resb_icu_grammar.specs.declared.expected.IcuExpected.{IcuExpected}
 use Rattle.resb_icu_grammar.specs.declared.expected.IcuExpected.TheVariants as expect
 use Rattle.resb_icu_grammar.proofs.FewDigitsLemmas.{said_none, said_more, few_said, few_first}
+use Rattle.resb_icu_grammar.proofs.Lexical.{half_no_scalar}
 use Rattle.resb_icu_grammar.proofs.Moves.{one_move}
 use Rattle.resb_icu_grammar.proofs.OneRefusal.{stuck_in_one_way}
 
@@ -63,7 +66,7 @@ joined =
       last = 4;
       opens = refl;
       inside = byte 1 4 (10 ∷ []) (lit≤ tt) (λ h. absurd (omega arith)) (λ h. absurd (omega arith))
-          (escape 2 4 4 (10 ∷ []) [] refl (line_feed refl) (ends 4 refl));
+          (escape 2 4 4 (10 ∷ []) [] refl (letter refl) (ends 4 refl));
       ends = refl;
     })
     (record {
@@ -94,7 +97,25 @@ comment_refused to (block at a b f e) = never at f.order f.closer.star
 
 -- `\u00e9` is é, in its two bytes
 escape_accepted : Escape (codes "u00e9") 0 5 (encode_utf8 0xe9)
-escape_accepted = four_digits 0xe9 refl refl refl refl (λ h. absurd (omega arith))
+escape_accepted =
+    four_digits 0xe9 (record { letter = refl; digits = refl; means = refl }) refl
+    (λ h. absurd (omega arith))
+
+-- `\q` is q, `\8` is 8, and `\a` is U+0007
+unknown_accepted : Escape (codes "q") 0 1 (codes "q")
+unknown_accepted = itself (lit≤ tt) refl refl
+
+eight_accepted : Escape (codes "8") 0 1 (codes "8")
+eight_accepted = itself (lit≤ tt) refl refl
+
+bell_accepted : Escape (codes "a") 0 1 (7 ∷ [])
+bell_accepted = letter refl
+
+-- `\uD83D\uDE00` is U+1F600, one character
+pair_accepted : Escape (codes "uD83D\\uDE00") 0 11 (encode_utf8 0x1f600)
+pair_accepted =
+    pair 0xd83d 0xde00 (record { letter = refl; digits = refl; means = refl }) refl refl
+    (record { letter = refl; digits = refl; means = refl }) refl
 
 -- `\U00000000` is U+0000, and `\c'` is U+0007
 zero_accepted : Escape (codes "U00000000") 0 9 (encode_utf8 0)
@@ -117,30 +138,31 @@ octal_accepted =
 
 -- `\u005C` would be a backslash, and is none
 escape_refused : (to : ℕ) (s : List ℕ) → Escape (codes "u005C") 0 to s → ⊥
-escape_refused to s (itself f h) = false≢true (sym h)
-escape_refused to s (line_feed h) = absurd (omega arith)
-escape_refused to s (carriage_return h) = absurd (omega arith)
-escape_refused to s (tab h) = absurd (omega arith)
-escape_refused to s (four_digits c h x e y z) = z e
+escape_refused to s (itself f l o) = false≢true (sym o)
+escape_refused to s (letter h) = false≢true h
+escape_refused to s (four_digits c w y z) = z w.means
+escape_refused to s (pair m n w p d x q) =
+    half_refused m w.means p
+  where
+    half_refused : (m : ℕ) → m ≡ 92 → is_high_surrogate m ≡ true → ⊥
+    half_refused m e p = false≢true (ap is_high_surrogate (sym e) ∙ p)
 escape_refused to s (eight_digits c h x e y z) = absurd (omega arith)
 escape_refused to s (control h l m) = absurd (omega arith)
 escape_refused to s (short_hex c _ h p o) = absurd (omega arith)
-escape_refused to s (octal c _ p o) =
-    false≢true (few_first p)
+escape_refused to s (octal c _ p o) = false≢true (few_first p)
 
--- `"a\q"` has a fault at the backslash, where a known escape is expected
-escape_told : StringFault (codes "\"a\\q\"") 0 2 expect.Escape
+-- `"a\uD83D"` has a fault at the backslash, where the other half of a pair is expected
+escape_told : StringFault (codes "\"a\\uD83D\"") 0 2 expect.WholePair
 escape_told =
-    this_piece 0 2 _ refl
+    this_part 0 2 _ (this_piece 0 2 _ refl
     (fault.byte 1 2 _ (lit≤ tt) (λ h. absurd (omega arith)) (λ h. absurd (omega arith))
-    (fault.no_escape 2 refl never))
+    (fault.no_escape 2 refl never)))
   where
-    never : NoEscapeAt (codes "\"a\\q\"") 3
-    never to s (itself f h) = false≢true (sym h)
-    never to s (line_feed h) = absurd (omega arith)
-    never to s (carriage_return h) = absurd (omega arith)
-    never to s (tab h) = absurd (omega arith)
-    never to s (four_digits c h x e y z) = absurd (omega arith)
+    never : NoEscapeAt (codes "\"a\\uD83D\"") 3
+    never to s (itself f l o) = false≢true (sym o)
+    never to s (letter h) = false≢true h
+    never to s (four_digits c w y z) = half_no_scalar c 0xd83d w.means y refl
+    never to s (pair m n w p d x q) = absurd (omega arith)
     never to s (eight_digits c h x e y z) = absurd (omega arith)
     never to s (control h l m) = absurd (omega arith)
     never to s (short_hex c _ h p o) = absurd (omega arith)
@@ -149,7 +171,7 @@ escape_told =
 -- `"a" "b` has one at its second piece, which no quote closes
 open_quote_told : StringFault (codes "\"a\" \"b") 0 4 expect.ClosingQuote
 open_quote_told =
-    later_piece 0 3 4 4 (97 ∷ []) _
+    this_part 0 4 _ (later_piece 0 3 4 4 (97 ∷ []) _
     (record {
       last = 2;
       opens = refl;
@@ -163,7 +185,7 @@ open_quote_told =
     })
     (this_piece 4 4 _ refl
     (fault.byte 5 4 _ (lit≤ tt) (λ h. absurd (omega arith)) (λ h. absurd (omega arith))
-    (fault.no_end 6 (lit≤ tt))))
+    (fault.no_end 6 (lit≤ tt)))))
 
 -- an empty group is an array
 empty_group : Group (codes "{}") 0 2 (array (trees_of [])) []
@@ -208,15 +230,27 @@ row_of_two =
     })
     (row_of_one (codes "a\t\nb}") 3 refl refl refl (lit≤ tt) refl (λ h. absurd (omega arith)))
 
+-- as a string it is one part where no quote stands behind it
+abbrev one_word : (text : List ℕ) (from to : ℕ) (s : List ℕ) → UnquotedRow text from to s
+    → (slice_index text from == 34) ≡ false → is_white (slice_index text to) ≡ false
+    → slice_index text to ≢ 47 → (slice_index text to == 34) ≡ false → words.Text text from to s
+one_word text from to s r first no_white slash quote =
+    words.one_part from to to s (a_row r) (stays text to no_white slash)
+    (ap (λ b. if b then not (length s == 0) && rows.begins_unquoted text to
+    else slice_index text to == 34) first ∙ quote)
+
 -- and then may be a key
 a_key : (text : List ℕ) (from : ℕ) → may_begin (slice_index text from) ≡ true
     → goes_on text from ≡ true
     → goes_on text (from + 1) ≡ false → from + 1 ≤ length text
     → is_white (slice_index text (from + 1)) ≡ false → slice_index text (from + 1) ≢ 47
     → are_key_bytes (slice_range text from (from + 1)) ≡ true
+    → (slice_index text from == 34) ≡ false → (slice_index text (from + 1) == 34) ≡ false
     → words.KeyText text from (from + 1) (slice_range text from (from + 1))
-a_key text from first h stop fits no_white other is =
+a_key text from first h stop fits no_white other is no_quote no_piece =
     record {
+      whole = one_word text from (from + 1) _ (row_of_one text from first h stop fits no_white other)
+          no_quote no_white other no_piece;
       verbatim = words.a_word (row_of_one text from first h stop fits no_white other)
           (word_of_one text from first h stop fits);
       fits = is;
@@ -230,10 +264,10 @@ b_is_word = record { order = lit≤ tt; fits = lit≤ tt; each = each; longest =
     each zero low high = refl
     each (suc n) low high = absurd (omega arith)
 
--- a slash is of an unquoted string, but at its start and where it begins a comment
+-- a slash is of an unquoted string, also at its start, but not where it begins a comment
 slash_accepted : (goes_on (codes "a/b") 1 ≡ true) × (goes_on (codes "a//b") 1 ≡ false)
     × (goes_on (codes "a/*b") 1 ≡ false) × (goes_on (codes "a/") 1 ≡ true)
-    × (may_begin 47 ≡ false)
+    × (rows.begins_unquoted (codes "/a") 0 ≡ true)
 slash_accepted = (refl, refl, refl, refl, refl)
 
 -- é is of one, U+2029 and U+FEFF are not, and none begins inside é
@@ -260,7 +294,7 @@ bundle_accepted = record {
     begins = without_a_mark refl refl;
     before = stays _ 0 refl (λ h. absurd (omega arith));
     named = record {
-      key = a_key _ 0 refl refl refl (lit≤ tt) refl (λ h. absurd (omega arith)) refl;
+      key = a_key _ 0 refl refl refl (lit≤ tt) refl (λ h. absurd (omega arith)) refl refl refl;
       some = lit≤ tt;
       word = b_is_word;
     };
@@ -270,11 +304,13 @@ bundle_accepted = record {
     after = stays _ 2 refl (λ h. absurd (omega arith));
   };
   body = one_entry 2 3 3 6 6 6 (codes "k") (string (codes "x")) [] [] []
-      (a_key _ 2 refl refl refl (lit≤ tt) refl (λ h. absurd (omega arith)) refl)
+      (a_key _ 2 refl refl refl (lit≤ tt) refl (λ h. absurd (omega arith)) refl refl refl)
       (stays _ 3 refl (λ h. absurd (omega arith)))
       (untyped 3 4 5 _ [] refl (stays _ 4 refl (λ h. absurd (omega arith)))
       (one_string 4 5 5 (codes "x")
-      (a_row (row_of_one _ 4 refl refl refl (lit≤ tt) refl (λ h. absurd (omega arith))))
+      (one_word _ 4 5 _
+      (row_of_one _ 4 refl refl refl (lit≤ tt) refl (λ h. absurd (omega arith)))
+      refl refl (λ h. absurd (omega arith)) refl)
       (stays _ 5 refl (λ h. absurd (omega arith)))) refl)
       (stays _ 6 refl (λ h. absurd (omega arith))) (no_entry 6) refl;
   closes = refl;
@@ -296,7 +332,7 @@ stuck_there =
       begins = without_a_mark refl refl;
       before = stays _ 0 refl (λ h. absurd (omega arith));
       named = record {
-        key = a_key _ 0 refl refl refl (lit≤ tt) refl (λ h. absurd (omega arith)) refl;
+        key = a_key _ 0 refl refl refl (lit≤ tt) refl (λ h. absurd (omega arith)) refl refl refl;
         some = lit≤ tt;
         word = b_is_word;
       };
@@ -310,7 +346,7 @@ stuck_there =
       comes = one_move (codes "b{a}") [] [] (among_entries []) 2
           (reading_at (in_table [] (codes "a") ∷ []) (codes "a" ∷ []) before_group 3)
           (key_of_entry [] 2 3 3 (codes "a")
-          (a_key _ 2 refl refl refl (lit≤ tt) refl (λ h. absurd (omega arith)) refl)
+          (a_key _ 2 refl refl refl (lit≤ tt) refl (λ h. absurd (omega arith)) refl refl refl)
           (stays _ 3 refl (λ h. absurd (omega arith))));
       there = inside (in_table [] (codes "a") ∷ []) (codes "a" ∷ []) before_group 3 3 expect.Group
           (no_group 3 never);
@@ -330,7 +366,7 @@ alias_accepted : Entries (codes "x:alias{\"/a/b\"}") 0 15
     ((codes "x", alias (codes "/a/b")) ∷ []) (codes "x" ∷ [])
 alias_accepted =
     one_entry 0 1 1 15 15 15 (codes "x") (alias (codes "/a/b")) [] [] []
-    (a_key _ 0 refl refl refl (lit≤ tt) refl (λ h. absurd (omega arith)) refl)
+    (a_key _ 0 refl refl refl (lit≤ tt) refl (λ h. absurd (omega arith)) refl refl refl)
     (stays _ 1 refl (λ h. absurd (omega arith)))
     (typed 1 8 14 alias_kind (alias (codes "/a/b")) []
     (record {
@@ -343,9 +379,10 @@ alias_accepted =
     })
     (leaf alias_kind 8 14 (alias (codes "/a/b"))
     (alias_content 14 (codes "/a/b")
-    (quoted (last_piece 8 14 14 (codes "/a/b")
+    (words.one_part 8 14 14 (codes "/a/b") (quoted (last_piece 8 14 14 (codes "/a/b")
     (record { last = 13; opens = refl; inside = path; ends = refl })
     (stays _ 14 refl (λ h. absurd (omega arith))) (λ h. absurd (omega arith))))
+    (stays _ 14 refl (λ h. absurd (omega arith))) refl)
     (stays _ 14 refl (λ h. absurd (omega arith)))))
     refl)
     (stays _ 15 refl (λ h. absurd (omega arith))) (no_entry 15) refl
@@ -362,7 +399,9 @@ alias_accepted =
 
     type_stands : TypeName (codes "x:alias{\"/a/b\"}") 1 7 (codes "alias")
     type_stands = record {
+      place = 2;
       colon = refl;
+      between = stays _ 2 refl (λ h. absurd (omega arith));
       word = record {
         run = record { order = lit≤ tt; fits = lit≤ tt; each = each; longest = refl };
         some = lit≤ tt;
@@ -378,10 +417,15 @@ alias_accepted =
         (byte 12 13 [] (lit≤ tt) (λ h. absurd (omega arith)) (λ h. absurd (omega arith))
         (ends 13 refl))))
 
--- `:import` is no type of a tree, and that is told by its name
-import_refused : TypeStuck (codes ":import{") 0 expect.NoImport
-import_refused = no_tree 7 (codes "import") (record {
+-- `: import` is no type of a tree, and that is told by its name
+import_refused : TypeStuck (codes ": import{") 0 expect.NoImport
+import_refused = no_tree 8 (codes "import") (record {
+  place = 2;
   colon = refl;
+  between = record {
+    blanks = white 1 2 refl (none 2);
+    solid = (stays _ 2 refl (λ h. absurd (omega arith))).solid;
+  };
   word = record {
     run = record { order = lit≤ tt; fits = lit≤ tt; each = each; longest = refl };
     some = lit≤ tt;
@@ -389,15 +433,16 @@ import_refused = no_tree 7 (codes "import") (record {
   };
 }) never
   where
-    each : (k : ℕ) → 1 ≤ k → k < 7 → is_word (slice_index (codes ":import{") k) ≡ true
+    each : (k : ℕ) → 2 ≤ k → k < 8 → is_word (slice_index (codes ": import{") k) ≡ true
     each zero low high = absurd (omega arith)
-    each (suc zero) low high = refl
+    each (suc zero) low high = absurd (omega arith)
     each (suc (suc zero)) low high = refl
     each (suc (suc (suc zero))) low high = refl
     each (suc (suc (suc (suc zero)))) low high = refl
     each (suc (suc (suc (suc (suc zero))))) low high = refl
     each (suc (suc (suc (suc (suc (suc zero)))))) low high = refl
-    each (suc (suc (suc (suc (suc (suc (suc n))))))) low high = absurd (omega arith)
+    each (suc (suc (suc (suc (suc (suc (suc zero))))))) low high = refl
+    each (suc (suc (suc (suc (suc (suc (suc (suc n)))))))) low high = absurd (omega arith)
 
     second : (w : List ℕ) → codes "import" ≡ w → slice_index w 1 ≡ 109
     second w e = ap (λ (v : List ℕ). slice_index v 1) (sym e)
@@ -429,7 +474,7 @@ header_before_a = record {
   begins = without_a_mark refl refl;
   before = blanks_end 0 refl (λ h. absurd (omega arith));
   named = record {
-    key = a_key _ 0 refl refl refl (lit≤ tt) refl (λ h. absurd (omega arith)) refl;
+    key = a_key _ 0 refl refl refl (lit≤ tt) refl (λ h. absurd (omega arith)) refl refl refl;
     some = lit≤ tt;
     word = b_is_word;
   };
@@ -458,11 +503,13 @@ before_y = record {
       (moves _ (InValue in_untyped 4) _ _ _ _
       (moves _ (InValue before_group 3) [] [] (among_entries []) 2 (here _)
       (key_of_entry [] 2 3 3 (codes "a")
-      (a_key _ 2 refl refl refl (lit≤ tt) refl (λ h. absurd (omega arith)) refl)
+      (a_key _ 2 refl refl refl (lit≤ tt) refl (λ h. absurd (omega arith)) refl refl refl)
       (blanks_end 3 refl (λ h. absurd (omega arith)))))
       (group_opens 3 4 refl (blanks_end 4 refl (λ h. absurd (omega arith)))))
       (begins_with_string 4 5 5 (codes "x")
-      (a_row (row_of_one _ 4 refl refl refl (lit≤ tt) refl (λ h. absurd (omega arith))))
+      (one_word _ 4 5 _
+      (row_of_one _ 4 refl refl refl (lit≤ tt) refl (λ h. absurd (omega arith)))
+      refl refl (λ h. absurd (omega arith)) refl)
       (blanks_end 5 refl (λ h. absurd (omega arith))) refl))
       (comma_behind a_string _ 5 6 refl refl (blanks_end 6 refl (λ h. absurd (omega arith))));
   sum = refl;
@@ -474,7 +521,9 @@ abbrev y_follows : Move (codes "b{a{x,y}}") (in_table [] (codes "a") ∷ []) (co
     (InValue (among_members a_string (string (codes "x") ∷ string (codes "y") ∷ [])) 7)
 y_follows =
     string_member a_comma _ 6 7 7 (codes "y") refl
-    (a_row (row_of_one _ 6 refl refl refl (lit≤ tt) refl (λ h. absurd (omega arith))))
+    (one_word _ 6 7 _
+    (row_of_one _ 6 refl refl refl (lit≤ tt) refl (λ h. absurd (omega arith)))
+    refl refl (λ h. absurd (omega arith)) refl)
     (blanks_end 7 refl (λ h. absurd (omega arith)))
 
 -- the text is read within 1513 bytes, of which 75 are its second string's

@@ -1,4 +1,4 @@
--- Where a quoted string has a fault no string stands, and it has one fault.
+-- Where a string has a fault none stands, and it has one fault.
 use Rattle.std.proofs.Common.{◌≡◌, ◌≢◌, ℕ, ◌+◌, ◌≤◌, List, refl, ◌∙◌, ap, subst, arith, length}
 use Rattle.std.specs.Prelude.{slice_index}
 use Rattle.std.proofs.lemmas.List.{get_or_past}
@@ -6,13 +6,15 @@ use Rattle.resb_grammar.specs.Ascii as ascii
 use Rattle.resb_icu_grammar.specs.Blanks.{Skip}
 use Rattle.resb_icu_grammar.specs.Pieces.{QuotedBytes, ends, byte, escape, QuotedPiece, Joined}
 use Rattle.resb_icu_grammar.specs.Pieces.{last_piece, one_more}
-use Rattle.resb_icu_grammar.specs.Words.{Text, a_row, quoted}
+use Rattle.resb_icu_grammar.specs.Unquoted.{UnquotedRow}
+use Rattle.resb_icu_grammar.specs.Words.{Part, a_row, quoted, Text, one_part, more_parts}
 use Rattle.resb_icu_grammar.specs.Faults as fault
-use Rattle.resb_icu_grammar.specs.Faults.{PieceFault, StringFault, this_piece, later_piece, Told}
-use Rattle.resb_icu_grammar.specs.Faults.{a_fault, no_fault}
+use Rattle.resb_icu_grammar.specs.Faults.{PieceFault, PiecesFault, this_piece, later_piece}
+use Rattle.resb_icu_grammar.specs.Faults.{StringFault, this_part, later_part, Told, a_fault}
+use Rattle.resb_icu_grammar.specs.Faults.{no_fault}
 use Rattle.resb_icu_grammar.specs.declared.expected.IcuExpected.{IcuExpected}
-use Rattle.resb_icu_grammar.proofs.Lexical.{Escape-one, Piece-one, Skip-one}
-use Rattle.resb_icu_grammar.proofs.Lexical.{no_quote_row}
+use Rattle.resb_icu_grammar.proofs.Lexical.{Escape-one, Piece-one, Skip-one, Part-one}
+use Rattle.resb_icu_grammar.proofs.Lexical.{follows_once, joined_first, no_quote_row}
 
 past : (text : List ℕ) (at : ℕ) → length text ≤ at → slice_index text at ≡ 0
 past text at l = get_or_past text at 0 l
@@ -73,19 +75,19 @@ PieceFault-one text o at to end x y (fault.escape _ n _ v _ b e h)
     (subst (λ i. PieceFault text o i end y) (Escape-one text (at + 1) m n w v f e).0 g)
 
 -- where a piece has a fault none ends
-fault_no_piece : (text : List ℕ) (from to : ℕ) (x : IcuExpected)
+pub fault_no_piece : (text : List ℕ) (from to : ℕ) (x : IcuExpected)
     → PieceFault text from (from + 1) to x → (end : ℕ) (s : List ℕ) → QuotedPiece text from end s
     → ⊥
 fault_no_piece text from to x h end s p =
     fault_no_end text from (from + 1) to x h p.last s p.inside
 
--- a string with a fault begins with a quote
-pub fault_first : (text : List ℕ) (from to : ℕ) (x : IcuExpected) → StringFault text from to x
+-- quoted pieces with a fault begin with a quote
+pub fault_first : (text : List ℕ) (from to : ℕ) (x : IcuExpected) → PiecesFault text from to x
     → slice_index text from ≡ ascii.quote
 fault_first text from to x (this_piece _ _ _ q h) = q
 fault_first text from to x (later_piece _ m n _ s _ p k h) = p.opens
 
-fault_no_row : (text : List ℕ) (from to : ℕ) (x : IcuExpected) → StringFault text from to x
+fault_no_row : (text : List ℕ) (from to : ℕ) (x : IcuExpected) → PiecesFault text from to x
     → (end : ℕ) (s : List ℕ) → Joined text from end s → ⊥
 fault_no_row text from to x (this_piece _ _ _ q h) end s (last_piece _ _ n _ p k e) =
     fault_no_piece text from to x h end s p
@@ -100,25 +102,55 @@ fault_no_row text from to x (later_piece _ m n _ s _ p k h) end _ (one_more _ j 
     let there : i ≡ n = Skip-one text m i n (subst (λ a. Skip text a i) same.0 l) k in
     fault_no_row text n to x h end v (subst (λ a. Joined text a end v) there r)
 
--- where a quoted string has a fault no string stands
+-- where quoted pieces have a fault no part of a string stands
+pub fault_no_part : (text : List ℕ) (from to : ℕ) (x : IcuExpected) → PiecesFault text from to x
+    → (end : ℕ) (s : List ℕ) → Part text from end s → ⊥
+fault_no_part text from to x h end s (a_row r) =
+    no_quote_row text from end s (fault_first text from to x h) r
+fault_no_part text from to x h end s (quoted j) = fault_no_row text from to x h end s j
+
+-- where a string has a fault none stands
 pub fault_no_string : (text : List ℕ) (from to : ℕ) (x : IcuExpected) → StringFault text from to x
     → (end : ℕ) (s : List ℕ) → Text text from end s → ⊥
-fault_no_string text from to x h end s (a_row r) =
-    no_quote_row text from end s (fault_first text from to x h) r
-fault_no_string text from to x h end s (quoted j) = fault_no_row text from to x h end s j
+fault_no_string text from to x (this_part _ _ _ h) end s (one_part _ _ n _ p k f) =
+    fault_no_part text from to x h end s p
+fault_no_string text from to x (this_part _ _ _ h) end s (more_parts _ m n _ u v p k f r) =
+    fault_no_part text from to x h m u p
+fault_no_string text from to x (later_part _ m n _ s _ p k f h) end t (one_part _ _ i _ q l g) =
+    follows_once text from end m i n t s q l g p k f
+fault_no_string text from to x (later_part _ m n _ s _ p k f h) end _
+    (more_parts _ j i _ u v q l g r) =
+    let same = Part-one text from j m u s q p in
+    let there : i ≡ n = Skip-one text m i n (subst (λ a. Skip text a i) same.0 l) k in
+    fault_no_string text n to x h end v (subst (λ a. Text text a end v) there r)
+
+-- quoted pieces have one fault
+pub PiecesFault-one : (text : List ℕ) (from to end : ℕ) (x y : IcuExpected)
+    → PiecesFault text from to x → PiecesFault text from end y → (to ≡ end) × (x ≡ y)
+PiecesFault-one text from to end x y (this_piece _ _ _ q h) (this_piece _ _ _ p g) =
+    PieceFault-one text from (from + 1) to end x y h g
+PiecesFault-one text from to end x y (this_piece _ _ _ q h) (later_piece _ m n _ s _ p k g) =
+    absurd (fault_no_piece text from to x h m s p)
+PiecesFault-one text from to end x y (later_piece _ m n _ s _ p k g) (this_piece _ _ _ q h) =
+    absurd (fault_no_piece text from end y h m s p)
+PiecesFault-one text from to end x y (later_piece _ m n _ s _ p k h)
+    (later_piece _ i j _ t _ q l g) =
+    let same = Piece-one text from i m t s q p in
+    let there : j ≡ n = Skip-one text m j n (subst (λ a. Skip text a j) same.0 l) k in
+    PiecesFault-one text n to end x y h (subst (λ a. PiecesFault text a end y) there g)
 
 -- a string has one fault
 pub StringFault-one : (text : List ℕ) (from to end : ℕ) (x y : IcuExpected)
     → StringFault text from to x → StringFault text from end y → (to ≡ end) × (x ≡ y)
-StringFault-one text from to end x y (this_piece _ _ _ q h) (this_piece _ _ _ p g) =
-    PieceFault-one text from (from + 1) to end x y h g
-StringFault-one text from to end x y (this_piece _ _ _ q h) (later_piece _ m n _ s _ p k g) =
-    absurd (fault_no_piece text from to x h m s p)
-StringFault-one text from to end x y (later_piece _ m n _ s _ p k g) (this_piece _ _ _ q h) =
-    absurd (fault_no_piece text from end y h m s p)
-StringFault-one text from to end x y (later_piece _ m n _ s _ p k h)
-    (later_piece _ i j _ t _ q l g) =
-    let same = Piece-one text from i m t s q p in
+StringFault-one text from to end x y (this_part _ _ _ h) (this_part _ _ _ g) =
+    PiecesFault-one text from to end x y h g
+StringFault-one text from to end x y (this_part _ _ _ h) (later_part _ m n _ s _ p k f g) =
+    absurd (fault_no_part text from to x h m s p)
+StringFault-one text from to end x y (later_part _ m n _ s _ p k f g) (this_part _ _ _ h) =
+    absurd (fault_no_part text from end y h m s p)
+StringFault-one text from to end x y (later_part _ m n _ s _ p k f h)
+    (later_part _ i j _ t _ q l e g) =
+    let same = Part-one text from i m t s q p in
     let there : j ≡ n = Skip-one text m j n (subst (λ a. Skip text a j) same.0 l) k in
     StringFault-one text n to end x y h (subst (λ a. StringFault text a end y) there g)
 
@@ -136,7 +168,13 @@ pub string_told : (text : List ℕ) (at i : ℕ) (s : List ℕ) (x : IcuExpected
     → Told text at x at x
 string_told text at i s x p = no_fault (λ to y h. fault_no_string text at to y h i s p)
 
--- nor of anything that begins without a quote
+-- nor where neither a quote stands nor an unquoted string begins
 pub unquoted_told : (text : List ℕ) (at : ℕ) (x : IcuExpected)
-    → slice_index text at ≢ ascii.quote → Told text at x at x
-unquoted_told text at x n = no_fault (λ to y h. n (fault_first text at to y h))
+    → slice_index text at ≢ ascii.quote
+    → ((to : ℕ) (s : List ℕ) → UnquotedRow text at to s → ⊥) → Told text at x at x
+unquoted_told text at x n none = no_fault by
+  where
+    by : (to : ℕ) (y : IcuExpected) → StringFault text at to y → ⊥
+    by to y (this_part _ _ _ h) = n (fault_first text at to y h)
+    by to y (later_part _ m i _ s _ (a_row r) k f h) = none m s r
+    by to y (later_part _ m i _ s _ (quoted j) k f h) = n (joined_first text at m s j)

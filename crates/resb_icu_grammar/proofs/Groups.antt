@@ -4,13 +4,13 @@ use Rattle.std.proofs.Common.{arith, subst, sym, refl, ◌∙◌, ap, ◌⊎◌,
 use Rattle.std.specs.Prelude.{◌%◌, ◌^◌, slice_index}
 use Rattle.std.proofs.lemmas.Bool.{false≢true}
 use Rattle.resb_grammar.specs.Ascii as ascii
-use Rattle.resb_icu_grammar.specs.Groups.{digit_bytes}
+use Rattle.resb_icu_grammar.specs.Groups.{digit_bytes, digits_of}
 use Rattle.resb_icu_grammar.specs.Kinds.{Kind}
 use Rattle.resb_grammar.specs.BundleText.{first_places}
 use Rattle.resb_tree.specs.Tree.{Tree, string, alias, array, table, binary, integer}
 use Rattle.resb_tree.specs.Tree.{int_vector, trees_of, map_of}
 use Rattle.resb_icu_grammar.specs.Blanks.{Skip}
-use Rattle.resb_icu_grammar.specs.Words.{Text, KeyText, Name, Number}
+use Rattle.resb_icu_grammar.specs.Words.{one_part, more_parts, Text, KeyText, Name, Number}
 use Rattle.resb_icu_grammar.specs.Groups.{TypedOpening, Numbers, last_number, last_comma, one_more}
 use Rattle.resb_icu_grammar.specs.Groups.{LeafContent, string_content, alias_content}
 use Rattle.resb_icu_grammar.specs.Groups.{binary_content}
@@ -25,7 +25,7 @@ use Rattle.resb_icu_grammar.specs.Bundle.{Typing, without, with, Header}
 use Rattle.resb_grammar.specs.Laws.{OneText}
 use Rattle.resb_icu_grammar.specs.Bundle.{IcuText}
 use Rattle.resb_icu_grammar.proofs.Lexical.{Begins-one, Skip-one, String-one, string_first}
-use Rattle.resb_icu_grammar.proofs.Lexical.{starts_string, key_string, Number-one, number_first}
+use Rattle.resb_icu_grammar.proofs.Lexical.{Part-one, follows_once, starts_string, key_string, Number-one, number_first}
 use Rattle.resb_icu_grammar.proofs.Lexical.{GroupType-one, RootType-one, root_type_first, Name-one}
 
 -- a `}` stands there
@@ -144,6 +144,18 @@ string_skipped text from i j a b s t p k q l =
     let both = String-one text from i j s t p q in
     (Skip-one text i a b k (subst (λ n. Skip text n b) (sym both.0) l), both.1)
 
+-- it says one thing as pairs of hex digits
+pub digits_same : (text : List ℕ) (from a b : ℕ) (s t : List ℕ) → (p : Text text from a s)
+    → (q : Text text from b t) → digits_of p ≡ digits_of q
+digits_same text from a b s t (one_part _ _ m _ p k h) (one_part _ _ n _ q l g) =
+    ap (digit_bytes text from) (Part-one text from a b s t p q).1
+digits_same text from a b s t (one_part _ _ m _ p k h) (more_parts _ i n _ u v q l g r) =
+    absurd (follows_once text from a i m n s u p k h q l g)
+digits_same text from a b s t (more_parts _ i n _ u v q l g r) (one_part _ _ m _ p k h) =
+    absurd (follows_once text from b i m n t u p k h q l g)
+digits_same text from a b s t (more_parts _ i m _ u v p k h r)
+    (more_parts _ j n _ w x q l g z) = refl
+
 pub LeafContent-one : (text : List ℕ) (from a b : ℕ) (kind : Kind) (t u : Tree)
     → LeafContent text from a kind t → LeafContent text from b kind u → Closes text a
     → Closes text b → (a ≡ b) × (t ≡ u)
@@ -154,7 +166,7 @@ LeafContent-one text from a b _ t u (alias_content i s p k) (alias_content j r q
 LeafContent-one text from a b _ t u (binary_content i s bs p h k) (binary_content j r cs q g l) c d
     =
     let both = string_skipped text from i j a b s r p k q l in
-    let e : Some bs ≡ Some cs = sym h ∙ ap (digit_bytes text from) both.1 ∙ g in
+    let e : Some bs ≡ Some cs = sym h ∙ digits_same text from i j s r p q ∙ g in
     let f : bs ≡ cs = cc in
     (both.0, ap binary f)
 LeafContent-one text from a b _ t u (integer_content i v p k) (integer_content j w q l) c d =

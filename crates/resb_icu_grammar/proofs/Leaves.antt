@@ -5,7 +5,6 @@ use Rattle.std.specs.Prelude.{slice_index}
 use Rattle.std.proofs.lemmas.Bool.{false≢true}
 use Rattle.std.proofs.lemmas.Option.{none-some}
 use Rattle.resb_grammar.specs.Ascii as ascii
-use Rattle.resb_icu_grammar.specs.Groups.{digit_bytes}
 use Rattle.resb_icu_grammar.specs.Kinds.{Kind, array_kind, table_kind}
 use Rattle.resb_icu_grammar.specs.Kinds.{vector_kind}
 use Rattle.resb_tree.specs.Tree.{Tree}
@@ -20,7 +19,7 @@ use Rattle.resb_icu_grammar.specs.Stuck.{NoNumberAt, NumbersSoFar, none_yet, one
 use Rattle.resb_icu_grammar.specs.Stuck.{no_string, open_string, no_path, open_alias, no_digits}
 use Rattle.resb_icu_grammar.specs.Stuck.{odd_digits, open_binary}
 use Rattle.resb_icu_grammar.specs.Stuck.{no_integer, open_integer, no_number, open_vector}
-use Rattle.resb_icu_grammar.proofs.Groups.{Closes}
+use Rattle.resb_icu_grammar.proofs.Groups.{Closes, digits_same}
 use Rattle.resb_icu_grammar.proofs.Lexical.{Skip-one, String-one, Number-one, number_first}
 
 -- numbers stand there up to a `}`
@@ -139,8 +138,7 @@ no_leaf_there text from _ at _ (open_alias j _ s p l n) to _ (alias_content i u 
     (subst (λ w. Skip text w to) same.0 k) l)) ∙ c)
 no_leaf_there text from _ _ _ (no_digits _ _ f w) to _ (binary_content i s bytes p e k) c = f i s p
 no_leaf_there text from _ _ _ (odd_digits j s p n) to _ (binary_content i u bytes q e k) c =
-    none-some bytes (sym n ∙ ap (digit_bytes text from) (sym (String-one text from i j u s q p).1)
-    ∙ e)
+    none-some bytes (sym n ∙ digits_same text from j i s u p q ∙ e)
 no_leaf_there text from _ at _ (open_binary j _ s p h l n) to _ (binary_content i u bytes q e k) c =
     let same = String-one text from i j u s q p in
     n (ap (λ w. slice_index text w) (sym (Skip-one text j to at

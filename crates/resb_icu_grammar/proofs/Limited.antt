@@ -1,16 +1,16 @@
 -- No part of a reading of a text in ICU's form makes more than the whole.
 use Rattle.std.proofs.Common.{◌≡◌, ◌≢◌, ℕ, suc, ◌+◌, ◌*◌, ◌≤◌, List, [], ◌∷◌, ◌++◌}
 use Rattle.std.proofs.Common.{◌⊎◌, inl, inr, length, refl, sym, ap, ◌∙◌, subst, arith}
-use Rattle.std.specs.Prelude.{slice_index}
+use Rattle.std.specs.Prelude.{slice_index, if◌then◌else◌, Bool}
 use Rattle.resb_grammar.specs.Ascii as ascii
 use Rattle.resb_grammar.proofs.Numbers.{plus_no_bytes}
 use Rattle.resb_tree.specs.Tree.{Tree, string}
 use Rattle.resb_tree.specs.Weights.{text_byte_weight}
-use Rattle.resb_grammar.specs.Limit.{number_bytes}
+use Rattle.resb_grammar.specs.Limit.{number_bytes, request_bytes}
 use Rattle.resb_grammar.specs.declared.limit.Limit.{Limit}
 use Rattle.resb_grammar.specs.declared.limit.Weights.{Weights}
 use Rattle.resb_icu_grammar.specs.Kinds.{vector_kind}
-use Rattle.resb_icu_grammar.specs.Words.{Number, Text}
+use Rattle.resb_icu_grammar.specs.Words.{Number, Text, one_part, more_parts}
 use Rattle.resb_icu_grammar.specs.Groups.{a_string, Numbers, last_number, last_comma, one_more}
 use Rattle.resb_icu_grammar.specs.Groups.{LeafContent, no_numbers, numbers}
 use Rattle.resb_icu_grammar.specs.Stuck.{NumbersSoFar, none_yet, one_number}
@@ -20,41 +20,62 @@ use Rattle.resb_icu_grammar.specs.Machine.{behind_group, Reading, reading_at, at
 use Rattle.resb_icu_grammar.specs.Machine.{here, moves, leaves}
 use Rattle.resb_icu_grammar.specs.Machine as step
 use Rattle.resb_icu_grammar.specs.Limit.{leaf_bytes, next_key_bytes, opening_bytes, made_by}
-use Rattle.resb_icu_grammar.specs.Limit.{string_bytes, joining_bytes}
+use Rattle.resb_icu_grammar.specs.Limit.{string_bytes, joining_bytes, is_joined, is_put_together}
 use Rattle.resb_icu_grammar.specs.Limit.{made_on_the_way, IcuMadeWithin, IcuMakesMore, count_so_far}
 use Rattle.resb_icu_grammar.specs.Limit.{by_the_root, by_a_step, by_a_number}
-use Rattle.resb_icu_grammar.proofs.Lexical.{Skip-one, String-one, number_first}
+use Rattle.resb_icu_grammar.proofs.Lexical.{Skip-one, String-one, Part-one, follows_once}
+use Rattle.resb_icu_grammar.proofs.Lexical.{number_first}
 use Rattle.resb_icu_grammar.proofs.Groups.{Closes, Header-one}
 use Rattle.resb_icu_grammar.proofs.Leaves.{Behind, the_end, a_comma, others, behind_first}
 use Rattle.resb_icu_grammar.proofs.Leaves.{counted_begin}
 use Rattle.resb_icu_grammar.proofs.OneStep.{Next, inside, outside, Next-one}
 
--- what a string that ends there makes among members
-abbrev member_said : Weights → List ℕ → ℕ → ℕ → Tree → ℕ
-member_said g text at to (string s) = string_bytes g s + joining_bytes text at to s
-member_said g text at to _ = 0
+-- of a string it is told once whether it is put together, and what memory is asked for it
+pub joined_same : (text : List ℕ) (from a b : ℕ) (s t : List ℕ) → (p : Text text from a s)
+    → (q : Text text from b t) → is_joined p ≡ is_joined q
+joined_same text from a b s t (one_part _ _ m _ p k h) (one_part _ _ n _ q l g) =
+    let both = Part-one text from a b s t p q in
+    (λ x. is_put_together text from (both.0 x) (both.1 x))
+joined_same text from a b s t (one_part _ _ m _ p k h) (more_parts _ i n _ u v q l g r) =
+    absurd (follows_once text from a i m n s u p k h q l g)
+joined_same text from a b s t (more_parts _ i n _ u v q l g r) (one_part _ _ m _ p k h) =
+    absurd (follows_once text from b i m n t u p k h q l g)
+joined_same text from a b s t (more_parts _ i m _ u v p k h r)
+    (more_parts _ j n _ w x q l g z) = refl
+
+pub joining_same : (text : List ℕ) (from a b : ℕ) (s t : List ℕ) → (p : Text text from a s)
+    → (q : Text text from b t) → joining_bytes p ≡ joining_bytes q
+joining_same text from a b s t p q =
+    let is = joined_same text from a b s t p q in
+    let says = (String-one text from a b s t p q).1 in
+    (λ x. if is x then request_bytes + length (says x) else 0)
+
+-- what a string among members makes, where so much memory is asked for it
+abbrev member_said : Weights → ℕ → Tree → ℕ
+member_said g j (string s) = string_bytes g s + j
+member_said g j _ = 0
 
 -- what the last of these members makes, if it is a string
-abbrev last_bytes : Weights → List ℕ → ℕ → ℕ → List Tree → ℕ
-last_bytes g text at to [] = 0
-last_bytes g text at to (t ∷ []) = member_said g text at to t
-last_bytes g text at to (t ∷ u ∷ us) = last_bytes g text at to (u ∷ us)
+abbrev last_bytes : Weights → ℕ → List Tree → ℕ
+last_bytes g j [] = 0
+last_bytes g j (t ∷ []) = member_said g j t
+last_bytes g j (t ∷ u ∷ us) = last_bytes g j (u ∷ us)
 
-last_member : (g : Weights) (text : List ℕ) (at to : ℕ) (ts : List Tree) (t : Tree)
-    → last_bytes g text at to (ts ++ t ∷ []) ≡ member_said g text at to t
-last_member g text at to [] t = refl
-last_member g text at to (u ∷ []) t = refl
-last_member g text at to (u ∷ v ∷ us) t = last_member g text at to (v ∷ us) t
+last_member : (g : Weights) (j : ℕ) (ts : List Tree) (t : Tree)
+    → last_bytes g j (ts ++ t ∷ []) ≡ member_said g j t
+last_member g j [] t = refl
+last_member g j (u ∷ []) t = refl
+last_member g j (u ∷ v ∷ us) t = last_member g j (v ∷ us) t
 
--- what a step makes is told by where it leads from and to, and by the end of the string there: by
--- the key of the innermost table
+-- what a step makes is told by where it leads from and to, and by the memory that is asked for the
+-- string there: by the key of the innermost table
 abbrev key_said : Weights → List (List ℕ × Tree) → List Waiting → ℕ
 key_said g es (in_table before k ∷ ws) = next_key_bytes g es k
 key_said g es _ = 0
 
-abbrev members_said : Weights → List ℕ → ℕ → ℕ → Standing → ℕ
-members_said g text at to (among_members a_string ts) = last_bytes g text at to ts
-members_said g text at to _ = 0
+abbrev members_said : Weights → ℕ → Standing → ℕ
+members_said g j (among_members a_string ts) = last_bytes g j ts
+members_said g j _ = 0
 
 abbrev entries_said : Weights → List (List ℕ × Tree) → List Waiting → Standing → ℕ
 entries_said g es ws before_group = key_said g es ws
@@ -65,40 +86,40 @@ opened_said g in_untyped = g.group
 opened_said g (in_typed kind) = opening_bytes g kind
 opened_said g _ = 0
 
-abbrev untyped_said : Weights → List ℕ → ℕ → ℕ → List Waiting → Standing → ℕ
-untyped_said g text at to ws (behind_group (string s)) =
-    text_byte_weight * length s + joining_bytes text at to s
-untyped_said g text at to ws (among_members a_string ts) = last_bytes g text at to ts
-untyped_said g text at to ws before_group = key_said g [] ws
-untyped_said g text at to ws _ = 0
+abbrev untyped_said : Weights → ℕ → List Waiting → Standing → ℕ
+untyped_said g j ws (behind_group (string s)) = text_byte_weight * length s + j
+untyped_said g j ws (among_members a_string ts) = last_bytes g j ts
+untyped_said g j ws before_group = key_said g [] ws
+untyped_said g j ws _ = 0
 
 abbrev typed_said : Weights → Standing → ℕ
 typed_said g (behind_group t) = leaf_bytes g t
 typed_said g _ = 0
 
 -- by where a reading stood, and what it has come to
-abbrev said : Weights → List ℕ → ℕ → ℕ → Standing → Reading → ℕ
-said g text at to (among_members last ts) r = members_said g text at to r.stands
-said g text at to (among_entries es) r = entries_said g es r.around r.stands
-said g text at to before_group r = opened_said g r.stands
-said g text at to in_untyped r = untyped_said g text at to r.around r.stands
-said g text at to (in_typed kind) r = typed_said g r.stands
-said g text at to (behind_group t) r = 0
+abbrev said : Weights → ℕ → Standing → Reading → ℕ
+said g j (among_members last ts) r = members_said g j r.stands
+said g j (among_entries es) r = entries_said g es r.around r.stands
+said g j before_group r = opened_said g r.stands
+said g j in_untyped r = untyped_said g j r.around r.stands
+said g j (in_typed kind) r = typed_said g r.stands
+said g j (behind_group t) r = 0
 
--- a step makes so many bytes: those that are told by the end of any string that stands there; and
--- one does, or they are told by any end
+-- a step makes so many bytes: those that are told by any string that stands there; and one does, or
+-- they are told by any memory that is asked for
 record Told (g : Weights) (text : List ℕ) (at n : ℕ) (s : Standing) (r : Reading) : Type 0 where
-  by_string : (to : ℕ) (v : List ℕ) → Text text at to v → n ≡ said g text at to s r
-  or_always : ((to : ℕ) × (v : List ℕ) × Text text at to v) ⊎ ((to : ℕ) → n ≡ said g text at to s r)
+  by_string : (to : ℕ) (v : List ℕ) → (p : Text text at to v) → n ≡ said g (joining_bytes p) s r
+  or_always : ((to : ℕ) × (v : List ℕ) × Text text at to v) ⊎ ((j : ℕ) → n ≡ said g j s r)
 
 always : (g : Weights) (text : List ℕ) (at n : ℕ) (s : Standing) (r : Reading)
-    → ((to : ℕ) → n ≡ said g text at to s r) → Told g text at n s r
-always g text at n s r f = record { by_string = λ to v p. f to; or_always = inr f }
+    → ((j : ℕ) → n ≡ said g j s r) → Told g text at n s r
+always g text at n s r f =
+    record { by_string = λ to v p. f (joining_bytes p); or_always = inr f }
 
 with_string : (g : Weights) (text : List ℕ) (at i n : ℕ) (v : List ℕ) (s : Standing) (r : Reading)
-    → Text text at i v → n ≡ said g text at i s r → Told g text at n s r
+    → (p : Text text at i v) → n ≡ said g (joining_bytes p) s r → Told g text at n s r
 with_string g text at i n v s r p e = record {
-  by_string = λ to w q. subst (λ u. n ≡ said g text at u s r) (String-one text at i to v w p q).0 e;
+  by_string = λ to w q. subst (λ j. n ≡ said g j s r) (joining_same text at i to v w p q) e;
   or_always = inl (i, v, p);
 }
 
@@ -106,8 +127,8 @@ told_once : (g : Weights) (text : List ℕ) (at n m : ℕ) (s : Standing) (r : R
     → Told g text at n s r → Told g text at m s r → n ≡ m
 told_once g text at n m s r a b = by a.or_always b.or_always
   where
-    by : ((to : ℕ) × (v : List ℕ) × Text text at to v) ⊎ ((to : ℕ) → n ≡ said g text at to s r)
-        → ((to : ℕ) × (v : List ℕ) × Text text at to v) ⊎ ((to : ℕ) → m ≡ said g text at to s r)
+    by : ((to : ℕ) × (v : List ℕ) × Text text at to v) ⊎ ((j : ℕ) → n ≡ said g j s r)
+        → ((to : ℕ) × (v : List ℕ) × Text text at to v) ⊎ ((j : ℕ) → m ≡ said g j s r)
         → n ≡ m
     by (inl p) y = a.by_string p.0 p.1 p.2 ∙ sym (b.by_string p.0 p.1 p.2)
     by (inr f) (inl p) = a.by_string p.0 p.1 p.2 ∙ sym (b.by_string p.0 p.1 p.2)
@@ -116,37 +137,37 @@ told_once g text at n m s r a b = by a.or_always b.or_always
 made_told : (g : Weights) (text : List ℕ) (ws : List Waiting) (ks : List (List ℕ)) (s : Standing)
     (at : ℕ) (r : Reading) → (m : Move text ws ks s at r) → Told g text at (made_by g m) s r
 made_told g text ws ks s at r (step.string_member last ts _ i j v e p k) =
-    with_string g text at i _ v s r p (sym (last_member g text at i ts (string v)))
+    with_string g text at i _ v s r p (sym (last_member g (joining_bytes p) ts (string v)))
 made_told g text ws ks s at r (step.untyped_string _ i j v p k c) =
     with_string g text at i _ v s r p refl
 made_told g text ws ks s at r (step.begins_with_string _ i j v p k c) =
     with_string g text at i _ v s r p refl
 made_told g text ws ks s at r (step.array_ends last ts _ c) =
-    always g text at _ s r (λ to. refl)
+    always g text at _ s r (λ j. refl)
 made_told g text ws ks s at r (step.comma_behind last ts _ j e c k) =
-    always g text at _ s r (λ to. refl)
+    always g text at _ s r (λ j. refl)
 made_told g text ws ks s at r (step.group_member last ts _ b) =
-    always g text at _ s r (λ to. refl)
+    always g text at _ s r (λ j. refl)
 made_told g text ws ks s at r (step.table_ends es _ c d) =
-    always g text at _ s r (λ to. refl)
+    always g text at _ s r (λ j. refl)
 made_told g text ws ks s at r (step.key_of_entry es _ i j k p l) =
-    always g text at _ s r (λ to. refl)
+    always g text at _ s r (λ j. refl)
 made_told g text ws ks s at r (step.group_opens _ i b k) =
-    always g text at _ s r (λ to. refl)
+    always g text at _ s r (λ j. refl)
 made_told g text ws ks s at r (step.type_opens _ i kind h) =
-    always g text at _ s r (λ to. refl)
+    always g text at _ s r (λ j. refl)
 made_told g text ws ks s at r (step.untyped_nothing _ c) =
-    always g text at _ s r (λ to. refl)
+    always g text at _ s r (λ j. refl)
 made_told g text ws ks s at r (step.begins_with_group _ b) =
-    always g text at _ s r (λ to. refl)
+    always g text at _ s r (λ j. refl)
 made_told g text ws ks s at r (step.begins_with_key _ i j k p l b) =
-    always g text at _ s r (λ to. refl)
+    always g text at _ s r (λ j. refl)
 made_told g text ws ks s at r (step.members_follow _) =
-    always g text at _ s r (λ to. refl)
+    always g text at _ s r (λ j. refl)
 made_told g text ws ks s at r (step.entries_follow _) =
-    always g text at _ s r (λ to. refl)
+    always g text at _ s r (λ j. refl)
 made_told g text ws ks s at r (step.leaf_follows kind _ to t p c) =
-    always g text at _ s r (λ to. refl)
+    always g text at _ s r (λ j. refl)
 
 -- what a step makes, inside a group or out of one
 abbrev pub made_next : Weights → {text : List ℕ} {from r : Reading} → Next text from r → ℕ
@@ -157,7 +178,7 @@ next_told : (g : Weights) (text : List ℕ) (from r : Reading) → (n : Next tex
     → Told g text from.at (made_next g n) from.stands r
 next_told g text _ r (inside ws ks s at _ v) = made_told g text ws ks s at r v
 next_told g text _ r (outside ws ks t at _ v) =
-    always g text at 0 (behind_group t) r (λ to. refl)
+    always g text at 0 (behind_group t) r (λ j. refl)
 
 -- a step from a place makes what any other from there does
 made_once : (g : Weights) (text : List ℕ) (from r q : Reading) → (n : Next text from r)

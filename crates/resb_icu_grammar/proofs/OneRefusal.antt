@@ -4,7 +4,6 @@ use Rattle.std.proofs.Common.{inl, inr}
 use Rattle.std.specs.Prelude.{slice_index}
 use Rattle.std.proofs.lemmas.Bool.{false≢true}
 use Rattle.resb_grammar.specs.Ascii as ascii
-use Rattle.resb_icu_grammar.specs.Groups.{digit_bytes}
 use Rattle.resb_icu_grammar.specs.Kinds.{Kind}
 use Rattle.resb_tree.specs.Tree.{Tree}
 use Rattle.resb_icu_grammar.specs.Blanks.{Begins, Skip}
@@ -32,6 +31,7 @@ use Rattle.resb_icu_grammar.proofs.Lexical.{Number-one, RootType-one, root_type_
 use Rattle.resb_icu_grammar.proofs.Lexical.{GroupType-one, Name-one}
 use Rattle.resb_icu_grammar.proofs.Groups as groups
 use Rattle.resb_icu_grammar.proofs.Groups.{Closes, string_skipped, no_brace_colon, Header-one}
+use Rattle.resb_icu_grammar.proofs.Groups.{digits_same}
 use Rattle.resb_icu_grammar.proofs.Faults.{Told-one}
 use Rattle.resb_icu_grammar.proofs.Leaves.{no_leaf_there, stuck_kind}
 use Rattle.resb_icu_grammar.proofs.Types.{no_type_there, TypeStuck-one}
@@ -261,10 +261,10 @@ LeafStuck-one text from _ _ _ _ _ (no_digits _ _ f w) (open_binary i _ s p h k n
 LeafStuck-one text from _ _ _ _ _ (odd_digits i s p n) (no_digits _ _ f w) = absurd (f i s p)
 LeafStuck-one text from _ _ _ _ _ (odd_digits i s p n) (odd_digits j t q m) = (refl, refl)
 LeafStuck-one text from _ _ _ _ _ (odd_digits i s p n) (open_binary j _ t q h l m) =
-    absurd (h (ap (digit_bytes text from) (sym (String-one text from i j s t p q).1) ∙ n))
+    absurd (h (digits_same text from j i t s q p ∙ n))
 LeafStuck-one text from _ _ _ _ _ (open_binary i _ s p h k n) (no_digits _ _ f w) = absurd (f i s p)
 LeafStuck-one text from _ _ _ _ _ (open_binary i _ s p h k n) (odd_digits j t q m) =
-    absurd (h (ap (digit_bytes text from) (String-one text from i j s t p q).1 ∙ m))
+    absurd (h (digits_same text from i j s t p q ∙ m))
 LeafStuck-one text from _ to end _ _ (open_binary i _ s p h k n) (open_binary j _ t q g l m) =
     (behind_string text from i j to end s t p k q l, refl)
 LeafStuck-one text from _ _ _ _ _ (no_integer f) (no_integer g) = (refl, refl)

@@ -13,7 +13,7 @@ use Rattle.resb_tree.specs.Tree.{int_vector, trees_of, map_of}
 use Rattle.resb_icu_grammar.specs.Blanks.{Skip}
 use Rattle.resb_icu_grammar.specs.Kinds.{Kind, string_kind, alias_kind, array_kind, table_kind}
 use Rattle.resb_icu_grammar.specs.Kinds.{binary_kind, integer_kind, vector_kind}
-use Rattle.resb_icu_grammar.specs.Words.{Text, KeyText, Number, GroupType}
+use Rattle.resb_icu_grammar.specs.Words.{Text, one_part, more_parts, KeyText, Number, GroupType}
 
 -- a type, its `{`, and the blanks around that
 pub record TypedOpening (text : List ℕ) (from : ℕ) (kind : Kind) (to : ℕ) : Type 0 where
@@ -42,11 +42,17 @@ spaced_bytes (h ∷ l ∷ rest) =
     if h == ascii.space then spaced_bytes (l ∷ rest)
     else byte_before (is_hex h && is_hex l) (digit_value h * 16 + digit_value l) (spaced_bytes rest)
 
--- the bytes that a string at a place says as pairs of hex digits: unquoted strings in a row are
--- joined by blanks, and none of these may stand in a pair; a quoted string has none
+-- the bytes that a part at a place says as pairs of hex digits: unquoted strings in a row are
+-- joined by blanks, and none of these may stand in a pair; quoted pieces have none
 abbrev pub digit_bytes : List ℕ → ℕ → List ℕ → Option (List ℕ)
 digit_bytes text from s =
     if slice_index text from == ascii.quote then hex_bytes s else spaced_bytes s
+
+-- those that a string says: that of several parts says none
+abbrev pub digits_of : {text : List ℕ} {from to : ℕ} {s : List ℕ} → Text text from to s
+    → Option (List ℕ)
+digits_of {text} (one_part from to next s part after alone) = digit_bytes text from s
+digits_of (more_parts from mid next to s later part after more rest) = None
 
 -- the content of a group that holds neither members nor entries
 pub data LeafContent (text : List ℕ) (from to : ℕ) : Kind → Tree → Type 0 where
@@ -54,8 +60,8 @@ pub data LeafContent (text : List ℕ) (from to : ℕ) : Kind → Tree → Type 
       → LeafContent text from to string_kind (string s)
   alias_content : (i : ℕ) (s : List ℕ) → Text text from i s → Skip text i to
       → LeafContent text from to alias_kind (alias s)
-  binary_content : (i : ℕ) (s bytes : List ℕ) → Text text from i s
-      → digit_bytes text from s ≡ Some bytes → Skip text i to
+  binary_content : (i : ℕ) (s bytes : List ℕ) → (t : Text text from i s)
+      → digits_of t ≡ Some bytes → Skip text i to
       → LeafContent text from to binary_kind (binary bytes)
   integer_content : (i v : ℕ) → Number text from i v → Skip text i to
       → LeafContent text from to integer_kind (integer (v % 2 ^ 28))

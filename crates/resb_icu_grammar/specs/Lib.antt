@@ -5,6 +5,7 @@ pub mod Escapes
 pub mod Pieces
 pub mod Kinds
 pub mod Unquoted
+pub mod Numbers
 pub mod Words
 pub mod Groups
 pub mod Bundle

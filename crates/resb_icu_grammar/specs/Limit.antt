@@ -5,8 +5,8 @@
 --     IcuMakes w text n r        a reading that has made n bytes comes there
 --     IcuMadeWithin text limit   the text is read to its end, and no more than the limit is made
 --     IcuMakesMore text limit    a reading comes to a token by which more than the limit is made
-use Rattle.std.specs.Prelude.{◌≡◌, ℕ, suc, ◌+◌, ◌*◌, ◌<◌, ◌≤◌, Bool, List, [], ◌∷◌, length}
-use Rattle.std.specs.Prelude.{nat_lt, if◌then◌else◌, ◌==◌, slice_index}
+use Rattle.std.specs.Prelude.{◌≡◌, ℕ, suc, ◌+◌, ◌*◌, ◌<◌, ◌≤◌, Bool, true, List, [], ◌∷◌}
+use Rattle.std.specs.Prelude.{length, nat_lt, if◌then◌else◌, ◌==◌, slice_index}
 use Rattle.std.specs.List.{list_any}
 use Rattle.resb_grammar.specs.Ascii as ascii
 use Rattle.resb_tree.specs.Tree.{Tree, string, alias, binary, int_vector}
@@ -16,7 +16,7 @@ use Rattle.resb_grammar.specs.declared.limit.Limit.{Limit}
 use Rattle.resb_grammar.specs.declared.limit.Weights.{Weights}
 use Rattle.resb_icu_grammar.specs.Blanks.{Skip}
 use Rattle.resb_icu_grammar.specs.Kinds.{Kind, array_kind, table_kind, vector_kind}
-use Rattle.resb_icu_grammar.specs.Words.{Number}
+use Rattle.resb_icu_grammar.specs.Words.{Number, Text, one_part, more_parts}
 use Rattle.resb_icu_grammar.specs.Bundle.{Header}
 use Rattle.resb_icu_grammar.specs.Stuck.{NumbersSoFar, none_yet, one_number}
 use Rattle.resb_icu_grammar.specs.Machine.{Waiting, Standing, in_typed, behind_group, Reading}
@@ -29,18 +29,22 @@ use Rattle.resb_icu_grammar.specs.Machine.{leaves}
 abbrev pub string_bytes : Weights → List ℕ → ℕ
 string_bytes w s = w.group + text_byte_weight * length s
 
--- a string that stands between these places is put together: a quoted one where it takes more of
--- the text than what it says and two quotes, unquoted ones where they say a blank
+-- a string of one part that stands between these places is put together: a quoted one where it
+-- takes more of the text than what it says and two quotes, unquoted ones where they say a blank
 abbrev pub is_put_together : List ℕ → ℕ → ℕ → List ℕ → Bool
 is_put_together text from to s =
     if slice_index text from == ascii.quote then nat_lt (from + length s + 2) to
     else list_any (λ b. b == ascii.space) s
 
--- the memory that is asked for a string which stands between these places: 32, and 1 for each byte,
--- where it is put together; else none
-abbrev pub joining_bytes : List ℕ → ℕ → ℕ → List ℕ → ℕ
-joining_bytes text from to s =
-    if is_put_together text from to s then request_bytes + length s else 0
+-- a string is put together: of one part as said, of several always
+abbrev pub is_joined : {text : List ℕ} {from to : ℕ} {s : List ℕ} → Text text from to s → Bool
+is_joined {text} (one_part from to next s part after alone) = is_put_together text from to s
+is_joined (more_parts from mid next to s later part after more rest) = true
+
+-- the memory that is asked for a string: 32, and 1 for each byte, where it is put together; else
+-- none
+abbrev pub joining_bytes : {text : List ℕ} {from to : ℕ} {s : List ℕ} → Text text from to s → ℕ
+joining_bytes {text} {from} {to} {s} t = if is_joined t then request_bytes + length s else 0
 
 -- the key of an entry: the entry, and 3 for each byte
 abbrev pub key_bytes : Weights → List ℕ → ℕ
@@ -78,15 +82,15 @@ opening_bytes w _ = 0
 -- the first key of one; and for a group of another type, up to its `}`, what it holds
 abbrev pub made_by : Weights → {text : List ℕ} {ws : List Waiting} {ks : List (List ℕ)}
     {s : Standing} {at : ℕ} {r : Reading} → Move text ws ks s at r → ℕ
-made_by w {text} (string_member last ts at i j s alone stands after) =
-    string_bytes w s + joining_bytes text at i s
+made_by w (string_member last ts at i j s alone stands after) =
+    string_bytes w s + joining_bytes stands
 made_by w (key_of_entry es at i j k stands after) = next_key_bytes w es k
 made_by w (group_opens at i opens after) = w.group
 made_by w (type_opens at i kind opens) = opening_bytes w kind
-made_by w {text} (untyped_string at i j s stands after closes) =
-    text_byte_weight * length s + joining_bytes text at i s
-made_by w {text} (begins_with_string at i j s stands after comma) =
-    string_bytes w s + joining_bytes text at i s
+made_by w (untyped_string at i j s stands after closes) =
+    text_byte_weight * length s + joining_bytes stands
+made_by w (begins_with_string at i j s stands after comma) =
+    string_bytes w s + joining_bytes stands
 made_by w (begins_with_key at i j k stands after begins) = next_key_bytes w [] k
 made_by w (leaf_follows kind at to t content closes) = leaf_bytes w t
 made_by w _ = 0

@@ -10,7 +10,7 @@ use Rattle.resb_icu_grammar.specs.Words.{Text, KeyText, Name, Number, TypeName, 
 use Rattle.resb_icu_grammar.specs.Expected.{instead_of}
 use Rattle.resb_icu_grammar.specs.Faults.{Told}
 use Rattle.resb_icu_grammar.specs.Bundle.{Header}
-use Rattle.resb_icu_grammar.specs.Groups.{Last, is_member, ends_in_string, digit_bytes}
+use Rattle.resb_icu_grammar.specs.Groups.{Last, is_member, ends_in_string, digits_of}
 use Rattle.resb_icu_grammar.specs.Machine.{Waiting, AreDistinct, Standing, among_members}
 use Rattle.resb_icu_grammar.specs.Machine.{among_entries, before_group, in_untyped, in_typed}
 use Rattle.resb_icu_grammar.specs.Machine.{behind_group, Reading, reading_at, at_root, BeginsGroup}
@@ -69,9 +69,9 @@ pub data LeafStuck (text : List ℕ) (from : ℕ) : Kind → ℕ → IcuExpected
   -- in `:bin{..}` a string of pairs of hex digits, and a `}` behind it
   no_digits : (to : ℕ) (x : IcuExpected) → NoStringAt text from → Told text from expect.String to x
       → LeafStuck text from binary_kind to x
-  odd_digits : (i : ℕ) (s : List ℕ) → Text text from i s → digit_bytes text from s ≡ None
+  odd_digits : (i : ℕ) (s : List ℕ) → (t : Text text from i s) → digits_of t ≡ None
       → LeafStuck text from binary_kind from expect.HexPairs
-  open_binary : (i j : ℕ) (s : List ℕ) → Text text from i s → (digit_bytes text from s ≢ None)
+  open_binary : (i j : ℕ) (s : List ℕ) → (t : Text text from i s) → (digits_of t ≢ None)
       → Skip text i j → slice_index text j ≢ ascii.right_brace
       → LeafStuck text from binary_kind j expect.RightBrace
   -- in `:int{..}` a number, and a `}` behind it

@@ -24,10 +24,9 @@ abbrev pub goes_on : List ℕ → ℕ → Bool
 goes_on text at =
     is_unquoted (slice_index text at) && not (begins_comment text at || is_no_letter text at)
 
--- one may begin with this byte, if it goes on there: with all but a slash, and no byte inside a
--- character
+-- one may begin with this byte, if it goes on there: with any but one inside a character
 abbrev pub may_begin : ℕ → Bool
-may_begin b = not (b == ascii.slash) && (nat_lt b 128 || nat_le 192 b)
+may_begin b = nat_lt b 128 || nat_le 192 b
 
 -- an unquoted string: from its first byte on as far as it goes on
 pub record Unquoted (text : List ℕ) (from to : ℕ) (bytes : List ℕ) : Type 0 where

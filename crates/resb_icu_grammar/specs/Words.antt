@@ -1,15 +1,17 @@
 -- Strings, keys, numbers and types of ICU's text form, each between two places. A type and a number
 -- are words, which have fewer characters than an unquoted string may have.
-use Rattle.std.specs.Prelude.{◌≡◌, ◌≢◌, ◌≤◌, ◌<◌, ◌+◌, ℕ, Bool, true, false, List, length}
-use Rattle.std.specs.Prelude.{slice_index, slice_range, codes}
+use Rattle.std.specs.Prelude.{◌≡◌, ◌≢◌, ◌≤◌, ◌<◌, ◌+◌, ◌==◌, ◌&&◌, not, ℕ, Bool, true, false}
+use Rattle.std.specs.Prelude.{List, ◌∷◌, ◌++◌, length, slice_index, slice_range, codes}
+use Rattle.std.specs.Prelude.{if◌then◌else◌}
 use Rattle.resb_grammar.specs.Ascii as ascii
 use Rattle.resb_grammar.specs.ByteRuns.{Run}
-use Rattle.resb_grammar.specs.Lexical as plain
 use Rattle.resb_grammar.specs.GroupTypes.{NoFallback}
+use Rattle.resb_icu_grammar.specs.Blanks.{Skip}
 use Rattle.resb_icu_grammar.specs.Bytes.{is_word, are_key_bytes, backslash}
+pub use Rattle.resb_icu_grammar.specs.Numbers.{Number}
 use Rattle.resb_icu_grammar.specs.Kinds.{Kind, Names}
 use Rattle.resb_icu_grammar.specs.Pieces.{Joined, QuotedPiece}
-use Rattle.resb_icu_grammar.specs.Unquoted.{Unquoted, UnquotedRow}
+use Rattle.resb_icu_grammar.specs.Unquoted.{Unquoted, UnquotedRow, begins_unquoted}
 
 -- a longest run of at least one word character
 pub record Word (text : List ℕ) (from to : ℕ) (bytes : List ℕ) : Type 0 where
@@ -17,10 +19,27 @@ pub record Word (text : List ℕ) (from to : ℕ) (bytes : List ℕ) : Type 0 wh
   pub some : from < to
   pub means : bytes ≡ slice_range text from to
 
--- a string: unquoted ones in a row, or all quoted pieces in a row
-pub data Text (text : List ℕ) (from to : ℕ) (bytes : List ℕ) : Type 0 where
-  a_row : UnquotedRow text from to bytes → Text text from to bytes
-  quoted : Joined text from to bytes → Text text from to bytes
+-- a part of a string: unquoted ones in a row, or all quoted pieces in a row
+pub data Part (text : List ℕ) (from to : ℕ) (bytes : List ℕ) : Type 0 where
+  a_row : UnquotedRow text from to bytes → Part text from to bytes
+  quoted : Joined text from to bytes → Part text from to bytes
+
+-- behind a part that begins at a place and says this, with blanks behind it up to another place, a
+-- part of the other kind follows there: behind a row a quoted piece, and behind quoted pieces that
+-- say something an unquoted string
+abbrev pub another_follows : List ℕ → ℕ → List ℕ → ℕ → Bool
+another_follows text from bytes next =
+    if slice_index text from == ascii.quote
+    then not (length bytes == 0) && begins_unquoted text next
+    else slice_index text next == ascii.quote
+
+-- a string: parts of the two kinds in turn, joined by one blank each
+pub data Text (text : List ℕ) : ℕ → ℕ → List ℕ → Type 0 where
+  one_part : (from to next : ℕ) (bytes : List ℕ) → Part text from to bytes → Skip text to next
+      → another_follows text from bytes next ≡ false → Text text from to bytes
+  more_parts : (from mid next to : ℕ) (bytes later : List ℕ) → Part text from mid bytes
+      → Skip text mid next → another_follows text from bytes next ≡ true → Text text next to later
+      → Text text from to (bytes ++ ascii.space ∷ later)
 
 -- between these places stands no backslash
 abbrev pub HasNoEscape : List ℕ → ℕ → ℕ → Type 0
@@ -37,6 +56,7 @@ pub data Verbatim (text : List ℕ) (from to : ℕ) (bytes : List ℕ) : Type 0 
 -- a string that may be a key: it stands in the text as it is, and each of its bytes may stand in a
 -- key
 pub record KeyText (text : List ℕ) (from to : ℕ) (bytes : List ℕ) : Type 0 where
+  pub whole : Text text from to bytes
   pub verbatim : Verbatim text from to bytes
   pub fits : are_key_bytes bytes ≡ true
 
@@ -46,27 +66,14 @@ pub record Name (text : List ℕ) (from to : ℕ) (bytes : List ℕ) : Type 0 wh
   pub some : 0 < length bytes
   pub word : Run is_word bytes 0 (length bytes)
 
--- digits without a leading zero, unless they are 0 itself
-pub record Digits (text : List ℕ) (from to value : ℕ) : Type 0 where
-  pub digits : plain.Digits text from to value
-  pub no_zero : slice_index text from ≡ ascii.digit_0 → to ≡ from + 1
-
--- a number: a word of digits without a leading zero, of at most 4294967295, with a plus at most
--- 2147483647, with a minus at most 2147483648; no word goes on behind it
-pub data Number (text : List ℕ) (from to : ℕ) : ℕ → Type 0 where
-  unsigned : (value : ℕ) → Run is_word text from to → Digits text from to value
-      → value ≤ 4294967295 → Number text from to value
-  plus : (value : ℕ) → Run is_word text from to → slice_index text from ≡ ascii.plus
-      → Digits text (from + 1) to value → value ≤ 2147483647 → Number text from to value
-  minus : (n : ℕ) → Run is_word text from to → slice_index text from ≡ ascii.dash
-      → Digits text (from + 1) to n → n ≤ 2147483648 → Number text from to (plain.negated n)
-
--- `:` directly followed by a word
+-- `:` and a word, with nothing but blanks between them
 pub record TypeName (text : List ℕ) (from to : ℕ) (name : List ℕ) : Type 0 where
+  pub place : ℕ
   pub colon : slice_index text from ≡ ascii.colon
-  pub word : Word text (from + 1) to name
+  pub between : Skip text (from + 1) place
+  pub word : Word text place to name
 
--- the type of a group: a colon and the word of a type
+-- the type of a group: a colon and the word of a type, with nothing but blanks between them
 pub record GroupType (text : List ℕ) (from to : ℕ) (kind : Kind) : Type 0 where
   pub name : List ℕ
   pub stands : TypeName text from to name

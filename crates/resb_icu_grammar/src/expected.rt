@@ -32,13 +32,15 @@ pub enum IcuExpected {
     String,
     /// An escape that this form has.
     Escape,
+    /// Both halves of a surrogate pair: a string is text, which has no half of one alone.
+    WholePair,
     /// A quote that closes the string that begins here.
     ClosingQuote,
     /// A string that may be a key.
     Key,
     /// A string of whole pairs of hex digits.
     HexPairs,
-    /// A decimal number of 32 bits without a leading zero.
+    /// A number of 32 bits, as C reads it: decimal, octal or hexadecimal.
     Number,
     /// A number of a vector, or its `}`.
     NumberOrRightBrace,
@@ -77,6 +79,7 @@ impl fmt::Display for IcuExpected {
             IcuExpected::Group => "'{' or a type",
             IcuExpected::String => "a string",
             IcuExpected::Escape => "a known escape",
+            IcuExpected::WholePair => "both halves of a surrogate pair, since a string is text",
             IcuExpected::ClosingQuote => "a quote that closes this string",
             IcuExpected::Key => "a string that may be a key",
             IcuExpected::HexPairs => "pairs of hex digits",

@@ -1,9 +1,9 @@
 -- The text of ICU's form that a bundle is printed as is one of its name, flag and tree.
 use Rattle.std.proofs.Common.{◌≡◌, ℕ, ◌+◌, ◌<◌, Bool, true, false, List, [], ◌∷◌, ◌++◌}
-use Rattle.std.proofs.Common.{length, refl, sym, ◌∙◌, ap, subst, arith, Some, None, inl, inr}
+use Rattle.std.proofs.Common.{length, refl, sym, ◌∙◌, ap, subst, arith, Some, None}
 use Rattle.std.proofs.lemmas.List.{get_or_past}
 use Rattle.std.proofs.lemmas.Bool.{false≢true}
-use Rattle.std.specs.Prelude.{slice_index, codes, ◌⊎◌, ◌==◌, ◌&&◌}
+use Rattle.std.specs.Prelude.{slice_index, codes, ◌==◌, ◌&&◌}
 use Rattle.std.specs.List.Sorted.{IsStrictlySortedBy}
 use Rattle.std.proofs.lemmas.Bool.Decides.{nat_tests}
 use Rattle.resb_icu_print.proofs.TakenTrees.{TakenIn}
@@ -16,7 +16,7 @@ use Rattle.resb_grammar.specs.ByteRuns.{Run}
 use Rattle.resb_grammar.specs.BundleText.{first_places}
 use Rattle.resb_icu_grammar.specs.Bytes.{is_word}
 use Rattle.resb_icu_grammar.specs.Blanks.{Blanks, none, Skip, without_a_mark, has_mark}
-use Rattle.resb_icu_grammar.specs.Words.{a_word, no_fallback_type}
+use Rattle.resb_icu_grammar.specs.Words.{a_row, a_word, no_fallback_type}
 use Rattle.resb_icu_grammar.specs.Bundle.{Typing, without, with, IcuText}
 use Rattle.resb_print.specs.Printed.{root_type_on, entries_on, printed_bundle}
 use Rattle.resb_print.specs.Laws.{HasNoText, PrintedIsABundle}
@@ -27,14 +27,12 @@ use Rattle.resb_print.proofs.Bundles.{stands}
 use Rattle.resb_print.proofs.Tracing.{nothing_found}
 use Rattle.resb_tree.proofs.MapsLemmas.{map_of-keyed_trees}
 use Rattle.resb_icu_print.specs.Printed.{is_bare, icu_spelling}
-use Rattle.resb_icu_print.specs.Causes.{icu_tests, SaysIcuCause}
-use Rattle.resb_icu_print.specs.declared.cause.IcuCause.{IcuCause}
-use Rattle.resb_icu_print.specs.declared.error.IcuPrintError.{IcuPrintError}
-use Rattle.resb_icu_print.specs.declared.error.IcuPrintError.TheVariants.{OutOfMemory}
+use Rattle.resb_icu_print.specs.Causes.{icu_tests}
+use Rattle.resb_print.specs.declared.cause.Cause.{Cause}
 use Rattle.resb_icu_print.proofs.Taken.{none_named, none_in_taken, no_cause}
 use Rattle.resb_icu_print.proofs.Places.{solid_byte, solid_at, no_skip, white_on}
 use Rattle.resb_icu_print.proofs.Strings.{word_read, bare_read, word_each, bare_words, bare_some}
-use Rattle.resb_icu_print.proofs.Strings.{words_key}
+use Rattle.resb_icu_print.proofs.Strings.{words_key, whole_read}
 use Rattle.resb_icu_print.proofs.Groups.{root_starts, entries_at, close_line}
 
 -- a text that begins with a word character has no mark
@@ -80,7 +78,9 @@ module _ (text : List ℕ) where
       record {
         brace = place + 1 + 5 + 12;
         typing = with (place + 1 + 5 + 12) false (no_fallback_type (place + 1 + 5) (record {
+          place = place + 1;
           colon = byte_at text h;
+          between = no_skip text solid;
           word = word;
         }) (stands text (codes "(nofallback)") open_brace b) refl)
             (no_skip text (solid_at text c refl refl));
@@ -141,6 +141,7 @@ module _ (text : List ℕ) where
             before = no_skip text solid;
             named = record {
               key = record {
+                whole = whole_read text name s.b s.more s.stop (a_row row) g;
                 verbatim = a_word row word;
                 fits = words_key name (bare_words name bare);
               };
@@ -183,12 +184,10 @@ printed_without_cause = λ name fallback es held none.
     printed_is_icu name fallback es a.0 held.0 held.1 b.0
 
 -- a cause is in the way of each text
-pub no_text : (name : List ℕ) (f : Bool) (t : Tree) (e : IcuPrintError)
-    → SaysIcuCause e (first_cause icu_tests name t)
-    → (e ≡ OutOfMemory) ⊎ HasNoText IcuText name f t
-no_text name f t e (inl h) = inl h
-no_text name f t e (inr (x, h, found)) =
-    inr (λ text keys b. none_some x (sym (no_cause text name f t keys b) ∙ found))
+pub no_text : (name : List ℕ) (f : Bool) (t : Tree) (x : Cause)
+    → first_cause icu_tests name t ≡ Some x → HasNoText IcuText name f t
+no_text name f t x found = λ text keys b.
+    none_some x (sym (no_cause text name f t keys b) ∙ found)
   where
-    none_some : (x : IcuCause) → None ≡ Some x → ⊥
+    none_some : (x : Cause) → None ≡ Some x → ⊥
     none_some x e = cc

@@ -5,7 +5,7 @@ use Rattle.std.specs.Prelude.{codes}
 use Rattle.hex.specs.Hex.{encode_with}
 use Rattle.resb_tree.specs.Tree.{string, alias, array, table, binary}
 use Rattle.resb_tree.specs.Tree.{no_trees, more_trees, no_entries, entry}
-use Rattle.resb_icu_print.specs.declared.cause.IcuCause.TheVariants as cause
+use Rattle.resb_print.specs.declared.cause.Cause.TheVariants as cause
 use Rattle.resb_print.specs.Paths.{first_cause}
 use Rattle.resb_print.specs.Printed.{printed_bundle}
 use Rattle.resb_icu_print.specs.Printed.{icu_spelling}

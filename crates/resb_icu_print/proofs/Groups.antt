@@ -52,7 +52,7 @@ use Rattle.resb_icu_print.specs.Causes.{is_icu_key}
 use Rattle.resb_icu_grammar.specs.Bytes.{are_key_bytes}
 use Rattle.resb_print.specs.Quotes.{has_quote}
 use Rattle.resb_icu_print.proofs.Places.{solid_at, no_skip, line_blanks}
-use Rattle.resb_icu_print.proofs.Strings.{IsStop, piece_read, quoted_read, key_read, hex_key}
+use Rattle.resb_icu_print.proofs.Strings.{IsStop, piece_read, quoted_read, whole_read, key_read, hex_key}
 use Rattle.resb_icu_print.proofs.Numbers.{number_read, vector_read, opening_at}
 use Rattle.resb_icu_print.proofs.Lists.{false_from_not}
 
@@ -294,7 +294,8 @@ module _ (text : List ℕ) where
         skip = record { blanks = blanks; solid = solid_at text f refl refl };
         members = λ last no_string.
             string_member last p q q others.to s (members_in ts) others.keys no_string
-            (words.quoted joined) (no_skip text there)
+            (whole_read text s ascii.comma tail comma_stop (words.quoted joined) g)
+            (no_skip text there)
             (comma_behind a_string q others.first others.to (members_in ts) others.keys refl
             (byte_at text g) others.skip (others.members a_comma refl));
         brace = others.brace;
@@ -354,7 +355,9 @@ module _ (text : List ℕ) where
         keys = [];
         group = untyped at i q (string s) [] (byte_at text h)
             (no_skip text (solid_at text f refl refl))
-            (one_string i q q s (words.quoted joined) (no_skip text (solid_at text g refl refl)))
+            (one_string i q q s
+            (whole_read text s ascii.right_brace rest brace_stop (words.quoted joined) g)
+            (no_skip text (solid_at text g refl refl)))
             (byte_at text g);
         after = from_next text g;
       }
@@ -395,7 +398,9 @@ module _ (text : List ℕ) where
         let (q, joined, piece, g) = piece_read text s ascii.right_brace rest brace_stop f in
         leaf_done alias_kind (alias s)
         (head (brace + 1) (no_skip text (solid_at text f refl refl)))
-        (alias_content q s (words.quoted joined) (no_skip text (solid_at text g refl refl))) g
+        (alias_content q s
+        (whole_read text s ascii.right_brace rest brace_stop (words.quoted joined) g)
+        (no_skip text (solid_at text g refl refl))) g
     group_at n (array ts) at rest held taken h =
         let (brace, f, head) = opening_at text array_kind (codes "array") refl refl h in
         let r = trees_at (deeper n) ts (trees_end ts n rest) (brace + 1) rest held taken
@@ -420,7 +425,9 @@ module _ (text : List ℕ) where
         (hex_free bs held) f in
         leaf_done binary_kind (binary bs)
         (head (brace + 1) (no_skip text (solid_at text f refl refl)))
-        (binary_content q (encode_lower bs) bs (words.quoted joined)
+        (binary_content q (encode_lower bs) bs
+        (whole_read text (encode_lower bs) ascii.right_brace rest brace_stop
+        (words.quoted joined) g)
         (quoted_digits text (brace + 1) q (encode_lower bs) bs joined (hex_read bs held))
         (no_skip text (solid_at text g refl refl))) g
     group_at n (integer v) at rest held taken h =

@@ -1,20 +1,21 @@
 -- Numbers and types, as they are printed and as ICU's form reads them.
 use Rattle.std.proofs.Common.{◌≡◌, ◌≢◌, ℕ, zero, suc, ◌+◌, ◌-◌, ◌/◌, ◌%◌, ◌^◌, ◌<◌, ◌≤◌, Bool, true}
-use Rattle.std.proofs.Common.{false, List, [], ◌∷◌, ◌++◌, length, refl, sym, ◌∙◌, ap, arith}
+use Rattle.std.proofs.Common.{false, List, [], ◌∷◌, ◌++◌, length, refl, sym, ◌∙◌, ap, arith, subst}
 use Rattle.std.specs.Prelude.{slice_index, ◌==◌, decimal}
 use Rattle.std.proofs.lemmas.List.{get_or_append_left, length_push}
 use Rattle.std.proofs.lemmas.Bool.Decides.{nat_tests}
 use Rattle.std.proofs.lemmas.Fmt.{decimal_by_steps}
-use Rattle.std.specs.Char.{is_ascii_digit}
+use Rattle.std.specs.Char.{is_ascii_digit, is_digit, digit_value}
 use Rattle.resb_grammar.specs.Ascii as ascii
-use Rattle.resb_grammar.specs.ByteRuns.{is_white}
+use Rattle.resb_grammar.specs.ByteRuns.{is_white, Each}
 use Rattle.resb_grammar.specs.Lexical.{digits_value}
 use Rattle.resb_icu_grammar.specs.declared.group_kind.IcuKind.{IcuKind as Kind}
 use Rattle.resb_icu_grammar.specs.declared.group_kind.IcuKind.TheVariants.{IntVector as vector_kind}
 use Rattle.resb_icu_grammar.specs.Kinds.{Names}
 use Rattle.resb_icu_grammar.specs.Bytes.{is_word}
 use Rattle.resb_icu_grammar.specs.Blanks.{IsSolid, Skip}
-use Rattle.resb_icu_grammar.specs.Words.{Number, unsigned}
+use Rattle.resb_icu_grammar.specs.Numbers.{Number, a_word, unsigned, Magnitude, octal}
+use Rattle.resb_icu_grammar.specs.Numbers as numbers_of
 use Rattle.resb_icu_grammar.specs.Groups.{TypedOpening, Numbers, last_number, one_more, LeafContent}
 use Rattle.resb_icu_grammar.specs.Groups.{no_numbers, numbers}
 use Rattle.resb_tree.specs.Tree.{int_vector}
@@ -31,12 +32,14 @@ record HasNoZero (n : ℕ) (ds : List ℕ) : Type 0 where
   some : 0 < length ds
   low : n < 10 → length ds ≡ 1
   first : 1 ≤ n → slice_index ds 0 ≢ 48
+  zero : n ≡ 0 → slice_index ds 0 ≡ 48
 
 one_digit : (n : ℕ) → n < 10 → HasNoZero n ((48 + n) ∷ [])
 one_digit n l = record {
   some = omega arith;
   low = λ h. refl;
   first = λ h e. absurd (omega (arith, h, e));
+  zero = λ e. omega (arith, e);
 }
 
 more_digits : (n : ℕ) (ds : List ℕ) → 10 ≤ n → HasNoZero (n / 10) ds
@@ -46,6 +49,7 @@ more_digits n ds l h = record {
   low = λ i. absurd (omega (arith, i));
   first = λ i e. h.first (omega arith)
       (sym (get_or_append_left ds ((48 + n % 10) ∷ []) 0 0 h.some) ∙ e);
+  zero = λ e. absurd (omega (arith, l, e));
 }
 
 no_zero : (n : ℕ) → n < 2 ^ 64 → HasNoZero n (decimal n)
@@ -83,25 +87,52 @@ module _ (text : List ℕ) where
         solid_byte text at (slice_index (decimal n) 0) first solid.0 solid.1,
         (
           at + length (decimal n),
-          unsigned n
+          a_word n
               (run_at text is_word (decimal n) b rest h
               (λ k i. digit_word (slice_index (decimal n) k) (d.each k i)) other)
-              (record {
-                digits = record {
-                  run = run_at text is_ascii_digit (decimal n) b rest h d.each (no_digit b other);
-                  some = omega arith;
-                  means = sym (d.value text at (b ∷ rest) h) ∙ ap (digits_value 10 text at) (sym e);
-                };
-                no_zero = λ w. ap (λ k. at + k) (only n z (sym first ∙ w));
-              }) (omega arith),
+              (unsigned n
+              (by n l z first (sym (d.value text at (b ∷ rest) h)
+              ∙ ap (digits_value 10 text at) (sym e))
+              (run_at text is_ascii_digit (decimal n) b rest h d.each (no_digit b other)).each)
+              (omega arith)),
           from_behind text (decimal n) (b ∷ rest) h,
         ),
       )
     where
-      only : (n : ℕ) → HasNoZero n (decimal n) → slice_index (decimal n) 0 ≡ 48
-          → length (decimal n) ≡ 1
-      only zero z w = z.low (omega arith)
-      only (suc n) z w = absurd (z.first (omega arith) w)
+      ten : (c : ℕ) → is_ascii_digit c ≡ true → is_digit c 10 ≡ true
+      ten c k = grind (arith, nat_tests)
+
+      no_value : (k : ℕ) → k ≡ 1 → slice_index text at ≡ 48 → 0 ≡ digits_value 8 text at k
+      no_value k e h =
+          let place : at + 0 ≡ at = omega arith in
+          let value : digit_value (slice_index text (at + 0)) ≡ 0 =
+          ap (λ i. digit_value (slice_index text i)) place ∙ ap digit_value h in
+          let one : digits_value 8 text at 1 ≡ 0 = omega (arith, value) in
+          sym (ap (digits_value 8 text at) e ∙ one)
+
+      -- 0 is one octal digit, and another number begins with no 0
+      by : (n : ℕ) → n < 2 ^ 32 → HasNoZero n (decimal n)
+          → slice_index text at ≡ slice_index (decimal n) 0
+          → n ≡ digits_value 10 text at (at + length (decimal n) - at)
+          → Each is_ascii_digit text at (at + length (decimal n))
+          → Magnitude text at (at + length (decimal n)) n
+      by zero l z first means each =
+          let one : at + length (decimal zero) ≡ at + 1 = omega (arith, z.low (omega arith)) in
+          let here : slice_index text at ≡ 48 = first ∙ z.zero refl in
+          let digit : is_digit (slice_index text at) 8 ≡ true = ap (λ c. is_digit c 8) here in
+          subst (λ to. Magnitude text at to zero) (sym one) (octal zero here (record {
+            some = omega arith;
+            each = λ k i j.
+                let same : at ≡ k = omega (arith, i, j) in
+                subst (λ p. is_digit (slice_index text p) 8 ≡ true) same digit;
+            means = no_value (at + 1 - at) (omega arith) here;
+          }))
+      by (suc n) l z first means each =
+          numbers_of.decimal (suc n) (λ e. z.first (omega arith) (sym first ∙ e)) (record {
+            some = omega (arith, z.some);
+            each = λ k i j. ten (slice_index text k) (each k i j);
+            means = means;
+          })
 
   -- numbers with commas between them, up to a `}`
   numbers_read : (n : ℕ) (ns : List ℕ) {at : ℕ} (rest : List ℕ) → AreBelow (2 ^ 32) (n ∷ ns)
@@ -150,7 +181,12 @@ module _ (text : List ℕ) where
           brace = at + 1 + length w;
           named = record {
             name = w;
-            stands = record { colon = byte_at text h; word = word };
+            stands = record {
+              place = at + 1;
+              colon = byte_at text h;
+              between = no_skip text solid;
+              word = word;
+            };
             names = names;
           };
           between = no_skip text (solid_at text f refl refl);

@@ -3,7 +3,8 @@ use Rattle.std.proofs.Common.{◌≡◌, ◌≢◌, ℕ, zero, suc, ◌+◌, ◌
 use Rattle.std.proofs.Common.{false, List, [], ◌∷◌, ◌++◌, length, refl, sym, ◌∙◌, ap, arith, subst}
 use Rattle.std.proofs.Common.{append_assoc, append-nil, encode_utf8, inl, inr}
 use Rattle.std.specs.Prelude.{slice_index, ◌==◌, cond, codes, not, ◌&&◌, ◌||◌, nat_le, nat_lt}
-use Rattle.std.specs.Char.{is_ascii_alphanumeric, digit_value, is_ascii_control}
+use Rattle.std.specs.Prelude.{if◌then◌else◌}
+use Rattle.std.specs.Char.{digit_value, is_ascii_control}
 use Rattle.std.specs.List.{list_any, list_all}
 use Rattle.std.proofs.lemmas.Bool.{false≢true, and_parts, and_from, or_from, cases_lt, or_parts}
 use Rattle.std.proofs.lemmas.Bool.Decides.{nat_tests}
@@ -18,11 +19,14 @@ use Rattle.resb_icu_grammar.specs.Bytes.{backslash, is_word, is_unquoted, is_key
 use Rattle.resb_icu_grammar.specs.Bytes.{are_key_bytes}
 use Rattle.resb_icu_grammar.specs.Blanks.{IsSolid}
 use Rattle.resb_icu_grammar.specs.Escapes.{Escape, itself, four_digits, are_hex}
+use Rattle.resb_icu_grammar.specs.Escapes.{is_letter, begins_longer}
 use Rattle.resb_icu_grammar.specs.Pieces.{QuotedBytes, ends, byte, escape, QuotedPiece, Joined}
 use Rattle.resb_icu_grammar.specs.Pieces.{last_piece}
 use Rattle.resb_icu_grammar.specs.Unquoted.{Unquoted, UnquotedRow, last_one, goes_on, may_begin}
 use Rattle.resb_icu_grammar.specs.Unquoted.{begins_unquoted}
-use Rattle.resb_icu_grammar.specs.Words.{Word, HasNoEscape, KeyText, a_word, a_piece}
+use Rattle.resb_icu_grammar.specs.Words as words
+use Rattle.resb_icu_grammar.specs.Words.{Word, HasNoEscape, Part, another_follows, Text, one_part}
+use Rattle.resb_icu_grammar.specs.Words.{KeyText, a_word, a_piece}
 use Rattle.resb_print.specs.Printed.{quoted_on}
 use Rattle.resb_print.specs.Held.{AreBelow}
 use Rattle.resb_print.specs.Quotes.{has_quote}
@@ -85,9 +89,8 @@ word_goes_on text at h =
 
 word_begins : (b : ℕ) → is_word b ≡ true → may_begin b ≡ true
 word_begins b h =
-    let slash : (b == ascii.slash) ≡ false = grind (arith, nat_tests, h) in
     let low : nat_lt b 128 ≡ true = grind (arith, nat_tests, h) in
-    rw (slash, low) refl
+    rw low refl
 
 pub key_bytes_more : (b : ℕ) (k : List ℕ) → is_key_byte b ≡ true → are_key_bytes k ≡ true
     → are_key_bytes (b ∷ k) ≡ true
@@ -207,7 +210,8 @@ module _ (text : List ℕ) where
       (ap is_hex e2 ∙ x.hex)) (ap is_hex e3 ∙ y.hex) in
       let n : b ≡ digits_value 16 text (p + 1) 4 = omega (arith, v0, v1, v2, v3) in (
         subst (Escape text p (p + 5)) (encode_ascii b low)
-            (four_digits b (byte_at text f) hex n (grind (arith, nat_tests))
+            (four_digits b (record { letter = byte_at text f; digits = hex; means = n })
+            (grind (arith, nat_tests))
             (λ e. false≢true (sym (ap is_ascii_control e) ∙ c))),
         from_behind text (117 ∷ 48 ∷ 48 ∷ slice_index (encode_lower (b ∷ [])) 0
             ∷ slice_index (encode_lower (b ∷ [])) 1 ∷ []) rest f,
@@ -232,11 +236,13 @@ module _ (text : List ℕ) where
           let g = from_next text f in
           let (last, r, q) = more (at + 1 + 1) (from_next text g) in
           let e : slice_index text (at + 1) ≡ b = byte_at text g in
-          let plain : is_ascii_alphanumeric b ≡ false = grind (arith, nat_tests) in (
+          let plain : is_letter b ≡ false = grind (arith, nat_tests) in
+          let short : begins_longer b ≡ false = grind (arith, nat_tests) in (
             last,
             subst (λ n. QuotedBytes text at last (n ∷ s)) e
                 (escape at (at + 1 + 1) last (slice_index text (at + 1) ∷ []) s (byte_at text f)
-                (itself (from_inside text g) (ap is_ascii_alphanumeric e ∙ plain)) r),
+                (itself (from_inside text g) (ap is_letter e ∙ plain) (ap begins_longer e ∙ short))
+                r),
             q,
           )
       by false true m k more f =
@@ -358,6 +364,36 @@ module _ (text : List ℕ) where
         g,
       )
 
+  -- behind a part no other follows
+  pub no_more : (at to : ℕ) (s : List ℕ) (b : ℕ) → slice_index text to ≡ b → IsStop b
+      → another_follows text at s to ≡ false
+  no_more at to s b e stop = by (slice_index text at == ascii.quote)
+    where
+      never : (c : Bool) → (c && false) ≡ false
+      never true = refl
+      never false = refl
+
+      unequal : (c : ℕ) → (c ≡ ascii.quote → ⊥) → (c == ascii.quote) ≡ false
+      unequal c n = grind (arith, nat_tests, n)
+
+      none_begins : begins_unquoted text to ≡ false
+      none_begins =
+          ap (λ c. may_begin (slice_index text to) && c)
+          (and_false _ _ (ap is_unquoted e ∙ stop.no_string))
+          ∙ never (may_begin (slice_index text to))
+
+      by : (q : Bool) → (if q then not (length s == 0) && begins_unquoted text to
+          else slice_index text to == ascii.quote) ≡ false
+      by true = ap (λ c. not (length s == 0) && c) none_begins ∙ never (not (length s == 0))
+      by false = unequal (slice_index text to) (λ q. stop.no_quote (sym e ∙ q))
+
+  -- so it is a whole string
+  abbrev pub whole_read : (s : List ℕ) {at to : ℕ} (b : ℕ) (rest : List ℕ) → IsStop b
+      → Part text at to s → From text to (b ∷ rest) → Text text at to s
+  whole_read s {at} {to} b rest stop part g =
+      one_part at to to s part (no_skip text (solid_at text g stop.no_white stop.no_slash))
+      (no_more at to s b (byte_at text g) stop)
+
   -- a key
   pub key_read : (k : List ℕ) {at : ℕ} (b : ℕ) (rest : List ℕ) → IsStop b
       → are_key_bytes k ≡ true → NoQuote k → From text at (key_on k (b ∷ rest))
@@ -368,12 +404,30 @@ module _ (text : List ℕ) where
           → From text at (cond t (k ++ b ∷ rest) (quoted_on k (b ∷ rest)))
           → IsSolid text at × ((to : ℕ) × KeyText text at to k × From text to (b ∷ rest))
       go true e f =
-          let (solid, row, word, g) = bare_read k b rest e stop f in
-          (solid, (at + length k, record { verbatim = a_word row word; fits = key }, g))
+          let (solid, row, word, g) = bare_read k b rest e stop f in (
+            solid,
+            (
+              at + length k,
+              record {
+                whole = whole_read k b rest stop (words.a_row row) g;
+                verbatim = a_word row word;
+                fits = key;
+              },
+              g,
+            ),
+          )
       go false e f =
           let (to, joined, piece, no_escape, g) = quoted_read k b rest stop key free f in (
             solid_at text f refl refl,
-            (to, record { verbatim = a_piece joined piece no_escape; fits = key }, g),
+            (
+              to,
+              record {
+                whole = whole_read k b rest stop (words.quoted joined) g;
+                verbatim = a_piece joined piece no_escape;
+                fits = key;
+              },
+              g,
+            ),
           )
 
 -- what is written of a text in two parts

@@ -19,8 +19,8 @@ use Rattle.resb_tree.specs.Maps.{text_cmp}
 use Rattle.resb_grammar.specs.Ascii as ascii
 use Rattle.resb_icu_grammar.specs.declared.group_kind.IcuKind.{IcuKind as Kind}
 use Rattle.resb_icu_grammar.specs.Bytes.{is_word, is_unquoted, are_key_bytes, backslash}
-use Rattle.resb_icu_grammar.specs.Escapes.{Escape, itself, line_feed, carriage_return, tab}
-use Rattle.resb_icu_grammar.specs.Escapes.{four_digits, eight_digits, control, short_hex, octal}
+use Rattle.resb_icu_grammar.specs.Escapes.{Escape, itself, letter, four_digits, pair, eight_digits}
+use Rattle.resb_icu_grammar.specs.Escapes.{control, short_hex, octal}
 use Rattle.resb_icu_grammar.specs.Pieces.{QuotedBytes, ends, byte, escape}
 use Rattle.resb_icu_grammar.specs.Unquoted.{Unquoted}
 use Rattle.resb_icu_grammar.specs.Words.{KeyText, Verbatim, a_word, a_piece}
@@ -37,9 +37,9 @@ use Rattle.resb_print.specs.Quotes.{has_quote}
 use Rattle.resb_print.specs.Paths.{Step, by_key, by_number, found_else, found_at, found_among}
 use Rattle.resb_print.specs.Paths.{found_in, first_cause}
 use Rattle.resb_print.proofs.Tracing.{cause_in}
-use Rattle.resb_icu_print.specs.declared.cause.IcuCause.{IcuCause}
-use Rattle.resb_icu_print.specs.declared.cause.IcuCause.TheVariants.{NameIsNoWord}
-use Rattle.resb_icu_print.specs.declared.cause.IcuCause.TheVariants.{KeyHasOtherBytes}
+use Rattle.resb_print.specs.declared.cause.Cause.{Cause}
+use Rattle.resb_print.specs.declared.cause.Cause.TheVariants.{NameIsNoWord}
+use Rattle.resb_print.specs.declared.cause.Cause.TheVariants.{KeyHasOtherBytes}
 use Rattle.resb_icu_print.specs.Printed.{is_bare}
 use Rattle.resb_icu_print.specs.Causes.{is_icu_key}
 use Rattle.resb_icu_print.specs.Causes.{icu_tests}
@@ -47,10 +47,10 @@ use Rattle.resb_icu_print.proofs.Lists.{true_from_not}
 
 -- what is found from a place on
 abbrev Found : Type 0
-Found = Option (List Step × IcuCause)
+Found = Option (List Step × Cause)
 
 -- a test that finds no cause
-missed_if : (b : Bool) (x : IcuCause) (path : List Step) (later : Found) → b ≡ false
+missed_if : (b : Bool) (x : Cause) (path : List Step) (later : Found) → b ≡ false
     → found_else (cond b (Some x) None) path later ≡ later
 missed_if b x path later h = ap (λ c. found_else (cond c (Some x) None) path later) h
 
@@ -87,11 +87,10 @@ word_free text from to k w = free_by_each k (λ i l e.
     (sym part ∙ ap (λ l. slice_index l i) (sym w.means) ∙ e))
 
 escape_order : (text : List ℕ) (at to : ℕ) (s : List ℕ) → Escape text at to s → at ≤ to
-escape_order text at to s (itself _ _) = omega arith
-escape_order text at to s (line_feed _) = omega arith
-escape_order text at to s (carriage_return _) = omega arith
-escape_order text at to s (tab _) = omega arith
-escape_order text at to s (four_digits _ _ _ _ _ _) = omega arith
+escape_order text at to s (itself _ _ _) = omega arith
+escape_order text at to s (letter _) = omega arith
+escape_order text at to s (four_digits _ _ _ _) = omega arith
+escape_order text at to s (pair _ _ _ _ _ _ _) = omega arith
 escape_order text at to s (eight_digits _ _ _ _ _ _) = omega arith
 escape_order text at to s (control _ _ _) = omega arith
 escape_order text at to s (short_hex _ _ _ p _) = omega (arith, p.some)
@@ -240,7 +239,7 @@ mutual
       ∙ taken_no_cause here t rest h.1 ∙ taken_none_in path es later h.2
 
 -- and where there is none, everything is
-none_if : (b : Bool) (x : IcuCause) (path : List Step) (later : Found)
+none_if : (b : Bool) (x : Cause) (path : List Step) (later : Found)
     → found_else (cond b (Some x) None) path later ≡ None → (b ≡ false) × (later ≡ None)
 none_if true x path later e = absurd (none-some (path, x) (sym e))
 none_if false x path later e = (refl, e)

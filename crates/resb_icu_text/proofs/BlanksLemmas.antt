@@ -1,11 +1,15 @@
 -- Laws of comments and blanks, as the reader's functions use them.
-use Rattle.std.proofs.Common.{◌≡◌, ◌≢◌, ℕ, zero, suc, ◌+◌, ◌-◌, List, arith, subst, sym}
+use Rattle.std.proofs.Common.{◌≡◌, ℕ, zero, suc, ◌+◌, ◌-◌, List, arith, subst, sym, ◌∙◌, Bool}
+use Rattle.std.proofs.Common.{true, false, refl, ◌⊎◌, inl, inr, ◌==◌, ◌||◌}
 use Rattle.std.specs.Prelude.{slice_index}
+use Rattle.std.proofs.lemmas.Bool.{false≢true, and_from}
+use Rattle.std.proofs.lemmas.Bool.Decides.{nat_tests}
 use Rattle.resb_grammar.specs.Ascii as ascii
 use Rattle.resb_grammar.specs.ByteRuns.{is_white, Each, Run}
 use Rattle.resb_grammar.specs.Lexical.{FirstCloser}
 use Rattle.resb_icu_grammar.specs.Blanks.{LineRest, Comment, line, block, Blanks, none, white}
 use Rattle.resb_icu_grammar.specs.Blanks.{comment, Skip}
+use Rattle.resb_icu_grammar.specs.Unquoted.{begins_comment}
 
 pub no_line_comment : (text : List ℕ) (from : ℕ) → slice_index text (from + 1) ≡ ascii.slash
     → ((to : ℕ) → LineRest text (from + 2) to → ⊥) → (to : ℕ) → Comment text from to → ⊥
@@ -24,10 +28,23 @@ pub block_comment : (text : List ℕ) (from to : ℕ) → slice_index text from 
 block_comment text from to h h' f =
     block f.0 h h' (subst (λ n. FirstCloser text n f.0) (omega arith) f.1) f.2
 
-pub no_comment_at : (text : List ℕ) (from : ℕ) → slice_index text from ≢ ascii.slash → (to : ℕ)
+pub no_comment_at : (text : List ℕ) (from : ℕ) → begins_comment text from ≡ false → (to : ℕ)
     → Comment text from to → ⊥
-no_comment_at text from ne to (line h h' rest) = ne h
-no_comment_at text from ne to (block at h h' first is) = ne h
+no_comment_at text from n to c = false≢true (sym n ∙ begins_there c)
+  where
+    is : (b a : ℕ) → b ≡ a → (b == a) ≡ true
+    is b a e = grind (arith, nat_tests, e)
+
+    second : (b c : Bool) → (b ≡ true) ⊎ (c ≡ true) → (b || c) ≡ true
+    second true c e = refl
+    second false c (inl e) = absurd (false≢true e)
+    second false c (inr e) = e
+
+    begins_there : Comment text from to → begins_comment text from ≡ true
+    begins_there (line h h' rest) =
+        and_from _ _ (is _ _ h) (second _ _ (inl (is _ _ h')))
+    begins_there (block at h h' first is') =
+        and_from _ _ (is _ _ h) (second _ _ (inr (is _ _ h')))
 
 -- a run of white characters before blanks
 blanks_run : (text : List ℕ) (n at to : ℕ) → Each is_white text at (at + n)

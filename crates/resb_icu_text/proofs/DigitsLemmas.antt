@@ -13,8 +13,8 @@ use Rattle.resb_grammar.specs.Ascii as ascii
 use Rattle.resb_grammar.specs.Group.{is_hex, hex_bytes, byte_before}
 use Rattle.resb_icu_grammar.specs.Bytes.{backslash}
 use Rattle.resb_icu_grammar.specs.Blanks.{Skip}
-use Rattle.resb_icu_grammar.specs.Escapes.{Escape, itself, line_feed, carriage_return, tab}
-use Rattle.resb_icu_grammar.specs.Escapes.{four_digits, eight_digits, control, short_hex, octal}
+use Rattle.resb_icu_grammar.specs.Escapes.{Escape, itself, letter, four_digits, pair, eight_digits}
+use Rattle.resb_icu_grammar.specs.Escapes.{control, short_hex, octal}
 use Rattle.resb_icu_grammar.specs.Escapes.{is_lost}
 use Rattle.resb_icu_grammar.specs.Pieces.{QuotedBytes, ends, byte, escape, Joined, last_piece}
 use Rattle.resb_icu_grammar.specs.Pieces.{one_more}
@@ -87,38 +87,6 @@ hex_encoded c h = by (encode_utf8 c) refl
     by [] e = absurd (omega (arith, length-encode c, (len_utf8_bounds c).0, ap length e))
     by (b ∷ t) e = first b t (is_hex b) e refl
 
-octal_ascii : (b : ℕ) → is_digit b 8 ≡ true → (0 < b) × (b < 128)
-octal_ascii b h = (grind (arith, nat_tests, h), grind (arith, nat_tests, h))
-
-lost : (c first : ℕ) → c ≡ first → is_lost first c ≡ true
-lost c first e =
-    let same : (c == first) ≡ true = grind (arith, nat_tests, e) in
-    rw same (either (c == backslash))
-  where
-    either : (b : Bool) → (b || true) ≡ true
-    either true = refl
-    either false = refl
-
--- the byte behind a backslash that stands for itself is no hex digit
-escape_no_digit : (text : List ℕ) (at to : ℕ) (s : List ℕ) → Escape text at to s
-    → s ≡ slice_index text at ∷ [] → is_hex (slice_index text at) ≡ false
-escape_no_digit text at to s (itself f h) is = grind (arith, nat_tests, h)
-escape_no_digit text at to s (line_feed h) is = ap is_hex h
-escape_no_digit text at to s (carriage_return h) is = ap is_hex h
-escape_no_digit text at to s (tab h) is = ap is_hex h
-escape_no_digit text at to s (four_digits c h k e f g) is = ap is_hex h
-escape_no_digit text at to s (eight_digits c h k e f g) is = ap is_hex h
-escape_no_digit text at to s (control h l m) is =
-    let same : slice_index text (at + 1) % 32 ≡ slice_index text at = cc in
-    absurd (omega (arith, same, h))
-escape_no_digit text at to s (short_hex c _ h p o) is = ap is_hex h
-escape_no_digit text at to s (octal c _ p o) is =
-    let low = octal_ascii (slice_index text at) (few_first p) in
-    let same : c ≡ slice_index text at =
-    char_from_byte (slice_index text at ∷ []) [] c (sym (append-nil (encode_utf8 c) ∙ is)) low.1
-    (omega arith) in
-    absurd (false≢true (sym o ∙ lost c (slice_index text at) same))
-
 module _ {text : List ℕ} where
   -- an escape of a character
   pub escaped_digit : (at last : ℕ) (bytes : List ℕ) (to c : ℕ) → slice_index text at ≡ backslash
@@ -142,14 +110,27 @@ module _ {text : List ℕ} where
       let r = rest_escape text at to last first bytes s x i in
       ap are_digits r.1 ∙ list_all-append is_hex first r.0 ∙ ap (λ b. b && are_digits r.0) h
 
-  -- an escape of a byte that stands for itself
-  pub escaped_itself : (at last : ℕ) (bytes : List ℕ) (to : ℕ) → slice_index text at ≡ backslash
-      → Escape text (at + 1) to (slice_index text (at + 1) ∷ []) → QuotedBytes text at last bytes
-      → are_digits bytes ≡ false
-  escaped_itself at last bytes to s x =
+  -- an escape of a byte that stands for itself, which may be a digit
+  pub escaped_itself : (at last : ℕ) (bytes : List ℕ) (to b : ℕ) → slice_index text at ≡ backslash
+      → Escape text (at + 1) to (slice_index text (at + 1) ∷ []) → b ≡ slice_index text (at + 1)
+      → is_hex b ≡ true → QuotedBytes text at last bytes → DigitAt text last bytes to
+  escaped_itself at last bytes to b s x e h i =
+      let r = rest_escape text at to last (slice_index text (at + 1) ∷ []) bytes s x i in
+      record {
+        digit = slice_index text (at + 1);
+        rest = r.0;
+        whole = r.1;
+        is_digit = ap is_hex (sym e) ∙ h;
+        on = r.2;
+      }
+
+  -- or none
+  pub escaped_other : (at last : ℕ) (bytes : List ℕ) (to b : ℕ) → slice_index text at ≡ backslash
+      → Escape text (at + 1) to (slice_index text (at + 1) ∷ []) → b ≡ slice_index text (at + 1)
+      → is_hex b ≡ false → QuotedBytes text at last bytes → are_digits bytes ≡ false
+  escaped_other at last bytes to b s x e h =
       escaped_none at last bytes to (slice_index text (at + 1) ∷ []) s x
-      (ap (λ b. b && true) (escape_no_digit text (at + 1) to (slice_index text (at + 1) ∷ []) x
-      refl))
+      (ap (λ b. b && true) (ap is_hex (sym e) ∙ h))
 
 -- what stands from a place inside a piece on, up to the end of the row of pieces
 pub record Onward (text : List ℕ) (at end : ℕ) (said : List ℕ) : Type 0 where

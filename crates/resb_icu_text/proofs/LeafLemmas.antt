@@ -12,7 +12,7 @@ use Rattle.resb_icu_grammar.specs.declared.group_kind.IcuKind.TheVariants.{
   Integer as integer_kind,
   IntVector as vector_kind,
 }
-use Rattle.resb_icu_grammar.specs.Groups.{digit_bytes, last_number, last_comma, one_more}
+use Rattle.resb_icu_grammar.specs.Groups.{digits_of, last_number, last_comma, one_more}
 use Rattle.resb_icu_grammar.specs.Groups.{string_content, alias_content, binary_content}
 use Rattle.resb_icu_grammar.specs.Groups.{integer_content, no_numbers, numbers}
 use Rattle.resb_grammar.specs.Limit.{number_bytes}
@@ -63,8 +63,8 @@ alias_stands text at i to s p c =
     record { content = alias_content i s p c.blanks; closes = c.closes }
 
 -- the content of a binary
-pub binary_stands : (text : List ℕ) (at i to : ℕ) (s bytes : List ℕ) → Text text at i s
-    → digit_bytes text at s ≡ Some bytes → Closing text i to
+pub binary_stands : (text : List ℕ) (at i to : ℕ) (s bytes : List ℕ) → (t : Text text at i s)
+    → digits_of t ≡ Some bytes → Closing text i to
     → Leaf text at binary_kind to (binary bytes)
 binary_stands text at i to s bytes p e c =
     record { content = binary_content i s bytes p e c.blanks; closes = c.closes }

@@ -1,14 +1,16 @@
 -- What a string stands for isn't longer than its text.
 use Rattle.std.proofs.Common.{◌≡◌, ℕ, ◌+◌, ◌-◌, ◌<◌, ◌≤◌, true, List, ◌∷◌, length, arith, ap, sym}
-use Rattle.std.proofs.Common.{◌∙◌, encode_utf8, lit≤, length-drop, ◌⊎◌, inl, inr, ⊎_elim}
+use Rattle.std.proofs.Common.{◌∙◌, encode_utf8, lit≤, length-drop, ◌⊎◌, inl, inr, ⊎_elim, refl}
+use Rattle.std.proofs.Common.{◌==◌, ◌&&◌, not, if◌then◌else◌, eqb-true}
 use Rattle.std.specs.Prelude.{slice_index, nat_lt, Bool, false, cond}
-use Rattle.std.proofs.lemmas.Bool.{false≢true, cases_lt}
+use Rattle.std.proofs.lemmas.Bool.{false≢true, cases_lt, and_parts}
 use Rattle.resb_grammar.specs.ByteRuns.{is_white}
 use Rattle.std.proofs.lemmas.List.{length-append, length-take-le}
 use Rattle.std.proofs.lemmas.Str.{length-encode, len_utf8_bounds, len_utf8_ascii}
 use Rattle.std.proofs.lemmas.Bool.Decides.{nat_tests}
-use Rattle.resb_icu_grammar.specs.Escapes.{Escape, itself, line_feed, carriage_return, tab}
-use Rattle.resb_icu_grammar.specs.Escapes.{four_digits, eight_digits, control, short_hex, octal}
+use Rattle.std.specs.Char.Utf16.{surrogate_pair_char}
+use Rattle.resb_icu_grammar.specs.Escapes.{Escape, itself, letter, four_digits, pair, eight_digits}
+use Rattle.resb_icu_grammar.specs.Escapes.{control, short_hex, octal}
 use Rattle.std.specs.Char.{len_utf8, digit_value, is_digit}
 use Rattle.resb_grammar.specs.Lexical.{digits_value}
 use Rattle.resb_icu_grammar.specs.Escapes.{FewDigits}
@@ -18,7 +20,11 @@ use Rattle.resb_icu_grammar.specs.Blanks.{Comment, line, block, Blanks, none, wh
 use Rattle.resb_icu_grammar.specs.Blanks.{IsSolid, Skip}
 use Rattle.resb_icu_grammar.specs.Unquoted.{Unquoted, UnquotedRow, last_one}
 use Rattle.resb_icu_grammar.specs.Unquoted as rows
-use Rattle.resb_icu_grammar.specs.Words.{Text, a_row, quoted}
+use Rattle.resb_icu_grammar.specs.Unquoted.{begins_unquoted}
+use Rattle.resb_icu_grammar.specs.Words.{Part, a_row, quoted, another_follows, Text, one_part}
+use Rattle.resb_icu_grammar.specs.Words.{more_parts}
+use Rattle.resb_icu_grammar.proofs.Lexical.{no_quote_row, joined_first, Part-one}
+use Rattle.resb_grammar.specs.Ascii as ascii
 
 comment_moves : (text : List ℕ) (from to : ℕ) → Comment text from to → from < to
 comment_moves text from to (line h k r) = omega (arith, r.order)
@@ -102,11 +108,10 @@ octal_short text from to c p =
 
 pub escape_short : (text : List ℕ) (at to : ℕ) (s : List ℕ) → Escape text at to s
     → length s + at ≤ to
-escape_short text at to s (itself f h) = omega arith
-escape_short text at to s (line_feed h) = omega arith
-escape_short text at to s (carriage_return h) = omega arith
-escape_short text at to s (tab h) = omega arith
-escape_short text at to s (four_digits c h k e f g) = omega (arith, encoded c)
+escape_short text at to s (itself f l o) = omega arith
+escape_short text at to s (letter h) = omega arith
+escape_short text at to s (four_digits c w f g) = omega (arith, encoded c)
+escape_short text at to s (pair m n w p d x q) = omega (arith, encoded (surrogate_pair_char m n))
 escape_short text at to s (eight_digits c h k e f g) = omega (arith, encoded c)
 escape_short text at to s (control h l m) = omega arith
 escape_short text at to s (short_hex c _ h p o) = ⊎_elim
@@ -186,9 +191,111 @@ row_order text from to s (last_one _ _ n _ p k h) = p.some
 row_order text from to s (rows.one_more _ m n _ us vs p w k r) =
     omega (arith, p.some, white_moves text m n w k, row_order text n to vs r)
 
+-- what a part stands for has at most as many bytes as its text, which has one
+pub part_short : (text : List ℕ) (from to : ℕ) (s : List ℕ) → Part text from to s
+    → (length s + from ≤ to) × (from < to)
+part_short text from to s (a_row r) = (row_short text from to s r, row_order text from to s r)
+part_short text from to s (quoted j) =
+    let short = joined_short text from to s j in (omega (arith, short), omega (arith, short))
+
+-- behind a row in which another part follows stands a quote
+pub follows_row : (text : List ℕ) (from mid n : ℕ) (u : List ℕ) → UnquotedRow text from mid u
+    → another_follows text from u n ≡ true → slice_index text n ≡ ascii.quote
+follows_row text from mid n u r h = by (slice_index text from == ascii.quote) refl h
+  where
+    by : (b : Bool) → (slice_index text from == ascii.quote) ≡ b
+        → (if b then not (length u == 0) && begins_unquoted text n
+        else slice_index text n == ascii.quote) ≡ true → slice_index text n ≡ ascii.quote
+    by true e g = absurd (no_quote_row text from mid u (eqb-true _ _ e) r)
+    by false e g = eqb-true _ _ g
+
+-- behind quoted pieces an unquoted string begins
+pub follows_pieces : (text : List ℕ) (from mid n : ℕ) (u : List ℕ) → Joined text from mid u
+    → another_follows text from u n ≡ true → begins_unquoted text n ≡ true
+follows_pieces text from mid n u j h = by (slice_index text from == ascii.quote) refl h
+  where
+    by : (b : Bool) → (slice_index text from == ascii.quote) ≡ b
+        → (if b then not (length u == 0) && begins_unquoted text n
+        else slice_index text n == ascii.quote) ≡ true → begins_unquoted text n ≡ true
+    by true e g = (and_parts _ _ g).1
+    by false e g =
+        absurd (false≢true (sym e ∙ ap (λ b. b == ascii.quote) (joined_first text from mid u j)))
+
+-- a string has as many bytes as it says, and if it begins with a quote at least one more, and two
+record IsLong (text : List ℕ) (from to : ℕ) (s : List ℕ) : Type 0 where
+  pub short : length s + from ≤ to
+  pub order : from < to
+  pub quoted : slice_index text from ≡ ascii.quote → length s + from + 1 ≤ to
+  pub two : slice_index text from ≡ ascii.quote → from + 2 ≤ to
+
+string_long : (text : List ℕ) (from to : ℕ) (s : List ℕ) → Text text from to s
+    → IsLong text from to s
+string_long text from to s (one_part _ _ n _ (a_row r) k h) = record {
+  short = row_short text from to s r;
+  order = row_order text from to s r;
+  quoted = λ q. absurd (no_quote_row text from to s q r);
+  two = λ q. absurd (no_quote_row text from to s q r);
+}
+string_long text from to s (one_part _ _ n _ (quoted j) k h) =
+    let short = joined_short text from to s j in record {
+      short = omega (arith, short);
+      order = omega (arith, short);
+      quoted = λ q. omega (arith, short);
+      two = λ q. omega (arith, short);
+    }
+string_long text from to _ (more_parts _ m n _ u v (a_row r) k h t) =
+    let rest = string_long text n to v t in
+    let skip = blanks_order text m n k.blanks in
+    let first = row_short text from m u r in
+    let longer = rest.quoted (follows_row text from m n u r h) in
+    record {
+      short = omega (arith, first, skip, longer, length-append u (32 ∷ v));
+      order = omega (arith, row_order text from m u r, skip, rest.order);
+      quoted = λ q. absurd (no_quote_row text from m u q r);
+      two = λ q. absurd (no_quote_row text from m u q r);
+    }
+string_long text from to _ (more_parts _ m n _ u v (quoted j) k h t) =
+    let rest = string_long text n to v t in
+    let skip = blanks_order text m n k.blanks in
+    let first = joined_short text from m u j in
+    record {
+      short = omega (arith, first, skip, rest.short, length-append u (32 ∷ v));
+      order = omega (arith, first, skip, rest.order);
+      quoted = λ q. omega (arith, first, skip, rest.short, length-append u (32 ∷ v));
+      two = λ q. omega (arith, first, skip, rest.order);
+    }
+
 -- what a string stands for has at most as many bytes as its text, which has one
 pub string_short : (text : List ℕ) (from to : ℕ) (s : List ℕ) → Text text from to s
     → (length s + from ≤ to) × (from < to)
-string_short text from to s (a_row r) = (row_short text from to s r, row_order text from to s r)
-string_short text from to s (quoted j) =
-    let short = joined_short text from to s j in (omega (arith, short), omega (arith, short))
+string_short text from to s t =
+    let l = string_long text from to s t in (l.short, l.order)
+
+-- one of several parts has three bytes at least
+pub several_long : (text : List ℕ) (from mid n to : ℕ) (u v : List ℕ) → Part text from mid u
+    → Skip text mid n → another_follows text from u n ≡ true → Text text n to v → from + 3 ≤ to
+several_long text from mid n to u v (a_row r) k h t =
+    omega (
+      arith,
+      row_order text from mid u r,
+      blanks_order text mid n k.blanks,
+      (string_long text n to v t).two (follows_row text from mid n u r h),
+    )
+several_long text from mid n to u v (quoted j) k h t =
+    omega (
+      arith,
+      joined_short text from mid u j,
+      blanks_order text mid n k.blanks,
+      (string_long text n to v t).order,
+    )
+
+-- a string that ends with its first part has no other
+pub ends_alone : (text : List ℕ) (from mid n to : ℕ) (s u v : List ℕ) → Part text from to s
+    → Part text from mid u → Skip text mid n → Text text n to v → ⊥
+ends_alone text from mid n to s u v p q k t =
+    omega (
+      arith,
+      (Part-one text from to mid s u p q).0,
+      blanks_order text mid n k.blanks,
+      (string_short text n to v t).1,
+    )

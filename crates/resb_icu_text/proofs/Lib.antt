@@ -11,6 +11,7 @@ mod PiecesLemmas
 mod LengthLemmas
 mod PartsLemmas
 mod StringsLemmas
+mod SeveralLemmas
 mod RowLemmas
 mod TypesLemmas
 mod DistinctLemmas

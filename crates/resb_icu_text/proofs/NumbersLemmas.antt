@@ -1,15 +1,16 @@
 -- Laws of the numbers of one hex digit or two, and of octal digits, that escapes say.
 use Rattle.std.proofs.Common.{◌≡◌, ◌≢◌, ℕ, ◌+◌, ◌-◌, ◌*◌, ◌<◌, true, false, List, arith, subst, inl}
 use Rattle.std.proofs.Common.{sym, ap, ◌∙◌, encode_utf8, inr, refl}
-use Rattle.std.specs.Prelude.{slice_index}
-use Rattle.std.specs.Char.{is_ascii_alphanumeric, digit_value, is_digit}
+use Rattle.std.specs.Prelude.{slice_index, ◌==◌, ◌||◌}
+use Rattle.std.specs.Char.{digit_value, is_digit}
 use Rattle.std.proofs.lemmas.Bool.{false≢true}
 use Rattle.std.proofs.lemmas.Bool.Decides.{nat_tests}
 use Rattle.resb_icu_grammar.proofs.FewDigitsLemmas.{few_last, FewDigits-one}
 use Rattle.resb_icu_grammar.proofs.FewDigitsLemmas.{Says, said_none, said_more, few_said, few_first}
 use Rattle.resb_grammar.specs.Group.{is_hex}
-use Rattle.resb_icu_grammar.specs.Escapes.{Escape, itself, line_feed, carriage_return, tab}
-use Rattle.resb_icu_grammar.specs.Escapes.{four_digits, eight_digits, control, short_hex, octal}
+use Rattle.resb_icu_grammar.specs.Escapes.{Escape, itself, letter, four_digits, pair, eight_digits}
+use Rattle.resb_icu_grammar.specs.Escapes.{control, short_hex, octal}
+use Rattle.resb_icu_grammar.specs.Escapes.{is_letter, begins_longer}
 use Rattle.resb_icu_grammar.specs.Escapes.{is_lost, FewDigits}
 use Rattle.resb_icu_text.specs.Inner.Escaped.{ShortNumber, by_hex, by_octal}
 
@@ -101,17 +102,19 @@ last_ascii text at to c (by_octal x p) = octal_is_ascii (slice_index text (to - 
 
 -- a byte that begins none of the other escapes
 module _ (text : List ℕ) (at b : ℕ) (e : b ≡ slice_index text at)
-    (a : is_ascii_alphanumeric b ≡ true) (n : b ≢ 110) (r : b ≢ 114) (t : b ≢ 116) (u : b ≢ 117)
-    (l : b ≢ 85) (d : b ≢ 99) where
+    (a : is_letter b ≡ false) (u : b ≢ 117) (l : b ≢ 85) (d : b ≢ 99)
+    (n : (b == 120 || is_digit b 8) ≡ true) where
+  longer : begins_longer b ≡ true
+  longer = grind (arith, nat_tests, n)
+
   -- begins an escape only where it says a number that is meant
   pub numbered : ((to c : ℕ) → ShortNumber text at to c → is_lost b c ≡ false → ⊥)
       → (to : ℕ) (s : List ℕ) → Escape text at to s → ⊥
-  numbered f to s (itself g h) =
-      false≢true (sym h ∙ ap is_ascii_alphanumeric (sym e) ∙ a)
-  numbered f to s (line_feed h) = n (e ∙ h)
-  numbered f to s (carriage_return h) = r (e ∙ h)
-  numbered f to s (tab h) = t (e ∙ h)
-  numbered f to s (four_digits c h x i y z) = u (e ∙ h)
+  numbered f to s (itself g m o) =
+      false≢true (sym o ∙ ap begins_longer (sym e) ∙ longer)
+  numbered f to s (letter h) = false≢true (sym a ∙ ap is_letter e ∙ h)
+  numbered f to s (four_digits c w y z) = u (e ∙ w.letter)
+  numbered f to s (pair m k w p q x r) = u (e ∙ w.letter)
   numbered f to s (eight_digits c h x i y z) = l (e ∙ h)
   numbered f to s (control h x m) = d (e ∙ h)
   numbered f to s (short_hex c _ h p o) =

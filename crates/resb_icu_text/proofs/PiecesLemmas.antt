@@ -10,9 +10,9 @@ use Rattle.std.proofs.lemmas.Bool.Decides.{nat_tests}
 use Rattle.resb_icu_text.proofs.Lists.{slice_none}
 use Rattle.resb_grammar.specs.Ascii as ascii
 use Rattle.resb_icu_grammar.specs.Bytes.{backslash}
-use Rattle.resb_icu_grammar.specs.Escapes.{Escape, itself, line_feed, carriage_return, tab}
-use Rattle.resb_icu_grammar.specs.Escapes.{four_digits, eight_digits, control, short_hex, octal}
-use Rattle.resb_icu_grammar.specs.Faults.{PieceFault, NoEscapeAt}
+use Rattle.resb_icu_grammar.specs.Escapes.{Escape, itself, letter, four_digits, pair, eight_digits}
+use Rattle.resb_icu_grammar.specs.Escapes.{control, short_hex, octal}
+use Rattle.resb_icu_grammar.specs.Faults.{PieceFault, NoEscapeAt, escape_there}
 use Rattle.resb_icu_grammar.specs.Faults as faults
 use Rattle.resb_icu_grammar.specs.declared.expected.IcuExpected.{IcuExpected}
 use Rattle.resb_icu_grammar.specs.declared.expected.IcuExpected.TheVariants as expect
@@ -88,8 +88,9 @@ fault_escape text o from at next b xs e s x f to y h =
 -- a backslash with no escape behind it is the fault of a piece
 pub no_escape_fault : (text : List ℕ) (opening from at : ℕ) → slice_index text at ≡ backslash
     → NoEscapeAt text (at + 1) → FaultOn text opening at from
-    → PieceFault text opening from at expect.Escape
-no_escape_fault text o from at s f g = g at expect.Escape (faults.no_escape at s f)
+    → PieceFault text opening from at (escape_there text (at + 1))
+no_escape_fault text o from at s f g =
+    g at (escape_there text (at + 1)) (faults.no_escape at s f)
 
 -- where neither a quote nor a backslash follows, no quote closes a piece
 pub no_end_fault : (text : List ℕ) (opening from at : ℕ) → at ≤ length text
@@ -105,6 +106,11 @@ pub says_fault : (text : List ℕ) (opening from to : ℕ) (x : IcuExpected) (e 
     → PieceFault text opening from e.position e.expected
 says_fault text o from to x e h f =
     subst (λ (g : IcuTextError). PieceFault text o from g.position g.expected) (sym h) f
+
+-- the fault by another word for what was expected there
+pub fault_said : (text : List ℕ) (opening from at : ℕ) (x y : IcuExpected) → x ≡ y
+    → PieceFault text opening from at y → PieceFault text opening from at x
+fault_said text o from at x y e f = subst (λ z. PieceFault text o from at z) (sym e) f
 
 -- a closing quote
 pub piece_closes : (text : List ℕ) (from at n : ℕ) → slice_index text at ≡ ascii.quote
@@ -243,11 +249,10 @@ adds_all text from last start at old value bytes value1 q e f a =
 
 -- an escape has some byte behind its backslash
 pub escape_order : (text : List ℕ) (at to : ℕ) (s : List ℕ) → Escape text at to s → at < to
-escape_order text at to s (itself f h) = omega arith
-escape_order text at to s (line_feed h) = omega arith
-escape_order text at to s (carriage_return h) = omega arith
-escape_order text at to s (tab h) = omega arith
-escape_order text at to s (four_digits c h k e f g) = omega arith
+escape_order text at to s (itself f l o) = omega arith
+escape_order text at to s (letter h) = omega arith
+escape_order text at to s (four_digits c w f g) = omega arith
+escape_order text at to s (pair m n w p d x q) = omega arith
 escape_order text at to s (eight_digits c h k e f g) = omega arith
 escape_order text at to s (control h l m) = omega arith
 escape_order text at to s (short_hex _ _ _ p _) = omega (arith, p.some)

@@ -1,5 +1,5 @@
 -- What is open around a place, what stands before the root, and where a reading of a text stops.
-use Rattle.resb_grammar.proofs.ReachLemmas.{reach_low, reach_high}
+use Rattle.resb_icu_text.proofs.ReachLemmas.{reach_low, reach_high}
 use Rattle.std.proofs.Common.{◌≡◌, ◌≢◌, ◌&&◌, ℕ, ◌+◌, ◌*◌, ◌≤◌, ◌<◌, Bool, true, false, List, []}
 use Rattle.std.proofs.Common.{◌∷◌, ◌++◌, refl, sym, ◌∙◌, ap, subst, arith, length, get_or, Bor, ◌⊎◌}
 use Rattle.std.proofs.Common.{inl, inr, ⊎_elim, slice_index, map, take, nat_eq, ◌==◌, Result, Ok}

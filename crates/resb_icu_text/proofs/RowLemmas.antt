@@ -6,38 +6,35 @@ use Rattle.std.proofs.Common.{Err, IfOk, MatchOption, Option, Some, None, ◌&&�
 use Rattle.std.specs.List.{list_any}
 use Rattle.std.proofs.lemmas.Bool.{false≢true, and_parts}
 use Rattle.std.proofs.lemmas.Bool.Decides.{nat_tests}
-use Rattle.resb_grammar.proofs.ReachLemmas.{reach_here}
-use Rattle.resb_grammar.specs.Inner.Reach.{reach}
 use Rattle.resb_icu_grammar.specs.Blanks.{Skip}
 use Rattle.resb_icu_grammar.specs.Bytes.{is_unquoted}
 use Rattle.resb_icu_grammar.specs.Unquoted.{Unquoted, UnquotedRow, last_one, one_more, goes_on}
 use Rattle.resb_icu_grammar.specs.Unquoted.{begins_unquoted}
-use Rattle.resb_icu_grammar.specs.Limit.{is_put_together}
-use Rattle.resb_icu_grammar.proofs.Lexical.{Unquoted-one, joined_first, no_quote_row}
-use Rattle.resb_icu_text.specs.Inner.Found.{IsFound, Shows, is_whole}
+use Rattle.resb_icu_grammar.specs.Limit.{is_put_together, is_joined, joining_bytes}
+use Rattle.resb_grammar.specs.Limit.{request_bytes}
+use Rattle.resb_icu_grammar.proofs.Limited.{joined_same, joining_same}
+use Rattle.resb_icu_grammar.proofs.Groups.{digits_same}
+use Rattle.resb_icu_grammar.proofs.Lexical.{Unquoted-one, joined_first, no_quote_row, String-one}
+use Rattle.resb_icu_text.specs.Inner.Found.{IsFound, Shows, OfParts, is_whole, is_of_parts}
+use Rattle.resb_icu_text.specs.Inner.Found.{length_of}
+use Rattle.std.specs.Prelude.{nat_lt, if◌then◌else◌}
 use Rattle.resb_icu_text.specs.Inner.Unquoted.{StringOfRow}
 use Rattle.resb_icu_text.specs.declared.strings.Found.{Found}
 use Rattle.resb_icu_text.specs.declared.strings.Stands.{Stands}
-use Rattle.resb_icu_text.proofs.ReachLemmas.{slash_begins_none}
-use Rattle.resb_icu_text.proofs.LengthLemmas.{white_moves, row_order}
+use Rattle.resb_icu_text.proofs.LengthLemmas.{white_moves, row_order, ends_alone}
 use Rattle.resb_icu_text.proofs.PartsLemmas.{Rows, RowFrom, one_alone, and_others}
 use Rattle.resb_icu_text.proofs.StringsLemmas.{slice_cons}
 use Rattle.resb_icu_text.proofs.Lists.{slice_none}
 use Rattle.std.specs.Option.{option_map}
 use Rattle.std.specs.Char.{digit_value}
+use Rattle.resb_icu_grammar.specs.Words.{Part, a_row, quoted, Text, one_part, more_parts}
 use Rattle.resb_icu_grammar.specs.Words.{Verbatim, a_word, a_piece}
 use Rattle.resb_grammar.specs.Group.{is_hex, hex_bytes, byte_before}
-use Rattle.resb_icu_grammar.specs.Groups.{spaced_bytes, digit_bytes}
+use Rattle.resb_icu_grammar.specs.Groups.{spaced_bytes, digit_bytes, digits_of}
 use Rattle.resb_icu_grammar.specs.Pieces.{Joined}
 use Rattle.resb_icu_text.specs.Inner.Digits.{SaysPairs, SaysNone, RowSaysPairs, RowSaysNone}
 use Rattle.resb_grammar.specs.Ascii as ascii
 use Rattle.resb_icu_text.specs.declared.strings.Stands.TheVariants as found
-
--- where one begins, a reading has looked up to there
-pub reach_begun : (text : List ℕ) (at : ℕ) → begins_unquoted text at ≡ true
-    → reach text at ≡ at
-reach_begun text at h =
-    reach_here text at (λ e. slash_begins_none _ e (and_parts _ _ h).0)
 
 -- a row by its first string
 abbrev pub Strings : List ℕ → ℕ → Rows
@@ -105,16 +102,95 @@ row_blank text from to s (last_one _ _ n _ p k h) f =
 row_blank text from to s (one_more _ m n _ us vs p w k r) f =
     any_append (λ b. b == ascii.space) us (ascii.space ∷ vs) refl
 
+-- a string that ends with its first part is put together, and says pairs, as that part does
+one_joined : (text : List ℕ) (from to : ℕ) (s : List ℕ) → Part text from to s
+    → (t : Text text from to s) → is_joined t ≡ is_put_together text from to s
+one_joined text from to s p (one_part _ _ n _ q k h) = refl
+one_joined text from to _ p (more_parts _ m n _ u v q k h t) =
+    absurd (ends_alone text from m n to (u ++ ascii.space ∷ v) u v p q k t)
+
+one_digits : (text : List ℕ) (from to : ℕ) (s : List ℕ) → Part text from to s
+    → (t : Text text from to s) → digits_of t ≡ digit_bytes text from s
+one_digits text from to s p (one_part _ _ n _ q k h) = refl
+one_digits text from to _ p (more_parts _ m n _ u v q k h t) =
+    absurd (ends_alone text from m n to (u ++ ascii.space ∷ v) u v p q k t)
+
+-- of several parts it is put together, and says none
+parts_shown : (text : List ℕ) (from : ℕ) (f : Found) → is_of_parts f.stands ≡ true
+    → (is : IsFound text from f) → OfParts text from f.end is.said
+parts_shown text from f h is = by f.stands refl h
+  where
+    by : (s : Stands) → f.stands ≡ s → is_of_parts s ≡ true → OfParts text from f.end is.said
+    by (found.Whole t) e g = absurd (false≢true g)
+    by (found.InPieces n) e g = absurd (false≢true g)
+    by (found.InRow n) e g = absurd (false≢true g)
+    by (found.InParts n) e g =
+        (subst (λ (s : Stands). Shows text from f.end is.said s) e is.shows).1
+
+pub parts_joined : (text : List ℕ) (from : ℕ) (f : Found) → is_of_parts f.stands ≡ true
+    → (is : IsFound text from f) → is_joined is.string ≡ true
+parts_joined text from f h is =
+    let p = parts_shown text from f h is in
+    joined_same text from f.end f.end is.said _ is.string
+    (more_parts from p.mid p.next f.end p.first p.later p.part p.after p.more p.rest)
+
+pub parts_none : (text : List ℕ) (from : ℕ) (f : Found) → is_of_parts f.stands ≡ true
+    → (is : IsFound text from f) → digits_of is.string ≡ None
+parts_none text from f h is =
+    let p = parts_shown text from f h is in
+    digits_same text from f.end f.end is.said _ is.string
+    (more_parts from p.mid p.next f.end p.first p.later p.part p.after p.more p.rest)
+
+-- so a string that says some has one part
+pub of_one_part : (text : List ℕ) (from : ℕ) (f : Found) → (is : IsFound text from f)
+    → digits_of is.string ≢ None → is_of_parts f.stands ≡ false
+of_one_part text from f is some = by (is_of_parts f.stands) refl
+  where
+    by : (b : Bool) → is_of_parts f.stands ≡ b → b ≡ false
+    by true e = absurd (some (parts_none text from f e is))
+    by false e = refl
+
+-- any other is one part
+pub part_shown : (text : List ℕ) (from : ℕ) (f : Found) → is_of_parts f.stands ≡ false
+    → (is : IsFound text from f) → Part text from f.end is.said
+part_shown text from f h is = by f.stands refl h
+  where
+    whole : {said : List ℕ} → Verbatim text from f.end said → Part text from f.end said
+    whole (a_word r w) = a_row r
+    whole (a_piece j p n) = quoted j
+
+    shown : (s : Stands) → f.stands ≡ s → Shows text from f.end is.said s
+    shown s e = subst (λ (s : Stands). Shows text from f.end is.said s) e is.shows
+
+    by : (s : Stands) → f.stands ≡ s → is_of_parts s ≡ false → Part text from f.end is.said
+    by (found.Whole t) e g = whole (is.slice.0 (ap is_whole e))
+    by (found.InPieces n) e g = quoted (shown (found.InPieces n) e).1
+    by (found.InRow n) e g = a_row (shown (found.InRow n) e).1
+    by (found.InParts n) e g = absurd (false≢true (sym g))
+
+-- whether such a one is put together
+pub part_joined : (text : List ℕ) (from : ℕ) (f : Found) → is_of_parts f.stands ≡ false
+    → (is : IsFound text from f)
+    → is_joined is.string ≡ is_put_together text from f.end is.said
+part_joined text from f h is =
+    one_joined text from f.end is.said (part_shown text from f h is) is.string
+
 -- where no quote stands, a string is put together just where it is no slice
 pub unquoted_together : (text : List ℕ) (from : ℕ) (f : Found) (s : Stands) → f.stands ≡ s
-    → (is : IsFound text from f) → slice_index text from ≢ ascii.quote
-    → is_put_together text from f.end is.said ≡ not (is_whole s)
-unquoted_together text from f s e is q =
+    → is_of_parts f.stands ≡ false → (is : IsFound text from f)
+    → slice_index text from ≢ ascii.quote → is_joined is.string ≡ not (is_whole s)
+unquoted_together text from f s e alone is q =
+    part_joined text from f alone is ∙ (
     let other : (slice_index text from == ascii.quote) ≡ false = grind (arith, nat_tests, q) in
     let shown = subst (λ (s : Stands). Shows text from f.end is.said s) e is.shows in
     rw other (by s shown (λ h. is.slice.0 (ap is_whole e ∙ h))
-    (λ v. sym (ap is_whole e) ∙ is.slice.1 v))
+    (λ v. sym (ap is_whole e) ∙ is.slice.1 v)))
   where
+    no_parts : {said : List ℕ} → OfParts text from f.end said → ⊥
+    no_parts {said} p =
+        ends_alone text from p.mid p.next f.end is.said p.first p.later
+        (part_shown text from f alone is) p.part p.after p.rest
+
     no_blank_in : {said : List ℕ} → Verbatim text from f.end said
         → list_any (λ b. b == ascii.space) said ≡ false
     no_blank_in {said} (a_word r w) = unquoted_no_blank text from f.end said w
@@ -127,6 +203,48 @@ unquoted_together text from f s e is q =
     by (found.Whole t) h f g = no_blank_in (f refl)
     by {said} (found.InPieces n) h f g = absurd (q (joined_first text from _ said h.1))
     by {said} (found.InRow n) h f g = row_blank text from _ said h.1 (λ v. false≢true (g v))
+    by {said} (found.InParts n) h f g = absurd (no_parts h.1)
+
+-- where one does, it is where the string takes more of the text than what it says and two quotes
+pub quoted_together : (text : List ℕ) (from : ℕ) (f : Found) → is_of_parts f.stands ≡ false
+    → (is : IsFound text from f) → slice_index text from ≡ ascii.quote
+    → (n : ℕ) → n ≡ length_of f.stands → is_joined is.string ≡ nat_lt 2 (f.end - from - n)
+quoted_together text from f alone is q n e =
+    part_joined text from f alone is ∙ (
+    let quote : (slice_index text from == ascii.quote) ≡ true = grind (arith, nat_tests, q) in
+    rw quote (tests (from + length is.said + 2) f.end 2 (f.end - from - n)
+    (λ h. omega (arith, h, e, is.counted, is.short))
+    (λ h. omega (arith, h, e, is.counted, is.short))))
+  where
+    tests : (a b x y : ℕ) → (a < b → x < y) → (x < y → a < b) → nat_lt a b ≡ nat_lt x y
+    tests a b x y f g = by (nat_lt a b) (nat_lt x y) refl refl
+      where
+        by : (s t : Bool) → nat_lt a b ≡ s → nat_lt x y ≡ t → s ≡ t
+        by true true h k = refl
+        by false false h k = refl
+        by true false h k =
+            let low : a < b = grind (arith, nat_tests, h) in
+            let more = f low in absurd (grind (arith, nat_tests, k, more))
+        by false true h k =
+            let low : x < y = grind (arith, nat_tests, k) in
+            let more = g low in absurd (grind (arith, nat_tests, h, more))
+
+-- what memory is asked for a string that is put together, and for another
+pub made_joined : (text : List ℕ) (from to : ℕ) (s t : List ℕ) → (p : Text text from to s)
+    → (q : Text text from to t) → is_joined q ≡ true
+    → (joining_bytes p ≡ request_bytes + length t) × (length s ≡ length t)
+made_joined text from to s t p q h = (
+  joining_same text from to to s t p q ∙ ap (λ b. if b then request_bytes + length t else 0) h,
+  ap length (String-one text from to to s t p q).1,
+)
+
+pub made_alone : (text : List ℕ) (from to : ℕ) (s t : List ℕ) → (p : Text text from to s)
+    → (q : Text text from to t) → is_joined q ≡ false
+    → (joining_bytes p ≡ 0) × (length s ≡ length t)
+made_alone text from to s t p q h = (
+  joining_same text from to to s t p q ∙ ap (λ b. if b then request_bytes + length t else 0) h,
+  ap length (String-one text from to to s t p q).1,
+)
 
 -- no blank is among these bytes
 abbrev pub NoBlank : List ℕ → Type 0
@@ -220,16 +338,21 @@ spaced_none (a ∷ b ∷ w) s h e =
 -- unquoted strings in a row say their pairs with blanks
 pub row_digits : (text : List ℕ) (from : ℕ) (f : Found) (n : ℕ) → f.stands ≡ found.InRow n
     → (is : IsFound text from f)
-    → UnquotedRow text from f.end is.said × (digit_bytes text from is.said ≡ spaced_bytes is.said)
+    → UnquotedRow text from f.end is.said × (digits_of is.string ≡ spaced_bytes is.said)
 row_digits text from f n e is =
-    let r = (subst (λ (s : Stands). Shows text from f.end is.said s) e is.shows).1 in
-    (r, rw (row_no_quote text from f.end _ r) refl)
+    let r = (subst (λ (s : Stands). Shows text from f.end is.said s) e is.shows).1 in (
+      r,
+      one_digits text from f.end is.said (a_row r) is.string
+          ∙ rw (row_no_quote text from f.end _ r) refl,
+    )
 
 -- all but those say them without
 pub other_digits : (text : List ℕ) (from : ℕ) (f : Found)
-    → ((n : ℕ) → f.stands ≡ found.InRow n → ⊥) → (is : IsFound text from f)
-    → digit_bytes text from is.said ≡ hex_bytes is.said
-other_digits text from f never is = by (slice_index text from == ascii.quote) refl
+    → ((n : ℕ) → f.stands ≡ found.InRow n → ⊥) → is_of_parts f.stands ≡ false
+    → (is : IsFound text from f) → digits_of is.string ≡ hex_bytes is.said
+other_digits text from f never alone is =
+    one_digits text from f.end is.said (part_shown text from f alone is) is.string
+    ∙ by (slice_index text from == ascii.quote) refl
   where
     quoted : {said : List ℕ} → Joined text from f.end said
         → (slice_index text from == ascii.quote) ≡ true
@@ -247,6 +370,7 @@ other_digits text from f never is = by (slice_index text from == ascii.quote) re
         let j = (subst (λ (s : Stands). Shows text from f.end is.said s) e is.shows).1 in
         absurd (false≢true (sym q ∙ quoted j))
     other q (found.InRow n) e = absurd (never n e)
+    other q (found.InParts n) e = absurd (false≢true (sym alone ∙ ap is_of_parts e))
 
     by : (x : Bool) → (slice_index text from == ascii.quote) ≡ x
         → digit_bytes text from is.said ≡ hex_bytes is.said
@@ -267,7 +391,7 @@ some_said (Some bs) h = (bs, refl)
 -- what is found of a row is found of its string
 pub pairs_in_row : (text : List ℕ) (from : ℕ) (f : Found) (o : Option ℕ)
     → ((is : IsFound text from f) → UnquotedRow text from f.end is.said
-    × (digit_bytes text from is.said ≡ spaced_bytes is.said))
+    × (digits_of is.string ≡ spaced_bytes is.said))
     → MatchOption o (RowSaysNone text from f.end) (RowSaysPairs text from f.end)
     → MatchOption o (SaysNone text from f) (SaysPairs text from f)
 pairs_in_row text from f None same h = λ is. (let r = same is in r.1 ∙ h is.said r.0)

@@ -182,8 +182,8 @@ module _ {X : Type 0} {text : List ℕ} {p q : Quota} where
 
   -- a string that is a member
   pub member_string : {k : ℕ} (v : Vec X Global) (l : Last) (at : ℕ) (f : Found) (x : CowStr Global)
-      → TakesBytes p q k → ((s : List ℕ) → Text text at f.end s
-      → k ≡ p.weights.group + (text_byte_weight * length s + joining_bytes text at f.end s))
+      → TakesBytes p q k → ((s : List ℕ) → (t : Text text at f.end s)
+      → k ≡ p.weights.group + (text_byte_weight * length s + joining_bytes t))
       → ends_in_string (last_of l) ≡ false → IsText text at f x
       → StepsTo text (members_place v.items l at) p q (read.Member v (String x) f.next)
   member_string v l at f x t sum e h =
@@ -200,8 +200,8 @@ module _ {X : Type 0} {text : List ℕ} {p q : Quota} where
 
   -- one string in a group without a type
   pub untyped_one : {k : ℕ} (at : ℕ) (f : Found) (x : CowStr Global)
-      → TakesBytes p q k → ((s : List ℕ) → Text text at f.end s
-      → k ≡ text_byte_weight * length s + joining_bytes text at f.end s)
+      → TakesBytes p q k → ((s : List ℕ) → (t : Text text at f.end s)
+      → k ≡ text_byte_weight * length s + joining_bytes t)
       → f.next < length text → Closes text f.next → IsText text at f x
       → StepsTo text (untyped_place X at) p q (read.Leaf (String x) (f.next + 1))
   untyped_one at f x t sum low c h =
@@ -216,8 +216,8 @@ module _ {X : Type 0} {text : List ℕ} {p q : Quota} where
 
   -- a string and a comma in a group without a type
   pub untyped_comma : {k : ℕ} (v : Vec X Global) (at : ℕ) (f : Found) (x : CowStr Global)
-      → TakesBytes p q k → ((s : List ℕ) → Text text at f.end s
-      → k ≡ p.weights.group + (text_byte_weight * length s + joining_bytes text at f.end s))
+      → TakesBytes p q k → ((s : List ℕ) → (t : Text text at f.end s)
+      → k ≡ p.weights.group + (text_byte_weight * length s + joining_bytes t))
       → slice_index text f.next ≡ ascii.comma → IsText text at f x → v.items ≡ []
       → StepsTo text (untyped_place X at) p q (read.Member v (String x) f.next)
   untyped_comma v at f x t sum c h e =

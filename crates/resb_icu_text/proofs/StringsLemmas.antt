@@ -9,25 +9,29 @@ use Rattle.resb_icu_grammar.specs.Bytes.{are_key_bytes}
 use Rattle.resb_icu_grammar.specs.Blanks.{Skip}
 use Rattle.resb_icu_grammar.specs.Pieces.{QuotedBytes, ends, byte, escape, QuotedPiece, Joined}
 use Rattle.resb_icu_grammar.specs.Pieces.{last_piece, one_more}
-use Rattle.resb_icu_grammar.specs.Faults.{PieceFault, StringFault, this_piece, Told, a_fault}
+use Rattle.resb_icu_grammar.specs.Faults.{PieceFault, PiecesFault, this_piece, StringFault}
+use Rattle.resb_icu_grammar.specs.Faults.{this_part, Told, a_fault}
 use Rattle.resb_icu_grammar.specs.declared.expected.IcuExpected.{IcuExpected}
 use Rattle.resb_icu_grammar.proofs.Faults.{fault_no_string, unquoted_told}
 use Rattle.resb_icu_grammar.specs.Unquoted.{Unquoted, last_one, UnquotedRow}
-use Rattle.resb_icu_grammar.specs.Words.{Text, KeyText, HasNoEscape, Verbatim, a_word, a_piece}
+use Rattle.resb_icu_grammar.specs.Words.{Part, another_follows, Text, one_part, more_parts}
+use Rattle.resb_icu_grammar.specs.Words.{KeyText, HasNoEscape, Verbatim, a_word, a_piece}
 use Rattle.resb_icu_grammar.specs.Unquoted as rows
 use Rattle.resb_icu_grammar.specs.Words as words
 use Rattle.resb_icu_grammar.proofs.Lexical.{Piece-one, no_quote_word, joined_first, Inside-one}
 use Rattle.resb_icu_grammar.proofs.Lexical.{Unquoted-one, no_quote_row}
 use Rattle.std.proofs.lemmas.List.{length-append}
-use Rattle.resb_icu_text.proofs.LengthLemmas.{blanks_order, string_short, joined_short}
+use Rattle.resb_icu_text.proofs.LengthLemmas.{blanks_order, part_short, string_short, joined_short}
+use Rattle.resb_icu_text.proofs.LengthLemmas.{ends_alone}
 use Rattle.resb_icu_text.proofs.PartsLemmas.{Rows, RowFrom, one_alone, and_others, Walked, IsApart}
-use Rattle.resb_icu_text.proofs.ReachLemmas.{reach_string}
-use Rattle.resb_grammar.proofs.ReachLemmas.{reach_low, reach_high}
+use Rattle.resb_icu_text.proofs.ReachLemmas.{reach_part}
+use Rattle.resb_icu_text.proofs.ReachLemmas.{reach_low, reach_high}
 use Rattle.resb_icu_text.specs.declared.strings.Said.{Said}
 use Rattle.resb_icu_grammar.specs.Stuck.{NoStringAt}
 use Rattle.resb_icu_text.specs.Lexemes.{IsLexeme}
-use Rattle.resb_icu_text.specs.Inner.Ahead.{StringFails}
-use Rattle.resb_icu_text.specs.Inner.Found.{IsFound, IsSaid, Shows, length_of, fits_key, is_whole}
+use Rattle.resb_icu_text.specs.Inner.Ahead.{StringFails, PartFails, in_pieces, nothing}
+use Rattle.resb_icu_text.specs.Inner.Found.{IsPart, IsFound, IsSaid, Shows, OfParts, length_of}
+use Rattle.resb_icu_text.specs.Inner.Found.{fits_key, is_whole}
 use Rattle.resb_icu_text.specs.Inner.Unquoted.{row_goes_on}
 use Rattle.resb_icu_text.specs.declared.strings.Found.{Found}
 use Rattle.resb_icu_text.specs.declared.strings.Stands.{Stands}
@@ -42,18 +46,29 @@ pub piece_of : (text : List ℕ) (from last : ℕ) (bytes : List ℕ)
     → QuotedPiece text from (last + 1) bytes
 piece_of text from last bytes q h = record { last = last; opens = q; inside = h; ends = refl }
 
+-- where no unquoted string stands, no row does
+no_row : (text : List ℕ) (from : ℕ) → ((to : ℕ) (s : List ℕ) → Unquoted text from to s → ⊥)
+    → (to : ℕ) (s : List ℕ) → UnquotedRow text from to s → ⊥
+no_row text from never to s (last_one _ _ m _ w k h) = never to s w
+no_row text from never to s (rows.one_more _ m i _ us vs w h k r) = never m us w
+
 -- where neither a quote nor an unquoted string stands, no string does
 pub no_lexeme : (text : List ℕ) (from : ℕ) → slice_index text from ≢ ascii.quote
     → ((to : ℕ) (s : List ℕ) → Unquoted text from to s → ⊥) → NoStringAt text from
-no_lexeme text from n never to s (words.a_row (last_one _ _ m _ w k h)) = never to s w
-no_lexeme text from n never to s (words.a_row (rows.one_more _ m i _ us vs w h k r)) =
-    never m us w
-no_lexeme text from n never to s (words.quoted j) = n (joined_first text from to s j)
+no_lexeme text from n never to s t = by t
+  where
+    no_part : {end : ℕ} {u : List ℕ} → Part text from end u → ⊥
+    no_part {end} {u} (words.a_row r) = no_row text from never end u r
+    no_part {end} {u} (words.quoted j) = n (joined_first text from end u j)
+
+    by : {end : ℕ} {u : List ℕ} → Text text from end u → ⊥
+    by (one_part _ _ m _ p k h) = no_part p
+    by (more_parts _ m i _ us vs p k h r) = no_part p
 
 -- the fault of the piece that begins here
 pub piece_fault : (text : List ℕ) (from to : ℕ) (x : IcuExpected)
     → slice_index text from ≡ ascii.quote
-    → PieceFault text (from + 1 - 1) (from + 1) to x → StringFault text from to x
+    → PieceFault text (from + 1 - 1) (from + 1) to x → PiecesFault text from to x
 piece_fault text from to x q h =
     let same : from + 1 - 1 ≡ from = omega arith in
     this_piece from to x q (subst (λ i. PieceFault text i (from + 1) to x) same h)
@@ -71,8 +86,15 @@ pub unquoted_fails : (text : List ℕ) (from : ℕ) (x : IcuExpected) (e : IcuTe
 unquoted_fails text from x e h n w = (
   no_lexeme text from n w,
   subst (λ (f : IcuTextError). Told text from x f.position f.expected) (sym h)
-      (unquoted_told text from x n),
+      (unquoted_told text from x n (no_row text from w)),
 )
+
+-- where no part of a string stands, no string does, and the same is told
+pub part_fails : (text : List ℕ) (from : ℕ) (x : IcuExpected) (e : IcuTextError)
+    → PartFails text from x e → StringFails text from x e
+part_fails text from x e (in_pieces f) =
+    fault_fails text from x e (this_part from e.position e.expected f)
+part_fails text from x e (nothing n w h) = unquoted_fails text from x e h n w.0
 
 -- what stands between two places is its first byte and the others
 pub slice_cons : (text : List ℕ) (at to : ℕ) → at < to → at < length text
@@ -115,14 +137,10 @@ pub key_plain : (text : List ℕ) (from to : ℕ) (s : List ℕ) → KeyText tex
     → Verbatim text from to s × (are_key_bytes s ≡ true)
 key_plain text from to s k = (k.verbatim, k.fits)
 
-plain_key : (text : List ℕ) (from to : ℕ) (s : List ℕ) → Verbatim text from to s
-    → are_key_bytes s ≡ true → KeyText text from to s
-plain_key text from to s v k = record { verbatim = v; fits = k }
-
-plain_is_string : (text : List ℕ) (from to : ℕ) (s : List ℕ) → Verbatim text from to s
-    → Text text from to s
-plain_is_string text from to s (a_word r w) = words.a_row r
-plain_is_string text from to s (a_piece j p n) = words.quoted j
+plain_is_part : (text : List ℕ) (from to : ℕ) (s : List ℕ) → Verbatim text from to s
+    → Part text from to s
+plain_is_part text from to s (a_word r w) = words.a_row r
+plain_is_part text from to s (a_piece j p n) = words.quoted j
 
 -- what was found says just as many bytes as it is told to
 pub length_shown : (text : List ℕ) (from end : ℕ) (said : List ℕ) (s : Stands)
@@ -130,21 +148,20 @@ pub length_shown : (text : List ℕ) (from end : ℕ) (said : List ℕ) (s : Sta
 length_shown text from end said (found.Whole slice) h = ap length (sym h)
 length_shown text from end said (found.InPieces n) h = sym h.0
 length_shown text from end said (found.InRow n) h = sym h.0
+length_shown text from end said (found.InParts n) h = sym h.0
 
 module _ {text : List ℕ} {from end next : ℕ} {said : List ℕ} (stands : Stands)
-    (t : Text text from end said) (shows : Shows text from end said stands)
+    (p : Part text from end said) (shows : Shows text from end said stands)
     (blanks : Skip text end next) (order : end ≤ next) (fits : next ≤ length text) where
-  -- a string that stands there, whether it may be a key, and whether it is a slice
-  found_there : IsTrue (fits_key stands) ↔ KeyText text from end said
-      → IsTrue (is_whole stands) ↔ Verbatim text from end said
-      → IsFound text from (record { end = end; next = next; stands = stands })
-  found_there key slice =
-      let short = string_short text from end said t in
+  -- a part that stands there, and whether it is a slice
+  found_there : IsTrue (is_whole stands) ↔ Verbatim text from end said
+      → IsPart text from (record { end = end; next = next; stands = stands })
+  found_there slice =
+      let short = part_short text from end said p in
       record {
         said = said;
         shows = shows;
-        string = t;
-        key = key;
+        part = p;
         slice = slice;
         blanks = blanks;
         after = short.1;
@@ -152,39 +169,30 @@ module _ {text : List ℕ} {from end next : ℕ} {said : List ℕ} (stands : Sta
         fits = fits;
         counted = length_shown text from end said stands shows;
         short = short.0;
-        here = reach_string text from end said t;
+        here = reach_part text from end said p;
         low = reach_low text next fits;
         high = reach_high text next fits;
       }
 
   -- one that has to be put together
-  together_found : fits_key stands ≡ false → is_whole stands ≡ false
-      → (Verbatim text from end said → ⊥)
-      → IsFound text from (record { end = end; next = next; stands = stands })
-  together_found k w never =
-      found_there (
-        λ b. absurd (false≢true (sym k ∙ b)),
-        λ p. absurd (never (key_plain text from end said p).0),
-      )
-      (λ b. absurd (false≢true (sym w ∙ b)), λ v. absurd (never v))
+  together_found : is_whole stands ≡ false → (Verbatim text from end said → ⊥)
+      → IsPart text from (record { end = end; next = next; stands = stands })
+  together_found w never =
+      found_there (λ b. absurd (false≢true (sym w ∙ b)), λ v. absurd (never v))
 
 -- one that stands in the text as it is
 plain_found : (text : List ℕ) (from end next : ℕ) (slice : Bor (List ℕ))
     → Verbatim text from end slice.now → Skip text end next → end ≤ next → next ≤ length text
-    → IsFound text from (record { end = end; next = next; stands = found.Whole slice })
+    → IsPart text from (record { end = end; next = next; stands = found.Whole slice })
 plain_found text from end next slice p blanks order fits =
-    found_there (found.Whole slice) (plain_is_string text from end slice.now p) refl blanks order
-    fits (
-      λ t. plain_key text from end slice.now p t,
-      λ k. (key_plain text from end slice.now k).1,
-    )
-    (λ _. p, λ _. refl)
+    found_there (found.Whole slice) (plain_is_part text from end slice.now p) refl blanks order
+    fits (λ _. p, λ _. refl)
 
 -- an unquoted string with no other behind it
 pub word_found : (text : List ℕ) (from end next : ℕ) (slice : Bor (List ℕ))
     → Unquoted text from end slice.now → Skip text end next
     → row_goes_on text end next ≡ false → end ≤ next → next ≤ length text
-    → IsFound text from (record { end = end; next = next; stands = found.Whole slice })
+    → IsPart text from (record { end = end; next = next; stands = found.Whole slice })
 word_found text from end next slice w s h order fits =
     plain_found text from end next slice (a_word (last_one from end next slice.now w s h) w) s order
     fits
@@ -194,11 +202,11 @@ pub row_found : (text : List ℕ) (from at end next n m : ℕ) (s : List ℕ) �
     → end ≤ next → next ≤ length text → m ≡ n + length s → Unquoted text at end s
     → row_goes_on text end next ≡ false → at ≢ from
     → Walked (Unquoted text) (UnquotedRow text) from at n
-    → IsFound text from (record { end = end; next = next; stands = found.InRow m })
+    → IsPart text from (record { end = end; next = next; stands = found.InRow m })
 row_found text from at end next n m s blanks order fits sum w h other a =
     let r = a.on end s (last_one at end next s w blanks h) in
     together_found (found.InRow m) (words.a_row r)
-    (omega (arith, sum, a.counted, length-append a.said s), r) blanks order fits refl refl
+    (omega (arith, sum, a.counted, length-append a.said s), r) blanks order fits refl
     (never a.apart)
   where
     never : (at ≡ from) ⊎ IsApart (Unquoted text) from at → {said : List ℕ}
@@ -216,12 +224,12 @@ pub pieces_found : (text : List ℕ) (from at last next n m : ℕ) (s : List ℕ
     → slice_index text next ≢ ascii.quote
     → (at ≢ from) ⊎ (HasNoEscape text (at + 1) last → ⊥)
     → Walked (QuotedPiece text) (Joined text) from at n
-    → IsFound text from (record { end = last + 1; next = next; stands = found.InPieces m })
+    → IsPart text from (record { end = last + 1; next = next; stands = found.InPieces m })
 pieces_found text from at last next n m s blanks order fits sum q i h either a =
     let p = piece_of text at last s q i in
     let j = a.on (last + 1) s (last_piece at (last + 1) next s p blanks h) in
     together_found (found.InPieces m) (words.quoted j)
-    (omega (arith, sum, a.counted, length-append a.said s), j) blanks order fits refl refl
+    (omega (arith, sum, a.counted, length-append a.said s), j) blanks order fits refl
     (never a.apart either)
   where
     opens : (at ≡ from) ⊎ IsApart (QuotedPiece text) from at → slice_index text from ≡ ascii.quote
@@ -245,7 +253,7 @@ pub piece_found : (text : List ℕ) (from last next : ℕ) (first : List ℕ) (s
     → Skip text (last + 1) next → slice_index text next ≢ ascii.quote
     → HasNoEscape text (from + 1) last → slice.now ≡ slice_range text (from + 1) last
     → last + 1 ≤ next → next ≤ length text
-    → IsFound text from (record { end = last + 1; next = next; stands = found.Whole slice })
+    → IsPart text from (record { end = last + 1; next = next; stands = found.Whole slice })
 piece_found text from last next first slice opens h s n f e order fits =
     let b : first ≡ slice.now = plain_inside text (from + 1) last first h f ∙ sym e in
     let p = subst (QuotedPiece text from (last + 1)) b (piece_of text from last first opens h) in
@@ -253,6 +261,77 @@ piece_found text from last next first slice opens h s n f e order fits =
     (a_piece (last_piece from (last + 1) next slice.now p s n) p
     (no_escape_quoted text from last opens (inside_closes text (from + 1) last first h) f)) s order
     fits
+
+-- whether what was found may be a key
+key_found : (text : List ℕ) (from end : ℕ) (said : List ℕ) (stands : Stands)
+    → Shows text from end said stands → IsTrue (is_whole stands) ↔ Verbatim text from end said
+    → Text text from end said → IsTrue (fits_key stands) ↔ KeyText text from end said
+key_found text from end said (found.Whole s) h w t = (
+  λ e. record {
+    whole = t;
+    verbatim = w.0 refl;
+    fits = subst (λ u. are_key_bytes u ≡ true) h e;
+  },
+  λ k. subst (λ u. are_key_bytes u ≡ true) (sym h) k.fits,
+)
+key_found text from end said (found.InPieces n) h w t =
+    (λ e. absurd (false≢true e), λ k. absurd (false≢true (w.1 k.verbatim)))
+key_found text from end said (found.InRow n) h w t =
+    (λ e. absurd (false≢true e), λ k. absurd (false≢true (w.1 k.verbatim)))
+key_found text from end said (found.InParts n) h w t =
+    (λ e. absurd (false≢true e), λ k. absurd (false≢true (w.1 k.verbatim)))
+
+-- a part behind which no other follows is a string
+pub alone : (text : List ℕ) (from : ℕ) (f : Found) → (is : IsPart text from f)
+    → another_follows text from is.said f.next ≡ false → IsFound text from f
+alone text from f is h =
+    let t = one_part from f.end f.next is.said is.part is.blanks h in
+    record {
+      said = is.said;
+      shows = is.shows;
+      string = t;
+      key = key_found text from f.end is.said f.stands is.shows is.slice t;
+      slice = is.slice;
+      blanks = is.blanks;
+      after = is.after;
+      order = is.order;
+      fits = is.fits;
+      counted = is.counted;
+      short = is.short;
+      here = is.here;
+      low = is.low;
+      high = is.high;
+    }
+
+-- a string of several parts
+pub of_parts : (text : List ℕ) (from end next n : ℕ) (said : List ℕ) → OfParts text from end said
+    → n ≡ length said → Skip text end next → end ≤ next → next ≤ length text
+    → IsFound text from (record { end = end; next = next; stands = found.InParts n })
+of_parts text from end next n said p sum blanks order fits =
+    let t = subst (Text text from end) (sym p.means)
+    (more_parts from p.mid p.next end p.first p.later p.part p.after p.more p.rest) in
+    let short = string_short text from end said t in
+    record {
+      said = said;
+      shows = (sum, p);
+      string = t;
+      key = (λ e. absurd (false≢true e), λ k. absurd (never k.verbatim));
+      slice = (λ e. absurd (false≢true e), λ v. absurd (never v));
+      blanks = blanks;
+      after = short.1;
+      order = order;
+      fits = fits;
+      counted = sym sum;
+      short = short.0;
+      here = reach_part text from p.mid p.first p.part;
+      low = reach_low text next fits;
+      high = reach_high text next fits;
+    }
+  where
+    never : Verbatim text from end said → ⊥
+    never v =
+        ends_alone text from p.mid p.next end said p.first p.later
+        (plain_is_part text from end said v) p.part p.after p.rest
 
 -- what was found and is made
 pub made_lexeme : (text : List ℕ) (from : ℕ) (f : Found) (s : Said) → IsFound text from f

@@ -6,6 +6,7 @@ use Rattle.resb_grammar.specs.Ascii as ascii
 use Rattle.resb_grammar.specs.GroupTypes.{Stands, NoFallback}
 use Rattle.resb_icu_grammar.specs.declared.group_kind.IcuKind.{IcuKind as Kind}
 use Rattle.resb_icu_grammar.specs.declared.group_kind.IcuKind.TheVariants.{Table as table_kind}
+use Rattle.resb_icu_grammar.specs.Blanks.{Skip}
 use Rattle.resb_icu_grammar.specs.Kinds.{Names}
 use Rattle.resb_icu_grammar.specs.Words.{Word, TypeName, GroupType, RootType, table_type}
 use Rattle.resb_icu_grammar.specs.Words.{no_fallback_type}
@@ -15,7 +16,7 @@ use Rattle.resb_icu_grammar.specs.declared.expected.IcuExpected.{IcuExpected}
 use Rattle.resb_icu_grammar.specs.declared.expected.IcuExpected.TheVariants as expect
 use Rattle.resb_icu_text.specs.declared.error.IcuTextError.{IcuTextError}
 use Rattle.resb_icu_grammar.proofs.Types.{no_type_there}
-use Rattle.resb_icu_grammar.proofs.Lexical.{GroupType-one}
+use Rattle.resb_icu_grammar.proofs.Lexical.{GroupType-one, Skip-one}
 
 -- where the first byte is another, the bytes do not stand
 pub not_there : (text xs : List ℕ) (here i : ℕ) → i < length xs
@@ -34,21 +35,24 @@ module _ (text : List ℕ) (at : ℕ) where
     subst (λ (f : IcuTextError). TypeStuck text at f.expected) (sym h) s,
   )
 
-  -- where no word stands behind the colon, no type does
-  pub no_type_word : (e : IcuTextError)
-      → e ≡ record { position = at; expected = expect.GroupType }
-      → ((to : ℕ) (s : List ℕ) → Word text (at + 1) to s → ⊥)
+  -- where no word stands behind the colon and blanks, no type does
+  pub no_type_word : (e : IcuTextError) (place : ℕ)
+      → e ≡ record { position = at; expected = expect.GroupType } → Skip text (at + 1) place
+      → ((to : ℕ) (s : List ℕ) → Word text place to s → ⊥)
       → (e.position ≡ at) × TypeStuck text at e.expected
-  no_type_word e h never =
-      says_stuck e expect.GroupType h (no_type_name (λ to s n. never to s n.word))
+  no_type_word e place h between never =
+      says_stuck e expect.GroupType h (no_type_name (λ to s n. never to s
+      (subst (λ i. Word text i to s)
+      (Skip-one text (at + 1) n.place place n.between between) n.word)))
 
   -- a word that names no type of a tree
-  pub no_tree_word : (e : IcuTextError) (to : ℕ) (s : List ℕ)
+  pub no_tree_word : (e : IcuTextError) (place to : ℕ) (s : List ℕ)
       → e ≡ record { position = at; expected = instead_of s }
-      → slice_index text at ≡ ascii.colon → Word text (at + 1) to s
+      → slice_index text at ≡ ascii.colon → Skip text (at + 1) place → Word text place to s
       → ((kind : Kind) → Names s kind → ⊥) → (e.position ≡ at) × TypeStuck text at e.expected
-  no_tree_word e to s h c w never =
-      says_stuck e (instead_of s) h (no_tree to s (record { colon = c; word = w }) never)
+  no_tree_word e place to s h c between w never =
+      says_stuck e (instead_of s) h
+      (no_tree to s (record { place = place; colon = c; between = between; word = w }) never)
 
   -- a table with `(nofallback)` behind it
   pub root_off : (to : ℕ) → GroupType text at to table_kind → NoFallback text to

@@ -6,8 +6,9 @@ pub mod Escaped
 pub mod Found
 pub mod Kept
 pub mod Leaf
-pub mod Numbers
+pub mod Parts
 pub mod Quota
+pub mod Reach
 pub mod Reading
 pub mod Steps
 pub mod Stops

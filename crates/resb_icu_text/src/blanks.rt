@@ -8,7 +8,8 @@ ghost use Rattle.resb_grammar.specs.ByteRuns as spec;
 ghost use Rattle.resb_grammar.specs.ByteRuns.{Each};
 ghost use Rattle.resb_grammar.specs.Lexical.{FirstCloser};
 ghost use Rattle.resb_icu_grammar.specs.Blanks.{are_there, LineRest, Comment, Skip};
-ghost use Rattle.resb_grammar.specs.Inner.Reach.{reach};
+ghost use Rattle.resb_icu_grammar.specs.Unquoted as unquoted;
+ghost use Rattle.resb_icu_text.specs.Inner.Reach.{reach};
 
 use crate::turns::IcuTurns;
 use resb_grammar::blanks_end;
@@ -24,6 +25,14 @@ pub(crate) fn byte(text: &str, at: usize) -> u8
     } else {
         0
     }
+}
+
+/// Whether a comment begins there, or seems to.
+#[inline(always)]
+pub(crate) fn begins_comment(text: &str, at: usize) -> bool
+    ensures { result ≡ unquoted.begins_comment text.now at }
+{
+    byte(text, at) == b'/' && (byte(text, at + 1) == b'/' || byte(text, at + 1) == b'*')
 }
 
 /// Whether the character U+2029 stands there.
@@ -151,7 +160,7 @@ fn skip_all(text: &str, from: usize, turns: &mut IcuTurns) -> usize
         let white = blanks_end(text.as_bytes(), at);
         turns.add(white - at + 1);
         at = white;
-        if byte(text, at) != b'/' {
+        if !begins_comment(text, at) {
             return at;
         }
         match comment_end(text, at) {

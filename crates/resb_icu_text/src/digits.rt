@@ -6,7 +6,7 @@ ghost use Rattle.resb_grammar.specs.Ascii as ascii;
 ghost use Rattle.resb_grammar.specs.Group as group;
 ghost use Rattle.resb_icu_grammar.specs.Pieces.{QuotedBytes, Joined};
 ghost use Rattle.resb_icu_text.specs.Inner.Digits.{are_digits, DigitAt, SaysPairs, SaysNone};
-ghost use Rattle.resb_icu_text.specs.Inner.Found.{IsFound};
+ghost use Rattle.resb_icu_text.specs.Inner.Found.{IsFound, is_of_parts};
 ghost use Rattle.resb_icu_text.specs.declared.strings.Stands.TheVariants as the;
 
 use crate::blanks::{byte, skip};
@@ -53,10 +53,15 @@ fn digit_end(text: &str, at: usize) -> Option<usize>
         return if is_hex(b as u32) { Some(at + 1) } else { None };
     }
     let (to, character) = escape(text, at + 1)?;
-    if is_hex(character? as u32) {
-        Some(to)
-    } else {
-        None
+    match character {
+        Some(c) => { if is_hex(c as u32) { Some(to) } else { None } }
+        None => {
+            if is_hex(byte(text, at + 1) as u32) {
+                Some(to)
+            } else {
+                None
+            }
+        }
     }
 }
 
@@ -87,18 +92,20 @@ fn say_digits(text: &str, from: usize, end: usize) -> bool
 fn says_digits(found: Found<'_>, text: &str, from: usize) -> bool
     requires found { IsFound text.now from found }
     requires other { (n : ℕ) → found.stands ≡ the.InRow n → ⊥ }
+    requires alone { is_of_parts found.stands ≡ false }
     ensures { (is : IsFound text.now from found.entry) → result ≡ are_digits is.said }
 {
     match found.stands {
         Stands::Whole(slice) => are_hex(slice.as_bytes()),
         Stands::InPieces(_) => say_digits(text, from, found.end),
-        Stands::InRow(_) => unreachable!(),
+        Stands::InRow(_) | Stands::InParts(_) => unreachable!(),
     }
 }
 
 /// How many bytes a string says as pairs of hex digits, if it says such, where it was found at a
-/// place of a text: unquoted strings in a row each whole pairs. Nothing is put together. Counts
-/// two turns for each byte of the text there: a digit is looked at here, and decoded later.
+/// place of a text: unquoted strings in a row each whole pairs, and several parts none. Nothing is
+/// put together. Counts two turns for each byte of the text there: a digit is looked at here, and
+/// decoded later.
 pub(crate) fn hex_length(
     found: Found<'_>,
     text: &str,
@@ -114,6 +121,9 @@ pub(crate) fn hex_length(
     turns.add(found.end - from);
     if let Stands::InRow(_) = found.stands {
         return row_pairs(text, from, found.end);
+    }
+    if found.is_of_parts() {
+        return None;
     }
     if !says_digits(found, text, from) {
         return None;

@@ -4,12 +4,12 @@ ghost use Rattle.std.specs.Prelude.{◌≡◌, ◌≢◌, ◌+◌, ◌*◌, ◌<
 ghost use Rattle.std.specs.Prelude.{◌-◌, None, Some, IfOk, slice_index};
 ghost use Rattle.resb_grammar.specs.Ascii as ascii;
 ghost use Rattle.resb_icu_grammar.specs.declared.group_kind.IcuKind.TheVariants as kinds;
-ghost use Rattle.resb_icu_grammar.specs.Groups.{digit_bytes};
+ghost use Rattle.resb_icu_grammar.specs.Groups.{digits_of};
 ghost use Rattle.resb_icu_text.specs.Inner.Found.{IsFound, turns_to_make};
 ghost use Rattle.resb_icu_text.specs.Inner.Leaf.{IsReadLeaf, LeafStops, IsVector, IsBrace};
 ghost use Rattle.resb_icu_text.specs.Inner.Leaf.{IsBehindNumber, WantsBrace, WantsCommaOrBrace};
 ghost use Rattle.resb_icu_text.specs.Inner.Turns.{Halts};
-ghost use Rattle.resb_grammar.specs.Inner.Reach.{reach};
+ghost use Rattle.resb_icu_text.specs.Inner.Reach.{reach};
 
 use crate::blanks::{byte, skip};
 use crate::digits::hex_length;
@@ -122,9 +122,9 @@ fn decoded(
 ) -> Result<Vec<u8>, NoMemory>
     requires found { IsFound text.now from found }
     requires pairs { (is : IsFound text.now from found)
-        → digit_bytes text.now from is.said ≢ None }
+        → digits_of is.string ≢ None }
     ensures bytes { IfOk result (λ v. (is : IsFound text.now from found.entry)
-        → digit_bytes text.now from is.said ≡ Some v.items) }
+        → digits_of is.string ≡ Some v.items) }
     ensures cost { let bytes = found.entry.end - from in turns.new.count
         ≤ turns.old.count + turns_to_make bytes found.entry.stands }
 {

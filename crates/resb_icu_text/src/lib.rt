@@ -11,6 +11,7 @@ mod error;
 mod escapes;
 mod leaf;
 mod open;
+mod parts;
 mod pieces;
 mod quota;
 mod reader;

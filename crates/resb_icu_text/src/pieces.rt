@@ -12,7 +12,7 @@ ghost use Rattle.resb_icu_text.specs.Inner.Stops.{FirstStop, HasNoStop, IsPiece}
 
 use crate::blanks::byte;
 use crate::error::IcuTextError;
-use crate::escapes::escape;
+use crate::escapes::{escape, escape_there};
 use crate::turns::IcuTurns;
 use memchr::memchr2;
 use resb_grammar::bytes_before;
@@ -96,7 +96,7 @@ pub(crate) fn piece_end(
         }
         let Some((to, c)) = escape(text, stop + 1) else {
             turns.add(text.len() - at);
-            return Err(IcuTextError::new(stop, IcuExpected::Escape));
+            return Err(IcuTextError::new(stop, escape_there(text, stop + 1)));
         };
         turns.add(to - at);
         length += escaped_length(c);

@@ -6,7 +6,7 @@ ghost use Rattle.std.specs.Prelude.{IfOk, IfErr, MatchResult};
 ghost use Rattle.resb_draft.specs.Drafts.{draft_tree, is_ready};
 ghost use Rattle.resb_grammar.specs.BundleText.{first_places};
 ghost use Rattle.resb_grammar.specs.Limit.{tree_limit, draft_limit};
-ghost use Rattle.resb_grammar.specs.Inner.Reach.{reach};
+ghost use Rattle.resb_icu_text.specs.Inner.Reach.{reach};
 ghost use Rattle.resb_tree.specs.Bundle.{name_of, root_of};
 ghost use Rattle.resb_icu_grammar.specs.Blanks.{Begins};
 ghost use Rattle.resb_icu_grammar.specs.Bundle as bundle;

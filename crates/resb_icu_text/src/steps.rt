@@ -4,7 +4,7 @@
 ghost use Rattle.std.specs.Prelude.{◌≡◌, ◌≢◌, ◌+◌, ◌*◌, ◌<◌, ◌≤◌, true, length};
 ghost use Rattle.std.specs.Prelude.{slice_index, IfOk, MatchResult, IsTrue, false};
 ghost use Rattle.resb_grammar.specs.Ascii as ascii;
-ghost use Rattle.resb_grammar.specs.Inner.Reach.{reach};
+ghost use Rattle.resb_icu_text.specs.Inner.Reach.{reach};
 ghost use Rattle.resb_icu_grammar.specs.Groups as spec;
 ghost use Rattle.resb_icu_grammar.specs.Limit.{next_key_bytes, opening_bytes};
 ghost use Rattle.resb_icu_grammar.specs.Machine.{BeginsGroup};

@@ -1,27 +1,28 @@
-//! Strings: unquoted ones in a row, or all quoted pieces in a row.
-//! What stands in a piece is said in `pieces`.
+//! Strings, and the parts of one: unquoted ones in a row, or all quoted pieces in a row.
+//! What stands in a piece is said in `pieces`; strings of several parts are in `parts`.
 ghost use Rattle.std.specs.Prelude.{◌≡◌, ◌+◌, ◌-◌, ◌*◌, ◌<◌, ◌≤◌, ◌++◌, ℕ, true, false, List};
 ghost use Rattle.std.specs.Prelude.{length, slice_index, IfSome, IfNone, IfOk, OnOk};
 ghost use Rattle.std.specs.Prelude.{MatchOption, MatchResult};
 ghost use Rattle.std.specs.Cow.{cow_str_bytes};
 ghost use Rattle.std.specs.String.{string_bytes};
 ghost use Rattle.resb_grammar.specs.Ascii as ascii;
-ghost use Rattle.resb_grammar.specs.Inner.Reach.{reach};
-ghost use Rattle.resb_icu_grammar.specs.Faults.{StringFault};
-ghost use Rattle.resb_icu_grammar.specs.Limit.{joining_bytes, is_put_together};
+ghost use Rattle.resb_icu_text.specs.Inner.Reach.{reach};
+ghost use Rattle.resb_icu_grammar.specs.Faults.{PiecesFault};
+ghost use Rattle.resb_icu_grammar.specs.Limit.{joining_bytes, is_joined};
 ghost use Rattle.resb_icu_grammar.specs.Pieces.{Joined};
 ghost use Rattle.resb_icu_grammar.specs.Stuck.{NoStringAt};
-ghost use Rattle.resb_icu_grammar.specs.Unquoted.{Unquoted};
 ghost use Rattle.resb_icu_grammar.specs.Words.{Text};
 ghost use Rattle.resb_tree.specs.Borrowing.{is_slice};
 ghost use Rattle.resb_tree.specs.Weights.{text_byte_weight};
 ghost use Rattle.resb_icu_text.specs.Lexemes.{IsLexeme};
-ghost use Rattle.resb_icu_text.specs.Inner.Ahead.{StringFails};
-ghost use Rattle.resb_icu_text.specs.Inner.Found.{IsFound, Shows, length_of, fits_key};
-ghost use Rattle.resb_icu_text.specs.Inner.Found.{IsSaid, is_whole, turns_to_make};
+ghost use Rattle.resb_icu_text.specs.Inner.Ahead.{StringFails, PartFails, NoneBegins};
+ghost use Rattle.resb_icu_text.specs.Inner.Found.{IsPart, IsFound, Shows, length_of};
+ghost use Rattle.resb_icu_text.specs.Inner.Found.{IsSaid, fits_key, is_whole, is_of_parts};
+ghost use Rattle.resb_icu_text.specs.Inner.Found.{turns_to_make};
 
 use crate::blanks::{byte, skip};
 use crate::error::IcuTextError;
+use crate::parts::{another_follows, put_parts, with_more};
 use crate::pieces::{piece_end, push_piece};
 use crate::quota::{REQUEST, text_bytes};
 use crate::rows::{put_row, row_goes_on};
@@ -61,6 +62,8 @@ pub(crate) enum Stands<'a> {
     InPieces(usize),
     /// Unquoted strings in a row, which have to be put together too.
     InRow(usize),
+    /// Parts of both kinds, which have to be put together too.
+    InParts(usize),
 }
 
 /// A string that was found in a text, of which nothing is made yet, and the places behind it.
@@ -78,23 +81,35 @@ impl<'a> Found<'a> {
     {
         match &self.stands {
             Stands::Whole(slice) => slice.len(),
-            Stands::InPieces(length) | Stands::InRow(length) => *length,
+            Stands::InPieces(length) | Stands::InRow(length) | Stands::InParts(length) => *length,
         }
     }
 
+    /// Whether it has several parts.
+    pub(crate) fn is_of_parts(&self) -> bool
+        ensures { result ≡ is_of_parts self.now.stands }
+    {
+        matches!(self.stands, Stands::InParts(_))
+    }
+
     /// Whether it has to be put together, where it was found at a place of a text: a quoted one
-    /// that takes more of the text than what it says and two quotes, and unquoted ones in a row.
+    /// that takes more of the text than what it says and two quotes, unquoted ones in a row, and
+    /// parts of both kinds.
     fn is_put_together(&self, text: &str, from: usize) -> bool
         requires found { IsFound text.now from self.now }
         ensures { (is : IsFound text.now from self.now)
-            → result ≡ is_put_together text.now from self.now.end is.said }
+            → result ≡ is_joined is.string }
     {
+        if self.is_of_parts() {
+            return true;
+        }
         if byte(text, from) == b'"' {
             return self.end - from - self.length() > 2;
         }
         match self.stands {
             Stands::InRow(_) => true,
             Stands::InPieces(_) => true,
+            Stands::InParts(_) => true,
             Stands::Whole(_) => false,
         }
     }
@@ -103,8 +118,9 @@ impl<'a> Found<'a> {
     /// each, where it has to be put together.
     pub(crate) fn bytes_made(&self, text: &str, from: usize) -> u128
         requires found { IsFound text.now from self.now }
-        ensures { (s : List ℕ) → Text text.now from self.now.end s
-            → result ≡ text_byte_weight * length s + joining_bytes text.now from self.now.end s }
+        ensures made { (s : List ℕ) → (t : Text text.now from self.now.end s)
+            → result ≡ text_byte_weight * length s + joining_bytes t }
+        ensures most { result ≤ 4 * length_of self.now.stands + 32 }
     {
         let bytes = text_bytes(self.length());
         if self.is_put_together(text, from) {
@@ -131,7 +147,7 @@ impl<'a> Found<'a> {
                     None
                 }
             }
-            Stands::InPieces(_) | Stands::InRow(_) => None,
+            Stands::InPieces(_) | Stands::InRow(_) | Stands::InParts(_) => None,
         }
     }
 
@@ -160,6 +176,11 @@ impl<'a> Found<'a> {
             Stands::InRow(length) => {
                 let mut value = String::with_capacity(alloc, length)?;
                 put_row(&mut value, text, from, self.end, turns)?;
+                Ok(Said::Built(value))
+            }
+            Stands::InParts(length) => {
+                let mut value = String::with_capacity(alloc, length)?;
+                put_parts(&mut value, text, from, self.end, turns)?;
                 Ok(Said::Built(value))
             }
         }
@@ -215,10 +236,10 @@ fn put_together(
     }
 }
 
-/// The string that begins at a place of a text: unquoted ones in a row, or all quoted pieces that
-/// stand in a row
-/// with nothing but blanks between them. `None` where none does; refused is want of memory alone.
-/// One unquoted string and one piece without escapes are slices of the text; others are built.
+/// The string that begins at a place of a text: unquoted ones in a row, and all quoted pieces that
+/// stand in a row with nothing but blanks between them, in turn. `None` where none does; refused is
+/// want of memory alone. One unquoted string and one piece without escapes are slices of the text;
+/// others are built.
 pub fn string<'a>(
     alloc: Global,
     text: &'a str,
@@ -247,8 +268,8 @@ pub fn string<'a>(
 }
 
 /// The string that begins here, of which nothing is made; or, where none does, what is told in its
-/// place: the fault of a quoted string, or else that this was expected. The turns that it takes to
-/// make it are left over.
+/// place: the fault of a string in quotes, or else that this was expected. The turns that it takes
+/// to make it are left over.
 #[tactic(auto, using(crate::proofs::ReachLemmas::reached))]
 #[inline(always)]
 pub(crate) fn found_or<'a>(
@@ -267,6 +288,33 @@ pub(crate) fn found_or<'a>(
         (λ e. turns.new.count + 8 * reach text.now from
         ≤ turns.old.count + 8 * length text.now + 2) }
 {
+    let first = part_or(text, from, expected, turns)?;
+    if another_follows(text, from, &first) {
+        return with_more(text, from, first, turns);
+    }
+    Ok(first)
+}
+
+/// The part of a string that begins here, or what is told in its place.
+#[tactic(auto, using(crate::proofs::ReachLemmas::reached))]
+#[inline(always)]
+pub(crate) fn part_or<'a>(
+    text: &'a str,
+    from: usize,
+    expected: IcuExpected,
+    turns: &mut IcuTurns,
+) -> Result<Found<'a>, IcuTextError>
+    requires within { from ≤ length text.now }
+    ensures reads { MatchResult result (IsPart text.now from) (PartFails text.now from expected) }
+    ensures cost { MatchResult result
+        (λ f. let bytes = f.end - from in
+        turns.new.count + 6 * reach text.now from + 3 + turns_to_make bytes f.stands
+        ≤ turns.old.count + 6 * reach text.now f.next)
+        (λ e. turns.new.count + 8 * reach text.now from
+        ≤ turns.old.count + 8 * length text.now + 2) }
+    ensures cheap { IfOk result
+        (λ f. turns.new.count + 3 * from ≤ turns.old.count + 3 * reach text.now f.next) }
+{
     if byte(text, from) == b'"' {
         return quoted(text, from, turns);
     }
@@ -280,12 +328,13 @@ pub(crate) fn found_or<'a>(
 #[tactic(auto, using(crate::proofs::ReachLemmas::reached))]
 fn row<'a>(text: &'a str, from: usize, turns: &mut IcuTurns) -> Option<Found<'a>>
     requires within { from ≤ length text.now }
-    ensures reads { MatchOption result ((to : ℕ) (s : List ℕ) → Unquoted text.now from to s → ⊥)
-        (IsFound text.now from) }
+    ensures reads { MatchOption result (NoneBegins text.now from) (IsPart text.now from) }
     ensures cost { MatchOption result (turns.new.count ≤ turns.old.count + 1)
         (λ f. let bytes = f.end - from in
         turns.new.count + 6 * reach text.now from + 3 + turns_to_make bytes f.stands
         ≤ turns.old.count + 6 * reach text.now f.next) }
+    ensures cheap { IfSome result
+        (λ f. turns.new.count + 3 * from ≤ turns.old.count + 3 * reach text.now f.next) }
 {
     turns.add(1);
     let mut at = from;
@@ -316,14 +365,16 @@ fn row<'a>(text: &'a str, from: usize, turns: &mut IcuTurns) -> Option<Found<'a>
 fn quoted<'a>(text: &'a str, from: usize, turns: &mut IcuTurns) -> Result<Found<'a>, IcuTextError>
     requires within { from < length text.now }
     requires opens { slice_index text.now from ≡ ascii.quote }
-    ensures reads { MatchResult result (IsFound text.now from)
-        (λ e. StringFault text.now from e.position e.expected) }
+    ensures reads { MatchResult result (IsPart text.now from)
+        (λ e. PiecesFault text.now from e.position e.expected) }
     ensures cost { MatchResult result
         (λ f. let bytes = f.end - from in
         turns.new.count + 6 * reach text.now from + 3 + turns_to_make bytes f.stands
         ≤ turns.old.count + 6 * reach text.now f.next)
         (λ e. turns.new.count + 8 * reach text.now from
         ≤ turns.old.count + 8 * length text.now + 2) }
+    ensures cheap { IfOk result
+        (λ f. turns.new.count + 3 * from ≤ turns.old.count + 3 * reach text.now f.next) }
 {
     let mut at = from;
     let mut length = 0;

@@ -8,7 +8,7 @@ ghost use Rattle.resb_icu_grammar.specs.Unquoted as spec;
 ghost use Rattle.resb_icu_grammar.specs.Unquoted.{Unquoted};
 ghost use Rattle.resb_icu_text.specs.Inner.Unquoted.{GoesOnTo};
 
-use crate::blanks::byte;
+use crate::blanks::{begins_comment, byte};
 
 /// Whether a byte may stand in an unquoted string.
 fn is_unquoted(b: u8) -> bool
@@ -18,14 +18,6 @@ fn is_unquoted(b: u8) -> bool
         0 | b'\t' | b'\n' | b'\r' | b' ' | b'"' | b',' | b':' | b'\\' | b'{' | b'}' => false,
         _ => true,
     }
-}
-
-/// Whether a comment begins at a place, or seems to.
-fn begins_comment(text: &str, at: usize) -> bool
-    requires inside { at < length text.now }
-    ensures { result ≡ spec.begins_comment text.now at }
-{
-    byte(text, at) == b'/' && (byte(text, at + 1) == b'/' || byte(text, at + 1) == b'*')
 }
 
 /// Whether these three bytes stand there.
@@ -61,7 +53,7 @@ fn goes_on(text: &str, at: usize) -> bool
 fn may_begin(b: u8) -> bool
     ensures { result ≡ spec.may_begin b }
 {
-    b != b'/' && (b < 128 || 192 <= b)
+    b < 128 || 192 <= b
 }
 
 /// How far an unquoted string goes on that has begun before this place.

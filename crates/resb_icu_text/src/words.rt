@@ -1,19 +1,20 @@
 //! Words, and the numbers that some of them are.
 //! Which bytes a word and a key may hold is said in `resb_icu_grammar`; types are read in `types`,
 //! quoted strings in `strings`. Places count bytes of the text from its start.
-ghost use Rattle.std.specs.Prelude.{ℕ, ◌+◌, ◌*◌, ◌<◌, ◌≤◌};
-ghost use Rattle.std.specs.Prelude.{List, length, IfSome, IfNone};
+ghost use Rattle.std.specs.Prelude.{ℕ, ◌≡◌, ◌⊎◌, ◌+◌, ◌*◌, ◌<◌, ◌≤◌, true, false};
+ghost use Rattle.std.specs.Prelude.{List, length, slice_index, IfSome, IfNone};
+ghost use Rattle.std.specs.Char.{digit_value, is_digit};
 ghost use Rattle.resb_grammar.specs.Ascii as ascii;
 ghost use Rattle.resb_grammar.specs.ByteRuns.{Run};
-ghost use Rattle.resb_grammar.specs.Lexical as plain;
 ghost use Rattle.resb_icu_grammar.specs.Bytes as spec;
-ghost use Rattle.resb_icu_grammar.specs.Words.{Word, Digits, Number};
-ghost use Rattle.resb_icu_text.specs.Inner.Numbers.{DigitsInRange};
-ghost use Rattle.resb_grammar.specs.Inner.Reach.{reach};
+ghost use Rattle.resb_icu_grammar.specs.Numbers.{AllDigits, Magnitude, Signed, is_hex_letter};
+ghost use Rattle.resb_icu_grammar.specs.Words.{Word, Number};
+ghost use Rattle.resb_icu_text.specs.Inner.Reach.{reach};
 
 use crate::blanks::byte;
+use crate::escapes::hex_digit;
 use crate::turns::IcuTurns;
-use resb_grammar::{digits_end, negated};
+use resb_grammar::negated;
 use resb_icu_grammar::is_word;
 
 /// Where the run of word characters ends.
@@ -51,44 +52,103 @@ pub(crate) fn word<'a>(text: &'a str, from: usize, turns: &mut IcuTurns) -> Opti
     }
 }
 
-/// The end and the value of the digits that begin here, without a leading zero, of a value up to
-/// the limit.
-fn digits_up_to(text: &str, from: usize, limit: u64) -> Option<(usize, u64)>
-    requires within { from ≤ length text.now }
-    requires limit { limit < 4294967296 }
-    ensures found { IfSome result (λ r. Digits text.now from r.0 r.1) }
-    ensures limited { IfSome result (λ r. r.1 ≤ limit) }
-    ensures none { IfNone result ((to v : ℕ) → Digits text.now from to v → v ≤ limit → ⊥) }
+/// The value of a digit of this radix.
+fn digit_of(b: u8, radix: u64) -> Option<u64>
+    requires { radix ≤ 16 }
+    ensures found { IfSome result (λ v. (is_digit b radix ≡ true) × (v ≡ digit_value b)
+        × (v < radix)) }
+    ensures none { IfNone result (is_digit b radix ≡ false) }
 {
-    let (to, value) = digits_end(text.as_bytes(), from);
-    if from < to && value <= limit && (byte(text, from) != b'0' || to == from + 1) {
-        Some((to, value))
+    let value = hex_digit(b)? as u64;
+    if value < radix { Some(value) } else { None }
+}
+
+/// The number that the digits of a radix between two places say, up to a limit.
+fn all_digits(text: &str, from: usize, to: usize, radix: u64, limit: u64) -> Option<u64>
+    requires within { to ≤ length text.now }
+    requires radix { (1 ≤ radix) × (radix ≤ 16) }
+    requires limit { limit < 4294967296 }
+    ensures found { IfSome result (λ v. AllDigits radix text.now from to v) }
+    ensures limited { IfSome result (λ v. v ≤ limit) }
+    ensures none { IfNone result ((v : ℕ) → AllDigits radix text.now from to v → v ≤ limit → ⊥) }
+{
+    if from >= to {
+        return None;
+    }
+    let mut value = 0u64;
+    for at in from..to {
+        let digit = digit_of(byte(text, at), radix)?;
+        let more = value * radix + digit;
+        if more > limit {
+            return None;
+        }
+        value = more;
+    }
+    Some(value)
+}
+
+/// Whether hex digits follow a 0 and this letter.
+fn is_hex_letter(b: u8) -> bool
+    ensures { result ≡ is_hex_letter b }
+{
+    b == b'x' || b == b'X'
+}
+
+/// Whether the letter of a hexadecimal number follows the 0 that stands at the first of two places.
+fn begins_hex(text: &str, from: usize, to: usize) -> bool
+    requires within { from < length text.now }
+    ensures hex { result ≡ true → (from + 1 < to)
+        × (is_hex_letter (slice_index text.now (from + 1)) ≡ true) }
+    ensures other { result ≡ false → from + 1 < to
+        → is_hex_letter (slice_index text.now (from + 1)) ≡ true → ⊥ }
+{
+    if from + 1 < to {
+        is_hex_letter(byte(text, from + 1))
     } else {
-        None
+        false
     }
 }
 
-/// The number that the digits behind a sign, or those of the whole word, say; and where they end.
-#[tactic(auto, using(crate::proofs::WordsLemmas::signs))]
-fn signed_digits(text: &str, from: usize) -> Option<(usize, u32)>
-    requires within { from < length text.now }
-    ensures found { IfSome result (λ r. DigitsInRange text.now from r.0 r.1) }
-    ensures none { IfNone result ((to value : ℕ) → DigitsInRange text.now from to value → ⊥) }
+/// The number without a sign between two places, up to a limit.
+fn magnitude(text: &str, from: usize, to: usize, limit: u64) -> Option<u64>
+    requires within { (from ≤ to) × (to ≤ length text.now) }
+    requires limit { limit < 4294967296 }
+    ensures found { IfSome result (λ v. Magnitude text.now from to v) }
+    ensures limited { IfSome result (λ v. v ≤ limit) }
+    ensures none { IfNone result ((v : ℕ) → Magnitude text.now from to v → v ≤ limit → ⊥) }
+{
+    if byte(text, from) != b'0' {
+        let value = all_digits(text, from, to, 10, limit)?;
+        return Some(value);
+    }
+    if begins_hex(text, from, to) {
+        let value = all_digits(text, from + 2, to, 16, limit)?;
+        return Some(value);
+    }
+    let value = all_digits(text, from, to, 8, limit)?;
+    Some(value)
+}
+
+/// The number with its sign between two places.
+fn signed(text: &str, from: usize, to: usize) -> Option<u32>
+    requires within { (from < to) × (to ≤ length text.now) }
+    ensures found { IfSome result (λ v. Signed text.now from to v) }
+    ensures none { IfNone result ((v : ℕ) → Signed text.now from to v → ⊥) }
 {
     let b = byte(text, from);
     if b == b'+' {
-        let (to, value) = digits_up_to(text, from + 1, 2147483647)?;
-        Some((to, value as u32))
-    } else if b == b'-' {
-        let (to, value) = digits_up_to(text, from + 1, 2147483648)?;
-        Some((to, negated(value)))
-    } else {
-        let (to, value) = digits_up_to(text, from, 4294967295)?;
-        Some((to, value as u32))
+        let value = magnitude(text, from + 1, to, 2147483647)?;
+        return Some(value as u32);
     }
+    if b == b'-' {
+        let value = magnitude(text, from + 1, to, 2147483648)?;
+        return Some(negated(value));
+    }
+    let value = magnitude(text, from, to, 4294967295)?;
+    Some(value as u32)
 }
 
-/// The number that begins here, and where it ends. No word goes on behind it. Counts two turns for
+/// The number that begins here, and where it ends: a word, or one in quotes. Counts two turns for
 /// each byte of the word, and two for the byte behind it.
 #[tactic(auto, using(crate::proofs::WordsLemmas::numbers_of_words))]
 pub fn number(text: &str, from: usize, turns: &mut IcuTurns) -> Option<(usize, u32)>
@@ -101,6 +161,9 @@ pub fn number(text: &str, from: usize, turns: &mut IcuTurns) -> Option<(usize, u
     ensures most { turns.new.count + 8 * reach text.now from
         ≤ turns.old.count + 8 * length text.now + 2 }
 {
+    if byte(text, from) == b'"' {
+        return quoted_number(text, from, turns);
+    }
     let end = word_end(text, from);
     turns.add(end - from);
     turns.add(end - from);
@@ -108,6 +171,32 @@ pub fn number(text: &str, from: usize, turns: &mut IcuTurns) -> Option<(usize, u
     if from == end {
         return None;
     }
-    let (to, value) = signed_digits(text, from)?;
-    if to == end { Some((to, value)) } else { None }
+    let value = signed(text, from, end)?;
+    Some((end, value))
+}
+
+/// The number in quotes whose first quote stands here, and where it ends.
+#[tactic(auto, using(crate::proofs::WordsLemmas::numbers_of_words))]
+fn quoted_number(text: &str, from: usize, turns: &mut IcuTurns) -> Option<(usize, u32)>
+    requires within { from < length text.now }
+    requires opens { slice_index text.now from ≡ ascii.quote }
+    ensures found { IfSome result (λ r. Number text.now from r.0 r.1) }
+    ensures none { IfNone result ((to value : ℕ) → Number text.now from to value → ⊥) }
+    ensures within { IfSome result (λ r. (from < r.0) × (r.0 ≤ length text.now)) }
+    ensures cost { IfSome result
+        (λ r. turns.new.count + 2 * from ≤ turns.old.count + 2 * r.0 + 2) }
+    ensures most { turns.new.count + 8 * reach text.now from
+        ≤ turns.old.count + 8 * length text.now + 2 }
+{
+    let last = word_end(text, from + 1);
+    turns.add(last - from);
+    turns.add(last - from);
+    if byte(text, last) != b'"' {
+        return None;
+    }
+    if last == from + 1 {
+        return Some((last + 1, 0));
+    }
+    let value = signed(text, from + 1, last)?;
+    Some((last + 1, value))
 }

@@ -24,6 +24,7 @@ use Rattle.resb_pool_bundle.specs.Fields.{major, minor, index_length, attributes
 use Rattle.resb_pool_bundle.specs.Fields.{uses_pool, checksum_in, block_end_in, limit_in}
 use Rattle.resb_pool_bundle.specs.Fields.{short_limit_in}
 use Rattle.resb_format.specs.Parts.{no_pool}
+use Rattle.resb_pool_bundle.proofs.PassingFiles.{file_is}
 use Rattle.resb_pool_bundle.specs.FileWith.{IsFileWith}
 use Rattle.resb_pool_bundle.specs.Pool.{Pool, parts_with, block_bytes}
 use Rattle.resb_pool_bundle.proofs.Steps.{later_refusal}
@@ -63,7 +64,7 @@ given_pass : (pool : Pool) (bs : List ℕ)
     → (not (uses_pool bs) || nat_eq (unwrap_or (checksum_in bs) 0) pool.checksum) ≡ true
     → first_refusal (head_checks bs) ≡ None → IsFileWith (Some pool) bs
 unfolding refusal_with pool_given_checks
-given_pass pool bs a h = later_refusal (head_checks bs) _ h ∙ rw a refl
+given_pass pool bs a h = file_is (Some pool) bs (later_refusal (head_checks bs) _ h ∙ rw a refl)
 
 or_true : (a b : Bool) → b ≡ true → (a || b) ≡ true
 or_true true b e = refl

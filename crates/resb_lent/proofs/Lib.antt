@@ -18,9 +18,12 @@ mod Noting
 mod Told
 mod EndOrder
 mod Runs
+mod NumberedEnds
 pub mod LastEnding
 pub mod EndsRead
 mod TopsLemmas
 mod TopsFound
 mod Union
+mod Others
+mod EarlierCopies
 mod Examples

@@ -302,3 +302,40 @@ module _ (l : LentTexts) (block : List ℕ) (h : LendsTexts l block) where
     pub no_index : count ≡ 0 → 0 < length s → (i : ℕ) → LentText block s i → ⊥
     no_index z full i t =
         let (r, at, x, y) = lies_somewhere block s i full t in none_holds r at z x y
+
+  -- a text that differs from the one before it comes after that one
+  next_greater : (k : ℕ) (d : LentRecord) → k + 1 < length es
+      → (text (get_or es (k + 1) d) ≡ text (get_or es k d) → ⊥)
+      → suffix_cmp Plain (text (get_or es (k + 1) d)) (text (get_or es k d)) ≡ Greater
+  next_greater k d l other = by (suffix_cmp Plain next this) refl
+    where
+      this : List ℕ
+      this = text (get_or es k d)
+
+      next : List ℕ
+      next = text (get_or es (k + 1) d)
+
+      by : (o : Ordering) → suffix_cmp Plain next this ≡ o → suffix_cmp Plain next this ≡ Greater
+      by Less e = absurd (texts_far k (k + 1) d (omega arith) l e)
+      by Equal e =
+          absurd (other (key_same next this (h.sound (k + 1) d l).own.stands.utf8
+          (h.sound k d (omega (arith, l))).own.stands.utf8
+          (tied_same (letters next) (letters this) e)))
+      by Greater e = e
+
+  -- what lies in the last record of one text stands in the first one of the pool
+  pub found_last : (k : ℕ) (d : LentRecord) → k < length es → (s : List ℕ)
+      → ((e : LentRecord) → text (get_or es k e) ≡ s)
+      → ((e : LentRecord) → k + 1 < length es → text (get_or es (k + 1) e) ≡ s → ⊥)
+      → (t : List ℕ) → IsUtf8 t → (o : Option ℕ)
+      → MatchOption o (Holds (text (get_or es k d)) t → size t ≤ (get_or es k d).end → ⊥)
+      (HasPlace (get_or es k d) t)
+      → MatchOption o (NoneHolds block s t) (StandsWithin block s t)
+  found_last k d l s same last t w o p =
+      found_within s (subst IsUtf8 (same d) (h.sound k d l).own.stands.utf8) (k + 1)
+      (λ e m. subst (λ z. suffix_cmp Plain (text (get_or es (k + 1) e)) z ≡ Greater) (same e)
+      (next_greater k e m (λ f. last e m (f ∙ same e))))
+      k d refl l
+      (λ g. let f : Equal ≡ Greater = sym (tied_itself end_last_total (letters s))
+      ∙ ap (λ z. end_last_cmp (letters z) (letters s)) (sym (same d)) ∙ g in cc)
+      (same d) t w o p

@@ -5,7 +5,7 @@ use Rattle.std.proofs.Common.{◌⊎◌, inl, inr, refl, sym, ◌∙◌, ap, sub
 use Rattle.std.proofs.Common.{length-append}
 use Rattle.std.proofs.lemmas.Bool.{cases_lt}
 use Rattle.std.proofs.lemmas.List.{length-map, get_or-append-add, get_or_append_left}
-use Rattle.std.proofs.lemmas.List.{length_push, get_or_default}
+use Rattle.std.proofs.lemmas.List.{length_push, get_or_default, get_or_past}
 use Rattle.std.proofs.lemmas.List.Elements.{All-contains}
 use Rattle.std.specs.List.{All, Contains}
 use Rattle.std.specs.Str.{IsUtf8}
@@ -266,3 +266,15 @@ module _ (es : List LentRecord) (utf8 : All IsUtf8 (map record_bytes es)) where
       no_top_above none r x y = none (ends_between r top s (is_utf8 r x.given)
           (is_utf8 top (t.sound k there).given) u y (not_behind r x y)
           (λ e. before (turned (letters s) (letters top) Less e)))
+
+-- the number of a top is that of a record
+pub top_within : (es : List LentRecord) (n : ℕ) → 0 < length (numbered_text es n) → n < length es
+top_within es n full = elim (cases_lt n (length es)) [
+  | inl l ↦ l
+  | inr m ↦ absurd (omega (
+    arith,
+    full,
+    ap length (get_or_past (map record_bytes es) n []
+        (omega (arith, m, length-map es record_bytes))),
+  ))
+]

@@ -39,7 +39,7 @@ not_same t s e g =
     ap (λ z. suffix_cmp Compact z s) e ∙ tied_itself end_last_total (letters s) in cc
 
 -- what ends with a text that isn't empty isn't empty
-full_too : (t s : List ℕ) → EndsWith t s → 0 < length s → 0 < length t
+pub full_too : (t s : List ℕ) → EndsWith t s → 0 < length s → 0 < length t
 full_too t s h full = omega (arith, ap length h.is, length-append h.front s, full)
 
 record_of : (T : List (List ℕ)) (q : List ℕ) → IsTop (Contains T) q → IsRecord T q

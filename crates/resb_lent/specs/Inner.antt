@@ -5,3 +5,7 @@ pub mod Within
 pub mod LentEndings
 pub mod Runs
 pub mod Tops
+pub mod Chosen
+pub mod Marks
+pub mod Copies
+pub mod EndNumbers

@@ -4,11 +4,14 @@
 #![tactic(auto)]
 
 mod answers_beside;
+mod copies;
 mod ends;
 mod head_with_pool;
 mod keys;
 pub mod laws;
 mod lent_record;
+mod lent_runs;
+mod marks;
 mod plan_with_pool;
 mod pool;
 mod records;

@@ -2,17 +2,22 @@
 //! its record of the file's own stands.
 //! In which of its records the pool has a text is said in `texts`.
 ghost use Rattle.std.specs.Prelude.{◌≡◌, ◌+◌, ◌≤◌, ◌^◌, ◌∷◌, ◌++◌, [], ℕ, List, Option, IfOk};
-ghost use Rattle.std.specs.Prelude.{OnOk, MatchOption, All};
+ghost use Rattle.std.specs.Prelude.{OnOk, MatchOption, All, Some, None, length, ◌<◌, ◌⊎◌};
+ghost use Rattle.std.specs.Prelude.{slice_get};
 ghost use Rattle.std.specs.Str.{IsUtf8};
 ghost use Rattle.resb_pool.specs.Plan.{nows};
 ghost use Rattle.resb_lent.specs.Lending.{LendsTexts};
 ghost use Rattle.resb_lent.specs.LentTexts.{LendsText};
+ghost use Rattle.resb_lent.specs.Inner.LentEndings.{StandsAs, AreStandingsBy, NotesEnd};
+ghost use Rattle.resb_lent.specs.Inner.LentEndings.{AreLentEnds, AreLentEndsBy};
+ghost use Rattle.resb_lent.specs.declared.texts.Standing.{Standing as AsStanding};
+ghost use Rattle.resb_pool.specs.declared.packing.Packing.{Packing as AsPacking};
 ghost use Rattle.resb_pool.specs.declared.packing.Packing.TheVariants.{Plain};
 ghost use Rattle.resb_lent.specs.PlanWithPool.{AreLentBy, lacking as lacking_of, given, behind};
 ghost use Rattle.resb_lent.specs.PlanWithPool.{limit_of, short_limit_of, in_turn as in_turn_of};
 
-use crate::answers_beside::{answers_beside, ended_beside};
-use crate::texts::LentTexts;
+use crate::answers_beside::answers_beside;
+use crate::texts::{LentTexts, Standing};
 use resb_pool::packed::plan_beside;
 use resb_pool::{Packing, PlanError};
 use std::alloc::{AllocError, Global};
@@ -59,36 +64,84 @@ fn answers(alloc: Global, lent: &LentTexts, texts: &[&str]) -> Result<Vec<Option
     Ok(found)
 }
 
-/// What the pool has of each string of a file that is packed this way.
+/// What the pool has of each string of a file that is packed this way, and, in a compact file, how
+/// each stands beside the pool's texts.
 fn answers_by(
     alloc: Global,
     packing: Packing,
     lent: &LentTexts,
     strings: &[&str],
-) -> Result<Vec<Option<u32>>, AllocError>
-    ensures lends { IfOk result (λ v. (block : List ℕ) → LendsTexts lent.now block
-        → AreLentBy packing block (nows strings.now) (nows strings.now) v.items) }
+) -> Result<(Vec<Option<u32>>, Vec<Standing>), AllocError>
+    ensures lends { IfOk result (λ r. (block : List ℕ) → LendsTexts lent.now block
+        → AreLentBy packing block (nows strings.now) (nows strings.now) r.0.items) }
+    ensures stand { IfOk result (λ r. (block : List ℕ) → LendsTexts lent.now block
+        → AreStandingsBy packing block (nows strings.now) r.1.items) }
     ensures utf8 { OnOk result (All IsUtf8 (nows strings.now)) }
 {
     match packing {
-        Packing::Plain => answers(alloc, lent, strings),
+        Packing::Plain => Ok((answers(alloc, lent, strings)?, Vec::new(alloc))),
         Packing::Compact => answers_beside(alloc, lent, strings),
     }
 }
 
-/// Adds a text that the pool lacks.
-fn note_lacking<'a>(
-    own: &mut Vec<&'a str>,
-    text: &'a str,
-    answer: Option<u32>,
+/// Texts that the pool lacks.
+#[derive(Drop)]
+struct Own<'a> {
+    texts: Vec<&'a str>,
+    /// The numbers of those that a text of the pool ends with.
+    ended: Vec<usize>,
+}
+
+/// Adds the number of a text that stands so, if it is told and a text of the pool ends with it.
+fn note_end(
+    ended: &mut Vec<usize>,
+    standing: Option<Standing>,
+    number: usize,
 ) -> Result<(), AllocError>
-    ensures { OnOk result (nows own.new.items
-        ≡ nows own.old.items ++ lacking_of (text.now ∷ []) (answer ∷ [])) }
+    ensures more { OnOk result ((ended.new.items ≡ ended.old.items)
+        ⊎ (ended.new.items ≡ ended.old.items ++ number ∷ [])) }
+    ensures none { OnOk result (standing ≡ None → ended.new.items ≡ ended.old.items) }
+    ensures ends { OnOk result ((block s : List ℕ) (d : AsStanding) → standing ≡ Some d
+        → StandsAs block s d → NotesEnd block s number ended.old.items ended.new.items) }
 {
-    if answer.is_none() {
-        own.push(text)?;
+    match standing {
+        Some(Standing::Whole(_) | Standing::End) => ended.push(number)?,
+        Some(Standing::Apart) | None => {}
     }
     Ok(())
+}
+
+/// Adds a text that the pool lacks.
+fn note_lacking<'a>(
+    own: &mut Own<'a>,
+    text: &'a str,
+    answer: Option<u32>,
+    standing: Option<Standing>,
+) -> Result<(), AllocError>
+    requires { All (λ i. i < length own.old.texts.items) own.old.ended.items }
+    ensures texts { OnOk result (nows own.new.texts.items
+        ≡ nows own.old.texts.items ++ lacking_of (text.now ∷ []) (answer ∷ [])) }
+    ensures within { OnOk result
+        (All (λ i. i < length own.new.texts.items) own.new.ended.items) }
+    ensures none { OnOk result (standing ≡ None → own.new.ended.items ≡ own.old.ended.items) }
+    ensures ends { OnOk result ((block : List ℕ) (d : AsStanding) → standing ≡ Some d
+        → StandsAs block text.now d
+        → AreLentEnds block (nows own.old.texts.items) own.old.ended.items
+        → AreLentEnds block (nows own.new.texts.items) own.new.ended.items) }
+{
+    if answer.is_some() {
+        return Ok(());
+    }
+    note_end(&mut own.ended, standing, own.texts.len())?;
+    own.texts.push(text)?;
+    Ok(())
+}
+
+/// How the text at a place stands, if it is told.
+fn standing_at(standings: &[Standing], at: usize) -> Option<Standing>
+    ensures { result ≡ slice_get standings.now at }
+{
+    standings.get(at).copied()
 }
 
 /// The texts that the pool lacks.
@@ -96,12 +149,21 @@ fn lacking<'a>(
     alloc: Global,
     texts: &[&'a str],
     found: &[Option<u32>],
-) -> Result<Vec<&'a str>, AllocError>
-    ensures { IfOk result (λ v. nows v.items ≡ lacking_of (nows texts.now) found.now) }
+    standings: &[Standing],
+) -> Result<Own<'a>, AllocError>
+    ensures texts { IfOk result (λ o.
+        nows o.texts.items ≡ lacking_of (nows texts.now) found.now) }
+    ensures within { IfOk result (λ o. All (λ i. i < length o.texts.items) o.ended.items) }
+    ensures ends { IfOk result (λ o. (way : AsPacking) (block : List ℕ)
+        → AreStandingsBy way block (nows texts.now) standings.now
+        → AreLentEndsBy way block (nows o.texts.items) o.ended.items) }
 {
-    let mut own = Vec::new(alloc);
+    let mut own = Own {
+        texts: Vec::new(alloc),
+        ended: Vec::new(alloc),
+    };
     for at in 0..texts.len().min(found.len()) {
-        note_lacking(&mut own, texts[at], found[at])?;
+        note_lacking(&mut own, texts[at], found[at], standing_at(standings, at))?;
     }
     Ok(own)
 }
@@ -251,10 +313,9 @@ impl PlanWithPool {
         ensures err { IfErr result (λ e. (block : List ℕ) → LendsTexts lent.now block
             → NotPlannedWithBy packing block (nows strings.now) e) }
     {
-        let found = answers_by(alloc, packing, lent, strings)?;
-        let own = lacking(alloc, strings, &found)?;
-        let ended = ended_beside(alloc, packing, lent, &own)?;
-        let (units, offsets) = plan_beside(alloc, packing, own, &ended)?;
+        let (found, standings) = answers_by(alloc, packing, lent, strings)?;
+        let Own { texts, ended } = lacking(alloc, strings, &found, &standings)?;
+        let (units, offsets) = plan_beside(alloc, packing, texts, &ended)?;
         let limit = lent_limit(&found);
         let own_limit = own_limit(&offsets);
         if limit + own_limit > INDEX_LIMIT {

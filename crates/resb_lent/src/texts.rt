@@ -12,12 +12,14 @@ ghost use Rattle.resb_pool.specs.Records.{EndsWith};
 ghost use Rattle.resb_pool.specs.declared.packing.Packing.TheVariants.{Plain};
 ghost use Rattle.resb_lent.specs.LentTexts.{Holds};
 ghost use Rattle.resb_lent.specs.Inner.Listed.{HasPlace};
+ghost use Rattle.resb_lent.specs.Inner.Tops.{numbered_text};
 ghost use Rattle.resb_lent.specs.Entries.{entry_cmp};
 ghost use Rattle.resb_lent.specs.declared.lent_record.LentRecord.{LentRecord as Entry};
 
+use crate::copies::are_same;
 use crate::lent_record::LentRecord;
 use crate::records::{records_in, units_in};
-use crate::tops::{precedes, top_above, tops};
+use crate::tops::{precedes, text_of, top_above, tops};
 use resb_format::{is_unmarked, utf16_len};
 use resb_pool::suffix_order::{compare_with_digits, last_digits};
 use resb_tree::NoMemory;
@@ -109,13 +111,33 @@ fn place_in(record: &LentRecord, text: &str) -> Option<u32>
         (Holds (string_bytes «record».now.text) text.now → size text.now ≤ «record».now.end → ⊥)
         (HasPlace «record».now text.now) }
 {
-    if record.text.as_str() == text {
+    if are_same(record.text.as_str(), text) {
         return Some(record.at);
     }
     if !is_unmarked(text) || !record.text.ends_with(text) {
         return None;
     }
     record.end.checked_sub(utf16_len(text) as u32 + 1)
+}
+
+/// The last of the records of one text, which is the first in the pool. One of them is given by its
+/// number.
+fn last_copy(records: &[LentRecord], number: usize) -> usize
+    requires { number < length records.now }
+    ensures within { result < length records.now }
+    ensures same { numbered_text records.now result ≡ numbered_text records.now number }
+    ensures last { result + 1 < length records.now
+        → numbered_text records.now (result + 1) ≡ numbered_text records.now number → ⊥ }
+{
+    let text = text_of(records, number);
+    let mut last = number;
+    'copies: while last + 1 < records.len() {
+        if text_of(records, last + 1) != text {
+            break;
+        }
+        last += 1;
+    }
+    last
 }
 
 /// Whether the text of a record ends with a text.
@@ -131,11 +153,11 @@ impl LentTexts {
     ghost use Rattle.resb_format.specs.Bytes.{units_of};
     ghost use Rattle.resb_lent.specs.LentTexts.{LendsText};
     ghost use Rattle.resb_lent.specs.Lending.{LendsTexts};
-    ghost use Rattle.resb_lent.specs.Inner.LentEndings.{IsLentEnd, StandsAs};
+    ghost use Rattle.resb_lent.specs.Inner.LentEndings.{StandsAs};
     ghost use Rattle.resb_lent.specs.Inner.Within.{NoneHolds, StandsWithin};
-    ghost use Rattle.std.specs.Bool.{MatchBool};
     ghost use Rattle.std.specs.Prelude.{◌<◌, All, Contains, MatchOption, length};
     ghost use Rattle.std.specs.Str.{IsUtf8};
+    ghost use Rattle.resb_lent.specs.Inner.Tops.{numbered_text};
     ghost use Rattle.resb_pool.specs.Container.{IsContainer};
     ghost use Rattle.resb_pool.specs.declared.packing.Packing.TheVariants.{Compact};
     ghost use Rattle.resb_lent.specs.LentBeside.{LendsTextBy};
@@ -173,7 +195,7 @@ impl LentTexts {
             return Standing::Apart;
         }
         let record = &self.records[count - 1];
-        if record.text.as_str() == text {
+        if are_same(record.text.as_str(), text) {
             return Standing::Whole(record.at);
         }
         if has_end(record, text) {
@@ -194,40 +216,25 @@ impl LentTexts {
         let Some(top) = top_above(&self.records, &self.tops, text) else {
             return None;
         };
-        if !precedes(top, own) {
+        if !precedes(text_of(&self.records, top), own) {
             return None;
         }
         self.place_within(top, text)
     }
 
-    /// The unit at which a text stands in the first record of another text, if the pool has one and
-    /// the text lies there.
-    pub(crate) fn place_within(&self, holder: &str, text: &str) -> Option<u32>
-        ensures { (block : List ℕ) → LendsTexts self.now block
-            → MatchOption result (NoneHolds block holder.now text.now)
-            (StandsWithin block holder.now text.now) }
+    /// The unit at which a text stands in the first record of the text of a record, if it lies
+    /// there.
+    fn place_within(&self, number: usize, text: &str) -> Option<u32>
+        ensures { number < length self.now.records.items → (block : List ℕ)
+            → LendsTexts self.now block
+            → let holder = numbered_text self.now.records.items number in
+            MatchOption result (NoneHolds block holder text.now)
+            (StandsWithin block holder text.now) }
     {
-        let count = count_up_to(&self.records, holder);
-        if count == 0 {
+        if number >= self.records.len() {
             return None;
         }
-        let record = &self.records[count - 1];
-        if record.text.as_str() != holder {
-            return None;
-        }
-        place_in(record, text)
-    }
-
-    /// Whether a text of the pool ends with this text.
-    pub(crate) fn ends_with(&self, text: &str) -> bool
-        ensures { (block : List ℕ) → LendsTexts self.now block
-            → MatchBool result (IsLentEnd block text.now) (IsLentEnd block text.now → ⊥) }
-    {
-        let count = count_up_to(&self.records, text);
-        if count == 0 {
-            return false;
-        }
-        has_end(&self.records[count - 1], text)
+        place_in(&self.records[last_copy(&self.records, number)], text)
     }
 
     /// The index of a text in the pool: where its marker stands, or its first unit if it has none.

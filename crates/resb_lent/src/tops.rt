@@ -22,7 +22,7 @@ use std::alloc::{AllocError, Global};
 use std::cmp::Ordering;
 
 /// The text of a record by its number; empty where there is none.
-fn text_of(records: &[LentRecord], number: usize) -> &str
+pub(crate) fn text_of(records: &[LentRecord], number: usize) -> &str
     ensures { result.now ≡ numbered_text records.now number }
 {
     match records.get(number) {
@@ -96,24 +96,24 @@ fn count_up_to(records: &[LentRecord], tops: &[usize], text: &str) -> usize
     low
 }
 
-/// The greatest top that ends with a text, if one does.
-pub(crate) fn top_above<'a>(
-    records: &'a [LentRecord],
-    tops: &[usize],
-    text: &str,
-) -> Option<&'a str>
-    ensures { All IsUtf8 (map record_bytes records.entry.now) → AreTops records.entry.now tops.now
+/// The number of the greatest top that ends with a text, if one does.
+pub(crate) fn top_above(records: &[LentRecord], tops: &[usize], text: &str) -> Option<usize>
+    ensures { All IsUtf8 (map record_bytes records.now) → AreTops records.now tops.now
         → MatchOption result
-        ((r : List ℕ) → IsTop (Contains (map record_bytes records.entry.now)) r
+        ((r : List ℕ) → IsTop (Contains (map record_bytes records.now)) r
         → EndsWith r text.now → ⊥)
-        (λ r. IsTopOf (map record_bytes records.entry.now) text.now r.now) }
+        (λ n. IsTopOf (map record_bytes records.now) text.now (numbered_text records.now n)) }
 {
     let count = count_up_to(records, tops, text);
     if count == 0 {
         return None;
     }
-    let top = text_of(records, tops[count - 1]);
-    if top.ends_with(text) { Some(top) } else { None }
+    let top = tops[count - 1];
+    if text_of(records, top).ends_with(text) {
+        Some(top)
+    } else {
+        None
+    }
 }
 
 /// Whether a text that ends with a text holds it rather than the one that would hold it without

@@ -1,10 +1,9 @@
 -- For crates above: none.
 mod Ascending
-mod Bundles
-mod IcuPrinted
 mod Jobs
 mod Looking
 mod Nothing
 mod PlainPrinted
+mod Printed
 mod RoomLemmas
 mod Values

@@ -3,4 +3,5 @@
 pub mod Growing
 pub mod Lines
 pub mod Causes
+pub mod Printing
 pub mod Inner

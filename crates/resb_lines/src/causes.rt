@@ -1,7 +1,7 @@
 //! What keeps a bundle from having a text of a form, and where it stands: the first of it in the
 //! order of the text. No function calls itself. Which names, keys and strings are a cause is said
 //! in `form`.
-ghost use Rattle.std.specs.Prelude.{◌≡◌, ◌<◌, ◌^◌, ◌++◌, ◌∷◌, [], None, not, is_some, IfOk};
+ghost use Rattle.std.specs.Prelude.{◌≡◌, ◌<◌, ◌^◌, ◌++◌, ◌∷◌, [], None, IfOk};
 ghost use Rattle.std.specs.Prelude.{OnOk, MatchOption};
 ghost use Rattle.resb_shown.specs.Shown.{text_in};
 ghost use Rattle.resb_print.specs.Held.{IsHeld, HeldIn, AreBelow};
@@ -12,7 +12,7 @@ ghost use Rattle.resb_lines.specs.Inner.Looks.{looks_in, look_of, without_last, 
 use crate::form::Form;
 use crate::inside::Inside;
 use crate::write::ShownBundle;
-use resb_print::PathStep;
+use resb_print::{Cause, PathStep};
 use resb_shown::{Node, Shown};
 use resb_tree::Int28;
 use std::alloc::{AllocError, Global};
@@ -20,11 +20,11 @@ use std::alloc::{AllocError, Global};
 /// The first cause, in the text's order, that keeps a bundle from having a text of a form, with
 /// the path to it, if there is one. Where the root is no table or the name is the cause, the path
 /// has no steps.
-pub fn find_cause<'s, F: Form, S: Shown<'s>>(
+pub(crate) fn find_cause<'s, F: Form, S: Shown<'s>>(
     alloc: Global,
     form: F,
     bundle: ShownBundle<'s, S>,
-) -> Result<Option<(Vec<PathStep<'s>>, F::Cause)>, AllocError>
+) -> Result<Option<(Vec<PathStep<'s>>, Cause)>, AllocError>
     ensures found { IfOk result (λ found. found_as found
         ≡ first_found F.tests bundle.entry.name.now (S.tree bundle.entry.root)) }
     ensures held { IfOk result (λ found. found ≡ None → IsHeld (S.tree bundle.entry.root)) }
@@ -38,26 +38,12 @@ pub fn find_cause<'s, F: Form, S: Shown<'s>>(
     find_inside::<F, S>(alloc, form, entries)
 }
 
-/// Whether a bundle has a text of a form: its root is a table, and neither its name nor a key or a
-/// string in it nor an alias keeps it from having one.
-pub fn has_text<'s, F: Form, S: Shown<'s>>(
-    alloc: Global,
-    form: F,
-    bundle: ShownBundle<'s, S>,
-) -> Result<bool, AllocError>
-    ensures { IfOk result (λ has. has
-        ≡ not (is_some (first_found F.tests bundle.entry.name.now (S.tree bundle.entry.root)))) }
-{
-    let found = find_cause(alloc, form, bundle)?;
-    Ok(found.is_none())
-}
-
 /// The first cause among the entries of the root, with the path to it.
 fn find_inside<'s, F: Form, S: Shown<'s>>(
     alloc: Global,
     form: F,
     entries: S::Entries,
-) -> Result<Option<(Vec<PathStep<'s>>, F::Cause)>, AllocError>
+) -> Result<Option<(Vec<PathStep<'s>>, Cause)>, AllocError>
     ensures found { IfOk result
         (λ found. found_as found ≡ found_in F.tests [] (S.entries entries) None) }
     ensures held { IfOk result (λ found. found ≡ None → HeldIn (S.entries entries)) }
@@ -80,7 +66,7 @@ fn look_once<'s, F: Form, S: Shown<'s>>(
     pending: &mut Vec<Inside<S::Members, S::Entries>>,
     path: &mut Vec<PathStep<'s>>,
     inside: Inside<S::Members, S::Entries>,
-) -> Result<Option<F::Cause>, AllocError>
+) -> Result<Option<Cause>, AllocError>
     ensures { IfOk result (λ found. LooksOnce F.tests
         (looks_in S.members S.entries pending.old.items)
         (looks_in S.members S.entries pending.new.items)
@@ -127,7 +113,7 @@ fn put<'s, S: Shown<'s>>(
 }
 
 /// Which cause a string is, if it is one. No text of it is made.
-fn string_cause<'s, F: Form, S: Shown<'s>>(form: F, shown: S) -> Option<F::Cause>
+fn string_cause<'s, F: Form, S: Shown<'s>>(form: F, shown: S) -> Option<Cause>
     ensures { result ≡ F.tests.of_string (text_in (S.tree shown)) }
 {
     match form.string_cause() {
@@ -137,7 +123,7 @@ fn string_cause<'s, F: Form, S: Shown<'s>>(form: F, shown: S) -> Option<F::Cause
 }
 
 /// Takes the last step of the path back, unless it leads to a cause.
-fn step_back<C: Copy>(path: &mut Vec<PathStep<'_>>, cause: Option<C>) -> Option<C>
+fn step_back(path: &mut Vec<PathStep<'_>>, cause: Option<Cause>) -> Option<Cause>
     ensures same { result ≡ cause }
     ensures path { MatchOption result
         (steps_in path.new.items ≡ without_last (steps_in path.old.items))
@@ -157,7 +143,7 @@ fn enter<'s, F: Form, S: Shown<'s>>(
     pending: &mut Vec<Inside<S::Members, S::Entries>>,
     path: &mut Vec<PathStep<'s>>,
     shown: S,
-) -> Result<Option<F::Cause>, AllocError>
+) -> Result<Option<Cause>, AllocError>
     ensures { IfOk result (λ found. Enters F.tests
         (looks_in S.members S.entries pending.old.items)
         (looks_in S.members S.entries pending.new.items)

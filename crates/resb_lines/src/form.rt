@@ -4,19 +4,17 @@ ghost use Rattle.std.specs.Prelude.{◌≡◌, ℕ, List, None, OnOk, MatchOptio
 ghost use Rattle.resb_print.specs.Inner.Appends.{Appends};
 ghost use Rattle.resb_print.specs.Paths as paths;
 ghost use Rattle.resb_print.specs.Paths.{Tests};
+ghost use Rattle.resb_print.specs.declared.cause.Cause.{Cause};
 ghost use Rattle.resb_print.specs.Spelling.{Spelling};
 ghost use Rattle.resb_lines.specs.Growing.{Grows};
 ghost use Rattle.resb_lines.specs.Causes.{IsCauseByItself};
 
-use resb_icu_print::{IcuCause, is_bare, is_key};
+use resb_icu_print::{is_bare, is_key};
 use resb_print::{Cause, has_quote};
 use std::alloc::{AllocError, Global};
 
 /// A form of texts: how names, keys and strings are spelled, and what has no text of it.
 pub trait Form: Copy {
-    /// What keeps a bundle from having a text of the form.
-    type Cause: Copy;
-
     /// How names, keys and strings are spelled, as functions of them.
     ghost spelling: { Spelling };
 
@@ -33,27 +31,27 @@ pub trait Form: Copy {
         ensures { OnOk result (Appends out.old out.new (spelling.piece_on text.now)) };
 
     /// What keeps a bundle from having a text of the form, as tests.
-    ghost tests: { Tests Self.Cause };
+    ghost tests: { Tests Cause };
 
     /// Which cause a root is that is no table.
-    fn root_cause(self) -> Self::Cause
+    fn root_cause(self) -> Cause
         ensures { result ≡ tests.of_root };
 
     /// Which cause a name is, if it is one.
-    fn name_cause(self, name: &str) -> Option<Self::Cause>
+    fn name_cause(self, name: &str) -> Option<Cause>
         ensures { result ≡ tests.of_name name.now };
 
     /// Which cause a key is, if it is one.
-    fn key_cause(self, key: &str) -> Option<Self::Cause>
+    fn key_cause(self, key: &str) -> Option<Cause>
         ensures { result ≡ tests.of_key key.now };
 
     /// The character of ASCII by which a string is a cause, and which one, if strings are any.
-    fn string_cause(self) -> Option<(u8, Self::Cause)>
+    fn string_cause(self) -> Option<(u8, Cause)>
         ensures { MatchOption result ((text : List ℕ) → tests.of_string text ≡ None)
             (λ found. IsCauseByItself tests found.0 found.1) };
 
     /// Which cause each alias is, if it is one.
-    fn alias_cause(self) -> Option<Self::Cause>
+    fn alias_cause(self) -> Option<Cause>
         ensures { result ≡ tests.of_alias };
 
     /// Keys and strings are no shorter as they are spelled.
@@ -75,8 +73,6 @@ impl Form for Plain {
     ghost use Rattle.resb_print.specs.Paths.{plain_tests};
     ghost use Rattle.resb_print.specs.Printed.{plain_spelling};
     ghost use Rattle.resb_print.proofs.Sizes.{name_grows, quoted_grows};
-
-    type Cause = Cause;
 
     ghost spelling = { plain_spelling };
 
@@ -127,8 +123,6 @@ impl Form for Icu {
     ghost use Rattle.resb_icu_print.specs.Printed.{icu_spelling};
     ghost use Rattle.resb_icu_print.proofs.Sizes.{key_grows, piece_grows};
 
-    type Cause = IcuCause;
-
     ghost spelling = { icu_spelling };
 
     ghost tests = { icu_tests };
@@ -145,31 +139,31 @@ impl Form for Icu {
         resb_icu_print::push_piece(alloc, out, text)
     }
 
-    fn root_cause(self) -> IcuCause {
-        IcuCause::RootIsNoTable
+    fn root_cause(self) -> Cause {
+        Cause::RootIsNoTable
     }
 
-    fn name_cause(self, name: &str) -> Option<IcuCause> {
+    fn name_cause(self, name: &str) -> Option<Cause> {
         if is_bare(name) {
             None
         } else {
-            Some(IcuCause::NameIsNoWord)
+            Some(Cause::NameIsNoWord)
         }
     }
 
-    fn key_cause(self, key: &str) -> Option<IcuCause> {
+    fn key_cause(self, key: &str) -> Option<Cause> {
         if is_key(key) {
             None
         } else {
-            Some(IcuCause::KeyHasOtherBytes)
+            Some(Cause::KeyHasOtherBytes)
         }
     }
 
-    fn string_cause(self) -> Option<(u8, IcuCause)> {
+    fn string_cause(self) -> Option<(u8, Cause)> {
         None
     }
 
-    fn alias_cause(self) -> Option<IcuCause> {
+    fn alias_cause(self) -> Option<Cause> {
         None
     }
 

@@ -42,12 +42,25 @@ impl<'t, 'a> ShownBundle<'t, &'t Resource<'a>> {
     }
 }
 
+impl<'s, S: Copy> ShownBundle<'s, S> {
+    /// This bundle once more.
+    pub(crate) fn again(&self) -> ShownBundle<'s, S>
+        ensures { result ≡ self.now }
+    {
+        ShownBundle {
+            name: self.name,
+            root: self.root,
+            is_locale_fallback_enabled: self.is_locale_fallback_enabled,
+        }
+    }
+}
+
 /// Writes the lines of a bundle in a form, in blocks, however deep it nests. These are its text of
 /// the form where it has one; a root that is no table has no lines. Where the writer fails or
 /// memory is wanted, a part of them from their start was written. The error is of the kind
 /// `OutOfMemory`, or else some of the lines weren't written and it is one of
 /// `resb_shown::write_whole`. The writer isn't flushed.
-pub fn write_lines<'s, F: Form, S: Shown<'s>, W: Write>(
+pub(crate) fn write_lines<'s, F: Form, S: Shown<'s>, W: Write>(
     alloc: Global,
     writer: &mut W,
     form: F,
@@ -79,7 +92,7 @@ pub fn write_lines<'s, F: Form, S: Shown<'s>, W: Write>(
 
 /// The lines of a bundle in a form, where they have no more bytes than a limit. They are made line
 /// by line, as far as that shows.
-pub fn lines_within<'s, F: Form, S: Shown<'s>>(
+pub(crate) fn lines_within<'s, F: Form, S: Shown<'s>>(
     alloc: Global,
     form: F,
     bundle: ShownBundle<'s, S>,
@@ -105,7 +118,7 @@ pub fn lines_within<'s, F: Form, S: Shown<'s>>(
 
 /// How many bytes the lines of a bundle in a form have, if those are no more than a limit. They are
 /// made as far as that shows, a block at a time, and not kept.
-pub fn lines_length_within<'s, F: Form, S: Shown<'s>>(
+pub(crate) fn lines_length_within<'s, F: Form, S: Shown<'s>>(
     alloc: Global,
     form: F,
     bundle: ShownBundle<'s, S>,

@@ -29,7 +29,7 @@ impl<'de> Opened<'de> {
 
     /// The file of these parts, of which so much was learned.
     #[tactic(auto, using(crate::specs::FieldLaws::one_denoted))]
-    pub(crate) fn of(parts: CheckedFile<'de>, count: usize, ascends: bool) -> Opened<'de>
+    pub(crate) fn counted(parts: CheckedFile<'de>, count: usize, ascends: bool) -> Opened<'de>
         requires stands { RootStands parts.file parts.root }
         requires ordered { ascends ≡ true → ∥ Ordered (parts_in parts.file) (word parts.root) ∥₁ }
         ensures tree { (t : Tree)

@@ -3,7 +3,7 @@
 ghost use Rattle.std.specs.Prelude.{◌≡◌, ℕ, List, Some, true};
 ghost use Rattle.resb_tree.specs.Tree.{string};
 ghost use Rattle.resb_format.specs.Parts.{parts_in};
-ghost use Rattle.resb_walk.specs.Inner.Members.{member_of, content_of, HasUtf16};
+ghost use Rattle.resb_walk.specs.Inner.Members.{member_of, content_of, IsWellSpelled};
 ghost use Rattle.resb_walk.specs.Inner.MemberContent.{member_content};
 ghost use Rattle.resb_opened.specs.Handles.{tree_at};
 ghost use Rattle.resb_opened.specs.Inner.Holding.{Holds};
@@ -21,7 +21,7 @@ impl<'a> Handle<'a> {
             (member_of self.entry.at) ≡ Some (content_of result) }
         ensures holds { Holds (parts_in self.entry.file.now.parts) (content_of result)
             (tree_at self.entry) }
-        ensures form { HasUtf16 result }
+        ensures form { IsWellSpelled result }
     {
         let parts = self.file.parts;
         match self.at {

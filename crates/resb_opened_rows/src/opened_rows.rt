@@ -1,7 +1,9 @@
 //! What stands at a path of an opened file, by each of the calls of a handle.
 //! The test is in `rows`.
 use crate::files::file_of;
+use resb_format::BinaryDeserializerError;
 use resb_opened::{Found, Handle, Kind, Opened};
+use resb_read::File;
 use std::alloc::Global;
 use std::test::Fail;
 
@@ -34,7 +36,7 @@ a of CUT => Invalid resource bundle data: unexpected end of input;
 pub(crate) fn line_of_path(alloc: Global, input: &str) -> Result<String, Fail> {
     let (path, words) = input.split_once(" of ").ok_or("a row without a file")?;
     let bytes = file_of(alloc, words)?;
-    let file = match Opened::read(alloc, &bytes) {
+    let file = match counted(alloc, &bytes) {
         Ok(file) => file,
         Err(error) => return Ok(format!(in alloc; "{error}")?),
     };
@@ -47,6 +49,15 @@ pub(crate) fn line_of_path(alloc: Global, input: &str) -> Result<String, Fail> {
     let said = line_of_found(alloc, file.root().get(names.as_slice()))?;
     let count = file.count();
     Ok(format!(in alloc; "{count} {said}")?)
+}
+
+/// A file that is read alone, and counted.
+pub(crate) fn counted<'f>(
+    alloc: Global,
+    bytes: &'f [u8],
+) -> Result<Opened<'f>, BinaryDeserializerError> {
+    let file = File::alone(bytes)?;
+    Opened::of(alloc, &file)
 }
 
 /// The line of what was found.

@@ -1,7 +1,8 @@
 //! Opened files as they are shown: their JSON, written without a tree. The test is in `rows`.
 use crate::files::file_of;
+use crate::opened_rows::counted;
 use resb_json::write_json;
-use resb_opened::{Ascending, Opened};
+use resb_opened::Ascending;
 use std::alloc::Global;
 use std::test::Fail;
 
@@ -21,7 +22,7 @@ EQUAL => not shown;
 /// The line of a row of these.
 pub(crate) fn line_of_shown(alloc: Global, words: &str) -> Result<String, Fail> {
     let bytes = file_of(alloc, words)?;
-    let file = Opened::read(alloc, &bytes)?;
+    let file = counted(alloc, &bytes)?;
     let Some(root) = Ascending::of(file.root()) else {
         return Ok(String::from_str(alloc, "not shown")?);
     };

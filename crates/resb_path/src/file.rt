@@ -9,14 +9,11 @@ ghost use Rattle.resb_read.specs.Resources.{DenPlace};
 ghost use Rattle.resb_path.specs.Finding.{Spot, found_inside};
 ghost use Rattle.resb_path.specs.InFiles.{IsAt, AreFound, AnswersPath};
 ghost use Rattle.resb_path.specs.InFiles.{LeadsIn, LeadsOn, LeadsOnWith};
-ghost use Rattle.resb_read.specs.WithPool.{over};
-ghost use Rattle.resb_pool_bundle.specs.FileWith.{DenotesWith};
-ghost use Rattle.resb_pool_bundle.specs.Pool.{pool_in};
+ghost use Rattle.resb_read.specs.Files.{whole_in};
 
 use crate::names::number_of;
 use resb_format::{BinaryDeserializerError, ResourceReprType};
-use resb_pool_bundle::PoolBundle;
-use resb_read::Cursor;
+use resb_read::{Cursor, File};
 
 /// Where that stands in a file to which a path of names and numbers leads from a place, if it
 /// leads to anything: in a table to the last entry of a name. Where the place denotes a tree, that
@@ -24,7 +21,7 @@ use resb_read::Cursor;
 /// refused exactly where the type of a place that a name leads into isn't read, or what is inside
 /// that place lies outside the file. Of each key on the way at most one byte more than the name has
 /// is looked at.
-pub fn find_in<'de>(
+pub fn find_from<'de>(
     root: Cursor<'de>,
     path: &[&str],
 ) -> Result<Option<Cursor<'de>>, BinaryDeserializerError>
@@ -42,20 +39,17 @@ pub fn find_in<'de>(
     Ok(Some(found))
 }
 
-/// Finds a path so from the root of a file, beside the pool bundle that is given, if one is. It is
-/// refused by the first check of the head that fails too.
-pub fn find_with_pool<'de>(
-    bytes: &'de [u8],
-    pool: Option<PoolBundle<'de>>,
+/// Where that stands in an opened file to which a path leads from its root, as `find_from` says it.
+pub fn find_in<'de>(
+    file: &File<'de>,
     path: &[&str],
 ) -> Result<Option<Cursor<'de>>, BinaryDeserializerError>
-    ensures leads { let file = over (option_map pool_in pool.entry) bytes.now in
-        LeadsOnWith file (map (λ name. name.now) path.now) result }
-    ensures tree { let given = option_map pool_in pool.entry in
-        AnswersPath (DenotesWith given bytes.now) (map (λ name. name.now) path.now) result }
+    ensures leads { LeadsOnWith (whole_in file.now) (map (λ name. name.now) path.now) result }
+    ensures tree { AnswersPath (whole_in file.now).denotes (map (λ name. name.now) path.now)
+        result }
 {
-    let (root, _) = Cursor::root_with_pool(bytes, pool)?;
-    find_in(root, path)
+    let (root, _) = file.root();
+    find_from(root, path)
 }
 
 /// Where that stands which has a name inside what stands at a place.

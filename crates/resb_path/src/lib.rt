@@ -8,6 +8,6 @@ pub mod laws;
 mod names;
 mod tree;
 
-pub use file::{find_in, find_with_pool};
+pub use file::{find_from, find_in};
 pub use names::number_of;
 pub use tree::{Found, find};

@@ -1,15 +1,15 @@
 -- A cut moves.
 use Rattle.std.proofs.Common.{rules, ◌≡◌, ℕ, List, [], ◌∷◌, ◌++◌, length, take, true}
 use Rattle.std.proofs.Common.{reverse, sym, ◌∙◌, ap, subst, append-nil, append_assoc}
-use Rattle.std.proofs.Common.{encode_utf8, refl}
+use Rattle.std.proofs.Common.{encode_utf8, refl, ◌≤◌, arith, drop}
 use Rattle.std.specs.Char.{IsScalar}
 use Rattle.std.specs.Str.{IsUtf8, chars, all_scalars, encode_utf8_all as encodes}
 use Rattle.std.proofs.Math.Seq.{take-append_seam}
 use Rattle.std.proofs.lemmas.Str.{IsUtf8-encode, IsUtf8-append, IsUtf8-nil}
 use Rattle.std.proofs.lemmas.Str.{encodes-chars, encodes-append, chars-append, chars-encodes}
-use Rattle.std.proofs.lemmas.List.{reverse-append, reverse-reverse}
+use Rattle.std.proofs.lemmas.List.{reverse-append, reverse-reverse, take-append-drop}
 use Rattle.resb_pool.specs.Inner.Extends.{Extends}
-use Rattle.resb_pool.specs.Inner.Cuts.{chars_backwards, IsCut, IsShared}
+use Rattle.resb_pool.specs.Inner.Cuts.{chars_backwards, IsCut, IsShared, ShareEnd}
 use Rattle.resb_pool.specs.Records.{EndsWith}
 use Rattle.std.proofs.Math.Seq.{take-append_seam}
 use Rattle.std.proofs.lemmas.Str.{IsCharBoundary-at_seam, IsUtf8-take}
@@ -127,3 +127,36 @@ nothing_shared s t u v = record {
   left = cut_whole s s u refl;
   right = cut_whole t t v refl;
 }
+
+-- a list in two, by what each part is
+pub in_parts : (xs u z : List ℕ) (n : ℕ) → u ≡ take n xs → z ≡ drop n xs → xs ≡ u ++ z
+in_parts xs u z n e f =
+    sym (take-append-drop n xs) ∙ ap (λ l. l ++ drop n xs) (sym e) ∙ ap (λ l. u ++ l) (sym f)
+
+-- of bytes too nothing is an end of both
+pub no_end : (xs ys : List ℕ) → ShareEnd xs ys xs ys
+no_end xs ys = record { tail = []; left = sym (append-nil xs); right = sym (append-nil ys) }
+
+-- and more is, if what is left ends with the same
+pub more_end : (xs ys us vs u v z : List ℕ) → ShareEnd xs ys us vs → us ≡ u ++ z → vs ≡ v ++ z
+    → ShareEnd xs ys u v
+more_end xs ys us vs u v z h e f = record {
+  tail = z ++ h.tail;
+  left = h.left ∙ ap (λ l. l ++ h.tail) e ∙ append_assoc u z h.tail;
+  right = h.right ∙ ap (λ l. l ++ h.tail) f ∙ append_assoc v z h.tail;
+}
+
+-- a list that is cut at two places
+cut_twice : (us tail a e : List ℕ) → us ++ tail ≡ a ++ e → length us ≤ length a
+    → (t : List ℕ) × (tail ≡ t ++ e)
+cut_twice [] tail a e q l = (a, q)
+cut_twice (u ∷ us) tail [] e q l = absurd (omega (arith, l))
+cut_twice (u ∷ us) tail (x ∷ a) e q l =
+    let r : us ++ tail ≡ a ++ e = cc in cut_twice us tail a e r (omega (arith, l))
+
+-- a part of the end that both share
+pub end_within : (xs ys us vs a e : List ℕ) → ShareEnd xs ys us vs → xs ≡ a ++ e
+    → length us ≤ length a → (b : List ℕ) × (ys ≡ b ++ e)
+end_within xs ys us vs a e h is l =
+    let t = cut_twice us h.tail a e (sym h.left ∙ is) l in
+    (vs ++ t.0, h.right ∙ ap (λ z. vs ++ z) t.1 ∙ sym (append_assoc vs t.0 e))

@@ -146,20 +146,6 @@ digits_order (x ∷ xs) (y ∷ ys) e = three_ways (end_last_cmp (x ∷ xs) (y �
     (λ m. absurd (not_both (digits (x ∷ xs)) (digits (y ∷ ys))
     (char_less y x (digits ys) (digits xs) m) e))
 
--- ASCII
-ascii_backwards : (bs : List ℕ) → IsAscii bs → IsAscii (reverse bs)
-ascii_backwards bs h = λ i. elim (cases_lt i (length bs)) [
-  | inl l ↦ subst (λ b. b < 128) (sym (get_or-reverse bs i 0 l)) (h (length bs - 1 - i))
-  | inr l ↦ subst (λ b. b < 128)
-      (sym (get_or_past (reverse bs) i 0 (omega (arith, l, length-reverse bs)))) (omega arith)
-]
-
-ascii_digits : (bs : List ℕ) → IsAscii bs → digits bs ≡ bs
-ascii_digits [] h = refl
-ascii_digits (b ∷ bs) h = ap (λ l. l ++ digits bs) (ascii_digit b (omega (arith, h 0)))
-    ∙ ap (λ l. b ∷ l) (ascii_digits bs (λ i. h (suc i)))
-
--- the digits of ASCII are its bytes
-pub bytes_are_digits : (t : List ℕ) → IsAscii t → digits_backwards t ≡ reverse t
-bytes_are_digits t h = ap (λ cs. digits (reverse cs)) (chars-IsAscii t h)
-    ∙ ascii_digits (reverse t) (ascii_backwards t h)
+-- an ASCII character more
+pub ascii_more : (c : ℕ) (xs cs : List ℕ) → c < 0x80 → xs ≡ c ∷ cs → digits xs ≡ c ∷ digits cs
+ascii_more c xs cs l e = ap digits e ∙ ap (λ ds. ds ++ digits cs) (ascii_digit c l)

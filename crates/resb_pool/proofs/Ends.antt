@@ -1,6 +1,7 @@
 -- How two texts compare once an end that they share is left out.
-use Rattle.std.proofs.Common.{◌≡◌, ℕ, List, [], ◌∷◌, ◌++◌, length, refl, ◌∙◌, ap, reverse}
-use Rattle.std.proofs.Common.{encode_utf8, append-nil}
+use Rattle.std.proofs.Common.{◌≡◌, ℕ, List, [], ◌∷◌, ◌++◌, ◌<◌, length, refl, sym, ◌∙◌, ap}
+use Rattle.std.proofs.Common.{reverse, encode_utf8, append-nil, arith}
+use Rattle.std.proofs.lemmas.Bool.Decides.{nat_tests}
 use Rattle.std.proofs.lemmas.List.{nil_from_length}
 use Rattle.std.specs.Char.{IsScalar}
 use Rattle.std.specs.Char.Escape.{encode_utf16}
@@ -9,7 +10,7 @@ use Rattle.std.specs.Str.{IsUtf8}
 use Rattle.std.specs.Ordering.{nat_cmp}
 use Rattle.std.specs.declared.cmp.Ordering.TheVariants.{Less, Equal, Greater}
 use Rattle.std.proofs.lemmas.Cmp.{nat_cmp_total, tied_itself}
-use Rattle.std.proofs.lemmas.Str.{chars-nil, IsUtf8-encode}
+use Rattle.std.proofs.lemmas.Str.{chars-nil, IsUtf8-encode, encode_ascii}
 use Rattle.resb_format.specs.Units.{units}
 use Rattle.resb_pool.specs.Order.{suffix_cmp, end_last_cmp}
 use Rattle.resb_pool.specs.Inner.Cuts.{chars_backwards, letters_backwards, IsCut, IsShared}
@@ -42,6 +43,12 @@ last_taken x z c u e s = (
   rest_utf8 x z (encode_utf8 c) e u (IsUtf8-encode c s),
   last_of x x [] z c (cut_whole x x u refl) e s,
 )
+
+-- and of a byte that is ASCII
+pub ascii_taken : (x z : List ℕ) (b : ℕ) → IsUtf8 x → x ≡ z ++ b ∷ [] → b < 128
+    → IsUtf8 z × (chars_backwards x ≡ b ∷ chars_backwards z)
+ascii_taken x z b u e l =
+    last_taken x z b u (e ∙ ap (λ bs. z ++ bs) (sym (encode_ascii b l))) (grind (arith, nat_tests))
 
 pub none_left : (x : List ℕ) → length x ≡ 0 → chars_backwards x ≡ []
 none_left x z = ap chars_backwards (nil_from_length x z) ∙ ap reverse chars-nil

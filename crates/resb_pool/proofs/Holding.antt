@@ -15,11 +15,11 @@ use Rattle.resb_pool.specs.Container.{IsContainer}
 use Rattle.resb_pool.specs.Inner.Placing.{indexed_text, AreContainers}
 use Rattle.resb_pool.specs.Inner.ToldApart.{AreTold}
 use Rattle.resb_pool.specs.declared.packing.Packing.{Packing}
-use Rattle.resb_pool.proofs.Distinct.{distinct_push}
+use Rattle.resb_pool.proofs.Distinct.{distinct_push, has_text}
 use Rattle.resb_pool.proofs.Interning.{same_key, any_some, any_none}
 use Rattle.resb_pool.proofs.PlacingLemmas.{container_from}
 use Rattle.resb_pool.proofs.TextLists.{TextList}
-use Rattle.resb_pool.proofs.Turns.{turn_more, no_turns}
+use Rattle.resb_pool.proofs.Turns.{turn_more, one_more, no_turns}
 
 -- no strings are told apart
 pub none_told : AreTold [] [] []
@@ -85,6 +85,24 @@ module _ (D : TextList) (ks new : List (Bor (List ℕ))) (t : Bor (List ℕ)) (t
     same = taken.same;
     turns_are = turn_more D ks new t turns h.turns_are i l at e;
   }
+
+-- a string more whose text is known
+pub told_again : (D : TextList) (ks : List (Bor (List ℕ))) (t : Bor (List ℕ)) (turns : List ℕ)
+    → AreTold D (nows ks) turns → IsUtf8 t.now → (i : ℕ) → i < length (nows ks)
+    → indexed_text (nows ks) i ≡ t.now → AreTold (D ++ t.now ∷ []) (nows ks) (turns ++ i ∷ [])
+told_again D ks t turns h u i l at = record {
+  utf8 = All-push IsUtf8 D t.now h.utf8 u;
+  once = h.once;
+  same = λ s. (
+    λ x. Contains-append_left D (t.now ∷ []) s ((h.same s).0 x),
+    λ x. elim (Contains-push_cases D t.now s x) [
+      | inl y ↦ (h.same s).1 y
+      | inr q ↦
+          subst (Contains (nows ks)) q (subst (Contains (nows ks)) at (has_text (nows ks) i l))
+    ],
+  );
+  turns_are = one_more D ks ks t turns h.turns_are i l at refl (omega arith) (omega arith);
+}
 
 -- each of distinct texts is one of the strings
 pub told_utf8 : (S T : TextList) (turns : List ℕ) → AreTold S T turns → All IsUtf8 T

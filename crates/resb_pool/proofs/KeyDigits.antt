@@ -22,7 +22,7 @@ shorter (suc n) a [] s = shorter n (a * 256 + 255) [] s
 shorter (suc n) a (d ∷ ds) s = shorter n (a * 256 + d) ds (tail_small d ds s)
 
 -- the last digit of a number
-last_digit : (n a : ℕ) (ds : List ℕ) → IsSmall ds
+pub last_digit : (n a : ℕ) (ds : List ℕ) → IsSmall ds
     → key_of_digits a (suc n) ds % 256 ≡ get_or ds n 255
 last_digit zero a [] s = omega arith
 last_digit zero a (d ∷ ds) s = omega (arith, head_small d ds s)
@@ -42,7 +42,7 @@ bytes_power (suc n) =
     ap (λ z. 256 ^ z) e ∙ pow-add 256 1 n ∙ ap (λ z. 256 * z) (bytes_power n) ∙ sym (next_power n)
 
 -- without so many of its last digits a number has so many less
-dropped : (count n a : ℕ) (ds : List ℕ) → IsSmall ds
+pub dropped : (count n a : ℕ) (ds : List ℕ) → IsSmall ds
     → key_of_digits a (n + count) ds / 2 ^ (8 * count) ≡ key_of_digits a n ds
 dropped zero n a ds s =
     let m : n + 0 ≡ n = omega arith in

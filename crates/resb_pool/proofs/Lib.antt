@@ -33,6 +33,7 @@ mod Digits
 mod EndKeys
 mod KeyDigits
 mod EndDigits
+mod SameDigits
 mod FewDigits
 mod FrontBytes
 mod SuffixRuns

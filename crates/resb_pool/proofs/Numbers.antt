@@ -67,6 +67,14 @@ pub cmp_cases : (x y : ℕ) → ((nat_cmp x y ≡ Less) × (x < y)) ⊎ (((nat_c
 cmp_cases x y = by_ranked (x < y) (x ≡ y) (y < x) (nat_cmp x y) (ranked x y (nat_cmp x y) refl)
     (λ e h. inl (e, h)) (λ e h. inr (inl (e, h))) (λ e h. inr (inr (e, h)))
 
+-- numbers that compare as the same are
+pub cmp_equal : (x y : ℕ) → nat_cmp x y ≡ Equal → x ≡ y
+cmp_equal x y e = elim (cmp_cases x y) [
+  | inl l ↦ let f = sym e ∙ l.0 in cc
+  | inr (inl s) ↦ s.1
+  | inr (inr g) ↦ let f = sym e ∙ g.0 in cc
+]
+
 -- below the next number is below this one, or this one
 pub old_or_new : (n k : ℕ) → k < n + 1 → (k < n) ⊎ (k ≡ n)
 old_or_new n k l = elim (cases_lt k n) [ inl h ↦ inl h | inr h ↦ inr (omega arith) ]

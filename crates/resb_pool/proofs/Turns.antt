@@ -56,7 +56,7 @@ module _ (D : TextList) (ks new : List Key) (t : Key) (turns : List ℕ)
     (h : AreTurns D (nows ks) turns) (i : ℕ) (l : i < length (nows new))
     (at : indexed_text (nows new) i ≡ t.now) where
   -- one turn more, where the texts before stand where they stood
-  one_more : map (indexed_text (nows new)) turns ≡ map (indexed_text (nows ks)) turns
+  pub one_more : map (indexed_text (nows new)) turns ≡ map (indexed_text (nows ks)) turns
       → length (nows ks) ≤ length (nows new) → length (nows new) ≤ length (nows ks) + 1
       → AreTurns (D ++ t.now ∷ []) (nows new) (turns ++ i ∷ [])
   one_more same least most = record {

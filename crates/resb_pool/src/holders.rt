@@ -1,7 +1,7 @@
 //! In whose record each of some strings lies, for one who has other records beside them.
 //! How containers are found is said in `containers`.
 ghost use Rattle.std.specs.Prelude.{◌≡◌, ℕ, ◌<◌, ◌^◌, ◌∷◌, ◌++◌, [], List, length, map};
-ghost use Rattle.std.specs.Prelude.{slice_index, IfOk, OnOk, All};
+ghost use Rattle.std.specs.Prelude.{slice_index, IfOk, OnOk, All, IsTrue};
 ghost use Rattle.std.specs.Str.{IsUtf8};
 ghost use Rattle.resb_pool.specs.Holders.{AreHolders};
 ghost use Rattle.resb_pool.specs.Plan.{nows};
@@ -19,9 +19,22 @@ use std::alloc::{AllocError, Global};
 struct Told<'a> {
     distinct: IndexSet<&'a str>,
     order: Vec<u32>,
+    /// The index of the empty text, once it was given.
+    empty: u32,
 }
 
-/// Adds a string.
+/// Whether a text stands at that index of the set.
+fn is_at(distinct: &IndexSet<&str>, index: u32, text: &str) -> bool
+    ensures { IsTrue result → (index < length (nows distinct.now.keys))
+        × (indexed_text (nows distinct.now.keys) index ≡ text.now) }
+{
+    match distinct.get_index(index as usize) {
+        Some(found) => *found == text,
+        None => false,
+    }
+}
+
+/// Adds a string. The empty one, which may be given often, is looked up once.
 fn add_string<'a>(told: &mut Told<'a>, text: &'a str) -> Result<(), AllocError>
     requires few { length told.old.order.items < 2 ^ 32 }
     requires given { (done : List (List ℕ))
@@ -30,8 +43,15 @@ fn add_string<'a>(told: &mut Told<'a>, text: &'a str) -> Result<(), AllocError>
         → AreTold done (nows told.old.distinct.keys) told.old.order.items
         → AreTold (done ++ text.now ∷ []) (nows told.new.distinct.keys) told.new.order.items) }
 {
+    if text.is_empty() && is_at(&told.distinct, told.empty, text) {
+        told.order.push(told.empty)?;
+        return Ok(());
+    }
     let (index, _is_new) = told.distinct.insert_full(text)?;
     told.order.push(index as u32)?;
+    if text.is_empty() {
+        told.empty = index as u32;
+    }
     Ok(())
 }
 
@@ -43,6 +63,7 @@ fn tell<'a>(alloc: Global, strings: &[&'a str]) -> Result<Told<'a>, AllocError>
     let mut told = Told {
         distinct: IndexSet::with_capacity(alloc, strings.len())?,
         order: Vec::with_capacity(alloc, strings.len())?,
+        empty: 0,
     };
     for text in strings {
         add_string(&mut told, text)?;

@@ -1,11 +1,11 @@
 //! Texts in the order of their characters from the end, or in a compact file of their 16-bit units.
 //! What ends with a text stands before it. In which record a text lies is said in `containers`.
 ghost use Rattle.std.specs.Prelude.{◌≡◌, ◌<◌, ◌≤◌, ◌-◌, ◌∷◌, ◌++◌, ◌^◌, ℕ, List, length, reverse};
-ghost use Rattle.std.specs.Prelude.{[], All, IfOk, IfSome, slice_index_or, true, false};
+ghost use Rattle.std.specs.Prelude.{[], All, IfOk, IfSome, IsTrue, slice_index_or, true, false};
 ghost use Rattle.std.specs.Str.{IsUtf8};
 ghost use Rattle.resb_pool.specs.Order.{suffix_cmp};
 ghost use Rattle.resb_pool.specs.Plan.{nows};
-ghost use Rattle.resb_pool.specs.Inner.Cuts.{IsCut, IsShared};
+ghost use Rattle.resb_pool.specs.Inner.Cuts.{IsCut, IsShared, ShareEnd};
 ghost use Rattle.resb_pool.specs.Inner.Suffixes.{AreInOrder, IsRowOf, row_texts, row_cmp};
 ghost use Rattle.resb_pool.specs.Inner.Suffixes.{keyed_cmp};
 ghost use Rattle.resb_pool.specs.Inner.Suffixes.{char_digits, digits_backwards, key_of_digits};
@@ -23,11 +23,11 @@ use std::cmp::Ordering;
 /// How many bytes of a long end are compared at once.
 const LONG_BLOCK: usize = 64;
 
-/// A text of at most so many bytes is looked at whole for whether it is ASCII.
-const SHORT: usize = 64;
+/// The greatest byte of an ASCII character.
+const ASCII: u8 = 0x7f;
 
 /// Where a text has no further character: above each digit of a character.
-const END: u8 = 255;
+const END: u128 = 255;
 
 /// What eight digits stay below.
 const EIGHT_DIGITS: u128 = 0x1_0000_0000_0000_0000;
@@ -56,41 +56,6 @@ pub(crate) struct EndKey {
     pub(crate) left: u8,
 }
 
-/// The byte at a place, counted from the last one, or the end's digit before the first.
-fn byte_or_end(bytes: &[u8], place: usize) -> u8
-    ensures { result ≡ slice_index_or (reverse bytes.now) place 255 }
-{
-    if place < bytes.len() {
-        bytes[bytes.len() - 1 - place]
-    } else {
-        END
-    }
-}
-
-/// The last 16 bytes as digits of a number, the last one in the highest place.
-fn bytes_end_key(bytes: &[u8]) -> u128
-    ensures { result ≡ key_of_digits 0 16 (reverse bytes.now) }
-{
-    u128::from_be_bytes([
-        byte_or_end(bytes, 0),
-        byte_or_end(bytes, 1),
-        byte_or_end(bytes, 2),
-        byte_or_end(bytes, 3),
-        byte_or_end(bytes, 4),
-        byte_or_end(bytes, 5),
-        byte_or_end(bytes, 6),
-        byte_or_end(bytes, 7),
-        byte_or_end(bytes, 8),
-        byte_or_end(bytes, 9),
-        byte_or_end(bytes, 10),
-        byte_or_end(bytes, 11),
-        byte_or_end(bytes, 12),
-        byte_or_end(bytes, 13),
-        byte_or_end(bytes, 14),
-        byte_or_end(bytes, 15),
-    ])
-}
-
 /// One digit more, if one is left.
 fn with_digit(key: EndKey, digit: u32) -> EndKey
     requires part { IsPart key }
@@ -109,6 +74,24 @@ fn with_digit(key: EndKey, digit: u32) -> EndKey
     }
 }
 
+/// The digits of a character that isn't ASCII more, where three are left.
+fn with_three(key: EndKey, code: u32) -> EndKey
+    requires part { IsPart key }
+    requires left { 3 ≤ key.left }
+    requires code { 0x80 ≤ code }
+    requires small { code < 0x11_0000 }
+    ensures part { IsPart result }
+    ensures left { result.left ≡ key.left - length (char_digits code) }
+    ensures same { (ds : List ℕ) → key_of_digits result.number result.left ds
+        ≡ key_of_digits key.number key.left (char_digits code ++ ds) }
+{
+    let digits = (0x80 + code / 0x4000) * 0x1_0000 + code / 0x80 % 0x80 * 0x100 + code % 0x80;
+    EndKey {
+        number: key.number * 0x100_0000 + u128::from(digits),
+        left: key.left - 3,
+    }
+}
+
 /// The digits of a character more, as many as are left.
 fn with_char(key: EndKey, c: char) -> EndKey
     requires part { IsPart key }
@@ -120,6 +103,9 @@ fn with_char(key: EndKey, c: char) -> EndKey
     let code = u32::from(c);
     if code <= 0x7f {
         return with_digit(key, code);
+    }
+    if key.left >= 3 {
+        return with_three(key, code);
     }
     let first = with_digit(key, 0x80 + code / 0x4000);
     let second = with_digit(first, code / 0x80 % 0x80);
@@ -160,18 +146,38 @@ fn chars_end_key(text: &str) -> EndKey
     key
 }
 
-/// The whole key of a text. It is made of the text's bytes, where the text is short and ASCII.
+/// The whole key of a text whose last 16 bytes, or all of fewer, are ASCII. None of any other one.
+fn ascii_end_key(text: &str) -> Option<EndKey>
+    ensures { IfSome result (λ k. (k.number ≡ key_of_digits 0 16 (digits_backwards text.now))
+        × (k.left ≡ 16 - length (digits_backwards text.now))) }
+{
+    let mut bytes = text.as_bytes();
+    let mut key = EndKey {
+        number: 0,
+        left: 16,
+    };
+    'digits: while key.left > 0 {
+        let Some((byte, rest)) = bytes.split_last() else {
+            return Some(with_end(key));
+        };
+        if *byte > ASCII {
+            return None;
+        }
+        key = with_digit(key, u32::from(*byte));
+        bytes = rest;
+    }
+    Some(key)
+}
+
+/// The whole key of a text.
 fn end_key_of(text: &str) -> EndKey
     ensures number { result.number ≡ key_of_digits 0 16 (digits_backwards text.now) }
     ensures left { result.left ≡ 16 - length (digits_backwards text.now) }
 {
-    if text.len() <= SHORT && text.is_ascii() {
-        return EndKey {
-            number: bytes_end_key(text.as_bytes()),
-            left: 16usize.saturating_sub(text.len()) as u8,
-        };
+    match ascii_end_key(text) {
+        Some(key) => key,
+        None => chars_end_key(text),
     }
-    chars_end_key(text)
 }
 
 /// A text in two: what stands before its last bytes, and these, so many of them or up to three
@@ -203,29 +209,37 @@ fn strip_blocks<'a, 'b>(left: &'a str, right: &'b str, size: usize) -> (&'a str,
     (lefts, rights)
 }
 
-/// A text in two: what stands before its last bytes, and these, so many of them or up to three
-/// fewer.
-fn split_end(text: &str, size: usize) -> Option<(&str, &str)>
-    ensures { IfSome result (λ p. IsCut text.now p.0.now p.1.now) }
+/// Whether eight bytes are the same as others.
+fn are_same(left: &[u8; 8], right: &[u8; 8]) -> bool
+    ensures { IsTrue result → left.now ≡ right.now }
 {
-    let least = text.len().checked_sub(size)?;
-    text.split_at_checked(text.ceil_char_boundary(least))
+    u64::from_le_bytes(*left) == u64::from_le_bytes(*right)
 }
 
-/// How many of eight bytes are the same, from the last one on.
-fn shared_of_eight(left: &[u8; 8], right: &[u8; 8]) -> usize
-    ensures { result ≤ 8 }
-{
-    let others = u64::from_le_bytes(*left) ^ u64::from_le_bytes(*right);
-    others.leading_zeros() as usize / 8
-}
-
-/// How many bytes are the same, from the last one on.
-fn shared_bytes(left: &[u8], right: &[u8]) -> usize
-    ensures { result ≤ length left.now }
+/// Bytes without an end that they share, which is compared eight at a time.
+fn strip_eights<'a, 'b>(left: &'a [u8], right: &'b [u8]) -> (&'a [u8], &'b [u8])
+    ensures { ShareEnd left.now right.now result.0.now result.1.now }
 {
     let mut lefts = left;
     let mut rights = right;
+    'blocks: while let Some((left_rest, left_block)) = lefts.split_last_chunk::<8>() {
+        let Some((right_rest, right_block)) = rights.split_last_chunk::<8>() else {
+            break;
+        };
+        if !are_same(left_block, right_block) {
+            break;
+        }
+        lefts = left_rest;
+        rights = right_rest;
+    }
+    (lefts, rights)
+}
+
+/// Bytes without the end that they share.
+fn strip_bytes<'a, 'b>(left: &'a [u8], right: &'b [u8]) -> (&'a [u8], &'b [u8])
+    ensures { ShareEnd left.now right.now result.0.now result.1.now }
+{
+    let (mut lefts, mut rights) = strip_eights(left, right);
     'bytes: while let Some((left_byte, left_rest)) = lefts.split_last() {
         match rights.split_last() {
             Some((right_byte, right_rest)) if left_byte == right_byte => {
@@ -235,40 +249,28 @@ fn shared_bytes(left: &[u8], right: &[u8]) -> usize
             _ => break,
         }
     }
-    left.len() - lefts.len()
+    (lefts, rights)
 }
 
-/// How many bytes are the same from the last one on, eight at a time as long as both have so many.
-fn shared_len(left: &[u8], right: &[u8]) -> usize
-    ensures { result ≤ length left.now }
+/// A text in two, of which the first has so many bytes or up to three more.
+fn split_behind(text: &str, least: usize) -> Option<(&str, &str)>
+    requires { least ≤ length text.now }
+    ensures cut { IfSome result (λ p. IsCut text.now p.0.now p.1.now) }
+    ensures least { IfSome result (λ p. least ≤ length p.0.now) }
 {
-    let mut lefts = left;
-    let mut rights = right;
-    'blocks: while let Some((left_rest, left_block)) = lefts.split_last_chunk::<8>() {
-        let Some((right_rest, right_block)) = rights.split_last_chunk::<8>() else {
-            break;
-        };
-        let shared = shared_of_eight(left_block, right_block);
-        if shared < 8 {
-            return left.len() - lefts.len() + shared;
-        }
-        lefts = left_rest;
-        rights = right_rest;
-    }
-    left.len() - lefts.len() + shared_bytes(lefts, rights)
+    text.split_at_checked(text.ceil_char_boundary(least))
 }
 
 /// Two texts without an end that they share, but for a part of a character.
-#[tactic(auto, using(crate::proofs::Cut::shared_end, crate::proofs::Cut::nothing_shared))]
 fn strip_shared<'a, 'b>(left: &'a str, right: &'b str) -> (&'a str, &'b str)
     ensures { IsShared left.now right.now result.0.now result.1.now }
 {
-    let count = shared_len(left.as_bytes(), right.as_bytes());
-    let Some((left_rest, end)) = split_end(left, count) else {
+    let (front, _) = strip_bytes(left.as_bytes(), right.as_bytes());
+    let Some((left_rest, end)) = split_behind(left, front.len()) else {
         return (left, right);
     };
-    match right.strip_suffix(end) {
-        Some(right_rest) => (left_rest, right_rest),
+    match right.split_at_checked(right.len() - end.len()) {
+        Some((right_rest, _)) => (left_rest, right_rest),
         None => (left, right),
     }
 }
@@ -305,7 +307,7 @@ pub fn last_digits(text: &str) -> u128
 }
 
 /// How two texts compare in a plain file, as `compare` answers it, where their `last_digits` are
-/// given. The texts are looked at only where these are the same.
+/// given. The texts are looked at only where these are the same and aren't all of a text.
 #[inline(always)]
 pub fn compare_with_digits(
     left: &str,
@@ -318,6 +320,7 @@ pub fn compare_with_digits(
     ensures { result ≡ suffix_cmp Plain left.now right.now }
 {
     match left_digits.cmp(&right_digits) {
+        Ordering::Equal if left_digits % 256 == END => Ordering::Equal,
         Ordering::Equal => compare(Packing::Plain, left, right),
         other => other,
     }

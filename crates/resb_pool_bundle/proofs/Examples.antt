@@ -23,6 +23,7 @@ use Rattle.resb_pool_bundle.specs.Checks.{pool_checks, pool_refusal, pool_given_
 use Rattle.resb_pool_bundle.specs.Checks.{refusal_with}
 use Rattle.resb_pool_bundle.specs.Checksum.{bit_step, checksum_of}
 use Rattle.resb_pool_bundle.specs.Fields.{limit_in, short_limit_in}
+use Rattle.resb_pool_bundle.proofs.PassingFiles.{pool_is, file_is}
 use Rattle.resb_pool_bundle.specs.FileWith.{IsPoolFile, IsFileWith, DenotesWith}
 use Rattle.resb_pool_bundle.specs.Pool.{pool_of, own_keys, parts_with}
 
@@ -43,15 +44,21 @@ file = header ++ flat_map (to_le_bytes w32) (
     0x50000003 ∷ 0x208 ∷ 9 ∷ 0xd ∷ 0xd ∷ 2 ∷ 0x20004 ∷ 0xd ∷ 0xe31610fa
     ∷ 0x780000 ∷ 0x20000 ∷ 0x60000 ∷ 0x30001 ∷ [])
 
-pool_passes : IsPoolFile pool_file
+pool_passes : pool_refusal pool_file ≡ None
 unfolding pool_file units_of words_of pool_refusal pool_checks head_checks header_checks info_checks
     version_checks size_checks lending_checks
 pool_passes = refl
 
-file_passes : IsFileWith (Some (pool_of pool_file)) file
+is_pool_file : IsPoolFile pool_file
+is_pool_file = pool_is pool_file pool_passes
+
+file_passes : refusal_with (Some (pool_of pool_file)) file ≡ None
 unfolding pool_file file units_of words_of refusal_with head_checks header_checks info_checks
     version_checks size_checks lending_checks pool_given_checks pool_of
 file_passes = refl
+
+is_file : IsFileWith (Some (pool_of pool_file)) file
+is_file = file_is (Some (pool_of pool_file)) file file_passes
 
 file_alone : refusal_with None file ≡ Some (unsupported (codes "file uses a pool bundle"))
 unfolding file units_of words_of refusal_with head_checks header_checks info_checks version_checks
@@ -94,7 +101,7 @@ file_denotes =
     let beta : key_in (parts_with (Some (pool_of pool_file)) file) 6 ≡ Some (codes "beta") =
     rw (ascii_text (codes "beta") refl) refl in
     record {
-      head = file_passes;
+      head = is_file;
       root =
           den_entries refl (entries_more alpha (den_unit refl)
           (entries_more beta (den_unit refl) entries_none));
@@ -113,17 +120,21 @@ alias_tree =
     table (entry (codes "alpha") (alias (codes "/LOCALE/beta"))
     (entry (codes "beta") (integer 5) no_entries))
 
+alias_passes : refusal_with (Some (pool_of pool_file)) alias_file ≡ None
+unfolding pool_file alias_file units_of words_of refusal_with head_checks header_checks info_checks
+    version_checks size_checks lending_checks pool_given_checks pool_of
+alias_passes = refl
+
 alias_denoted : DenotesWith (Some (pool_of pool_file)) alias_file alias_tree 3
 unfolding pool_file alias_file alias_tree units_of words_of pool_of parts_with content_at key_at
-    key_place_by refusal_with head_checks header_checks info_checks version_checks size_checks
-    lending_checks pool_given_checks utf16_chars lib.Utf8.encode
+    key_place_by utf16_chars lib.Utf8.encode
 alias_denoted =
     let alpha : key_in (parts_with (Some (pool_of pool_file)) alias_file) 0
     ≡ Some (codes "alpha") = rw (ascii_text (codes "alpha") refl) refl in
     let beta : key_in (parts_with (Some (pool_of pool_file)) alias_file) 6
     ≡ Some (codes "beta") = rw (ascii_text (codes "beta") refl) refl in
     record {
-      head = refl;
+      head = file_is (Some (pool_of pool_file)) alias_file alias_passes;
       root =
           den_entries refl (entries_more alpha (den_word (den_leaf refl))
           (entries_more beta (den_word (den_leaf refl)) entries_none));

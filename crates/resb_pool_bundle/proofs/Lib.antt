@@ -5,5 +5,6 @@ mod VersionSteps
 mod SizeSteps
 mod HeadSteps
 pub mod PoolSteps
+pub mod PassingFiles
 pub mod OwnFiles
 mod Older

@@ -23,6 +23,7 @@ use Rattle.resb_format.specs.declared.repr_type.ResourceReprType.TheVariants as 
 use Rattle.resb_format.proofs.Beside.{denoted_beside, key_behind}
 use Rattle.resb_head.specs.File.{parts_of, root_word, Denotes}
 use Rattle.resb_head.proofs.FileSteps.{bundle_file_passes}
+use Rattle.resb_pool_bundle.proofs.PassingFiles.{file_is, file_passes}
 use Rattle.resb_pool_bundle.specs.Laws.{OwnFilesDenoteWithoutOlder}
 use Rattle.resb_pool_bundle.specs.FileWith.{DenotesWith}
 use Rattle.resb_pool_bundle.specs.Older.{ReachesOlder, older_here, older_in_list, older_in_entries}
@@ -327,7 +328,7 @@ own_files_denote_without_older pool bytes no_pools t n =
     λ d. elim (without_older (parts_of bytes) none w n t (wide d)) [
       | inl r ↦ inl (back r)
       | inr own_d ↦ inr (record {
-        head = (bundle_file_passes bytes).0 (sym same.0 ∙ d.head);
+        head = (bundle_file_passes bytes).0 (sym same.0 ∙ file_passes pool bytes d.head);
         root = own_d;
       })
     ] in (
@@ -335,7 +336,7 @@ own_files_denote_without_older pool bytes no_pools t n =
       (
         λ d. (
           record {
-            head = same.0 ∙ (bundle_file_passes bytes).1 d.head;
+            head = file_is pool bytes (same.0 ∙ (bundle_file_passes bytes).1 d.head);
             root =
                 subst (λ p. Den p w t n) (sym same.1)
                 (denoted_beside (parts_of bytes) w n t none d.root);

@@ -25,6 +25,7 @@ use Rattle.resb_pool_bundle.specs.Fields.{limit_in, short_limit_in}
 use Rattle.resb_pool_bundle.specs.Laws.{OwnFilesAreTheSame, OwnFilesDenoteTheSame}
 use Rattle.resb_pool_bundle.specs.Inner.Sized.{field_checks, end_checks}
 use Rattle.resb_pool_bundle.specs.Pool.{Pool, own_keys, parts_with}
+use Rattle.resb_pool_bundle.proofs.PassingFiles.{file_is, file_passes}
 use Rattle.resb_pool_bundle.proofs.PoolSteps.{unused_holds, lending_holds, nothing_lent}
 use Rattle.resb_pool_bundle.proofs.SizeSteps.{sizes_in_two}
 
@@ -176,11 +177,11 @@ own_files_denote_the_same pool bs own t n =
     let same = own_files_are_the_same pool bs own in
     let P : Parts → Type 0 = λ p. Den p (root_word bs) t n in (
       λ d. record {
-        head = same.0 ∙ (bundle_file_passes bs).1 d.head;
+        head = file_is pool bs (same.0 ∙ (bundle_file_passes bs).1 d.head);
         root = subst P (sym same.1) d.root;
       },
       λ d. record {
-        head = (bundle_file_passes bs).0 (sym same.0 ∙ d.head);
+        head = (bundle_file_passes bs).0 (sym same.0 ∙ file_passes pool bs d.head);
         root = subst P same.1 d.root;
       },
     )

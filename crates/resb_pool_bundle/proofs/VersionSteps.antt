@@ -1,5 +1,5 @@
 -- Which check of what is supported is the first that fails.
-use Rattle.std.proofs.Common.{ℕ, List, ◌≡◌, ◌≢◌, Bool, true, ◌||◌, Some, None, nat_le}
+use Rattle.std.proofs.Common.{ℕ, List, ◌≡◌, ◌≢◌, Bool, true, false, ◌||◌, Some, None, nat_le}
 use Rattle.std.proofs.Common.{refl, ap, ◌∙◌, arith, get_or, codes, slice_range, take, drop}
 use Rattle.std.proofs.Common.{◌+◌, ◌-◌, ◌<◌}
 use Rattle.std.proofs.lemmas.Bool.{ne_eqb}
@@ -30,10 +30,10 @@ spelled_at v bs i k e h =
     ∙ get_or-take 4 (drop i bs) k 0 h ∙ get_or-drop i bs k 0
 
 -- only version 1.0 is refused
-version_test : FormatVersion → Bool
+pub version_test : FormatVersion → Bool
 version_test v = nat_le 2 (get_or (version_bytes v) 0 0) || nat_le 1 (get_or (version_bytes v) 1 0)
 
-test_is : (v : FormatVersion) (info : List ℕ) → version_bytes v ≡ slice_range info 12 16
+pub test_is : (v : FormatVersion) (info : List ℕ) → version_bytes v ≡ slice_range info 12 16
     → (nat_le 2 (get_or info 12 0) || nat_le 1 (get_or info 13 0)) ≡ version_test v
 unfolding version_test
 test_is v info e =
@@ -50,6 +50,10 @@ test_holds V1_2 h = refl
 test_holds V1_3 h = refl
 test_holds V2_0 h = refl
 test_holds V3_0 h = refl
+
+pub first_fails : version_test V1_0 ≡ false
+unfolding version_test
+first_fails = refl
 
 pub family_unsupported : (info : List ℕ) (e : ReadingError) → get_or info 5 0 ≢ 0
     → IsRefusal e UnsupportedFormat (codes "bundle and system character set families do not match")

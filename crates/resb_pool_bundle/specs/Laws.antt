@@ -2,19 +2,27 @@
 --     IsOwnFile bytes         the file has nothing to do with pools
 --     OwnFilesAreTheSame      such files are refused, and have their parts, as without this crate
 --     OwnFilesDenoteTheSame   they denote what they do where aliases are read
+--     FilesPass               the checks let through exactly the pool bundles, and the files that
+--                             can be read beside a pool
 --     OwnFilesDenoteWithoutOlder      they denote a tree without this crate too where their root
 --                             leads to no string of the older form and to no alias, and only there
-use Rattle.std.specs.Prelude.{◌≡◌, ◌↔◌, ℕ, ◌<◌, ◌^◌, List, [], ◌∷◌, Option, false, slice_range}
-use Rattle.std.specs.Prelude.{◌⊎◌}
+use Rattle.std.specs.Prelude.{◌≡◌, ◌↔◌, ℕ, ◌<◌, ◌^◌, List, [], ◌∷◌, Option, None, false}
+use Rattle.std.specs.Prelude.{◌⊎◌, slice_range}
 use Rattle.resb_tree.specs.Tree.{Tree}
 use Rattle.resb_format.specs.Parts.{beside_no_pool}
 use Rattle.resb_head.specs.File.{parts_of, field_count, Denotes, DenotesWithAliases}
 use Rattle.resb_head.specs.HeadChecks.{file_refusal}
-use Rattle.resb_pool_bundle.specs.Checks.{refusal_with}
+use Rattle.resb_pool_bundle.specs.Checks.{pool_refusal, refusal_with}
 use Rattle.resb_pool_bundle.specs.Fields.{is_pool, uses_pool}
-use Rattle.resb_pool_bundle.specs.FileWith.{DenotesWith}
+use Rattle.resb_pool_bundle.specs.FileWith.{IsPoolFile, IsFileWith, DenotesWith}
 use Rattle.resb_pool_bundle.specs.Older.{FileReachesOlder}
 use Rattle.resb_pool_bundle.specs.Pool.{Pool, parts_with}
+
+-- no check fails exactly of a pool bundle, and exactly of a file that can be read beside the pool
+pub record FilesPass : Type 0 where
+  pub pools : (bytes : List ℕ) → (pool_refusal bytes ≡ None) ↔ IsPoolFile bytes
+  pub files : (pool : Option Pool) (bytes : List ℕ)
+      → (refusal_with pool bytes ≡ None) ↔ IsFileWith pool bytes
 
 -- a file of version 2.0 that neither is nor uses a pool bundle, and whose index has fewer than 256
 -- words

@@ -1,10 +1,8 @@
 //! The head of a file of any version, what a file may say of pool bundles, and the parts of a file
 //! beside the one that it uses. Sizes are checked in `index`.
-ghost use Rattle.std.specs.Prelude.{◌≡◌, None, option_map};
+ghost use Rattle.std.specs.Prelude.{◌≡◌, None};
 ghost use Rattle.resb_pool_bundle.specs.Checks.{head_refusal};
-ghost use Rattle.resb_pool_bundle.specs.FileWith.{ReadsFileWith};
 ghost use Rattle.resb_pool_bundle.specs.Inner.Lending.{ReadsLending};
-ghost use Rattle.resb_pool_bundle.specs.Pool.{pool_in};
 
 use crate::index::Index;
 use crate::pool_bundle::PoolBundle;
@@ -178,15 +176,4 @@ impl<'a> FileHead<'a> {
         let root = word_at(self.index.body, 0);
         Ok(CheckedFile { file, root })
     }
-}
-
-/// The parts of a file of version 1.1 to 3.0 beside the pool bundle that is given, if one is. All
-/// checks of its head are made in their order, and the first that fails answers.
-pub fn read_with_pool<'de>(
-    bytes: &'de [u8],
-    pool: Option<PoolBundle<'de>>,
-) -> Result<CheckedFile<'de>, BinaryDeserializerError>
-    ensures { ReadsFileWith (option_map pool_in pool.entry) bytes.now result }
-{
-    FileHead::read(bytes)?.beside(pool)
 }

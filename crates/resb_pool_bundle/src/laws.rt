@@ -1,7 +1,13 @@
 //! The laws of files beside pool bundles, each the contract of a call that does nothing. Their
 //! statements stand in `specs/Laws`.
 ghost use Rattle.resb_pool_bundle.specs.Laws.{OwnFilesAreTheSame, OwnFilesDenoteTheSame};
-ghost use Rattle.resb_pool_bundle.specs.Laws.{OwnFilesDenoteWithoutOlder};
+ghost use Rattle.resb_pool_bundle.specs.Laws.{OwnFilesDenoteWithoutOlder, FilesPass};
+
+/// The checks of a head let through exactly the pool bundles, and exactly the files that can be
+/// read beside the pool bundle that is given.
+pub fn files_pass()
+    ensures { FilesPass }
+{}
 
 /// A file of version 2.0 that has nothing to do with pool bundles is refused, and cut into its
 /// parts, as it is without this crate, but that aliases and strings of the older form are read.

@@ -9,5 +9,5 @@ pub mod laws;
 mod pool_bundle;
 
 pub use checksum::pool_checksum;
-pub use head::{FileHead, read_with_pool};
+pub use head::FileHead;
 pub use pool_bundle::PoolBundle;

@@ -19,6 +19,7 @@ use Rattle.resb_pool_bundle.specs.Checks.{pool_checks, pool_refusal}
 use Rattle.resb_pool_bundle.specs.Fields.{major, minor, index_length, attributes_in, is_pool}
 use Rattle.resb_pool_bundle.specs.Fields.{uses_pool, checksum_in, block_end_in, limit_in}
 use Rattle.resb_pool_bundle.specs.Fields.{short_limit_in}
+use Rattle.resb_pool_bundle.proofs.PassingFiles.{pool_is as pool_is_one}
 use Rattle.resb_pool_bundle.specs.FileWith.{IsPoolFile}
 use Rattle.resb_pool_bundle.specs.Pool.{pool_of, block_bytes}
 use Rattle.resb_pool_bundle.proofs.Steps.{later_refusal}
@@ -55,7 +56,7 @@ lending_pass bs a b = rw (a, b) refl
 pool_pass : (bs : List ℕ) → first_refusal (head_checks bs) ≡ None → is_pool bs ≡ true
     → nat_le (1 + index_length bs) (keys_end bs) ≡ true → IsPoolFile bs
 unfolding pool_refusal pool_checks
-pool_pass bs h a b = later_refusal (head_checks bs) _ h ∙ rw (a, b) refl
+pool_pass bs h a b = pool_is_one bs (later_refusal (head_checks bs) _ h ∙ rw (a, b) refl)
 
 or_true : (a b : Bool) → b ≡ true → (a || b) ≡ true
 or_true true b e = refl

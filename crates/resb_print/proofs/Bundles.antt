@@ -2,8 +2,8 @@
 use Rattle.std.proofs.Common.{◌≡◌, ℕ, ◌+◌, Bool, true, false, List, [], ◌∷◌, ◌++◌, length}
 use Rattle.std.proofs.Common.{refl, sym, ◌∙◌, ap, subst, arith, Some, drop, zero, suc}
 use Rattle.std.proofs.lemmas.List.{get_or_past}
-use Rattle.std.specs.Prelude.{slice_index, slice_get, codes, ◌⊎◌}
-use Rattle.std.proofs.Common.{None, inl, inr}
+use Rattle.std.specs.Prelude.{slice_index, slice_get, codes}
+use Rattle.std.proofs.Common.{None}
 use Rattle.std.specs.List.Sorted.{IsStrictlySortedBy}
 use Rattle.resb_print.proofs.FreeTrees.{NoQuote, FreeIn}
 use Rattle.resb_tree.specs.Tree.{Tree, table}
@@ -20,11 +20,8 @@ use Rattle.resb_print.specs.Printed.{name_on, root_type_on, entries_on, printed_
 use Rattle.resb_print.specs.Printed.{plain_spelling}
 use Rattle.resb_print.specs.Held.{HeldIn}
 use Rattle.resb_print.specs.declared.cause.Cause.{Cause}
-use Rattle.resb_print.specs.declared.error.PrintError.{PrintError}
-use Rattle.resb_print.specs.declared.error.PrintError.TheVariants.{OutOfMemory}
 use Rattle.resb_print.specs.Laws.{HasNoText, PrintedIsABundle}
 use Rattle.resb_print.specs.Paths.{plain_tests, first_found, first_cause}
-use Rattle.resb_print.specs.Quotes.{SaysCause}
 use Rattle.resb_print.proofs.Free.{no_quote_from_none, none_in_free, no_cause}
 use Rattle.resb_print.proofs.Tracing.{nothing_found}
 use Rattle.resb_print.proofs.Places.{From, byte_at, from_behind, from_next, solid_at, no_skip}
@@ -173,12 +170,10 @@ printed_without_cause = λ name fallback es held none.
     printed_is_bundle name fallback es a.0 held.0 held.1 b.0
 
 -- a cause is in the way of each text
-pub no_text : (name : List ℕ) (f : Bool) (t : Tree) (e : PrintError)
-    → SaysCause e (first_cause plain_tests name t)
-    → (e ≡ OutOfMemory) ⊎ HasNoText BundleText name f t
-no_text name f t e (inl h) = inl h
-no_text name f t e (inr (x, h, found)) =
-    inr (λ text keys b. none_some x (sym (no_cause text name f t keys b) ∙ found))
+pub no_text : (name : List ℕ) (f : Bool) (t : Tree) (x : Cause)
+    → first_cause plain_tests name t ≡ Some x → HasNoText BundleText name f t
+no_text name f t x found = λ text keys b.
+    none_some x (sym (no_cause text name f t keys b) ∙ found)
   where
     none_some : (x : Cause) → None ≡ Some x → ⊥
     none_some x e = cc

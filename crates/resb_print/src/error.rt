@@ -12,8 +12,10 @@ use std::fmt;
 /// Why a bundle isn't printed.
 #[derive(Clone, Copy, Debug, PartialEq, Eq)]
 pub enum PrintError {
-    /// No text has this name and tree.
+    /// No text of the form has this name and tree.
     NotPrintable(Cause),
+    /// What would be printed takes more bytes than this limit.
+    Larger(u64),
     /// A request for memory was refused. The bundle may have a text.
     OutOfMemory,
 }
@@ -28,6 +30,11 @@ impl fmt::Display for PrintError {
             PrintError::NotPrintable(Cause::QuoteInKey) => "a key holds a '\"'",
             PrintError::NotPrintable(Cause::QuoteInString) => "a string holds a '\"'",
             PrintError::NotPrintable(Cause::Alias) => "the plain form has no aliases",
+            PrintError::NotPrintable(Cause::NameIsNoWord) => "the name is no word",
+            PrintError::NotPrintable(Cause::KeyHasOtherBytes) => {
+                "a key has a character that may not stand in one"
+            }
+            PrintError::Larger(_) => "text larger than the limit",
             PrintError::OutOfMemory => "out of memory",
         };
         write!(f, "{message}")

@@ -46,7 +46,7 @@ agree_err bytes e c (Ok r) (h, fits) =
     denoted_memory bytes (tree_of r.0) r.1 e (record { head = h.head; root = h.root }) fits c
 agree_err bytes e c (Err d) h = one_refusal bytes e d c (refused_tree bytes d h)
 
--- beside the answer of `tree_from_bytes`
+-- beside the answer of `File::tree`
 pub match_ok : (bytes : List ℕ) (n : ℕ) → AnswersCountOf (alone bytes) (Ok n)
     → (r : Result Resource ReadingError)
     → AnswersTreeOf (alone bytes) r → Agrees (IsCounted bytes) (Ok n) r

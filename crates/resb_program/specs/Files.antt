@@ -1,12 +1,12 @@
 -- What is answered of a file, alone or beside the pool bundle that is given.
 --     LacksPool pool bytes    the file uses a pool bundle, and none is given
 --     RefusesReading pool bytes e     the reader refuses the file, which lacks no pool bundle
---     CountsBeside, OpensBeside, MeasuresBeside   what counting, opening and measuring answer
+--     OpensBeside pool bytes r    what opening answers
 --     FitsIn w limit          the file's tree and keys are no larger than they may be
---     IsBundleBeside pool file name limit b, RefusesBeside pool file limit e   its bundle, and why
---                             there is none
+--     RefusesSize w limit e   why it isn't read, or is too large
+--     IsBundleOf w file name limit b  its bundle
 use Rattle.std.specs.Prelude.{◌≡◌, ◌≤◌, ◌%◌, ◌^◌, ◌==◌, ℕ, List, true, Option, Some, None}
-use Rattle.std.specs.Prelude.{Result, Ok, Err, IfSome, unwrap_or}
+use Rattle.std.specs.Prelude.{Result, Ok, Err, IfSome, unwrap_or, option_map}
 use Rattle.resb_tree.specs.Bundle.{name_of, root_of}
 use Rattle.resb_tree.specs.View.{tree_of}
 use Rattle.resb_tree.specs.declared.bundle.ResourceBundle.{ResourceBundle}
@@ -16,18 +16,15 @@ use Rattle.resb_format.specs.declared.error.ReadingError.{ReadingError}
 use Rattle.resb_walk.specs.Pieces.{Piece}
 use Rattle.resb_walk.specs.Sums.{fitting}
 use Rattle.resb_walk.specs.TreeBytes.{tree_bytes}
-use Rattle.resb_pool_bundle.specs.Checks.{head_refusal}
+use Rattle.resb_pool_bundle.specs.Checks.{head_refusal, refusal_with}
 use Rattle.resb_pool_bundle.specs.Fields.{uses_pool, attributes_in}
-use Rattle.resb_pool_bundle.specs.Heads.{head_bytes}
-use Rattle.resb_pool_bundle.specs.Pool.{Pool}
-use Rattle.resb_pool_bundle.specs.declared.head.FileHead.{FileHead}
-use Rattle.resb_opened.specs.Opening.{Opens}
-use Rattle.resb_opened.specs.declared.opened.Opened.{Opened}
-use Rattle.resb_read.specs.Roots.{Whole, AnswersTreeOf, AnswersCountOf, RefusesWhole}
-use Rattle.resb_read.specs.Measuring.{HoldsPieces, AnswersMeasureOf, TakesMoreOf, TreeFits}
-use Rattle.resb_read.specs.Measuring.{key_bytes}
+use Rattle.resb_pool_bundle.specs.Pool.{Pool, pool_in}
+use Rattle.resb_pool_bundle.specs.declared.pool_bundle.PoolBundle.{PoolBundle}
+use Rattle.resb_read.specs.Roots.{Whole, AnswersTreeOf, RefusesWhole}
+use Rattle.resb_read.specs.Measuring.{HoldsPieces, TakesMoreOf, TreeFits, key_bytes}
 use Rattle.resb_read.specs.WithPool.{over}
-use Rattle.resb_read.specs.declared.measuring.Measured.{Measured}
+use Rattle.resb_read.specs.declared.file.Manner.TheVariants.{Beside}
+use Rattle.resb_program.specs.declared.bundle_file.BundleFile.{BundleFile}
 use Rattle.resb_program.specs.declared.errors.FileError.{FileError}
 use Rattle.resb_program.specs.declared.errors.FileError.TheVariants.{UsesPool, Larger, LongKeys}
 use Rattle.resb_program.specs.declared.errors.FileError.TheVariants.{Reading}
@@ -49,30 +46,18 @@ LacksHead pool bytes (Reading e) = head_refusal bytes ≡ Some (refusal_of e)
 LacksHead pool bytes (Larger n limit) = ⊥
 LacksHead pool bytes (LongKeys n limit) = ⊥
 
--- the number of resources, and the file's head; the reader's refusal; or a pool bundle is lacking
-abbrev pub CountsBeside : Option Pool → List ℕ → Result (ℕ × FileHead) FileError → Type 0
-CountsBeside pool bytes (Ok r) =
-    AnswersCountOf (over pool bytes) (Ok r.0) × (head_bytes r.1 ≡ bytes)
-CountsBeside pool bytes (Err UsesPool) = LacksPool pool bytes
-CountsBeside pool bytes (Err (Reading e)) = RefusesReading pool bytes e
-CountsBeside pool bytes (Err (Larger n limit)) = ⊥
-CountsBeside pool bytes (Err (LongKeys n limit)) = ⊥
-
--- the file is opened; the reader's refusal; or a pool bundle is lacking
-abbrev pub OpensBeside : Option Pool → List ℕ → Result Opened FileError → Type 0
-OpensBeside pool bytes (Ok o) = Opens (over pool bytes) (Ok o)
-OpensBeside pool bytes (Err UsesPool) = LacksPool pool bytes
-OpensBeside pool bytes (Err (Reading e)) = RefusesReading pool bytes e
+-- the file is opened, which doesn't lack a pool bundle; or it lacks one; or the first check of its
+-- head that fails beside what is given
+abbrev pub OpensBeside : Option PoolBundle → List ℕ → Result BundleFile FileError → Type 0
+OpensBeside pool bytes (Ok source) =
+    (source.file.manner ≡ Beside pool) × (source.file.bytes.now ≡ bytes)
+    × (LacksPool (option_map pool_in pool) bytes → ⊥)
+OpensBeside pool bytes (Err UsesPool) = LacksPool (option_map pool_in pool) bytes
+OpensBeside pool bytes (Err (Reading e)) =
+    (LacksPool (option_map pool_in pool) bytes → ⊥)
+    × (refusal_with (option_map pool_in pool) bytes ≡ Some (refusal_of e))
 OpensBeside pool bytes (Err (Larger n limit)) = ⊥
 OpensBeside pool bytes (Err (LongKeys n limit)) = ⊥
-
--- what the tree adds up to; the reader's refusal; or a pool bundle is lacking
-abbrev pub MeasuresBeside : Option Pool → List ℕ → Result Measured FileError → Type 0
-MeasuresBeside pool bytes (Ok m) = AnswersMeasureOf (over pool bytes) (Ok m)
-MeasuresBeside pool bytes (Err UsesPool) = LacksPool pool bytes
-MeasuresBeside pool bytes (Err (Reading e)) = RefusesReading pool bytes e
-MeasuresBeside pool bytes (Err (Larger n limit)) = ⊥
-MeasuresBeside pool bytes (Err (LongKeys n limit)) = ⊥
 
 -- the most bytes of keys, since each may be compared: those of the limit, and 2^28 without one
 abbrev pub key_limit : Option ℕ → ℕ
@@ -102,22 +87,11 @@ RefusesSize w limit (LongKeys n most) =
 
 -- the bundle has this name, the file's tree, which fits, and the fallback flag of the file's head:
 -- the lowest bit of the attributes turns fallback off
-pub record IsBundleBeside (pool : Option Pool) (bytes name : List ℕ) (limit : Option ℕ)
-    (b : ResourceBundle) : Type 0 where
+pub record IsBundleOf (w : Whole) (bytes name : List ℕ) (limit : Option ℕ) (b : ResourceBundle)
+    : Type 0 where
   pub tree : Resource
-  pub reads : AnswersTreeOf (over pool bytes) (Ok tree)
-  pub within : FitsIn (over pool bytes) limit
+  pub reads : AnswersTreeOf w (Ok tree)
+  pub within : FitsIn w limit
   pub named : name_of b ≡ name
   pub root : root_of b ≡ tree_of tree
   pub flag : b.is_locale_fallback_enabled ≡ (attributes_in bytes % 2 == 0)
-
--- a pool bundle is lacking, the reader refuses the file, its tree takes more bytes than it may, or
--- it doesn't and the keys of its entries do
-abbrev pub RefusesBeside : Option Pool → List ℕ → Option ℕ → FileError → Type 0
-RefusesBeside pool bytes limit UsesPool = LacksPool pool bytes
-RefusesBeside pool bytes limit (Reading e) = RefusesReading pool bytes e
-RefusesBeside pool bytes limit (Larger n most) =
-    (limit ≡ Some most) × IsOver tree_bytes (over pool bytes) most n
-RefusesBeside pool bytes limit (LongKeys n most) =
-    (most ≡ key_limit limit) × IfSome limit (TreeFits (over pool bytes))
-    × IsOver key_bytes (over pool bytes) most n

@@ -6,25 +6,23 @@ use Rattle.resb_format.specs.Error as reading
 use Rattle.resb_format.specs.Error.{kind_of, description_of}
 use Rattle.resb_grammar.specs.Expected as plain
 use Rattle.resb_icu_grammar.specs.Expected as of_icu
-use Rattle.resb_compile.specs.Compiling as compiling
-use Rattle.resb_compile.specs.CompilingIcu as compiling_icu
-use Rattle.resb_compile.specs.declared.compiling.CompileError.TheVariants as compile
-use Rattle.resb_compile.specs.declared.compiling_icu.IcuCompileError.TheVariants as icu
+use Rattle.resb_compile.specs.Errors as compiling
+use Rattle.resb_compile.specs.declared.error.CompileError.TheVariants as compile
 use Rattle.resb_program.specs.declared.errors.SourceError.{SourceError}
 use Rattle.resb_program.specs.declared.errors.SourceError.TheVariants as source
 use Rattle.resb_program.specs.declared.errors.FileError.{FileError}
 use Rattle.resb_program.specs.declared.errors.FileError.TheVariants as file
 
--- a text that isn't read says what was expected, and one that isn't written why
+-- a text that isn't read says what was expected, or the limit that it is larger than, and one that
+-- isn't written why
 abbrev pub source_message : SourceError → List ℕ
 source_message (source.NotUtf8 place) = codes "this is no UTF-8"
 source_message (source.Refused (compile.Reading e)) =
     codes "expected " ++ plain.item_of e.expected
 source_message (source.Refused (compile.Writing e)) = compiling.message_of (compile.Writing e)
-source_message (source.IcuRefused (icu.Reading e)) =
+source_message (source.Refused (compile.ReadingIcu e)) =
     codes "expected " ++ of_icu.item_of e.expected
-source_message (source.IcuRefused (icu.Writing e)) = compiling_icu.message_of (icu.Writing e)
-source_message (source.Larger limit) =
+source_message (source.Refused (compile.Larger limit)) =
     codes "reading this text takes more than the limit of " ++ (decimal limit ++ codes " bytes")
 
 -- a file that is too large says how large it is, where that fits in 64 bits, and the limit

@@ -21,7 +21,7 @@ use Rattle.resb_read.specs.Resources.{DenPlace}
 use Rattle.resb_read.specs.Roots.{HoldsAt, RefusesAt, AnswersCountOf, alone}
 use Rattle.resb_tree.specs.View.{tree_of}
 use Rattle.resb_tree.specs.declared.resource.Resource.{Resource}
-use Rattle.resb_compile.specs.Compiling as compiling
+use Rattle.resb_compile.specs.Errors as compiling
 use Rattle.resb_compile.specs.Compiling.{IsCompiled, IsRefused}
 use Rattle.resb_program.specs.declared.errors.ToolError.{ToolError}
 use Rattle.resb_program.specs.declared.errors.ToolError.TheVariants.{Input, Output, NotUtf8}

@@ -7,19 +7,17 @@ use Rattle.std.specs.Str.Lossy.{utf8_valid_len}
 use Rattle.resb_diagnostics.specs.Braces.{innermost_open, innermost_icu_open}
 use Rattle.resb_grammar.specs.declared.expected.Expected.{Expected}
 use Rattle.resb_grammar.specs.declared.expected.Expected.TheVariants.{Memory}
-use Rattle.resb_grammar.specs.Limit.{draft_limit, MadeWithin, MakesMore}
 use Rattle.resb_text.specs.declared.error.TextParserError.{TextParserError}
 use Rattle.resb_icu_grammar.specs.declared.expected.IcuExpected.{IcuExpected}
 use Rattle.resb_icu_grammar.specs.declared.expected.IcuExpected.TheVariants as icu_expect
 use Rattle.resb_icu_text.specs.declared.error.IcuTextError.{IcuTextError}
-use Rattle.resb_compile.specs.Compiling.{IsRefused, IsWithinLimit}
-use Rattle.resb_compile.specs.declared.compiling_icu.IcuCompileError.TheVariants as icu
-use Rattle.resb_compile.specs.declared.compiling.CompileError.TheVariants.{Reading, Writing}
+use Rattle.resb_compile.specs.Compiling.{IsRefused}
+use Rattle.resb_compile.specs.declared.error.CompileError.TheVariants.{Reading, ReadingIcu}
+use Rattle.resb_compile.specs.declared.error.CompileError.TheVariants.{Writing, Larger}
 use Rattle.resb_program.specs.declared.sources.Blame.{Blame}
 use Rattle.resb_program.specs.declared.sources.Blame.TheVariants.{At, Open, Nowhere}
 use Rattle.resb_program.specs.declared.errors.SourceError.{SourceError}
 use Rattle.resb_program.specs.declared.errors.SourceError.TheVariants.{NotUtf8, Refused}
-use Rattle.resb_program.specs.declared.errors.SourceError.TheVariants.{IcuRefused, Larger}
 
 -- the bytes aren't UTF-8, and this is how long their longest front is that is
 abbrev pub IsNotUtf8 : List ℕ → ℕ → Type 0
@@ -30,20 +28,6 @@ IsNotUtf8 bytes n = (IsUtf8 bytes → ⊥) × IsValidUpTo bytes n × (n ≡ utf8
 abbrev pub IsNoSource : List ℕ → SourceError → Type 0
 IsNoSource source (NotUtf8 place) = (IsUtf8 source → ⊥) × IsValidUpTo source place
 IsNoSource source (Refused e) = IsUtf8 source × IsRefused source e
-IsNoSource source (IcuRefused e) = ⊥
-IsNoSource source (Larger limit) = ⊥
-
--- the same, where reading the text may make no more bytes than a limit: a refused text makes no
--- more, unless memory was wanted; or more are made at some token of a reading, and the whole
--- reading is not within it
-abbrev pub IsNoSourceWithin : List ℕ → ℕ → SourceError → Type 0
-IsNoSourceWithin source limit (NotUtf8 place) = IsNoSource source (NotUtf8 place)
-IsNoSourceWithin source limit (Refused e) =
-    IsNoSource source (Refused e) × IsWithinLimit source limit e
-IsNoSourceWithin source limit (IcuRefused e) = ⊥
-IsNoSourceWithin source limit (Larger n) =
-    (n ≡ limit) × IsUtf8 source × MakesMore source (draft_limit limit)
-    × (MadeWithin source (draft_limit limit) → ⊥)
 
 -- memory was wanted, and nothing of the text
 abbrev pub is_memory : Expected → Bool
@@ -81,8 +65,7 @@ icu_stuck_at source e =
 -- where to look for the cause of a refusal
 abbrev pub blame_of : List ℕ → SourceError → Blame
 blame_of source (NotUtf8 place) = At place
-blame_of source (Refused (Writing e)) = Nowhere
-blame_of source (IcuRefused (icu.Writing e)) = Nowhere
-blame_of source (IcuRefused (icu.Reading e)) = icu_stuck_at source e
-blame_of source (Larger limit) = Nowhere
 blame_of source (Refused (Reading e)) = stuck_at source e
+blame_of source (Refused (ReadingIcu e)) = icu_stuck_at source e
+blame_of source (Refused (Writing e)) = Nowhere
+blame_of source (Refused (Larger limit)) = Nowhere

@@ -4,7 +4,7 @@ ghost use Rattle.std.specs.Prelude.{◌≡◌, Some};
 ghost use Rattle.resb_program.specs.Messages.{source_message, file_message};
 ghost use Rattle.resb_program.specs.Program.{message_of, status_of};
 
-use resb_compile::{CompileError, IcuCompileError};
+use resb_compile::CompileError;
 use resb_format::BinaryDeserializerError;
 use std::error::Error;
 use std::fmt;
@@ -63,12 +63,8 @@ impl Error for ToolError {}
 pub enum SourceError {
     /// They are no UTF-8: the first byte that is no part of a character stands there.
     NotUtf8(usize),
-    /// The text is refused, or its tree, or memory was wanted.
+    /// The text is refused, or its tree, or it is larger than a limit, or memory was wanted.
     Refused(CompileError),
-    /// The text of ICU's form is refused, or its tree, or memory was wanted.
-    IcuRefused(IcuCompileError),
-    /// Reading the text makes more bytes than this limit.
-    Larger(u64),
 }
 
 impl fmt::Display for SourceError {
@@ -81,13 +77,12 @@ impl fmt::Display for SourceError {
                 let expected = e.expected();
                 write!(f, "expected {expected}")
             }
-            SourceError::Refused(CompileError::Writing(e)) => write!(f, "{e}"),
-            SourceError::IcuRefused(IcuCompileError::Reading(e)) => {
+            SourceError::Refused(CompileError::ReadingIcu(e)) => {
                 let expected = e.expected();
                 write!(f, "expected {expected}")
             }
-            SourceError::IcuRefused(IcuCompileError::Writing(e)) => write!(f, "{e}"),
-            SourceError::Larger(limit) => write!(
+            SourceError::Refused(CompileError::Writing(e)) => write!(f, "{e}"),
+            SourceError::Refused(CompileError::Larger(limit)) => write!(
                 f,
                 "reading this text takes more than the limit of {limit} bytes"
             ),

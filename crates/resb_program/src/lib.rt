@@ -4,6 +4,7 @@
 //! in the programs alone.
 #![tactic(auto)]
 
+mod bundle_file;
 mod command;
 mod errors;
 mod files;
@@ -12,12 +13,11 @@ mod names;
 mod sources;
 mod streams;
 
+pub use bundle_file::BundleFile;
 pub use command::{Command, command_of};
 pub use errors::{FileError, SourceError, ToolError};
-pub use files::{check_file, count_file, measure_file, open_file, open_file_within, read_bundle};
+pub use files::{check_file, index_file, open_file, read_bundle};
 pub use memory::keep_freed_memory;
 pub use names::bundle_name;
-pub use sources::{
-    Blame, compile_source, compile_source_within, compile_text, text_of, where_to_look,
-};
+pub use sources::{Blame, compile_text, text_of, where_to_look};
 pub use streams::{read_all, read_within, run};

@@ -1,14 +1,13 @@
 //! The text that bytes are, its file, and where a person is to look if there is none.
 //! What else a person is told of a text is in `resb_diagnostics`.
 ghost use Rattle.std.specs.Prelude.{◌≡◌, IsUtf8, IfOk, IfErr};
-ghost use Rattle.resb_grammar.specs.Limit.{draft_limit, MadeWithin};
-ghost use Rattle.resb_compile.specs.Compiling.{IsCompiled};
+ghost use Rattle.resb_compile.specs.Compiling.{IsCompiled, IsRefused};
 ghost use Rattle.resb_program.specs.Program.{IsNoInput};
 ghost use Rattle.resb_program.specs.Sources as sources;
-ghost use Rattle.resb_program.specs.Sources.{IsNotUtf8, IsNoSource, IsNoSourceWithin, blame_of};
+ghost use Rattle.resb_program.specs.Sources.{IsNotUtf8, blame_of};
 
 use crate::errors::{SourceError, ToolError};
-use resb_compile::{CompileError, CompileWithinError, IcuCompileError, compile, compile_within};
+use resb_compile::{Compile, CompileError, TextForm};
 use resb_diagnostics::{innermost_icu_open, innermost_open};
 use resb_grammar::Expected;
 use resb_icu_grammar::IcuExpected;
@@ -33,35 +32,15 @@ pub fn compile_text(alloc: Global, input: &[u8]) -> Result<Vec<u8>, ToolError>
     ensures err { IfErr result (IsNoInput input.now) }
 {
     let text = text_of(input).ok().ok_or(ToolError::NotUtf8)?;
-    compile(alloc, text).map_err(ToolError::Compiling)
+    compiled(alloc, text).map_err(ToolError::Compiling)
 }
 
 /// The bytes of the `.res` file of a bundle's text.
-pub fn compile_source(alloc: Global, source: &str) -> Result<Vec<u8>, SourceError>
-    ensures ok { IfOk result (λ file. IsCompiled source.now file.items) }
-    ensures err { IfErr result (IsNoSource source.now) }
+fn compiled(alloc: Global, text: &str) -> Result<Vec<u8>, CompileError>
+    ensures ok { IfOk result (λ file. IsCompiled text.now file.items) }
+    ensures err { IfErr result (IsRefused text.now) }
 {
-    match compile(alloc, source) {
-        Ok(file) => Ok(file),
-        Err(e) => Err(SourceError::Refused(e)),
-    }
-}
-
-/// The file of a text, where reading the text makes no more bytes than the limit.
-pub fn compile_source_within(
-    alloc: Global,
-    source: &str,
-    limit: u64,
-) -> Result<Vec<u8>, SourceError>
-    ensures ok { IfOk result (λ file. IsCompiled source.now file.items) }
-    ensures within { IfOk result (λ file. MadeWithin source.now (draft_limit limit)) }
-    ensures err { IfErr result (IsNoSourceWithin source.now limit) }
-{
-    match compile_within(alloc, source, limit) {
-        Ok(file) => Ok(file),
-        Err(CompileWithinError::Text(e)) => Err(SourceError::Refused(e)),
-        Err(CompileWithinError::Larger) => Err(SourceError::Larger(limit)),
-    }
+    Compile::new(TextForm::Plain).text(alloc, text)
 }
 
 /// Where a person is to look for the cause of a refusal, in bytes from the text's start.
@@ -119,9 +98,8 @@ pub fn where_to_look(source: &[u8], error: &SourceError) -> Blame
     match error {
         SourceError::NotUtf8(place) => Blame::At(*place),
         SourceError::Refused(CompileError::Reading(e)) => stuck_at(source, e),
-        SourceError::IcuRefused(IcuCompileError::Reading(e)) => icu_stuck_at(source, e),
+        SourceError::Refused(CompileError::ReadingIcu(e)) => icu_stuck_at(source, e),
         SourceError::Refused(CompileError::Writing(_)) => Blame::Nowhere,
-        SourceError::IcuRefused(IcuCompileError::Writing(_)) => Blame::Nowhere,
-        SourceError::Larger(_) => Blame::Nowhere,
+        SourceError::Refused(CompileError::Larger(_)) => Blame::Nowhere,
     }
 }

@@ -3,6 +3,7 @@ use Rattle.std.proofs.Common.{ℕ, List}
 use Rattle.std.specs.Prelude.{Option}
 use Rattle.resb_format.proofs.Denoting.{unique}
 use Rattle.resb_pool_bundle.specs.Pool.{Pool, parts_with}
+use Rattle.resb_pool_bundle.proofs.PassingFiles.{file_is, file_passes}
 use Rattle.resb_read.specs.Measuring.{HasOneWeight, WeighsNoMore, IsRefusedOnceWithin}
 use Rattle.resb_read.specs.Roots.{IsRefusedOnce}
 use Rattle.resb_read.specs.WithPool.{over, OneTreeWithPool}
@@ -14,8 +15,8 @@ use Rattle.resb_read.proofs.Rooted.{IsLinked}
 -- what the words of a file beside a pool have to do with one another
 pub over_linked : (pool : Option Pool) (bytes : List ℕ) → IsLinked (over pool bytes)
 over_linked pool bytes = record {
-  passes = λ e. e;
-  holds = λ e. e;
+  passes = file_is pool bytes;
+  holds = file_passes pool bytes;
   denotes = λ t n h d. record { head = h; root = d };
   heads = λ t n d. d.head;
   roots = λ t n d. d.root;

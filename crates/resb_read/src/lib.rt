@@ -26,23 +26,18 @@ mod tables;
 mod texts;
 mod views;
 mod whole_files;
-mod with_pool;
 mod words;
 
 pub use cursor::{Cursor, Spot};
 pub use deserialize::Deserialize;
 pub use entries::MapAccess;
 pub use file::{File, Manner};
-pub use measuring::{Measured, measure, tree_from_bytes_within};
+pub use measuring::Measured;
 pub use named::{IntVectorDeserializer, KeyDeserializer, Resource16BitDeserializer};
 pub use resb_pool_bundle::PoolBundle;
 pub use resb_walk::{Sums, Walk};
 pub use sequences::SeqAccess;
 pub use sorted::SortedTable;
 pub use tables::TableView;
-pub use whole_files::{count_resources, from_bytes, from_bytes_counted, tree_from_bytes};
-pub use with_pool::{
-    count_resources_with_pool, from_bytes_counted_with_pool, from_bytes_with_pool,
-    measure_with_pool, tree_from_bytes_with_pool, tree_from_bytes_within_with_pool,
-};
+pub use whole_files::{from_bytes, from_bytes_counted};
 pub use words::{determine_endianness, from_words, lay_words};

@@ -6,8 +6,7 @@ ghost use Rattle.resb_walk.specs.Sums.{AddsUp, count_of, fitting};
 ghost use Rattle.resb_walk.specs.TreeBytes.{tree_bytes};
 ghost use Rattle.resb_read.specs.Inner.AtRoot.{IsRoot, MeasureHere, TreeWithinHere};
 ghost use Rattle.resb_read.specs.Files.{whole_in};
-ghost use Rattle.resb_read.specs.Measuring.{IsMeasured, AnswersMeasureOf, TreeWithinOf};
-ghost use Rattle.resb_read.specs.Roots.{alone};
+ghost use Rattle.resb_read.specs.Measuring.{IsMeasured, AnswersMeasureOf};
 ghost use Rattle.resb_read.specs.Measuring.{IsLarger, HasLargerKeys, key_bytes};
 ghost use Rattle.resb_read.specs.Places.{place_of};
 ghost use Rattle.resb_read.specs.Resources.{HoldsPlace};
@@ -119,31 +118,6 @@ impl<'de> File<'de> {
         let (root, walk) = self.root();
         measure_root(alloc, root, walk)
     }
-}
-
-/// Counts the resources of a file's tree, sums what they hold, and makes no tree. It is refused as
-/// `count_resources` is. No key and no string, but short ones, is looked at again and again as a
-/// whole.
-pub fn measure(alloc: Global, bytes: &[u8]) -> Result<Measured, BinaryDeserializerError>
-    ensures { AnswersMeasureOf (alone bytes.now) result }
-{
-    let (root, walk) = Cursor::root(bytes)?;
-    measure_root(alloc, root, walk)
-}
-
-/// Reads the tree of a file where it takes no more bytes than the limit, as `Measured::tree_bytes`
-/// counts them, nor do the keys of its entries, be they shared or not: each may be compared. It is
-/// refused before any of the tree is made, for the tree where both are larger; else it answers as
-/// `tree_from_bytes`.
-pub fn tree_from_bytes_within(
-    alloc: Global,
-    bytes: &[u8],
-    limit: u64,
-) -> Result<Resource<'_>, BinaryDeserializerError>
-    ensures { TreeWithinOf (alone bytes.now) limit result }
-{
-    let (root, walk) = Cursor::root(bytes)?;
-    read_root_within(alloc, root, walk, limit)
 }
 
 /// Counts the resources of the tree at a root, from what is left, and sums what they hold.

@@ -10,7 +10,7 @@ ghost use Rattle.resb_read.specs.Files.{whole_in};
 ghost use Rattle.resb_read.specs.Measuring.{LimitedTreeOf};
 ghost use Rattle.resb_read.specs.Places.{place_of};
 ghost use Rattle.resb_read.specs.Reading.{LacksOrMemory};
-ghost use Rattle.resb_read.specs.Roots.{HoldsAt, RefusesAt, AnswersTreeOf, AnswersCountOf, alone};
+ghost use Rattle.resb_read.specs.Roots.{HoldsAt, RefusesAt, AnswersCountOf, alone};
 
 use crate::cursor::Cursor;
 use crate::deserialize::Deserialize;
@@ -118,24 +118,6 @@ pub fn from_bytes_counted<'a, 'm, T: Deserialize<'a>>(
 {
     let file = File::alone(bytes)?;
     file.read_counted::<T>(alloc)
-}
-
-/// Reads the tree of a file. It is `Ok` exactly where the bytes denote a tree of at most as many
-/// resources as the budget, memory aside.
-pub fn tree_from_bytes(alloc: Global, bytes: &[u8]) -> Result<Resource<'_>, BinaryDeserializerError>
-    ensures { AnswersTreeOf (alone bytes.now) result }
-{
-    let (root, walk) = Cursor::root(bytes)?;
-    read_root_tree(alloc, root, walk)
-}
-
-/// Counts the resources of a file's tree, and makes no tree: the number that `from_bytes_counted`
-/// gives with the tree, or its refusal.
-pub fn count_resources(alloc: Global, bytes: &[u8]) -> Result<usize, BinaryDeserializerError>
-    ensures { AnswersCountOf (alone bytes.now) result }
-{
-    let (root, walk) = Cursor::root(bytes)?;
-    count_root(alloc, root, walk)
 }
 
 /// Reads a value at a root, with the number of resources that it takes from what is left.

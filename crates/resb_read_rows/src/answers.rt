@@ -1,7 +1,7 @@
 //! What reading a file answers, as a line of text: the count and the tree, or why it is refused.
 //! Rows compare such lines. Want of memory is a refusal too, which no row wants.
 use resb_format::{BinaryDeserializerError, Resource};
-use resb_read::{count_resources, from_bytes, from_bytes_counted, tree_from_bytes};
+use resb_read::{File, from_bytes, from_bytes_counted};
 use std::alloc::{AllocError, Global};
 use std::fmt::Write;
 
@@ -121,16 +121,22 @@ fn answer_by_counted(alloc: Global, bytes: &[u8]) -> Answer {
     Ok(line_of_tree(alloc, count, &tree)?)
 }
 
-/// The answer for a file, by `from_bytes` and `count_resources`.
+/// The count of a file that is read alone.
+pub(crate) fn count_of(alloc: Global, bytes: &[u8]) -> Result<usize, BinaryDeserializerError> {
+    File::alone(bytes)?.count(alloc)
+}
+
+/// The answer for a file, by `from_bytes` and its count.
 fn answer_by_count(alloc: Global, bytes: &[u8]) -> Answer {
-    let count = count_resources(alloc, bytes).unwrap_or(0);
+    let count = count_of(alloc, bytes).unwrap_or(0);
     line_of_read(alloc, count, from_bytes::<Resource<'_>>(alloc, bytes))
 }
 
-/// The answer for a file, by `count_resources` and `tree_from_bytes`.
+/// The answer for a file that is read alone, by its count and its tree.
 pub(crate) fn answer_by_tree(alloc: Global, bytes: &[u8]) -> Answer {
-    let count = count_resources(alloc, bytes)?;
-    line_of_read(alloc, count, tree_from_bytes(alloc, bytes))
+    let file = File::alone(bytes)?;
+    let count = file.count(alloc)?;
+    line_of_read(alloc, count, file.tree(alloc, None))
 }
 
 /// The line of a file, which is the same by each of the calls that read a whole tree.

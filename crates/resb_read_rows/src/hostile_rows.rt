@@ -1,10 +1,10 @@
 //! Files that are made to take room, time or depth: shared bodies, cycles, many levels and many
 //! entries.
 //! Small files that are damaged are in `file_rows`, and the tests are in `rows`.
-use crate::answers::{Answer, line_of, same};
+use crate::answers::{Answer, count_of, line_of, same};
 use crate::files::{file_of, file_of_many_keys};
 use resb_format::{BinaryDeserializerError, Resource};
-use resb_read::{count_resources, from_bytes_counted};
+use resb_read::from_bytes_counted;
 use std::alloc::{AllocError, Global};
 
 /// Files of shared bodies, and what is answered: an array of so many arrays of two empty strings
@@ -104,7 +104,7 @@ fn count_of_tree(alloc: Global, bytes: &[u8]) -> Result<usize, BinaryDeserialize
 /// The count of the file of a row of these, which is the same where a tree is made.
 pub(crate) fn count_of_deep(alloc: Global, words: &str) -> Answer {
     let bytes = file_of(alloc, words)?;
-    let count = count_resources(alloc, &bytes)?;
+    let count = count_of(alloc, &bytes)?;
     let counted = count_of_tree(alloc, &bytes)?;
     let one = format!(in alloc; "{count}");
     Ok(same(alloc, one, format!(in alloc; "{counted}"))?)

@@ -3,7 +3,7 @@
 use crate::answers::{Answer, Line, answer_by_tree, line_of_read, said};
 use crate::files::file_of;
 use resb_format::BinaryDeserializerError;
-use resb_read::{Measured, Sums, measure, tree_from_bytes_within};
+use resb_read::{File, Measured, Sums};
 use std::alloc::{AllocError, Global};
 
 /// Files, and what they add up to: resources, tables with entries, entries, bytes of keys, of texts
@@ -54,7 +54,8 @@ pub(crate) fn line_of_measured(alloc: Global, measured: Measured) -> Line {
 
 /// The answer for a file's tree, where it is read within a limit.
 fn answer_within(alloc: Global, bytes: &[u8], count: usize, limit: u64) -> Answer {
-    line_of_read(alloc, count, tree_from_bytes_within(alloc, bytes, limit))
+    let file = File::alone(bytes)?;
+    line_of_read(alloc, count, file.tree(alloc, Some(limit)))
 }
 
 /// Whether just this number of bytes is enough for the keys.
@@ -97,7 +98,7 @@ pub(crate) fn other_limit() -> BinaryDeserializerError {
 /// The answer for the file of a row of these.
 pub(crate) fn answer_to_measure(alloc: Global, words: &str) -> Answer {
     let bytes = file_of(alloc, words)?;
-    let measured = measure(alloc, &bytes)?;
+    let measured = File::alone(&bytes)?.measure(alloc)?;
     if !is_within(alloc, &bytes, measured)? {
         return Err(other_limit());
     }

@@ -9,10 +9,7 @@ use crate::measure_rows::{fit, line_of_measured, other_limit};
 use crate::places::place_below;
 use crate::type_rows::parts_of;
 use resb_format::Resource;
-use resb_read::{
-    Cursor, Measured, count_resources_with_pool, from_bytes_counted_with_pool, measure_with_pool,
-    tree_from_bytes_with_pool, tree_from_bytes_within_with_pool,
-};
+use resb_read::{File, Measured};
 use std::alloc::{AllocError, Global};
 
 /// Files, and what is answered of each beside no pool. An alias is shown by its path behind an `@`.
@@ -141,16 +138,18 @@ pub(crate) const LONG_TEXT: &str = "\
     262145: 0, 0, 0, 549753716736, 0, 0; 1649280024648 bytes;
 ";
 
-/// The answer for a file beside no pool, by `from_bytes_counted_with_pool`.
+/// The answer for a file beside no pool, by `read_counted`.
 fn answer_by_counted(alloc: Global, bytes: &[u8]) -> Answer {
-    let (tree, count) = from_bytes_counted_with_pool::<Resource<'_>>(alloc, bytes, None)?;
+    let file = File::open(bytes, None)?;
+    let (tree, count) = file.read_counted::<Resource<'_>>(alloc)?;
     Ok(line_of_tree(alloc, count, &tree)?)
 }
 
 /// The answer for a file beside no pool, by its count and its tree.
 fn answer_by_tree(alloc: Global, bytes: &[u8]) -> Answer {
-    let count = count_resources_with_pool(alloc, bytes, None)?;
-    line_of_read(alloc, count, tree_from_bytes_with_pool(alloc, bytes, None))
+    let file = File::open(bytes, None)?;
+    let count = file.count(alloc)?;
+    line_of_read(alloc, count, file.tree(alloc, None))
 }
 
 /// The line of a file beside no pool, which is the same by each of the calls.
@@ -172,20 +171,20 @@ pub(crate) fn answer_beside(alloc: Global, words: &str) -> Answer {
 pub(crate) fn answer_to_ask(alloc: Global, row: &str) -> Answer {
     let (words, path, left, ask) = parts_of(row);
     let bytes = file_of(alloc, words)?;
-    let (root, walk) = Cursor::root_with_pool(&bytes, None)?;
+    let (root, walk) = File::open(&bytes, None)?.root();
     Ok(asked(alloc, ask, place_below(root, walk, path)?, left)?)
 }
 
 /// What a file adds up to, beside no pool.
 fn measured_of(alloc: Global, bytes: &[u8]) -> Answer {
-    let measured = measure_with_pool(alloc, bytes, None)?;
+    let measured = File::open(bytes, None)?.measure(alloc)?;
     Ok(line_of_measured(alloc, measured)?)
 }
 
 /// The answer for a file's tree beside no pool, where it is read within a limit.
 fn answer_within(alloc: Global, bytes: &[u8], count: usize, limit: u64) -> Answer {
-    let read = tree_from_bytes_within_with_pool(alloc, bytes, None, limit);
-    line_of_read(alloc, count, read)
+    let file = File::open(bytes, None)?;
+    line_of_read(alloc, count, file.tree(alloc, Some(limit)))
 }
 
 /// Whether the tree of a file is read within just its bytes, and not within fewer.
@@ -199,7 +198,7 @@ fn is_within(alloc: Global, bytes: &[u8], measured: Measured) -> Result<bool, Al
 
 /// What a file adds up to beside no pool, where its tree is read within just its bytes.
 fn measured_within(alloc: Global, bytes: &[u8]) -> Answer {
-    let measured = measure_with_pool(alloc, bytes, None)?;
+    let measured = File::open(bytes, None)?.measure(alloc)?;
     if !is_within(alloc, bytes, measured)? {
         return Err(other_limit());
     }

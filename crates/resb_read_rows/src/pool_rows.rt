@@ -5,12 +5,9 @@ use crate::answers::Answer;
 use crate::files::file_of;
 use resb_format::{BinaryDeserializerError, Resource};
 use resb_head::FormatVersion;
-use resb_path::{find_in, find_with_pool};
-use resb_pool_bundle::{FileHead, PoolBundle, read_with_pool};
-use resb_read::{
-    Cursor, File, count_resources_with_pool, from_bytes_counted_with_pool, from_bytes_with_pool,
-    measure_with_pool, tree_from_bytes_with_pool, tree_from_bytes_within_with_pool,
-};
+use resb_path::{find_from, find_in};
+use resb_pool_bundle::{FileHead, PoolBundle};
+use resb_read::File;
 use std::alloc::Global;
 use std::collections::BTreeMap;
 
@@ -61,7 +58,7 @@ fn are_heads(pool: &[u8], file: &[u8]) -> Result<bool, BinaryDeserializerError> 
     let is_lent = lent.is_pool() && !lent.uses_pool() && !lent.has_fallback();
     let is_over = over.uses_pool() && over.has_fallback() && over.largest_table() == 2;
     let is_known = bundle.has_checksum() && bundle.checksum() == 0x1bab_a403;
-    let parts = read_with_pool(file, Some(bundle))?;
+    let parts = File::beside(over, Some(bundle))?.parts();
     Ok(
         is_lent
             && is_over
@@ -72,12 +69,8 @@ fn are_heads(pool: &[u8], file: &[u8]) -> Result<bool, BinaryDeserializerError> 
 }
 
 /// Whether a text is read by its key in a map.
-fn is_long(
-    alloc: Global,
-    file: &[u8],
-    pool: PoolBundle<'_>,
-) -> Result<bool, BinaryDeserializerError> {
-    let names: BTreeMap<&str, String> = from_bytes_with_pool(alloc, file, Some(pool))?;
+fn is_long(alloc: Global, file: &File<'_>) -> Result<bool, BinaryDeserializerError> {
+    let names: BTreeMap<&str, String> = file.read(alloc)?;
     match names.get("alpha") {
         Some(text) => Ok(text.as_str() == "one two three"),
         None => Ok(false),
@@ -85,12 +78,8 @@ fn is_long(
 }
 
 /// Whether a text is read as the value of its key.
-fn is_short(
-    alloc: Global,
-    file: &[u8],
-    pool: PoolBundle<'_>,
-) -> Result<bool, BinaryDeserializerError> {
-    let (root, mut walk) = Cursor::root_with_pool(file, Some(pool))?;
+fn is_short(alloc: Global, file: &File<'_>) -> Result<bool, BinaryDeserializerError> {
+    let (root, mut walk) = file.root();
     let table = root.read_table(&mut walk)?;
     match table.value::<String>(alloc, "beta", &mut walk)? {
         Some(text) => Ok(text.as_str() == "x"),
@@ -99,8 +88,8 @@ fn is_short(
 }
 
 /// Whether the entries are found by halving, and none of another name.
-fn are_found(file: &[u8], pool: PoolBundle<'_>) -> Result<bool, BinaryDeserializerError> {
-    let (root, mut walk) = Cursor::root_with_pool(file, Some(pool))?;
+fn are_found(file: &File<'_>) -> Result<bool, BinaryDeserializerError> {
+    let (root, mut walk) = file.root();
     let table = root.read_table(&mut walk)?;
     let places = (table.find("alpha"), table.find("beta"));
     let (Some(long), Some(short)) = places else {
@@ -112,81 +101,48 @@ fn are_found(file: &[u8], pool: PoolBundle<'_>) -> Result<bool, BinaryDeserializ
 }
 
 /// Whether paths from the root lead to a string, and to nothing.
-fn are_led(file: &[u8], pool: PoolBundle<'_>) -> Result<bool, BinaryDeserializerError> {
-    let (root, mut walk) = Cursor::root_with_pool(file, Some(pool))?;
-    let Some(short) = find_with_pool(file, Some(pool), &["beta"])? else {
+fn are_led(file: &File<'_>) -> Result<bool, BinaryDeserializerError> {
+    let (root, mut walk) = file.root();
+    let Some(short) = find_in(file, &["beta"])? else {
         return Ok(false);
     };
     let of_file = short.file().keys == root.file().keys;
     let same = of_file && short.read_bytes(&mut walk)? == b"x\0".as_slice();
-    let misses = find_in(root, &["beta", "0"])?.is_none() && root.entry("bet")?.is_none();
+    let misses = find_from(root, &["beta", "0"])?.is_none() && root.entry("bet")?.is_none();
     Ok(same && misses && root.member(0).is_err())
 }
 
 /// Whether the tree is counted and measured.
-fn is_measured(
-    alloc: Global,
-    file: &[u8],
-    pool: PoolBundle<'_>,
-) -> Result<bool, BinaryDeserializerError> {
-    let measured = measure_with_pool(alloc, file, Some(pool))?;
-    let count = count_resources_with_pool(alloc, file, Some(pool))?;
+fn is_measured(alloc: Global, file: &File<'_>) -> Result<bool, BinaryDeserializerError> {
+    let measured = file.measure(alloc)?;
+    let count = file.count(alloc)?;
     Ok(count == 3 && measured.resources == 3 && measured.tree_bytes() == Some(TREE_BYTES))
 }
 
-/// Whether the tree is read in the same way by each call.
-fn is_one_tree(
-    alloc: Global,
-    file: &[u8],
-    pool: PoolBundle<'_>,
-) -> Result<bool, BinaryDeserializerError> {
-    let (tree, count) = from_bytes_counted_with_pool::<Resource<'_>>(alloc, file, Some(pool))?;
-    if tree_from_bytes_with_pool(alloc, file, Some(pool))? != tree {
+/// Whether the tree is read in the same way by each call, and not within a byte less than it takes.
+fn is_one_tree(alloc: Global, file: &File<'_>) -> Result<bool, BinaryDeserializerError> {
+    let (tree, count) = file.read_counted::<Resource<'_>>(alloc)?;
+    if file.tree(alloc, None)? != tree {
         return Ok(false);
     }
-    let same = tree_from_bytes_within_with_pool(alloc, file, Some(pool), TREE_BYTES)?;
-    Ok(same == tree && count == 3)
-}
-
-/// Whether the tree of a file that was opened is read in the same way by each call, and not within
-/// a byte less than it takes.
-fn is_read_once(alloc: Global, file: &File<'_>) -> Result<bool, BinaryDeserializerError> {
-    let (tree, count) = file.read_counted::<Resource<'_>>(alloc)?;
-    let limited = file.tree(alloc, Some(TREE_BYTES))?;
-    let is_one = limited == tree && file.tree(alloc, None)? == tree;
-    let is_refused = file.tree(alloc, Some(TREE_BYTES - 1)).is_err();
-    let measured = file.measure(alloc)?;
-    Ok(is_one && is_refused && count == file.count(alloc)? && count == measured.resources)
-}
-
-/// Whether a file is opened once, and read from there; and so it is where it is read alone.
-fn is_opened_once(
-    alloc: Global,
-    bytes: &[u8],
-    pool: PoolBundle<'_>,
-) -> Result<bool, BinaryDeserializerError> {
-    let file = File::open(bytes, Some(pool))?;
-    let names: BTreeMap<&str, String> = file.read(alloc)?;
-    let (_, walk) = file.root();
-    let is_whole = file.bytes() == bytes && file.parts().root == 0x5000_0011;
-    let is_whole = is_whole && walk.left() == bytes.len() / 2 && names.len() == 2;
-    let own = file_of(alloc, "INTEGER")?;
-    let is_alone = File::alone(&own)?.count(alloc)? == 1;
-    Ok(is_whole && is_alone && is_read_once(alloc, &file)?)
+    let same = file.tree(alloc, Some(TREE_BYTES))?;
+    let is_limited = file.tree(alloc, Some(TREE_BYTES - 1)).is_err();
+    Ok(same == tree && count == 3 && is_limited)
 }
 
 /// Whether the file is read in each way.
 fn is_read(alloc: Global, pool: &[u8], file: &[u8]) -> Result<bool, BinaryDeserializerError> {
     let bundle = PoolBundle::read(pool)?;
+    let opened = File::open(file, Some(bundle))?;
     Ok(
         are_heads(pool, file)?
-            && is_long(alloc, file, bundle)?
-            && is_short(alloc, file, bundle)?
-            && are_found(file, bundle)?
-            && are_led(file, bundle)?
-            && is_measured(alloc, file, bundle)?
-            && is_one_tree(alloc, file, bundle)?
-            && is_opened_once(alloc, file, bundle)?,
+            && opened.bytes() == file
+            && is_long(alloc, &opened)?
+            && is_short(alloc, &opened)?
+            && are_found(&opened)?
+            && are_led(&opened)?
+            && is_measured(alloc, &opened)?
+            && is_one_tree(alloc, &opened)?,
     )
 }
 
@@ -197,9 +153,10 @@ fn has_key(
     words: &str,
     key: &str,
 ) -> Result<bool, BinaryDeserializerError> {
-    let file = file_of(alloc, words)?;
-    let is_counted = count_resources_with_pool(alloc, &file, Some(pool)).is_ok();
-    let is_led = find_with_pool(&file, Some(pool), &[key])?.is_some();
+    let bytes = file_of(alloc, words)?;
+    let file = File::open(&bytes, Some(pool))?;
+    let is_counted = file.count(alloc).is_ok();
+    let is_led = find_in(&file, &[key])?.is_some();
     Ok(is_counted && is_led)
 }
 
@@ -216,10 +173,11 @@ fn are_wide(alloc: Global, pool: PoolBundle<'_>) -> Result<bool, BinaryDeseriali
 /// Whether a path into an array outside the file is refused, whatever its last name is, and one
 /// that ends there is not.
 fn is_cut(alloc: Global, pool: PoolBundle<'_>) -> Result<bool, BinaryDeserializerError> {
-    let file = file_of(alloc, CUT_ARRAY)?;
-    let ends = find_with_pool(&file, Some(pool), &["alpha"])?.is_some();
-    let by_number = find_with_pool(&file, Some(pool), &["alpha", "0"]).is_err();
-    let by_name = find_with_pool(&file, Some(pool), &["alpha", "x"]).is_err();
+    let bytes = file_of(alloc, CUT_ARRAY)?;
+    let file = File::open(&bytes, Some(pool))?;
+    let ends = find_in(&file, &["alpha"])?.is_some();
+    let by_number = find_in(&file, &["alpha", "0"]).is_err();
+    let by_name = find_in(&file, &["alpha", "x"]).is_err();
     Ok(ends && by_number && by_name)
 }
 

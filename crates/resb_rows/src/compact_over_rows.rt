@@ -3,10 +3,10 @@
 //! to a `;`: a row more costs no proof.
 use crate::answers::same;
 use crate::over_pool_rows::{pool_named, words_of};
-use resb_compile::compile_icu_compact_with_pool;
+use resb_compile::{Compile, TextForm};
 use resb_lent::Pool;
 use resb_text::Reader;
-use resb_write::Serializer;
+use resb_write::Layout;
 use std::alloc::Global;
 use std::test::Fail;
 
@@ -45,22 +45,14 @@ pub(crate) fn line_of_compact_over(alloc: Global, input: &str) -> Result<String,
     let bytes = pool_named(alloc, version)?;
     let pool = Pool::open(alloc, &bytes)?;
     let (bundle, keys) = Reader::read(alloc, text)?;
-    let file = Serializer::to_bytes_compact_with_pool(alloc, &bundle, keys.as_slice(), &pool)?;
-    let drafted = drafted_over(alloc, text, &pool)?;
+    let layout = Layout::compact().over(&pool);
+    let file = layout.write(alloc, &bundle, keys.as_slice())?;
+    let (draft, keys) = Reader::read_draft(alloc, text)?;
+    let drafted = layout.write_draft(alloc, draft, keys.as_slice())?;
     let found = same(words_of(alloc, &file)?, words_of(alloc, &drafted)?)?;
-    let compiled = compile_icu_compact_with_pool(alloc, text, &pool)?;
+    let compiled = Compile::new(TextForm::Icu)
+        .over(&pool)
+        .compact()
+        .text(alloc, text)?;
     same(found, words_of(alloc, &compiled)?)
-}
-
-/// The compact file over a pool of a text that is read as a draft.
-fn drafted_over(alloc: Global, text: &str, pool: &Pool<'_>) -> Result<Vec<u8>, Fail> {
-    let (bundle, keys) = Reader::read_draft(alloc, text)?;
-    let has_fallback = bundle.is_locale_fallback_enabled;
-    Ok(Serializer::draft_to_bytes_compact_with_pool(
-        alloc,
-        bundle.root,
-        has_fallback,
-        keys.as_slice(),
-        pool,
-    )?)
 }

@@ -1,9 +1,9 @@
 //! Bundles and their compact files, as ICU's compiler writes them. Each row is a text and the hex
 //! digits of its file behind the header, up to a `;`: a row more costs no proof.
 use crate::answers::{digits, same};
-use resb_compile::compile_icu_compact;
+use resb_compile::{Compile, TextForm};
 use resb_text::Reader;
-use resb_write::Serializer;
+use resb_write::Layout;
 use std::alloc::Global;
 use std::test::Fail;
 
@@ -63,8 +63,8 @@ b{a{"xxxxxxxxxxxxxxxxxxxxxxxxxxxxxxxxxxxxxxxxx"}
 
 /// The digits of the file that both calls give.
 pub(crate) fn line_of_compact(alloc: Global, text: &str) -> Result<String, Fail> {
-    let compiled = compile_icu_compact(alloc, text)?;
+    let compiled = Compile::new(TextForm::Icu).compact().text(alloc, text)?;
     let (bundle, keys) = Reader::read(alloc, text)?;
-    let file = Serializer::to_bytes_compact(alloc, &bundle, keys.as_slice())?;
+    let file = Layout::compact().write(alloc, &bundle, keys.as_slice())?;
     same(digits(alloc, &compiled)?, digits(alloc, &file)?)
 }

@@ -1,14 +1,12 @@
-//! Bundles that are written over a pool bundle, or without what rules leave out, and their files,
-//! as the format's rules ask for them. Each row is an input and its answer, up to a `;`: a row more
-//! costs no proof.
-use resb_compile::{
-    compile_icu_filtered, compile_icu_filtered_with_pool, compile_icu_with_pool, compile_with_pool,
-};
+//! Bundles that are written over a pool bundle, and texts that are compiled with each option, and
+//! their files, as the format's rules ask for them. Each row is an input and its answer, up to a
+//! `;`: a row more costs no proof.
+use resb_compile::{Compile, TextForm};
 use resb_filter::Rules;
 use resb_lent::Pool;
 use resb_text::Reader;
 use resb_tree::Key;
-use resb_write::Serializer;
+use resb_write::Layout;
 use std::alloc::Global;
 use std::test::Fail;
 
@@ -64,23 +62,29 @@ pub(crate) const OVER_POOLS: &str = r#"3 a{alpha{"one two three"}beta{"x"}} | al
     refused: Unexpected error: key not present in position map;
 "#;
 
-/// A form, the version of a pool and a text of that form, whose keys stand as they come first; then
-/// its file. `filtered` is ICU's form with rules before the text, and with pool 0 without one: the
-/// files are those of ICU's compiler.
-pub(crate) const COMPILED: &str = r#"plain 3 c{alpha{"two three"}delta{"x","","three"}} =>
+/// A form, a packing, the version of a pool, rules, a limit and a text of that form, with `-` for
+/// what isn't asked for; then its file, or its refusal. The files of ICU's form are those of ICU's
+/// compiler. In the row with all options the rules leave the text of a row of `COMPACT_OVER`.
+pub(crate) const COMPILED: &str = r#"plain plain 3 - - c{alpha{"two three"}delta{"x","","three"}} =>
     3:2000000f,a08,b,13,13,2,a0004,f,e31610fa,746c6564,aaaa0061,780000,30000,b,aaaa0009,
     2c0002,aaaa0024,60000005,90000003,;
-icu 3 c{alpha{"two three"}delta:array{"x","","three"}} =>
+icu plain 3 - - c{alpha{"two three"}delta:array{"x","","three"}} =>
     3:2000000f,a08,b,13,13,2,a0004,f,e31610fa,746c6564,aaaa0061,780000,30000,b,aaaa0009,
     2c0002,aaaa0024,60000005,90000003,;
-icu 3 d{alpha:alias{"/LOCALE/beta"}beta:int{5}} =>
+icu plain 3 - - d{alpha:alias{"/LOCALE/beta"}beta:int{5}} =>
     2:20000012,8,9,16,16,2,4,a,e31610fa,aaaa0000,c,4c002f,43004f,4c0041,2f0045,650062,610074,
     aaaa0000,2,aaaa0006,3000000a,70000005,;
-filtered 0 -/ab|-/cd/gh r{ab{"one"}cd{ef{"two"}gh{"three"}}} =>
+icu plain - -/ab|-/cd/gh - r{ab{"one"}cd{ef{"two"}gh{"three"}}} =>
     2:2000000e,7,a,10,10,1,0,e,65006463,aaaa0066,740000,6f0077,10000,10023,200001,50000005,;
-filtered 3 -/zzz c{alpha{"two three"}zzz{"y"}delta:array{"x","","three"}} =>
+plain plain - -/ab|-/cd/gh 100000 r{ab{"one"}cd{ef{"two"}gh{"three"}}} =>
+    2:2000000e,7,a,10,10,1,0,e,65006463,aaaa0066,740000,6f0077,10000,10023,200001,50000005,;
+icu plain 3 -/zzz - c{alpha{"two three"}zzz{"y"}delta:array{"x","","three"}} =>
     3:2000000f,a08,b,13,13,2,a0004,f,e31610fa,746c6564,aaaa0061,780000,30000,b,aaaa0009,
     2c0002,aaaa0024,60000005,90000003,;
+icu compact 3 -/zzz 100000 a{alpha{""}zzz{"y"}beta{"x"}} =>
+    2:50000003,8,9,d,d,2,4,d,e31610fa,780000,20000,60000,10000,;
+icu compact 3 -/zzz 1 a{alpha{""}zzz{"y"}beta{"x"}} => refused: text larger than the limit;
+plain plain - - 1 a{alpha{""}} => refused: text larger than the limit;
 "#;
 
 /// Words as bytes.
@@ -107,19 +111,6 @@ pub(crate) fn words_of(alloc: Global, file: &[u8]) -> Result<String, Fail> {
     Ok(line)
 }
 
-/// The file of a text with these keys over a pool.
-fn line_over(alloc: Global, pool: &Pool<'_>, text: &str, list: &str) -> Result<String, Fail> {
-    let mut keys = Vec::new(alloc);
-    for word in list.split(' ') {
-        keys.push(Key::from(word))?;
-    }
-    let (bundle, _) = Reader::read(alloc, text)?;
-    match Serializer::to_bytes_with_pool(alloc, &bundle, &keys, pool) {
-        Ok(written) => words_of(alloc, &written),
-        Err(error) => Ok(format!(in alloc; "refused: {error}")?),
-    }
-}
-
 /// The bytes of the pool bundle of a version, or of that of a long string.
 pub(crate) fn pool_named(alloc: Global, version: &str) -> Result<Vec<u8>, Fail> {
     match version {
@@ -133,42 +124,80 @@ pub(crate) fn pool_named(alloc: Global, version: &str) -> Result<Vec<u8>, Fail> 
 pub(crate) fn line_of_pool(alloc: Global, input: &str) -> Result<String, Fail> {
     let (version, input) = input.split_once(' ').ok_or("a row without a pool")?;
     let (text, list) = input.split_once(" | ").ok_or("a row without keys")?;
-    let file = pool_named(alloc, version)?;
-    line_over(alloc, &Pool::open(alloc, &file)?, text, list)
-}
-
-/// The file of rules and a text of ICU's form, over a pool but for version 0.
-fn filtered(alloc: Global, pool: &Pool<'_>, version: &str, input: &str) -> Result<Vec<u8>, Fail> {
-    let (rules, text) = input.split_once(' ').ok_or("a row without rules")?;
-    let lines = rules.replace(alloc, "|", "\n")?;
-    let rules = Rules::read(alloc, lines.as_str())?;
-    let written = match version {
-        "0" => compile_icu_filtered(alloc, text, &rules),
-        _ => compile_icu_filtered_with_pool(alloc, text, &rules, pool),
-    };
-    Ok(written?)
-}
-
-/// The file of a form, the version of a pool and a text.
-fn compiled(
-    alloc: Global,
-    pool: &Pool<'_>,
-    form: &str,
-    version: &str,
-    text: &str,
-) -> Result<Vec<u8>, Fail> {
-    match form {
-        "icu" => Ok(compile_icu_with_pool(alloc, text, pool)?),
-        "filtered" => filtered(alloc, pool, version, text),
-        _ => Ok(compile_with_pool(alloc, text, pool)?),
+    let bytes = pool_named(alloc, version)?;
+    let pool = Pool::open(alloc, &bytes)?;
+    let mut keys = Vec::new(alloc);
+    for word in list.split(' ') {
+        keys.push(Key::from(word))?;
+    }
+    let (bundle, _) = Reader::read(alloc, text)?;
+    match Layout::plain().over(&pool).write(alloc, &bundle, &keys) {
+        Ok(written) => words_of(alloc, &written),
+        Err(error) => Ok(format!(in alloc; "refused: {error}")?),
     }
 }
 
-/// The line of a form, a pool and a text.
+/// The first of the words that end with a blank, and what is behind it.
+fn word(input: &str) -> Result<(&str, &str), Fail> {
+    Ok(input.split_once(' ').ok_or("a row with too few words")?)
+}
+
+/// The way of compiling that the words of a row ask for, without a pool and rules.
+fn way_named<'p, 'f>(form: &str, packing: &str, limit: &str) -> Result<Compile<'p, 'f>, Fail> {
+    let form = if form == "icu" {
+        TextForm::Icu
+    } else {
+        TextForm::Plain
+    };
+    let way = if packing == "compact" {
+        Compile::new(form).compact()
+    } else {
+        Compile::new(form)
+    };
+    Ok(if limit == "-" {
+        way
+    } else {
+        way.within(limit.parse::<u64>()?)
+    })
+}
+
+/// The line of a text that is compiled in this way, over the pool bundle and by the rules, where
+/// these are given.
+fn line_by(
+    alloc: Global,
+    way: Compile<'_, '_>,
+    pool: Option<&Pool<'_>>,
+    rules: Option<&Rules<'_>>,
+    text: &str,
+) -> Result<String, Fail> {
+    let way = match pool {
+        Some(pool) => way.over(pool),
+        None => way,
+    };
+    let way = match rules {
+        Some(rules) => way.filtered(rules),
+        None => way,
+    };
+    match way.text(alloc, text) {
+        Ok(file) => words_of(alloc, &file),
+        Err(error) => Ok(format!(in alloc; "refused: {error}")?),
+    }
+}
+
+/// The line of the words of a row and a text.
 pub(crate) fn line_of_compiled(alloc: Global, input: &str) -> Result<String, Fail> {
-    let (form, input) = input.split_once(' ').ok_or("a row without a form")?;
-    let (version, text) = input.split_once(' ').ok_or("a row without a pool")?;
-    let pool = pool_named(alloc, version)?;
-    let file = compiled(alloc, &Pool::open(alloc, &pool)?, form, version, text)?;
-    words_of(alloc, &file)
+    let (form, input) = word(input)?;
+    let (packing, input) = word(input)?;
+    let (version, input) = word(input)?;
+    let (lines, input) = word(input)?;
+    let (limit, text) = word(input)?;
+    let bytes = pool_named(alloc, version)?;
+    let pool = Pool::open(alloc, &bytes)?;
+    let rules = if lines == "-" { "" } else { lines };
+    let rules = rules.replace(alloc, "|", "\n")?;
+    let rules = Rules::read(alloc, rules.as_str())?;
+    let way = way_named(form, packing, limit)?;
+    let pool = if version == "-" { None } else { Some(&pool) };
+    let rules = if lines == "-" { None } else { Some(&rules) };
+    line_by(alloc, way, pool, rules, text)
 }

@@ -2,7 +2,7 @@
 //! row is an input and its answer, in lines, up to a `;`: a row more costs no proof. Texts and
 //! their files are rows of `tests/rows.py` too.
 use crate::answers::digits;
-use resb_compile::{CompileError, compile};
+use resb_compile::{Compile, CompileError, TextForm};
 use resb_text::Reader;
 use resb_tree::{Int28, Key, Resource, ResourceBundle};
 use resb_write::{BinarySerializerError, Serializer};
@@ -256,7 +256,7 @@ const NUMBERED_WORDS: [(usize, u32); 3] = [(0, 0x4001_8009), (98313, 0x10000), (
 fn is_numbered(alloc: Global, text: &str) -> Result<bool, Fail> {
     let file = file_of_text(alloc, text)?;
     let has_words = file.len() == 917576 && has_words(&file, &NUMBERED_WORDS);
-    Ok(has_words && compile(alloc, text)? == file)
+    Ok(has_words && Compile::new(TextForm::Plain).text(alloc, text)? == file)
 }
 
 /// Without a list no key is known, however many are used.

@@ -1,10 +1,8 @@
 //! The calls that show bundles as lines: their length, lines within a limit, and what keeps a
 //! bundle from having a text. Other bundles are asked of the program, by `tests/rows.py`.
 use resb_icu_text::IcuReader;
-use resb_lines::{
-    Form, Icu, Plain, ShownBundle, find_cause, has_text, lines_length_within, lines_within,
-    write_lines,
-};
+use resb_lines::{Print, PrintForm, ShownBundle};
+use resb_print::PrintError;
 use resb_tree::ResourceBundle;
 use std::alloc::{AllocError, Global};
 use std::test::Fail;
@@ -21,32 +19,31 @@ const LENGTH: u64 = LINES.len() as u64;
 
 /// Whether a bundle has a text of a form, which is those lines, with their length within a limit of
 /// that, and not within a byte less.
-fn is_shown<F: Form>(alloc: Global, form: F, bundle: &ResourceBundle<'_>) -> Result<bool, Fail> {
-    let shown = ShownBundle::of(bundle);
-    let has_text = has_text(alloc, form, shown)?;
-    let within = lines_length_within(alloc, form, shown, LENGTH)?;
-    let over = lines_length_within(alloc, form, shown, LENGTH - 1)?;
+fn is_shown(alloc: Global, form: PrintForm, bundle: &ResourceBundle<'_>) -> Result<bool, Fail> {
+    let (shown, print) = (ShownBundle::of(bundle), Print::new(form));
+    let within = print.within(LENGTH).length(alloc, &shown)?;
+    let over = print.within(LENGTH - 1).length(alloc, &shown)?;
     let mut written = Vec::new(alloc);
-    write_lines(alloc, &mut written, form, shown)?;
+    print.printable(alloc, &shown)?.to(alloc, &mut written)?;
     let has_length = within == Some(LENGTH) && over.is_none();
-    Ok(has_text && has_length && written.as_slice() == LINES.as_bytes())
+    Ok(has_length && written.as_slice() == LINES.as_bytes())
 }
 
 /// Whether a bundle's lines are made within a limit of their length, and not within a byte less.
-fn is_within(alloc: Global, bundle: &ResourceBundle<'_>) -> Result<bool, AllocError> {
-    let shown = ShownBundle::of(bundle);
-    let is_less = lines_within(alloc, Plain, shown, LENGTH - 1)?.is_some();
-    match lines_within(alloc, Plain, shown, LENGTH)? {
-        Some(made) => Ok(!is_less && made.as_str() == LINES),
-        None => Ok(false),
+fn is_within(alloc: Global, bundle: &ResourceBundle<'_>) -> bool {
+    let (shown, print) = (ShownBundle::of(bundle), Print::new(PrintForm::Plain));
+    let less = print.within(LENGTH - 1).text(alloc, &shown).err();
+    match print.within(LENGTH).text(alloc, &shown) {
+        Ok(made) => less == Some(PrintError::Larger(LENGTH - 1)) && made.as_str() == LINES,
+        Err(_) => false,
     }
 }
 
 /// Whether the text has its lines by each call.
 fn has_lines(alloc: Global) -> Result<bool, Fail> {
     let (bundle, _) = IcuReader::read(alloc, TEXT)?;
-    let is_shown = is_shown(alloc, Plain, &bundle)? && is_shown(alloc, Icu, &bundle)?;
-    Ok(is_shown && is_within(alloc, &bundle)?)
+    let is_plain = is_shown(alloc, PrintForm::Plain, &bundle)?;
+    Ok(is_plain && is_shown(alloc, PrintForm::Icu, &bundle)? && is_within(alloc, &bundle))
 }
 
 #[test]
@@ -58,9 +55,8 @@ fn bundles_have_their_lines(rt: HostRuntime) -> Result<(), Fail> {
 /// What keeps a bundle from having a plain text, and the path to it.
 fn cause_in(alloc: Global, bundle: &ResourceBundle<'_>) -> Result<String, AllocError> {
     let shown = ShownBundle::of(bundle);
-    let has_text = has_text(alloc, Plain, shown)?;
-    match find_cause(alloc, Plain, shown)? {
-        Some((path, cause)) => format!(in alloc; "{cause:?} {path:?} {has_text}"),
+    match Print::new(PrintForm::Plain).cause(alloc, &shown)? {
+        Some((path, cause)) => format!(in alloc; "{cause:?} {path:?}"),
         None => String::from_str(alloc, "none"),
     }
 }
@@ -76,6 +72,6 @@ fn cause_of(alloc: Global, text: &str) -> Result<String, Fail> {
 fn the_first_cause_has_a_path(rt: HostRuntime) -> Result<(), Fail> {
     let text = "b{t{l:array{\"y\",:alias{\"/p\"}}}u{\"\\\"\"}}";
     let cause = cause_of(rt.alloc(), text)?;
-    assert!(rt; cause.as_str() == "Alias [Key(\"t\"), Key(\"l\"), Member(1)] false");
+    assert!(rt; cause.as_str() == "Alias [Key(\"t\"), Key(\"l\"), Member(1)]");
     Ok(())
 }

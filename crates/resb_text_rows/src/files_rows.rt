@@ -134,7 +134,7 @@ fn names_in(alloc: Global, text: &str) -> Result<String, Fail> {
 
 #[test]
 fn files_are_named(rt: HostRuntime) -> Result<(), Fail> {
-    let text = "b{x:import{g}y:process(dependency){z}w:include{f}}";
+    let text = "b{x: import{g}y:/*/*/process(dependency){z}w:include{f}}";
     assert!(rt; names_in(rt.alloc(), text)?.as_str() == "gf");
     assert!(rt; may_take_files(text));
     assert!(rt; !may_take_files("b{x:int{1}y:bin{}z{\":imp\"}}"));

@@ -1,8 +1,7 @@
 //! A bundle of a name that no file has, which is printed in neither form, and an alias, which ICU's
 //! form alone has. What files are printed as is asked of the program, by `tests/rows.py`.
-use resb_icu_print::{IcuCause, IcuPrintError};
 use resb_icu_text::IcuReader;
-use resb_lines::{cause_path, print_icu_text, print_text};
+use resb_lines::{Print, PrintForm, ShownBundle};
 use resb_print::{Cause, PathStep, PrintError};
 use resb_tree::{Resource, ResourceBundle};
 use std::alloc::{AllocError, Global};
@@ -10,16 +9,18 @@ use std::borrow::CowStr;
 use std::collections::BTreeMap;
 
 /// Why an empty table of this name has no text in ICU's form.
-fn refusal_of(alloc: Global, name: &str) -> Option<IcuPrintError> {
+fn refusal_of(alloc: Global, name: &str) -> Option<PrintError> {
     let root = Resource::Table(BTreeMap::new(alloc));
     let bundle = ResourceBundle::new(CowStr::Borrowed(name), root, true);
-    print_icu_text(alloc, &bundle).err()
+    Print::new(PrintForm::Icu)
+        .text(alloc, &ShownBundle::of(&bundle))
+        .err()
 }
 
 #[test]
 fn an_empty_name_is_no_word_of_icu(rt: HostRuntime) {
     let refusal = refusal_of(rt.alloc(), "");
-    assert!(rt; refusal == Some(IcuPrintError::NotPrintable(IcuCause::NameIsNoWord)));
+    assert!(rt; refusal == Some(PrintError::NotPrintable(Cause::NameIsNoWord)));
 }
 
 /// The refusal of an alias.
@@ -32,9 +33,12 @@ fn is_at_key(steps: &[PathStep<'_>]) -> bool {
 
 /// Whether a bundle has no text of the plain form for an alias, at the key `x`.
 fn has_alias(alloc: Global, bundle: &ResourceBundle<'_>) -> bool {
-    let refusal = print_text(alloc, bundle).err();
-    match cause_path(alloc, bundle) {
-        Ok(Some(steps)) => refusal == Some(ALIAS) && is_at_key(steps.as_slice()),
+    let (print, shown) = (Print::new(PrintForm::Plain), ShownBundle::of(bundle));
+    let refusal = print.text(alloc, &shown).err();
+    match print.cause(alloc, &shown) {
+        Ok(Some((steps, cause))) => {
+            refusal == Some(ALIAS) && cause == Cause::Alias && is_at_key(steps.as_slice())
+        }
         _ => false,
     }
 }

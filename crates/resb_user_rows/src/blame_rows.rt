@@ -3,8 +3,8 @@
 //! The records themselves are in `shapes`, the tests in `rows`.
 use crate::shapes::{Point, PointFields, Shape, ShapeFields};
 use resb::blame::{Blame, Blames, PathStep, from_bytes_blaming};
-use resb::compile;
 use resb::fields::Table;
+use resb::{Compile, TextForm};
 use std::alloc::Global;
 use std::collections::BTreeMap;
 use std::fmt::Write;
@@ -43,7 +43,7 @@ type Lists<'a> = BTreeMap<&'a str, Vec<Option<Table<Point, PointFields>>>>;
 /// The line of what a row asks for, of its text's file.
 pub(crate) fn line_of_blame(alloc: Global, input: &str) -> Result<String, Fail> {
     let (asked, source) = input.split_once(" of ").ok_or("a row without a text")?;
-    let file = compile(alloc, source)?;
+    let file = Compile::new(TextForm::Plain).text(alloc, source)?;
     match asked {
         "point" => line::<Table<Point, PointFields>>(alloc, &file),
         "points" => line::<BTreeMap<&str, Table<Point, PointFields>>>(alloc, &file),

@@ -4,11 +4,11 @@
 //! The zone table has its rows in `text_rows` and `zone_rows`.
 use crate::zone_rows::file_of;
 use resb::binary::PoolBundle;
-use resb::compile;
+use resb::{Compile, TextForm};
 use resb_examples::names::{ZoneNames, language_name, zone_names};
 use resb_examples::reading::{base_by_cursor, base_by_key, base_of, names_over_a_pool};
-use resb_examples::records::{digits_of, digits_or_blame};
-use resb_examples::writing::{greeting_file, merge};
+use resb_examples::records::{digits_of, digits_or_blame, digits_over_a_pool};
+use resb_examples::writing::{file_over, greeting_file, merge};
 use std::alloc::Global;
 use std::test::Fail;
 
@@ -41,16 +41,22 @@ const POOL: [u32; 15] = [
     0x616d6d61, 0xaaaaaa00, 0xaaaa0000,
 ];
 
-/// A file of `a{alpha{"one two three"}beta{"x"}}` over it.
+/// `genrb`'s file of `a{alpha{"one two three"}beta{"x"}}` over it.
 const OVER_POOL: [u32; 20] = [
     0x50000011, 8, 9, 0x14, 0x14, 2, 4, 0x14, 0x1baba403, 0x780000, 0x6f0000, 0x65006e, 0x740020,
     0x6f0077, 0x740020, 0x720068, 0x650065, 0x20000, 0x60000, 0x10003,
 ];
 
-/// Whether the strings of a file over a pool bundle are read by its keys.
+/// Whether the strings of a file over a pool bundle are read by its keys, `genrb`'s and ours.
 fn are_names(alloc: Global) -> Result<bool, Fail> {
     let (pool, file) = (file_of(alloc, &POOL)?, file_of(alloc, &OVER_POOL)?);
-    let names = names_over_a_pool(alloc, &file, &pool)?;
+    let written = file_over(alloc, &pool, r#"a{alpha{"one two three"}beta{"x"}}"#)?;
+    Ok(has_strings(alloc, &pool, &file)? && has_strings(alloc, &pool, &written)?)
+}
+
+/// Whether the two strings of a file over a pool bundle are read by its keys.
+fn has_strings(alloc: Global, pool: &[u8], file: &[u8]) -> Result<bool, Fail> {
+    let names = names_over_a_pool(alloc, file, pool)?;
     let (long, short) = (names.get("alpha"), names.get("beta"));
     Ok(
         long.is_some_and(|it| it.as_str() == "one two three")
@@ -106,13 +112,13 @@ fn are_found(alloc: Global) -> Result<bool, Fail> {
         file_of(alloc, &NAMES_OVER_POOL)?,
     );
     let pool = PoolBundle::read(&pool)?;
-    let alone = compile(alloc, NAMES)?;
+    let alone = Compile::new(TextForm::Plain).text(alloc, NAMES)?;
     Ok(has_names(alloc, &file, Some(pool))? && has_names(alloc, &alone, None)?)
 }
 
 /// Whether each zone's base is read, by each way.
 fn are_read(alloc: Global) -> Result<bool, Fail> {
-    let file = compile(alloc, ZONES)?;
+    let file = Compile::new(TextForm::Plain).text(alloc, ZONES)?;
     for (name, base) in BASES {
         if base_of(alloc, &file, name)? != base || base_by_cursor(&file, name)? != base {
             return Ok(false);
@@ -126,7 +132,7 @@ fn are_read(alloc: Global) -> Result<bool, Fail> {
 
 /// Whether the digits of each currency are read.
 fn are_records(alloc: Global) -> Result<bool, Fail> {
-    let file = compile(alloc, CURRENCIES)?;
+    let file = Compile::new(TextForm::Plain).text(alloc, CURRENCIES)?;
     for (code, digits) in DIGITS {
         let Ok(found) = digits_or_blame(alloc, &file, code) else {
             return Ok(false);
@@ -135,14 +141,17 @@ fn are_records(alloc: Global) -> Result<bool, Fail> {
             return Ok(false);
         }
     }
-    Ok(true)
+    let pool = file_of(alloc, &POOL)?;
+    let euro = file_over(alloc, &pool, r#"EUR{digits:int{2}name{"Euro"}}"#)?;
+    Ok(digits_over_a_pool(alloc, &euro, &pool)? == 2)
 }
 
 /// Whether the files that are made are those of the texts.
 fn are_written(alloc: Global) -> Result<bool, Fail> {
-    let greeting = compile(alloc, r#"names { age:int { 7 } greeting { "hello" } }"#)?;
+    let plain = Compile::new(TextForm::Plain);
+    let greeting = plain.text(alloc, r#"names { age:int { 7 } greeting { "hello" } }"#)?;
     let merged = merge(alloc, MERGED[0], MERGED[1])?;
-    Ok(greeting_file(alloc)? == greeting && merged == compile(alloc, MERGED[2])?)
+    Ok(greeting_file(alloc)? == greeting && merged == plain.text(alloc, MERGED[2])?)
 }
 
 #[test]

@@ -6,8 +6,8 @@ use crate::zone_rows::file_of;
 use resb::binary::{
     BinaryDeserializerError, Cursor, Deserialize, SortedTable, TableView, Walk, from_bytes_counted,
 };
-use resb::compile;
 use resb::fields::Table;
+use resb::{Compile, TextForm};
 use std::alloc::Global;
 use std::collections::BTreeMap;
 use std::fmt::Debug;
@@ -104,7 +104,7 @@ pub(crate) fn line_of_record(alloc: Global, input: &str) -> Result<String, Fail>
 /// The file of a row: a text's, or one of words, or one of a kind and two numbers.
 fn file_of_source(alloc: Global, source: &str) -> Result<Vec<u8>, Fail> {
     if source.contains('{') {
-        return Ok(compile(alloc, source)?);
+        return Ok(Compile::new(TextForm::Plain).text(alloc, source)?);
     }
     let Some((first, second)) = source.split_once(", ") else {
         return file_of_digits(alloc, source);

@@ -2,7 +2,7 @@
 //! a text and its answer, up to a `;`: a row more costs no proof. What no text says is in
 //! `zone_rows`.
 use resb::binary::{from_bytes, from_bytes_counted};
-use resb::compile;
+use resb::{Compile, TextForm};
 use resb_examples::zones::ZoneTable;
 use std::alloc::{AllocError, Global};
 use std::test::Fail;
@@ -145,7 +145,7 @@ fn described(alloc: Global, table: &ZoneTable<'_>, count: usize) -> Result<Strin
 
 /// The line of what is read of the text's file.
 pub(crate) fn line_of_zones(alloc: Global, text: &str) -> Result<String, Fail> {
-    let file = compile(alloc, text)?;
+    let file = Compile::new(TextForm::Plain).text(alloc, text)?;
     match from_bytes::<ZoneTable>(alloc, file.as_slice()) {
         Ok(table) => {
             let (_, count) = from_bytes_counted::<ZoneTable>(alloc, file.as_slice())?;

@@ -1,7 +1,7 @@
 //! Offsets of a small made file, by hand from the rules: moments before, within and after the
 //! range of 32 bits, a link, a final rule of the last Sundays of March and October at 1:00, and one
 //! of the south; and a zone for each thing that a file may have wrong.
-use resb::compile;
+use resb::{Compile, TextForm};
 use resb_zoneinfo::{RuleError, ZoneError, ZoneInfo};
 use std::alloc::Global;
 use std::test::Fail;
@@ -146,7 +146,7 @@ fn offset_of(info: &ZoneInfo<'_>, name: &str, moment: i64) -> Option<i64> {
 
 #[test]
 fn a_made_file_has_its_offsets(rt: HostRuntime) -> Result<(), Fail> {
-    let file = compile(rt.alloc(), MADE)?;
+    let file = Compile::new(TextForm::Plain).text(rt.alloc(), MADE)?;
     let info = info_of(rt.alloc(), file.as_slice()).ok_or("the file is refused")?;
     for (name, moment, wanted) in ROWS {
         let found = offset_of(&info, name, moment).ok_or("no such zone")?;
@@ -166,7 +166,7 @@ fn faults_print_as_they_are(rt: HostRuntime) -> Result<(), Fail> {
 
 #[test]
 fn what_is_wrong_is_named(rt: HostRuntime) -> Result<(), Fail> {
-    let file = compile(rt.alloc(), MADE)?;
+    let file = Compile::new(TextForm::Plain).text(rt.alloc(), MADE)?;
     let info = info_of(rt.alloc(), file.as_slice()).ok_or("the file is refused")?;
     for (name, wanted) in REFUSED {
         assert!(rt; is_refused(&info, name, wanted), "{name}");

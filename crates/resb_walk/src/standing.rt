@@ -16,7 +16,7 @@ ghost use Rattle.resb_format.specs.Parts.{parts_in};
 ghost use Rattle.resb_format.specs.Lookups.{key_in, text_in};
 ghost use Rattle.resb_walk.specs.BlockRefusals.{key_refusal_in, text_refusal_in};
 ghost use Rattle.resb_walk.specs.Inner.Members.{content_of, text_of_bytes, member_of};
-ghost use Rattle.resb_walk.specs.Inner.Members.{AreUtf16, HasUtf16};
+ghost use Rattle.resb_walk.specs.Inner.Members.{AreUtf16, IsWellSpelled};
 ghost use Rattle.resb_walk.specs.Inner.MemberContent.{member_content, content_refusal, IsPartOf};
 ghost use Rattle.resb_walk.specs.Refusals.{IsFault};
 
@@ -226,7 +226,7 @@ pub fn standing_at(file: FileBlocks<'_>, word: u32) -> Result<Standing<'_>, Bina
     ensures stands { let p = parts_in file.entry in
         MatchResult result (λ s. content_at p word ≡ Some (content_of s))
         (λ e. (content_at p word ≡ None) × IsFault e) }
-    ensures form { IfOk result HasUtf16 }
+    ensures form { IfOk result IsWellSpelled }
     ensures says { IfErr result (Says (word_refusal (parts_in file.entry) word)) }
 {
     let (kind, value) = readable(file, word)?;
@@ -248,7 +248,7 @@ pub(crate) fn standing_of(
     ensures stands { let p = parts_in file.entry in
         MatchResult result (λ s. content_at p word ≡ Some (content_of s))
         (λ e. (content_at p word ≡ None) × IsFault e) }
-    ensures form { IfOk result HasUtf16 }
+    ensures form { IfOk result IsWellSpelled }
     ensures says { IfErr result (Says (word_refusal (parts_in file.entry) word)) }
 {
     match (kind, value) {
@@ -293,7 +293,7 @@ fn placed(
     ensures stands { let found = at.placed (parts_in file.entry) (type_number kind) value in
         MatchResult result (λ s. found ≡ Some (content_of s))
         (λ e. (found ≡ None) × IsFault e) }
-    ensures form { IfOk result HasUtf16 }
+    ensures form { IfOk result IsWellSpelled }
     ensures says { IfErr result
         (Says (refusals.value_refusal (parts_in file.entry) (type_number kind) value)) }
 {
@@ -322,7 +322,7 @@ fn binary_at(file: FileBlocks<'_>, value: usize) -> Option<Standing<'_>>
     requires { value < 2 ^ 28 }
     ensures stands { let found = at.binary_at (parts_in file.entry) value in
         MatchOption result (found ≡ None) (λ s. found ≡ Some (content_of s)) }
-    ensures form { IfSome result HasUtf16 }
+    ensures form { IfSome result IsWellSpelled }
 {
     let count = some_word(file.body, value)?;
     let bytes = some_bytes(file.body, 4 * value + 4, count as usize)?;
@@ -334,7 +334,7 @@ fn int_vector_at(file: FileBlocks<'_>, value: usize) -> Option<Standing<'_>>
     requires { value < 2 ^ 28 }
     ensures stands { let found = at.int_vector_at (parts_in file.entry) value in
         MatchOption result (found ≡ None) (λ s. found ≡ Some (content_of s)) }
-    ensures form { IfSome result HasUtf16 }
+    ensures form { IfSome result IsWellSpelled }
 {
     let count = some_word(file.body, value)?;
     let numbers = some_words(file.body, value + 1, count as usize)?;
@@ -346,7 +346,7 @@ fn array_at(file: FileBlocks<'_>, value: usize) -> Option<Standing<'_>>
     requires { value < 2 ^ 28 }
     ensures stands { let found = at.array_at (parts_in file.entry) value in
         MatchOption result (found ≡ None) (λ s. found ≡ Some (content_of s)) }
-    ensures form { IfSome result HasUtf16 }
+    ensures form { IfSome result IsWellSpelled }
 {
     let count = some_word(file.body, value)?;
     let members = some_words(file.body, value + 1, count as usize)?;
@@ -358,7 +358,7 @@ fn array16_at(file: FileBlocks<'_>, value: usize) -> Option<Standing<'_>>
     requires { value < 2 ^ 28 }
     ensures stands { let found = at.array16_at (parts_in file.entry) value in
         MatchOption result (found ≡ None) (λ s. found ≡ Some (content_of s)) }
-    ensures form { IfSome result HasUtf16 }
+    ensures form { IfSome result IsWellSpelled }
 {
     let count = some_unit(file.block, value)?;
     let members = some_units(file.block, value + 1, usize::from(count))?;
@@ -370,7 +370,7 @@ fn table_at(file: FileBlocks<'_>, value: usize) -> Option<Standing<'_>>
     requires { value < 2 ^ 28 }
     ensures stands { let found = at.table_at (parts_in file.entry) value in
         MatchOption result (found ≡ None) (λ s. found ≡ Some (content_of s)) }
-    ensures form { IfSome result HasUtf16 }
+    ensures form { IfSome result IsWellSpelled }
 {
     let count = some_unit(file.body, 2 * value)?;
     let count = usize::from(count);
@@ -387,7 +387,7 @@ fn table16_at(file: FileBlocks<'_>, value: usize) -> Option<Standing<'_>>
     requires { value < 2 ^ 28 }
     ensures stands { let found = at.table16_at (parts_in file.entry) value in
         MatchOption result (found ≡ None) (λ s. found ≡ Some (content_of s)) }
-    ensures form { IfSome result HasUtf16 }
+    ensures form { IfSome result IsWellSpelled }
 {
     let count = some_unit(file.block, value)?;
     let count = usize::from(count);
@@ -404,7 +404,7 @@ fn table32_at(file: FileBlocks<'_>, value: usize) -> Option<Standing<'_>>
     requires { value < 2 ^ 28 }
     ensures stands { let found = at.table32_at (parts_in file.entry) value in
         MatchOption result (found ≡ None) (λ s. found ≡ Some (content_of s)) }
-    ensures form { IfSome result HasUtf16 }
+    ensures form { IfSome result IsWellSpelled }
 {
     let count = some_word(file.body, value)?;
     let count = count as usize;
@@ -422,7 +422,7 @@ fn empty(file: FileBlocks<'_>, kind: ResourceReprType) -> Standing<'_>
     requires read { reads_type (parts_in file) (type_number kind) ≡ true }
     requires no_number { kind ≢ ResourceReprType.Int }
     ensures stands { at.empty (parts_in file.entry) (type_number kind) ≡ Some (content_of result) }
-    ensures form { HasUtf16 result }
+    ensures form { IsWellSpelled result }
 {
     match kind {
         ResourceReprType::Binary => Standing::Leaf(Leaf::Binary(&[])),

@@ -3,7 +3,7 @@
 //! `icu_command`.
 use crate::described::{Argument, Described, FLAG, VALUE, WORD, WORDS, command_of};
 use crate::icu_command::{COLLATION, DERB, GENRB};
-use crate::writing::{DEPFILE, IF_CHANGED, INCLUDE_OUTSIDE, SYNC};
+use crate::writing::{BIG_ENDIAN, DEPFILE, IF_CHANGED, INCLUDE_OUTSIDE, SYNC};
 use clap::Command;
 use std::alloc::{AllocError, Global};
 
@@ -49,8 +49,8 @@ const COMPACT: Argument<'static> = Argument {
 };
 
 /// The program's commands, in the order in which they are shown.
-const COMMANDS: [Described<'static>; 9] = [
-    COMPILE, CHECK, DUMP, GET, DIFF, LIST, EXTRACT, GENRB, DERB,
+const COMMANDS: [Described<'static>; 10] = [
+    COMPILE, CHECK, DUMP, GET, DIFF, LIST, EXTRACT, SWAP, GENRB, DERB,
 ];
 
 /// Texts to files.
@@ -103,10 +103,10 @@ const COMPILE: Described<'static> = Described {
             id: "POOL",
             option: Some("pool"),
             help: "Leaves out what this pool bundle, or the pool.res in this folder, has",
-            against: Some("BYTES"),
             ..VALUE
         },
         COMPACT,
+        BIG_ENDIAN,
         Argument {
             id: "noBinaryCollation",
             option: Some("no-binary-collation"),
@@ -293,9 +293,36 @@ const EXTRACT: Described<'static> = Described {
     ],
 };
 
-/// The program's words.
+/// A file in the other order of bytes.
+const SWAP: Described<'static> = Described {
+    name: "swap",
+    version: None,
+    about: "Writes a .res file, or a package of them, in the other order of bytes",
+    example: "Example: resb swap out/de.res java/de.res --to big",
+    arguments: &[
+        Argument {
+            id: "FILE",
+            help: "A .res file or a package of ICU's; '-' is standard input",
+            ..WORD
+        },
+        Argument {
+            id: "OUT",
+            help: "The new file; '-' is standard output",
+            ..WORD
+        },
+        Argument {
+            id: "ORDER",
+            option: Some("to"),
+            help: "big or little: a file that has this order already is copied",
+            ..VALUE
+        },
+    ],
+};
+
+/// The program's words. Its usage names it `resb`, whatever its file is called.
 pub(crate) fn program<'a>(alloc: Global) -> Result<Command<'a>, AllocError> {
     let mut program = Command::new(alloc, "resb")
+        .bin_name("resb")?
         .version("0.2.0")
         .about("Compiles ICU resource bundles, checks them, and shows what is in them.")
         .subcommand_required(true)

@@ -25,12 +25,20 @@ pub enum WordsError {
     CompactPlain,
     /// The words of ICU's compiler ask for this, which isn't done.
     NotDone(&'static str),
+    /// These words of ICU's compiler are for a kind of file that isn't written.
+    OfJava(&'static str),
+    /// The words of ICU's `derb` ask it to leave data out.
+    Truncated,
+    /// The words of ICU's `derb` ask for the data that are built into ICU.
+    IcuData,
     /// `--encoding` names one that isn't read.
     NoEncoding,
     /// `--encoding` names one that isn't written.
     NoUtf8,
     /// `--formatVersion` names one that isn't written.
     NoVersion,
+    /// What stands behind `--to` is no order of bytes.
+    NoOrder,
     /// A request for memory was refused.
     Memory,
 }
@@ -66,13 +74,29 @@ impl fmt::Display for WordsError {
                 f,
                 "resb: --compact is for texts in ICU's own form, which --icu says"
             ),
-            WordsError::NotDone(word) => write!(f, "resb: --{word} isn't done here"),
-            WordsError::NoEncoding => write!(
+            WordsError::NotDone(word) => write!(
                 f,
-                "resb: --encoding is UTF-8, or UTF-16 by the mark that a text begins with"
+                "resb: --{word} isn't done here; for Java take --big-endian, for texts resb dump"
             ),
+            WordsError::OfJava(word) => write!(
+                f,
+                "resb: --{word} goes with --write-java, which isn't done here"
+            ),
+            WordsError::Truncated => write!(
+                f,
+                "resb: --truncate isn't done here: it would leave data out of a text"
+            ),
+            WordsError::IcuData => write!(
+                f,
+                "resb: --sourcedir is a folder: the data that are built into ICU aren't read"
+            ),
+            WordsError::NoEncoding => {
+                f.write_str("resb: --encoding is UTF-8, UTF-16, UTF-32, ISO-8859-1")?;
+                f.write_str(" or windows-1252")
+            }
             WordsError::NoUtf8 => write!(f, "resb: --encoding is UTF-8"),
             WordsError::NoVersion => write!(f, "resb: --formatVersion is 2 or 3"),
+            WordsError::NoOrder => write!(f, "resb: --to is big or little"),
             WordsError::Memory => write!(f, "resb: out of memory"),
         }
     }

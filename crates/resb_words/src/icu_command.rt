@@ -1,7 +1,7 @@
 //! The words of ICU's own tools, `genrb` and `derb`, as commands of the program.
 //! What is read from such words is in `icu_request`.
 use crate::described::{Argument, Described, FLAG, Takes, VALUE, WORDS, command_of};
-use crate::writing::{DEPFILE, IF_CHANGED, INCLUDE_OUTSIDE, SYNC};
+use crate::writing::{BIG_ENDIAN, DEPFILE, IF_CHANGED, INCLUDE_OUTSIDE, SYNC};
 use clap::Command;
 use std::alloc::{AllocError, Global};
 
@@ -27,6 +27,9 @@ impl IcuTool {
 
 /// The words of ICU's compiler that ask for what isn't done, without the dashes.
 pub(crate) const NOT_DONE: [&str; 2] = ["write-java", "write-xliff"];
+
+/// The words of ICU's compiler that it takes beside `--write-java` alone.
+pub(crate) const OF_JAVA: [&str; 2] = ["java-package", "bundle-name"];
 
 /// What is said of words that change nothing.
 const NOT_LOOKED_AT: &str = "Is not looked at";
@@ -56,7 +59,7 @@ const VERBOSE: Argument<'static> = Argument {
     id: "verbose",
     letter: Some('v'),
     option: Some("verbose"),
-    help: NOT_LOOKED_AT,
+    help: "Names each text on standard output",
     ..FLAG
 };
 
@@ -128,7 +131,7 @@ pub(crate) const GENRB: Described<'static> = Described {
             letter: Some('e'),
             option: Some("encoding"),
             value: Some("NAME"),
-            help: "UTF-8, or UTF-16 by a mark",
+            help: "UTF-8, UTF-16, UTF-32, ISO-8859-1 or windows-1252, where a text has no mark",
             ..VALUE
         },
         Argument {
@@ -170,7 +173,7 @@ pub(crate) const GENRB: Described<'static> = Described {
             id: "copyright",
             letter: Some('c'),
             option: Some("copyright"),
-            help: NOT_LOOKED_AT,
+            help: "Puts ICU's notice of copyright into the header of each file",
             ..FLAG
         },
         Argument {
@@ -194,17 +197,24 @@ pub(crate) const GENRB: Described<'static> = Described {
             help: "Lays files out as ICU's genrb does: keys may lie at the ends of others",
             ..FLAG
         },
+        BIG_ENDIAN,
         Argument {
             id: "formatVersion",
             option: Some("formatVersion"),
             value: Some("NUMBER"),
-            help: "2 or 3: files of the other version are refused",
+            help: "2 or 3: a file of 3 that must be 2 is refused, and one of 2 is marked as 3",
             ..VALUE
         },
         Argument {
             id: "strict-warnings",
             option: Some("strict-warnings"),
             help: "Refuses a text that has a warning: no file is written, and the status is 3",
+            ..FLAG
+        },
+        Argument {
+            id: "keep-going",
+            option: Some("keep-going"),
+            help: "Has the last text's status, and a pool bundle without refused texts, as genrb",
             ..FLAG
         },
         INCLUDE_OUTSIDE,
@@ -279,7 +289,7 @@ pub(crate) const DERB: Described<'static> = Described {
             id: "suppressAliases",
             letter: Some('A'),
             option: Some("suppressAliases"),
-            help: "Is not looked at: an alias is shown as one, and never followed",
+            help: "Shows an alias as one, as is always done",
             ..FLAG
         },
         Argument {
@@ -288,7 +298,7 @@ pub(crate) const DERB: Described<'static> = Described {
             option: Some("truncate"),
             takes: Takes::AtMostOne,
             value: Some("SIZE"),
-            help: "Is not looked at: nothing is cut",
+            help: "Is refused: nothing is cut",
             ..VALUE
         },
         Argument {
@@ -302,11 +312,14 @@ pub(crate) const DERB: Described<'static> = Described {
         Argument {
             id: "bom",
             option: Some("bom"),
-            help: NOT_LOOKED_AT,
+            help: "Begins each text with a byte order mark",
             ..FLAG
         },
         DATA,
-        VERBOSE,
+        Argument {
+            help: NOT_LOOKED_AT,
+            ..VERBOSE
+        },
         QUESTION,
     ],
 };

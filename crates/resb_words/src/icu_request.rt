@@ -1,8 +1,9 @@
 //! What is asked in the words of ICU's own tools, `genrb` and `derb`.
 //! The words that they take are in `icu_command`.
 use crate::collation::asked_collation;
+use crate::encoding::Encoding;
 use crate::error::WordsError;
-use crate::icu_command::{IcuTool, NOT_DONE};
+use crate::icu_command::{IcuTool, NOT_DONE, OF_JAVA};
 use crate::request::{FileWords, Request, names};
 use crate::writing::{WritingWords, asked_writing};
 use clap::ArgMatches;
@@ -20,6 +21,8 @@ pub struct GenrbWords<'w> {
     pub destination: &'w str,
     /// The folder for a pool bundle, if one is written.
     pub written_pool: Option<&'w str>,
+    /// How the bytes of a text without a mark are read.
+    pub encoding: Encoding,
     /// How each file is made.
     pub file: FileWords<'w>,
     /// How the files are written.
@@ -28,6 +31,11 @@ pub struct GenrbWords<'w> {
     pub is_quiet: bool,
     /// Whether a text with a warning is refused.
     pub is_strict: bool,
+    /// Whether each text is named on standard output.
+    pub is_verbose: bool,
+    /// Whether the last text's status is the call's, and a pool bundle is written of the texts that
+    /// aren't refused where that is 0.
+    pub is_keeping_on: bool,
 }
 
 /// The rules by which parts are left out of the files of texts.
@@ -48,6 +56,8 @@ pub struct DerbWords<'w> {
     pub source: &'w str,
     /// The folder for the texts; standard output if there is none.
     pub destination: Option<&'w str>,
+    /// Whether a text begins with a byte order mark.
+    pub has_mark: bool,
 }
 
 /// The tool of ICU's by whose name the process is called, which is the first word.
@@ -85,9 +95,13 @@ fn genrb<'w>(alloc: Global, matches: &ArgMatches<'w>) -> Result<Request<'w>, Wor
             return Err(WordsError::NotDone(word));
         }
     }
-    if !is_known_encoding(matches.get_str("encoding")) {
-        return Err(WordsError::NoEncoding);
+    for word in OF_JAVA {
+        if matches.contains_id(word) {
+            return Err(WordsError::OfJava(word));
+        }
     }
+    let encoding = Encoding::named(matches.get_str("encoding").unwrap_or(""));
+    let encoding = encoding.ok_or(WordsError::NoEncoding)?;
     let version = match matches.get_str("formatVersion") {
         None => None,
         Some("2") => Some(2),
@@ -101,12 +115,15 @@ fn genrb<'w>(alloc: Global, matches: &ArgMatches<'w>) -> Result<Request<'w>, Wor
         source,
         destination,
         written_pool: pool(matches, "writePoolBundle", destination),
+        encoding,
         file: FileWords {
             pool: pool(matches, "usePoolBundle", source),
             filters: rules_of(matches, source),
             collation: asked_collation(matches),
             omits_rules: matches.get_flag("omitCollationRules"),
             is_compact: matches.get_flag("compact"),
+            is_big_endian: matches.get_flag("big-endian"),
+            has_copyright: matches.get_flag("copyright"),
             version,
             takes_from: source_said(matches),
             includes_outside: matches.get_flag("include-outside"),
@@ -114,6 +131,8 @@ fn genrb<'w>(alloc: Global, matches: &ArgMatches<'w>) -> Result<Request<'w>, Wor
         writing: asked_writing(matches),
         is_quiet: matches.get_flag("quiet"),
         is_strict: matches.get_flag("strict-warnings"),
+        is_verbose: matches.get_flag("verbose"),
+        is_keeping_on: matches.get_flag("keep-going"),
     }))
 }
 
@@ -130,8 +149,16 @@ fn rules_of<'w>(matches: &ArgMatches<'w>, source: &'w str) -> Option<Filters<'w>
 
 /// What is asked of files by the words of ICU's `derb`.
 fn derb<'w>(alloc: Global, matches: &ArgMatches<'w>) -> Result<Request<'w>, WordsError> {
-    if !is_utf8(matches.get_str("encoding")) {
+    let encoding = Encoding::named(matches.get_str("encoding").unwrap_or(""));
+    if encoding != Some(Encoding::Utf8) {
         return Err(WordsError::NoUtf8);
+    }
+    if matches.contains_id("truncate") {
+        return Err(WordsError::Truncated);
+    }
+    let source = folder(matches, "sourcedir");
+    if source == "-" {
+        return Err(WordsError::IcuData);
     }
     let destination = if matches.get_flag("to-stdout") {
         None
@@ -140,8 +167,9 @@ fn derb<'w>(alloc: Global, matches: &ArgMatches<'w>) -> Result<Request<'w>, Word
     };
     Ok(Request::Derb(DerbWords {
         files: names(alloc, matches, "FILE")?,
-        source: folder(matches, "sourcedir"),
+        source,
         destination,
+        has_mark: matches.get_flag("bom"),
     }))
 }
 
@@ -172,24 +200,5 @@ fn pool<'w>(matches: &ArgMatches<'w>, word: &str, usual: &'w str) -> Option<&'w 
     {
         None | Some("") => Some(usual),
         folder => folder,
-    }
-}
-
-/// Whether texts of an encoding are read: UTF-8, which may be left unsaid, and UTF-16, of which the
-/// texts have a mark.
-fn is_known_encoding(encoding: Option<&str>) -> bool {
-    is_utf8(encoding) || is_one_of(encoding, ["utf-16", "utf16"])
-}
-
-/// Whether an encoding is UTF-8, which may be left unsaid.
-fn is_utf8(encoding: Option<&str>) -> bool {
-    matches!(encoding, None | Some("")) || is_one_of(encoding, ["utf-8", "utf8"])
-}
-
-/// Whether an encoding is said by one of two names, in letters of any case.
-fn is_one_of(encoding: Option<&str>, names: [&str; 2]) -> bool {
-    match encoding {
-        None => false,
-        Some(encoding) => names.iter().any(|name| encoding.eq_ignore_ascii_case(name)),
     }
 }

@@ -5,6 +5,7 @@
 mod collation;
 mod command;
 mod described;
+mod encoding;
 mod error;
 mod icu_command;
 mod icu_request;
@@ -12,10 +13,11 @@ mod request;
 mod writing;
 
 pub use collation::Collation;
+pub use encoding::Encoding;
 pub use error::WordsError;
 pub use icu_request::{DerbWords, Filters, GenrbWords, are_of_icu};
 pub use request::{
-    CheckWords, CompileWords, DiffWords, DumpWords, ExtractWords, FileWords, GetWords, Request,
-    request_of,
+    CheckWords, CompileWords, DiffWords, DumpWords, ExtractWords, FileWords, GetWords, Order,
+    Request, SwapWords, request_of,
 };
 pub use writing::WritingWords;

@@ -3,6 +3,7 @@
 
 use crate::collation::{Collation, asked_collation};
 use crate::command::program;
+use crate::encoding::Encoding;
 use crate::error::WordsError;
 use crate::icu_command::{IcuTool, tool_itself};
 use crate::icu_request::{DerbWords, Filters, GenrbWords, asked_of, called_tool};
@@ -27,6 +28,8 @@ pub enum Request<'w> {
     List(&'w str),
     /// `extract`: one item of a package.
     Extract(ExtractWords<'w>),
+    /// `swap`: a file in the other order of bytes.
+    Swap(SwapWords<'w>),
     /// `genrb`: what ICU's compiler is asked in its own words.
     Genrb(GenrbWords<'w>),
     /// `derb`: what ICU's printer of files is asked in its own words.
@@ -46,6 +49,8 @@ pub struct CompileWords<'w> {
     pub is_by_name: bool,
     /// Whether the texts are in ICU's own form.
     pub is_icu: bool,
+    /// How the bytes of a text without a mark are read.
+    pub encoding: Encoding,
     /// The most bytes that reading a text may make.
     pub limit: Option<u64>,
     /// How each file is made.
@@ -60,6 +65,10 @@ pub struct CompileWords<'w> {
     pub is_quiet: bool,
     /// Whether a text with a warning is refused.
     pub is_strict: bool,
+    /// Whether each text is named on standard output, as ICU's compiler names it.
+    pub is_verbose: bool,
+    /// Whether the status is that of the last text, as ICU's compiler has it, not the greatest.
+    pub counts_last: bool,
 }
 
 /// How the file of a text is made, which `compile` and `genrb` ask alike.
@@ -75,6 +84,10 @@ pub struct FileWords<'w> {
     pub omits_rules: bool,
     /// Whether the file is laid out as ICU's compiler lays it out.
     pub is_compact: bool,
+    /// Whether the file is in big-endian order.
+    pub is_big_endian: bool,
+    /// Whether ICU's notice of copyright stands in the file's header.
+    pub has_copyright: bool,
     /// The version of the format that the file must have, 2 or 3, if one is asked for.
     pub version: Option<u8>,
     /// The folder of the files that the text takes in, if it isn't that of the text.
@@ -111,6 +124,8 @@ pub struct DumpWords<'w> {
     pub limit: Option<u64>,
     /// The name of the pool bundle of the files that use one.
     pub pool: Option<&'w str>,
+    /// Whether a text begins with a byte order mark.
+    pub has_mark: bool,
 }
 
 /// What is asked of a file of which some things are printed.
@@ -154,6 +169,26 @@ pub struct ExtractWords<'w> {
     pub output: Option<&'w str>,
 }
 
+/// What is asked of a file that is written in the other order of bytes.
+#[derive(Clone, Copy)]
+pub struct SwapWords<'w> {
+    /// The file's name; `-` is standard input.
+    pub file: &'w str,
+    /// The name of the new file; `-` is standard output.
+    pub output: &'w str,
+    /// The order of the new file; the other one than the file's, if none is said.
+    pub order: Option<Order>,
+}
+
+/// An order of bytes.
+#[derive(Clone, Copy, PartialEq)]
+pub enum Order {
+    /// The lower byte of a number is the first.
+    Little,
+    /// The higher byte of a number is the first.
+    Big,
+}
+
 /// What the words ask for, of which the first is the program's own name. Under the name of a tool
 /// of ICU's, `genrb` or `derb`, the others are that tool's.
 pub fn request_of<'w>(alloc: Global, words: &'w [String]) -> Result<Request<'w>, WordsError> {
@@ -174,6 +209,7 @@ fn asked<'w>(alloc: Global, matches: &ArgMatches<'w>) -> Result<Request<'w>, Wor
         Some(("diff", matches)) => diff(matches),
         Some(("list", matches)) => Ok(Request::List(word(matches, "FILE"))),
         Some(("extract", matches)) => Ok(extract(matches)),
+        Some(("swap", matches)) => swap(matches),
         Some(("get", matches)) => get(alloc, matches),
         Some((command, matches)) => match IcuTool::named(command) {
             Some(tool) => asked_of(alloc, tool, matches),
@@ -202,6 +238,7 @@ fn compile<'w>(alloc: Global, matches: &ArgMatches<'w>) -> Result<Request<'w>, W
         folder,
         is_by_name: matches.get_flag("by-name"),
         is_icu,
+        encoding: Encoding::Utf8,
         limit,
         file: FileWords {
             pool: matches.get_str("POOL"),
@@ -209,6 +246,8 @@ fn compile<'w>(alloc: Global, matches: &ArgMatches<'w>) -> Result<Request<'w>, W
             collation: asked_collation(matches),
             omits_rules: false,
             is_compact,
+            is_big_endian: matches.get_flag("big-endian"),
+            has_copyright: false,
             version: None,
             takes_from: None,
             includes_outside: matches.get_flag("include-outside"),
@@ -218,6 +257,8 @@ fn compile<'w>(alloc: Global, matches: &ArgMatches<'w>) -> Result<Request<'w>, W
         is_check: matches.get_flag("check"),
         is_quiet: matches.get_flag("quiet"),
         is_strict: matches.get_flag("strict"),
+        is_verbose: false,
+        counts_last: false,
     }))
 }
 
@@ -246,6 +287,7 @@ fn dump<'w>(alloc: Global, matches: &ArgMatches<'w>) -> Result<Request<'w>, Word
         is_lenient: matches.get_flag("lenient"),
         limit,
         pool: matches.get_str("POOL"),
+        has_mark: false,
     }))
 }
 
@@ -279,6 +321,21 @@ fn extract<'w>(matches: &ArgMatches<'w>) -> Request<'w> {
         item: word(matches, "ITEM"),
         output: matches.get_str("OUT"),
     })
+}
+
+/// What is asked of a file that is written in the other order of bytes.
+fn swap<'w>(matches: &ArgMatches<'w>) -> Result<Request<'w>, WordsError> {
+    let order = match matches.get_str("ORDER") {
+        None => None,
+        Some("big") => Some(Order::Big),
+        Some("little") => Some(Order::Little),
+        Some(_) => return Err(WordsError::NoOrder),
+    };
+    Ok(Request::Swap(SwapWords {
+        file: word(matches, "FILE"),
+        output: word(matches, "OUT"),
+        order,
+    }))
 }
 
 /// The word of an argument that each command of its kind has.

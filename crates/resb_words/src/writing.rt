@@ -39,6 +39,14 @@ pub(crate) const DEPFILE: Argument<'static> = Argument {
     ..VALUE
 };
 
+/// The wish for files in big-endian order.
+pub(crate) const BIG_ENDIAN: Argument<'static> = Argument {
+    id: "big-endian",
+    option: Some("big-endian"),
+    help: "Writes files in big-endian order, as ICU for Java reads them",
+    ..FLAG
+};
+
 /// The leave to take files in from anywhere.
 pub(crate) const INCLUDE_OUTSIDE: Argument<'static> = Argument {
     id: "include-outside",

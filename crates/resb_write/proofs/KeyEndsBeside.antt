@@ -17,8 +17,8 @@ use Rattle.resb_lent.specs.declared.ends.LentEnds.{LentEnds}
 use Rattle.resb_lent.proofs.EndsRead.{container_in_file}
 use Rattle.resb_lent.proofs.LastEnding.{some_ends, ends_extends, ends_lend}
 use Rattle.resb_write.specs.WrittenWith.{position_beside, position_of}
-use Rattle.resb_write.specs.Inner.Beside.{told_beside, told_at_end}
-use Rattle.resb_write.specs.Inner.KeyEnds.{near_end_position}
+use Rattle.resb_write.specs.Inner.KeyEnds.{near_end_position, told_by, told_at_end}
+use Rattle.resb_write.specs.Inner.KeyEnds.{lent_position}
 use Rattle.resb_write.specs.Inner.NearPositions.{near_position}
 use Rattle.resb_write.proofs.EndPlaces.{holder_kept, end_inside, among_test, listed}
 use Rattle.resb_layout.proofs.KeyEndsLemmas.{container_ends, extends_ends}
@@ -46,16 +46,17 @@ last_fits l keys k r h e =
 
 -- where no run ends with a key, it doesn't lie in the pool
 pub none_there : (l : LentEnds) (js : List (List ℕ)) (k : List ℕ)
-    → None ≡ last_ending l.runs.items k → None ≡ end_place l js k
-none_there l js k e = ap (λ o. place_at_end (option_map run_of o) js k) e
+    → None ≡ last_ending l.runs.items k → None ≡ lent_position (end_place l js k)
+none_there l js k e = ap (λ o. lent_position (place_at_end (option_map run_of o) js k)) e
 
 -- where one does, it lies there by what that run is to the key's container
 pub there : (l : LentEnds) (js : List (List ℕ)) (k : List ℕ) (r : LentRun) (b : Bool)
     → Some r ≡ last_ending l.runs.items k → is_not_behind r.bytes.now (container js k) ≡ b
-    → cond b (Some (r.at + (length r.bytes.now - length k))) None ≡ end_place l js k
+    → lent_position (cond b (Some (r.at + (length r.bytes.now - length k))) None)
+    ≡ lent_position (end_place l js k)
 there l js k r b e f =
-    ap (λ c. cond c (Some (r.at + (length r.bytes.now - length k))) None) (sym f)
-    ∙ ap (λ o. place_at_end (option_map run_of o) js k) e
+    ap (λ c. lent_position (cond c (Some (r.at + (length r.bytes.now - length k))) None)) (sym f)
+    ∙ ap (λ o. lent_position (place_at_end (option_map run_of o) js k)) e
 
 -- what the sorted keys of a pool give is where keys lie there
 pub places_lie : (l : LentEnds) (keys : List ℕ) (js : List (List ℕ)) → LendsEnds l keys
@@ -96,7 +97,7 @@ module _ (keys : List ℕ) (place : List ℕ → Option ℕ) (us ks : List (List
       by None e = absurd (no_place (container js k) own e (holder_own k c none))
 
   abbrev told : List ℕ → ℕ
-  told k = told_at_end place js own k
+  told k = told_at_end 4 place js own k
 
   abbrev own_end : List ℕ → Option ℕ
   own_end k = option_map (λ n. n + (length (container js k) - length k))
@@ -109,7 +110,7 @@ module _ (keys : List ℕ) (place : List ℕ → Option ℕ) (us ks : List (List
       (among_test js k (listed us ks faultless k c)) ∙ by (place k) refl
     where
       by : (o : Option ℕ) → place k ≡ o
-          → position_of o (own_end k) ≡ Some (told_beside o (Some (near_end_position js own k)))
+          → position_of o (own_end k) ≡ Some (told_by 4 o (near_end_position js own k))
       by (Some m) e = refl
       by None e =
           let (n, f) = holder_stands k c e in
@@ -119,8 +120,8 @@ module _ (keys : List ℕ) (place : List ℕ → Option ℕ) (us ks : List (List
           ≡ min (min (min (32 + n) (2 ^ 32 - 1) + min more (2 ^ 32 - 1)) (2 ^ 32 - 1) + 4)
           (2 ^ 32 - 1) = omega (arith, inside, small) in
           ap (λ o. position_of None (option_map (λ m. m + more) o)) f ∙ ap Some same
-          ∙ ap (λ o. Some (told_beside None (Some (min (unwrap_or (option_map near_position o) 0
-          + min more (2 ^ 32 - 1)) (2 ^ 32 - 1))))) (sym f)
+          ∙ ap (λ o. Some (told_by 4 None (min (unwrap_or (option_map near_position o) 0
+          + min more (2 ^ 32 - 1)) (2 ^ 32 - 1)))) (sym f)
 
   -- each key of the tables has a position
   pub all_told_at_ends : length (key_bytes own) < 2 ^ 28

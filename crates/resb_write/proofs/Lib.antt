@@ -31,6 +31,7 @@ mod Examples
 mod OneFile
 mod KeysBeside
 mod KeyEndsBeside
+mod EndKeys
 mod PlacedBeside
 mod FilesBeside
 mod OneFileBeside

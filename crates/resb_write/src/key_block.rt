@@ -5,13 +5,14 @@ ghost use Rattle.std.specs.Prelude.{IfOk, IfErr, OnOk, All, length, map, filter,
 ghost use Rattle.std.specs.Prelude.{slice_index};
 ghost use Rattle.std.specs.Str.{IsUtf8};
 ghost use Rattle.std.specs.List.{list_any};
+ghost use Rattle.std.specs.Map.{keys_of};
 ghost use Rattle.std.specs.Option.{is_some, is_none};
 ghost use Rattle.resb_pool.specs.Plan.{nows, at_text};
 ghost use Rattle.resb_layout.specs.WritingFault.{out_of_memory};
 ghost use Rattle.resb_write.specs.FaultOf.{fault_of};
 ghost use Rattle.resb_layout.specs.KeyBlock.{used as used_of, key_bytes, padded};
 ghost use Rattle.resb_layout.specs.TreeFaults.{has_nul, key_fault};
-ghost use Rattle.resb_write.specs.Inner.Numbered.{NumbersKeys};
+ghost use Rattle.resb_write.specs.Inner.Numbered.{NumbersKeys, AreNumbered};
 ghost use Rattle.resb_write.specs.Inner.NearPositions.{near_position_in, IsKeyBlock};
 
 use crate::error::BinarySerializerError;
@@ -51,7 +52,7 @@ impl<'k> KeyBlock<'k> {
             ≡ Some (fault_of e))) }
     {
         let (distinct, numbers) = tree_keys.into_parts();
-        let keys = used_keys(alloc, &distinct, list)?;
+        let UsedKeys { keys, .. } = used_keys(alloc, &distinct, list)?;
         let places = positions_in(alloc, distinct.keys().as_slice(), &keys)?;
         let positions = values_at(&places, numbers);
         Ok(KeyBlock { keys, positions })
@@ -114,20 +115,49 @@ pub(crate) fn append_block(file: &mut Vec<u8>, keys: &[&str]) -> Result<(), Allo
 }
 
 /// The keys of a list that are in a set, in the list's order.
+#[derive(Drop)]
+pub(crate) struct UsedKeys<'k> {
+    pub(crate) keys: Vec<&'k str>,
+    /// The index of each in the set.
+    pub(crate) numbers: Vec<usize>,
+}
+
+impl<'k> UsedKeys<'k> {
+    ghost use Rattle.std.specs.Prelude.{◌≡◌, ◌++◌, ◌∷◌, [], OnOk};
+
+    /// Adds a key that has this index in the set.
+    fn add(&mut self, key: &'k str, number: usize) -> Result<(), AllocError>
+        ensures keys { OnOk result (self.new.keys.items ≡ self.old.keys.items ++ key.entry ∷ []) }
+        ensures numbers { OnOk result
+            (self.new.numbers.items ≡ self.old.numbers.items ++ number ∷ []) }
+    {
+        self.keys.push(key)?;
+        self.numbers.push(number)?;
+        Ok(())
+    }
+}
+
+/// The keys of a list that are in a set, in the list's order.
 pub(crate) fn used_keys<'k>(
     alloc: Global,
     set: &IndexMap<&str, ()>,
     list: &'k [Key<'_>],
-) -> Result<Vec<&'k str>, AllocError>
-    ensures keys { IfOk result (λ v. nows v.items
+) -> Result<UsedKeys<'k>, AllocError>
+    ensures keys { IfOk result (λ u. nows u.keys.items
         ≡ filter (λ k. is_some (at_text set.now k)) list.now) }
-    ensures utf8 { IfOk result (λ v. All IsUtf8 (nows v.items)) }
+    ensures utf8 { IfOk result (λ u. All IsUtf8 (nows u.keys.items)) }
+    ensures numbers { IfOk result (λ u.
+        AreNumbered (nows (keys_of set.now.entries)) u.numbers.items (nows u.keys.items)) }
 {
-    let mut used = Vec::new(alloc);
+    let mut used = UsedKeys {
+        keys: Vec::new(alloc),
+        numbers: Vec::new(alloc),
+    };
     for key in list {
         let text = key.as_str();
-        if set.contains_key(text) {
-            used.push(text)?;
+        match set.get_index_of(text) {
+            Some(number) => used.add(text, number)?,
+            None => {}
         }
     }
     Ok(used)

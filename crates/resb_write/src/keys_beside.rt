@@ -1,6 +1,6 @@
 //! The key block of a file over a pool bundle, by how the file is packed: which used keys the pool
 //! lacks, and where each key of the tables stands.
-//! That of a compact file is in `ends_beside`; the block of a file that uses no pool, and the
+//! That of a compact file is in `end_keys`; the block of a file that uses no pool, and the
 //! faults of keys, are in `key_block`.
 ghost use Rattle.std.specs.Prelude.{◌≡◌, ◌⊎◌, ℕ, List, Some, None, IfOk, IfErr, OnOk, map, filter};
 ghost use Rattle.std.specs.Option.{is_none};
@@ -16,7 +16,7 @@ ghost use Rattle.resb_write.specs.Inner.NearPositions.{near_position_in};
 ghost use Rattle.resb_write.specs.Inner.Numbered.{NumbersKeys};
 ghost use Rattle.resb_write.specs.Inner.Beside.{told_beside, IsKeyBlockBeside};
 
-use crate::ends_beside::end_keys_beside;
+use crate::end_keys::{LENT_KEY, WORD, end_keys};
 use crate::error::BinarySerializerError;
 use crate::key_block::{KeyBlock, check_used, last_positions, used_keys, values_at};
 use crate::numbered_keys::NumberedKeys;
@@ -27,18 +27,12 @@ use resb_lent::{LentKeys, Pool};
 use resb_tree::Key;
 use std::alloc::{AllocError, Global};
 
-/// By how much a position of a key in the pool is over its place there.
-pub(crate) const LENT_KEY: u32 = 0x8000_0000;
-
-/// By how much the file's own keys begin later: the index of a file over a pool has a word more.
-pub(crate) const WORD: u32 = 4;
-
 /// The block of the keys that are wanted for a tree whose tables have these keys, which are dropped
 /// then, in a file over a pool bundle. Refuses the first fault of a key.
 pub(crate) fn key_block_beside<'k>(
     alloc: Global,
     tree_keys: NumberedKeys<'_>,
-    wanted: &Wanted<'k>,
+    wanted: &Wanted<'k, '_>,
     pool: &Pool<'_>,
 ) -> Result<KeyBlock<'k>, BinarySerializerError>
     ensures ok { IfOk result (λ b. (us : List (List ℕ)) → NumbersKeys tree_keys.entry us
@@ -50,7 +44,7 @@ pub(crate) fn key_block_beside<'k>(
 {
     match wanted.layout.packing {
         Packing::Plain => whole_keys_beside(alloc, tree_keys, wanted.list, pool.keys()),
-        Packing::Compact => end_keys_beside(alloc, tree_keys, wanted.list, pool.ends()),
+        Packing::Compact => end_keys(alloc, tree_keys, wanted.list, Some(pool.ends())),
     }
 }
 
@@ -71,8 +65,8 @@ fn whole_keys_beside<'k>(
 {
     let (distinct, numbers) = tree_keys.into_parts();
     let used = used_keys(alloc, &distinct, list)?;
-    check_used(alloc, distinct.keys().as_slice(), &used)?;
-    let keys = own_keys(alloc, &used, lent)?;
+    check_used(alloc, distinct.keys().as_slice(), &used.keys)?;
+    let keys = own_keys(alloc, &used.keys, lent)?;
     let places = places_beside(alloc, distinct.keys().as_slice(), &keys, lent)?;
     let positions = values_at(&places, numbers);
     Ok(KeyBlock { keys, positions })

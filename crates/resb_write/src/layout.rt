@@ -19,14 +19,14 @@ use std::alloc::Global;
 
 /// How a file is laid out: plain or compact, and over a pool bundle or over none.
 #[derive(Clone, Copy)]
-pub struct Layout<'p> {
+pub struct Layout<'p, 'f> {
     pub(crate) packing: Packing,
-    pub(crate) pool: Option<&'p Pool<'p>>,
+    pub(crate) pool: Option<&'p Pool<'f>>,
 }
 
-impl<'p> Layout<'p> {
+impl<'p, 'f> Layout<'p, 'f> {
     /// Files in which each key has bytes of its own, over no pool bundle.
-    pub fn plain() -> Layout<'p>
+    pub fn plain() -> Layout<'p, 'f>
         ensures { result ≡ layouts.plain }
     {
         Layout {
@@ -40,14 +40,14 @@ impl<'p> Layout<'p> {
     /// string has the word 0, and strings share ends only with strings that no other one ends with,
     /// where strings are ordered by their 16-bit units. A file with word 0 is for readers of
     /// aliases.
-    pub fn compact() -> Layout<'p>
+    pub fn compact() -> Layout<'p, 'f>
         ensures { result ≡ layouts.compacted layouts.plain }
     {
         Layout::plain().compacted()
     }
 
     /// Compact files over the pool bundle of this layout, if it has one.
-    pub fn compacted(self) -> Layout<'p>
+    pub fn compacted(self) -> Layout<'p, 'f>
         ensures { result ≡ layouts.compacted self.entry }
     {
         Layout {
@@ -67,7 +67,7 @@ impl<'p> Layout<'p> {
     /// with. Of the pool's keys that end with a key the last one is looked at, by their bytes from
     /// the last to the first, where an end is the greatest. The key lies in it unless the one in
     /// which a file over no pool has the key is behind it. So ICU's `genrb` writes it.
-    pub fn over(self, pool: &'p Pool<'p>) -> Layout<'p>
+    pub fn over(self, pool: &'p Pool<'f>) -> Layout<'p, 'f>
         ensures { result ≡ layouts.laid_over self.entry pool.entry }
     {
         Layout {

@@ -5,7 +5,7 @@
 mod body_steps;
 mod contents;
 mod drafts;
-mod ends_beside;
+mod end_keys;
 mod error;
 mod file;
 mod key_block;

@@ -16,10 +16,7 @@ ghost use Rattle.resb_write.specs.Inner.NearPositions.{IsKeyBlockBy};
 ghost use Rattle.resb_write.specs.Inner.Numbered.{NumbersKeys};
 ghost use Rattle.resb_layout.specs.PlainSize.{list_size, resources_size};
 ghost use Rattle.resb_layout.specs.TreeFaults.{RefusesWriting};
-ghost use Rattle.resb_layout.specs.Written.{Written, WrittenBy, WrittenCompact};
-ghost use Rattle.resb_pool_bundle.specs.Pool.{pool_in};
-ghost use Rattle.resb_write.specs.WrittenWith.{WrittenWith, WrittenCompactWith};
-ghost use Rattle.resb_write.specs.WrittenWith.{RefusesWritingWith};
+ghost use Rattle.resb_layout.specs.Written.{Written, WrittenBy};
 
 use crate::contents::Contents;
 use crate::drafts::{NumberedPieces, draft_keys};
@@ -36,9 +33,8 @@ use crate::strings::Strings;
 use crate::tree_bodies::lay_bodies;
 use crate::wanted::Wanted;
 use crate::with_pool::write_beside;
-use resb_draft::{Draft, DraftBundle};
+use resb_draft::Draft;
 use resb_layout::Packing;
-use resb_lent::Pool;
 use resb_tree::{Key, ResourceBundle, in_laying_order};
 use std::alloc::Global;
 
@@ -68,172 +64,6 @@ impl Serializer {
     {
         Layout::plain().write(alloc, bundle, keys_in_discovery_order)
     }
-
-    /// The compact `.res` file of a bundle: what `to_bytes` gives, but that a key that other keys
-    /// end with lies at the end of the greatest of them, by their bytes from the last to the first,
-    /// that an empty string has the word 0, and that strings share ends only with strings that no
-    /// other one ends with, where strings are ordered by their 16-bit units. So ICU's `genrb`
-    /// writes files without a pool bundle, byte by byte. A file with word 0 is for readers of
-    /// aliases.
-    ///
-    /// Refused is what `to_bytes` refuses.
-    pub fn to_bytes_compact(
-        alloc: Global,
-        bundle: &ResourceBundle<'_>,
-        keys_in_discovery_order: &[Key<'_>],
-    ) -> Result<Vec<u8>, BinarySerializerError>
-        ensures ok { IfOk result (λ v. WrittenCompact v.items (root_of bundle.now)
-            bundle.now.is_locale_fallback_enabled keys_in_discovery_order.now) }
-        ensures err { IfErr result (λ e. RefusesWriting (root_of bundle.now)
-            keys_in_discovery_order.now (fault_of e)) }
-    {
-        Layout::compact().write(alloc, bundle, keys_in_discovery_order)
-    }
-
-    /// The `.res` file of a bundle over a pool bundle: its keys and strings that the pool has stay
-    /// there. A key stands in the pool where the pool has it whole, and a string where a record of
-    /// the pool is that string, or ends with it if it has no marker; the others are the file's own.
-    /// The version is 3.0 where a string stands in the pool, and else 2.0. Which pool is used the
-    /// file says by the pool's checksum. (ICU's `uresdata.h`: pool bundles.)
-    ///
-    /// Refused is what `to_bytes` refuses, and, as `file too large`, strings whose indexes would
-    /// take more than 28 bits with those of the pool.
-    pub fn to_bytes_with_pool(
-        alloc: Global,
-        bundle: &ResourceBundle<'_>,
-        keys_in_discovery_order: &[Key<'_>],
-        pool: &Pool<'_>,
-    ) -> Result<Vec<u8>, BinarySerializerError>
-        ensures ok { IfOk result (λ v. WrittenWith (pool_in pool.now) v.items (root_of bundle.now)
-            bundle.now.is_locale_fallback_enabled keys_in_discovery_order.now) }
-        ensures err { IfErr result (λ e. RefusesWritingWith (pool_in pool.now)
-            (root_of bundle.now) keys_in_discovery_order.now (fault_of e)) }
-    {
-        Layout::plain()
-            .over(pool)
-            .write(alloc, bundle, keys_in_discovery_order)
-    }
-
-    /// The compact `.res` file of a bundle over a pool bundle: what `to_bytes_with_pool` gives, but
-    /// that a key lies at the end of a key of the pool or of the file, that an empty string has the
-    /// word 0, and that strings share ends only with those strings of the file and the pool that no
-    /// other one of these ends with. Of the pool's keys that end with a key the last one is looked
-    /// at, by their bytes from the last to the first, where an end is the greatest. The key lies in
-    /// it unless the one in which `to_bytes_compact` lays the key is behind it. So ICU's `genrb`
-    /// writes it.
-    ///
-    /// Refused is what `to_bytes_with_pool` refuses.
-    pub fn to_bytes_compact_with_pool(
-        alloc: Global,
-        bundle: &ResourceBundle<'_>,
-        keys_in_discovery_order: &[Key<'_>],
-        pool: &Pool<'_>,
-    ) -> Result<Vec<u8>, BinarySerializerError>
-        ensures ok { IfOk result (λ v. WrittenCompactWith (pool_in pool.now) v.items
-            (root_of bundle.now) bundle.now.is_locale_fallback_enabled
-            keys_in_discovery_order.now) }
-        ensures err { IfErr result (λ e. RefusesWritingWith (pool_in pool.now)
-            (root_of bundle.now) keys_in_discovery_order.now (fault_of e)) }
-    {
-        Layout::compact()
-            .over(pool)
-            .write(alloc, bundle, keys_in_discovery_order)
-    }
-
-    /// The `.res` file of a bundle whose root is given as a draft: what `to_bytes` gives, and what
-    /// it refuses, for the tree for which the draft stands, which is whole.
-    pub fn draft_to_bytes(
-        alloc: Global,
-        root: Draft<'_>,
-        is_locale_fallback_enabled: bool,
-        keys_in_discovery_order: &[Key<'_>],
-    ) -> Result<Vec<u8>, BinarySerializerError>
-        requires { is_ready root ≡ true }
-        ensures ok { IfOk result (λ v. Written v.items (draft_tree root.entry)
-            is_locale_fallback_enabled keys_in_discovery_order.now) }
-        ensures err { IfErr result (λ e. RefusesWriting (draft_tree root.entry)
-            keys_in_discovery_order.now (fault_of e)) }
-    {
-        let bundle = DraftBundle {
-            name: "",
-            root,
-            is_locale_fallback_enabled,
-        };
-        Layout::plain().write_draft(alloc, bundle, keys_in_discovery_order)
-    }
-
-    /// The compact `.res` file of a bundle whose root is given as a draft: what `to_bytes_compact`
-    /// gives, and what it refuses, for the tree for which the draft stands.
-    pub fn draft_to_bytes_compact(
-        alloc: Global,
-        root: Draft<'_>,
-        is_locale_fallback_enabled: bool,
-        keys_in_discovery_order: &[Key<'_>],
-    ) -> Result<Vec<u8>, BinarySerializerError>
-        requires { is_ready root ≡ true }
-        ensures ok { IfOk result (λ v. WrittenCompact v.items (draft_tree root.entry)
-            is_locale_fallback_enabled keys_in_discovery_order.now) }
-        ensures err { IfErr result (λ e. RefusesWriting (draft_tree root.entry)
-            keys_in_discovery_order.now (fault_of e)) }
-    {
-        let bundle = DraftBundle {
-            name: "",
-            root,
-            is_locale_fallback_enabled,
-        };
-        Layout::compact().write_draft(alloc, bundle, keys_in_discovery_order)
-    }
-
-    /// The `.res` file of a bundle over a pool bundle, whose root is given as a draft: what
-    /// `to_bytes_with_pool` gives, and what it refuses, for the tree for which the draft stands.
-    pub fn draft_to_bytes_with_pool(
-        alloc: Global,
-        root: Draft<'_>,
-        is_locale_fallback_enabled: bool,
-        keys_in_discovery_order: &[Key<'_>],
-        pool: &Pool<'_>,
-    ) -> Result<Vec<u8>, BinarySerializerError>
-        requires { is_ready root ≡ true }
-        ensures ok { IfOk result (λ v. WrittenWith (pool_in pool.now) v.items
-            (draft_tree root.entry) is_locale_fallback_enabled keys_in_discovery_order.now) }
-        ensures err { IfErr result (λ e. RefusesWritingWith (pool_in pool.now)
-            (draft_tree root.entry) keys_in_discovery_order.now (fault_of e)) }
-    {
-        let bundle = DraftBundle {
-            name: "",
-            root,
-            is_locale_fallback_enabled,
-        };
-        Layout::plain()
-            .over(pool)
-            .write_draft(alloc, bundle, keys_in_discovery_order)
-    }
-
-    /// The compact `.res` file of a bundle over a pool bundle, whose root is given as a draft: what
-    /// `to_bytes_compact_with_pool` gives, and what it refuses, for the tree for which the draft
-    /// stands.
-    pub fn draft_to_bytes_compact_with_pool(
-        alloc: Global,
-        root: Draft<'_>,
-        is_locale_fallback_enabled: bool,
-        keys_in_discovery_order: &[Key<'_>],
-        pool: &Pool<'_>,
-    ) -> Result<Vec<u8>, BinarySerializerError>
-        requires { is_ready root ≡ true }
-        ensures ok { IfOk result (λ v. WrittenCompactWith (pool_in pool.now) v.items
-            (draft_tree root.entry) is_locale_fallback_enabled keys_in_discovery_order.now) }
-        ensures err { IfErr result (λ e. RefusesWritingWith (pool_in pool.now)
-            (draft_tree root.entry) keys_in_discovery_order.now (fault_of e)) }
-    {
-        let bundle = DraftBundle {
-            name: "",
-            root,
-            is_locale_fallback_enabled,
-        };
-        Layout::compact()
-            .over(pool)
-            .write_draft(alloc, bundle, keys_in_discovery_order)
-    }
 }
 
 /// The file of a bundle, laid out like this.
@@ -241,7 +71,7 @@ pub(crate) fn write_bundle(
     alloc: Global,
     bundle: &ResourceBundle<'_>,
     list: &[Key<'_>],
-    layout: Layout<'_>,
+    layout: Layout<'_, '_>,
 ) -> Result<Vec<u8>, BinarySerializerError>
     ensures ok { IfOk result (λ v. IsFileOver layout.entry v.items
         (root_of bundle.now) bundle.now.is_locale_fallback_enabled list.now) }
@@ -264,7 +94,7 @@ pub(crate) fn write_bundle(
 pub(crate) fn write_draft(
     alloc: Global,
     root: Draft<'_>,
-    wanted: &Wanted<'_>,
+    wanted: &Wanted<'_, '_>,
 ) -> Result<Vec<u8>, BinarySerializerError>
     requires { is_ready root ≡ true }
     ensures ok { IfOk result (λ v. IsFileOver wanted.now.layout v.items
@@ -283,7 +113,7 @@ pub(crate) fn write_draft(
 fn write_standing(
     alloc: Global,
     draft: Draft<'_>,
-    wanted: &Wanted<'_>,
+    wanted: &Wanted<'_, '_>,
 ) -> Result<Vec<u8>, BinarySerializerError>
     requires pieces { are_pieces draft.pieces.items (laying_order (draft_tree draft)) ≡ true }
     requires keys { texts draft.keys.items ≡ keys_of (draft_tree draft) }
@@ -309,7 +139,7 @@ fn write_by_number(
     alloc: Global,
     draft: Draft<'_>,
     order: Vec<u32>,
-    wanted: &Wanted<'_>,
+    wanted: &Wanted<'_, '_>,
 ) -> Result<Vec<u8>, BinarySerializerError>
     requires trees { map (tree_at draft) order.items ≡ laying_order (draft_tree draft) }
     requires whole { all_true (map (is_whole draft) order.items) ≡ true }
@@ -340,7 +170,7 @@ fn write_nodes<N: Nodes + Drop>(
     alloc: Global,
     order: N,
     tree_keys: NumberedKeys<'_>,
-    wanted: &Wanted<'_>,
+    wanted: &Wanted<'_, '_>,
 ) -> Result<Vec<u8>, BinarySerializerError>
     requires { (t : Tree) × N.fit order (laying_order t) × NumbersKeys tree_keys (keys_of t) }
     ensures ok { IfOk result (λ v. (t : Tree) → N.fit order (laying_order t)
@@ -387,7 +217,7 @@ fn write_alone<N: Nodes + Drop>(
     alloc: Global,
     order: N,
     tree_keys: NumberedKeys<'_>,
-    wanted: &Wanted<'_>,
+    wanted: &Wanted<'_, '_>,
 ) -> Result<Vec<u8>, BinarySerializerError>
     requires { (t : Tree) × N.fit order (laying_order t)
         × NumbersKeys tree_keys (keys_of t) }

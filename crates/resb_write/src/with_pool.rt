@@ -49,7 +49,7 @@ pub(crate) fn write_beside<N: Nodes + Drop>(
     alloc: Global,
     order: N,
     tree_keys: NumberedKeys<'_>,
-    wanted: &Wanted<'_>,
+    wanted: &Wanted<'_, '_>,
     pool: &Pool<'_>,
 ) -> Result<Vec<u8>, BinarySerializerError>
     requires { (t : Tree) × N.fit order (laying_order t) × NumbersKeys tree_keys (keys_of t) }
@@ -104,7 +104,7 @@ fn checked_beside<'t, 'k, N: Nodes>(
     alloc: Global,
     order: &'t N,
     tree_keys: NumberedKeys<'_>,
-    wanted: &Wanted<'k>,
+    wanted: &Wanted<'k, '_>,
     pool: &Pool<'_>,
 ) -> Result<(Contents<'t>, KeyBlock<'k>), BinarySerializerError>
     requires { (t : Tree) × N.fit order.now (laying_order t) × NumbersKeys tree_keys (keys_of t) }

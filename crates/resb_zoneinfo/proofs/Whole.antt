@@ -5,6 +5,7 @@ use Rattle.std.proofs.Common.{arith, ◌≤◌, None, Result, Ok, Err}
 use Rattle.std.specs.Result.{IfErr}
 use Rattle.std.proofs.lemmas.Option.{same_Some}
 use Rattle.resb.specs.File.{budget}
+use Rattle.resb.specs.Error.{refusal_of}
 use Rattle.resb.specs.Places.{Place}
 use Rattle.resb.specs.PoolBundleChecks.{refusal_with}
 use Rattle.resb.specs.Roots.{HoldsAt, RefusesAt, place_of_root}
@@ -13,6 +14,7 @@ use Rattle.resb.specs.Sequences.{entries_at}
 use Rattle.resb.specs.Fields.{Entry, CountsRecord}
 use Rattle.resb.specs.Reading.{Lacks, LacksOrMemory}
 use Rattle.resb.specs.declared.binary.ReadingError.{ReadingError}
+use Rattle.resb.proofs.RefusedFiles.{passing_is_file, refused_is_none}
 
 lacks_record : (counts : List (List ℕ) → List Entry → ℕ → Type 0) (names : List (List ℕ))
     (p : Place) (es : List Entry) (left inside : ℕ) → entries_at p ≡ Some es
@@ -36,7 +38,8 @@ record_refused counts names p es left inside e are paid (inr lacks) =
 -- this holds of the place of the root
 pub rooted : (P : Place → Type 0) (bytes : List ℕ) (p : Place) → refusal_with None bytes ≡ None
     → p ≡ place_of_root (over None bytes) → P p → HoldsAt P (over None bytes)
-rooted P bytes p none same h = record { head = none; root = subst P same h }
+rooted P bytes p none same h =
+    record { head = passing_is_file None bytes none; root = subst P same h }
 
 -- no count that can be paid for stands at the root
 lacks_there : (counts : Place → ℕ → Type 0) (bytes : List ℕ) (p : Place) (left : ℕ)
@@ -66,3 +69,11 @@ refused_there counts refuses bytes p left left' (Err e) none same all (falls, a)
         (subst (λ n. refuses p n left' e) all b),
   ),
 )
+
+-- what is refused for its head
+pub refused_head : (counts : Place → ℕ → Type 0) (refuses : Place → ℕ → ℕ → ReadingError → Type 0)
+    (bytes : List ℕ) (e : ReadingError) → refusal_with None bytes ≡ Some (refusal_of e)
+    → LacksOrMemory (λ n. HoldsAt (λ q. counts q n) (over None bytes)) (budget bytes) e
+    × RefusesAt refuses (over None bytes) e
+refused_head counts refuses bytes e fault =
+    (inr (λ n h paid. refused_is_none None bytes (refusal_of e) fault h.head), inl fault)

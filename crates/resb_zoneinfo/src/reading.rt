@@ -8,7 +8,7 @@ ghost use Rattle.resb.specs.Tables.{view_entries};
 ghost use Rattle.resb_zoneinfo.specs.Reading.{info_names, ReadsInfo, RefusesInfo};
 
 use crate::data::{InfoFields, ZoneInfo};
-use resb::binary::{Cursor, ReadingError, TableView, Walk};
+use resb::binary::{Cursor, File, ReadingError, TableView, Walk};
 use resb::fields::Fields;
 use std::alloc::Global;
 
@@ -24,7 +24,7 @@ impl<'de> ZoneInfo<'de> {
         ensures refused { IfErr result (RefusesInfo ⟦<InfoFields<'de> as Fields<'de>>⟧.counts
             ⟦<InfoFields<'de> as Fields<'de>>⟧.refuses bytes.entry.now) }
     {
-        let (root, mut walk) = Cursor::root_with_pool(bytes, None)?;
+        let (root, mut walk) = File::open(bytes, None)?.root();
         ZoneInfo::read(alloc, root, &mut walk)
     }
 

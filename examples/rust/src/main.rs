@@ -9,7 +9,7 @@ mod opened;
 mod resb;
 
 use opened::{Opened, Resource};
-use resb::Form;
+use resb::{Form, Wanted};
 use std::io::Read;
 use std::process::ExitCode;
 
@@ -19,55 +19,53 @@ const LIMIT: u64 = 1_000_000;
 /// The name under which a text is printed.
 const NAME: &str = "bundle";
 
-/// What a file is printed back as.
-type Print = fn(resb::Input<'_>) -> Result<String, resb::Error>;
+/// What is wanted of a text or a file in this form.
+fn wanted(form: Form) -> Wanted<'static> {
+    Wanted { form, limit: LIMIT, pool: &[], name: NAME }
+}
 
-/// Compiles a text of this form, says how large its file is, and prints that back.
-fn show(form: Form, text: &[u8], print: Print) -> Result<bool, resb::Error> {
-    let file = resb::compile_within(form, text, LIMIT)?;
-    let input = resb::Input { file: &file, pool: &[] };
-    let count = resb::check(input)?;
-    let entries = resb::measure(input)?.entries;
-    println!("{} bytes, {count} resources, {entries} entries", file.len());
-    print!("{}", print(input)?);
+/// Compiles a text of this form, says how large its file is, and prints it back in another form.
+fn show(form: Form, text: &[u8], shown: Form) -> Result<bool, resb::Error> {
+    let file = resb::compile(text, wanted(form))?;
+    let measured = resb::check(resb::Input { file: &file, pool: &[] })?;
+    let (resources, entries) = (measured.resources, measured.entries);
+    println!("{} bytes, {resources} resources, {entries} entries", file.len());
+    print!("{}", resb::dump(&file, wanted(shown))?);
     Ok(true)
 }
 
-/// What is printed of a path.
-fn said(input: resb::Input<'_>, path: &str) -> Result<String, resb::Error> {
-    match resb::string(input, path) {
-        Err(e) if e.kind == resb::OTHER_KIND => {}
-        answer => return answer,
+/// What is printed of what stands at a path.
+fn said(opened: &Opened<'_>, path: &str) -> Result<String, u32> {
+    let found = opened.find(opened.root(), path)?;
+    if let Ok(text) = opened.string(found) {
+        return Ok(text);
     }
-    match resb::integer(input, path) {
-        Err(e) if e.kind == resb::OTHER_KIND => {}
-        answer => return Ok(answer?.to_string()),
+    if let Ok(value) = opened.integer(found) {
+        return Ok(value.to_string());
     }
-    match resb::bytes(input, path) {
-        Err(e) if e.kind == resb::OTHER_KIND => {
-            let (kind, size) = resb::kind(input, path)?;
-            let mut line = format!("fault {}, {}, size {size}", e.kind, resb::kind_name(kind));
-            if kind == resb::TABLE {
-                for number in 0..size {
-                    line = format!("{line}\n  {}", resb::key(input, path, number)?);
-                }
-            }
-            Ok(line)
+    if let Ok(bytes) = opened.bytes(found) {
+        return Ok(bytes.iter().map(|byte| format!("{byte:02x}")).collect());
+    }
+    let (kind, size) = opened.kind(found)?;
+    let mut line = format!("{}, size {size}", resb::kind_name(kind));
+    if kind == resb::TABLE {
+        for number in 0..size {
+            line = format!("{line}\n  {}", opened.key(found, number)?);
         }
-        answer => Ok(answer?.iter().map(|byte| format!("{byte:02x}")).collect()),
     }
+    Ok(line)
 }
 
 /// Prints what stands at each path, and gives whether something does at all of them.
 fn show_paths(text: &[u8], paths: &[String]) -> Result<bool, resb::Error> {
-    let file = resb::compile_within(Form::Plain, text, LIMIT)?;
-    let input = resb::Input { file: &file, pool: &[] };
+    let file = resb::compile(text, wanted(Form::Plain))?;
+    let opened = Opened::new(resb::Input { file: &file, pool: &[] })?;
     let mut is_all = true;
     for path in paths {
-        match said(input, path) {
+        match said(&opened, path) {
             Ok(line) => println!("{line}"),
-            Err(e) => {
-                println!("{e}");
+            Err(status) => {
+                println!("fault {status}");
                 is_all = false;
             }
         }
@@ -172,9 +170,9 @@ fn main() -> ExitCode {
     let mut text = Vec::new();
     std::io::stdin().read_to_end(&mut text).expect("standard input");
     let answer = match words.first().map(String::as_str) {
-        None => show(Form::Plain, &text, |file| resb::dump(Form::Plain, file, NAME, LIMIT)),
-        Some("--icu") => show(Form::Icu, &text, |file| resb::dump(Form::Icu, file, NAME, LIMIT)),
-        Some("--json") => show(Form::Plain, &text, |file| resb::json(file, LIMIT)),
+        None => show(Form::Plain, &text, Form::Plain),
+        Some("--icu") => show(Form::Icu, &text, Form::Icu),
+        Some("--json") => show(Form::Plain, &text, Form::Json),
         Some(_) => show_paths(&text, &words),
     };
     match answer {

@@ -6,11 +6,13 @@ use Rattle.resb_grammar.specs.ByteRuns.{is_line_end}
 use Rattle.resb_diagnostics.specs.Braces.{mode_in, icu_form, icu_mode_behind, has_icu_tokens}
 use Rattle.resb_diagnostics.specs.Braces.{behind_token}
 use Rattle.resb_diagnostics.specs.IcuWarnings.{is_icu_quoted, word_goes_on, is_in_string}
-use Rattle.resb_diagnostics.specs.IcuWarnings.{line_ended, icu_word_start, icu_last_at}
+use Rattle.resb_diagnostics.specs.IcuWarnings.{line_ended, is_colon, is_behind_colon}
+use Rattle.resb_diagnostics.specs.IcuWarnings.{icu_word_start, icu_last_at}
 use Rattle.resb_diagnostics.specs.IcuWarnings.{icu_warned, behind_some, of_some_token, and_one}
 use Rattle.resb_diagnostics.specs.declared.braces.IcuMode.{IcuMode}
 use Rattle.resb_diagnostics.specs.declared.braces.IcuMode.TheVariants.{As}
 use Rattle.resb_diagnostics.specs.declared.braces.Mode.TheVariants as mode
+use Rattle.resb_diagnostics.specs.declared.icu_runs.Before.{Before}
 use Rattle.resb_diagnostics.specs.declared.icu_steps.IcuStep.{IcuStep}
 use Rattle.resb_diagnostics.specs.declared.icu_tokens.IcuToken.{IcuToken}
 use Rattle.resb_diagnostics.specs.declared.icu_tokens.IcuToken.TheVariants as token
@@ -39,16 +41,21 @@ BeginsAt at (Some (token.Piece n)) = n ≡ at
 BeginsAt at (Some (token.Word from to)) = from ≡ at
 BeginsAt at _ = ⊤
 
--- where the token is a piece or a word, this says whether a line ended before it
-abbrev pub IsEndedBefore : List ℕ → IcuToken → Bool → Type 0
-IsEndedBefore text (token.Piece n) ended = ended ≡ line_ended text n
-IsEndedBefore text (token.Word from to) ended = ended ≡ line_ended text from
-IsEndedBefore text _ ended = ⊤
+-- this says whether a line ended before a place, and whether it is behind a `:`
+pub record IsBefore (text : List ℕ) (n : ℕ) (b : Before) : Type 0 where
+  pub ended : b.has_ended ≡ line_ended text n
+  pub colon : b.has_colon ≡ is_behind_colon text n
+
+-- the same of a piece or a word
+abbrev pub IsBeforeToken : List ℕ → IcuToken → Before → Type 0
+IsBeforeToken text (token.Piece n) b = IsBefore text n b
+IsBeforeToken text (token.Word from to) b = IsBefore text from b
+IsBeforeToken text _ b = ⊤
 
 -- the same where a token was found
-abbrev pub IsEndedAt : List ℕ → Option IcuToken → Bool → Type 0
-IsEndedAt text None ended = ⊤
-IsEndedAt text (Some t) ended = IsEndedBefore text t ended
+abbrev pub IsBeforeSome : List ℕ → Option IcuToken → Before → Type 0
+IsBeforeSome text None b = ⊤
+IsBeforeSome text (Some t) b = IsBeforeToken text t b
 
 -- the token that is this byte at a place, if it is one
 abbrev pub icu_sign : ℕ → ℕ → Option IcuToken
@@ -84,10 +91,10 @@ pub record IcuPasses (text : List ℕ) (from to : ℕ) (token : Option IcuToken)
   pub groups : icu_groups_at text to
       ≡ groups_behind (option_map (icu_piece text) token) (icu_groups_at text from)
 
--- no byte of a word or in quotes stands from one place on and before another
-abbrev pub IsStringless : List ℕ → ℕ → ℕ → Type 0
-IsStringless text from to =
-    (k : ℕ) → from ≤ k → k < to → is_in_string text k ≡ false
+-- no byte of a word or in quotes stands from one place on and before another, and no `:`
+abbrev pub IsSilent : List ℕ → ℕ → ℕ → Type 0
+IsSilent text from to = (k : ℕ) → from ≤ k → k < to
+    → (is_in_string text k ≡ false) × (is_colon text k ≡ false)
 
 -- a word goes on from one place up to another, and there no more
 pub record IsWordRest (text : List ℕ) (from to : ℕ) : Type 0 where
@@ -96,11 +103,12 @@ pub record IsWordRest (text : List ℕ) (from to : ℕ) : Type 0 where
   pub each : (k : ℕ) → from ≤ k → k < to → word_goes_on text k ≡ true
   pub longest : word_goes_on text to ≡ false
 
--- no token stands between two places, nothing in quotes, and the code can go on from the second
+-- no token stands between two places, nothing in quotes and no `:`, and the code can go on from the
+-- second
 pub record IsIcuQuiet (text : List ℕ) (from to : ℕ) : Type 0 where
   pub more : from < to
   pub passes : IcuPasses text from to None
-  pub stringless : IsStringless text from to
+  pub silence : IsSilent text from to
   pub between : to < length text → IsIcuBetween text to
 
 -- what the step tells stands between a place and its end, and the code can go on from there
@@ -109,7 +117,7 @@ pub record IsIcuStep (text : List ℕ) (from : ℕ) (s : IcuStep) : Type 0 where
   pub passes : IcuPasses text from s.end s.token
   pub inside : IsIn text s.token
   pub begins : BeginsAt from s.token
-  pub ended : s.end < length text → s.has_ended ≡ line_ended text s.end
+  pub before : s.end < length text → IsBefore text s.end s.before
   pub between : s.end < length text → IsIcuBetween text s.end
 
 -- all bytes between two places stand in quotes, and tokens behind them, unless the text ends there
@@ -132,7 +140,7 @@ pub record IsIcuWalk (w : IcuWalk) (whole : List ℕ) : Type 0 where
   pub text : w.text.now ≡ whole
   pub fits : w.at ≤ length whole
   pub between : w.at < length whole → IsIcuBetween whole w.at
-  pub ended : w.at < length whole → w.has_ended ≡ line_ended whole w.at
+  pub before : w.at < length whole → IsBefore whole w.at w.before
 
 -- what the code knows of the tokens behind which it has gone, and the warnings that it has found
 pub record HasLooked (l : Look) (whole : List ℕ) : Type 0 where

@@ -2,7 +2,7 @@
 use Rattle.std.specs.Prelude.{◌≡◌, ℕ, Bool, true, List, ◌∷◌, length, Some, None}
 use Rattle.std.specs.List.{list_all}
 use Rattle.resb_grammar.specs.Group.{is_hex}
-use Rattle.resb_icu_grammar.specs.Groups.{spaced_bytes, digit_bytes}
+use Rattle.resb_icu_grammar.specs.Groups.{spaced_bytes, digits_of}
 use Rattle.resb_icu_grammar.specs.Pieces.{QuotedBytes}
 use Rattle.resb_icu_grammar.specs.Unquoted.{UnquotedRow}
 use Rattle.resb_icu_text.specs.Inner.Found.{IsFound}
@@ -25,11 +25,11 @@ pub record DigitAt (text : List ℕ) (last : ℕ) (bytes : List ℕ) (to : ℕ) 
 abbrev pub SaysPairs : List ℕ → ℕ → Found → ℕ → Type 0
 SaysPairs text from f n =
     (is : IsFound text from f)
-    → (bytes : List ℕ) × (digit_bytes text from is.said ≡ Some bytes) × (length bytes ≡ n)
+    → (bytes : List ℕ) × (digits_of is.string ≡ Some bytes) × (length bytes ≡ n)
 
 -- it says no such pairs
 abbrev pub SaysNone : List ℕ → ℕ → Found → Type 0
-SaysNone text from f = (is : IsFound text from f) → digit_bytes text from is.said ≡ None
+SaysNone text from f = (is : IsFound text from f) → digits_of is.string ≡ None
 
 -- the unquoted strings in a row between these places say pairs of hex digits, for so many bytes
 abbrev pub RowSaysPairs : List ℕ → ℕ → ℕ → ℕ → Type 0

@@ -13,7 +13,7 @@ use Rattle.resb_icu_grammar.specs.Words.{KeyText}
 use Rattle.resb_icu_grammar.specs.Machine.{Waiting, in_array, in_table, Reading, reading_at}
 use Rattle.resb_icu_grammar.specs.Machine.{among_members, among_entries, before_group, in_untyped}
 use Rattle.resb_icu_grammar.specs.Machine.{in_typed, behind_group}
-use Rattle.resb_grammar.specs.Inner.Reach.{reach}
+use Rattle.resb_icu_text.specs.Inner.Reach.{reach}
 use Rattle.resb_icu_text.specs.declared.error.IcuTextError.{IcuTextError}
 use Rattle.resb_icu_text.specs.declared.steps.Last.{Last}
 use Rattle.resb_icu_text.specs.declared.steps.Last.TheVariants as last

@@ -1,6 +1,6 @@
 -- The turns of a reading.
 use Rattle.std.specs.Prelude.{◌+◌, ◌*◌, ◌≤◌, ℕ, List, length}
-use Rattle.resb_grammar.specs.Inner.Reach.{reach}
+use Rattle.resb_icu_text.specs.Inner.Reach.{reach}
 use Rattle.resb_icu_text.specs.declared.turns.IcuTurns.{IcuTurns}
 
 -- a reading stops: no more turns are counted than 8 for each byte that was left to be looked at,

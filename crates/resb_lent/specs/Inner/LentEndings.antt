@@ -1,6 +1,7 @@
 -- Which of some texts a text of the pool ends with.
 --     IsLentEnd block s           a text of the pool ends with s
 --     StandsAs block s standing   how the text s stands beside the pool's
+--     AreStandingsBy way block S ds   ds is how each of S stands so
 --     NotesEnd block s n es fs    fs are es, and the number n if a text of the pool ends with s
 --     AreLentEndsBy way block S es    es are the numbers of these texts of S
 use Rattle.std.specs.Prelude.{◌≡◌, ℕ, ◌<◌, List, [], ◌∷◌, ◌++◌, length, ◌⊎◌, Contains}
@@ -23,6 +24,17 @@ abbrev pub StandsAs : List ℕ → List ℕ → Standing → Type 0
 StandsAs block s (Whole i) = StandsWithin block s s i
 StandsAs block s End = NoneHolds block s s × IsLentEnd block s
 StandsAs block s Apart = IsLentEnd block s → ⊥
+
+-- how each text of the list stands
+pub data AreStandings (block : List ℕ) : List (List ℕ) → List Standing → Type 0 where
+  standing_none : AreStandings block [] []
+  standing_more : {s : List ℕ} {d : Standing} {ss : List (List ℕ)} {ds : List Standing}
+      → StandsAs block s d → AreStandings block ss ds → AreStandings block (s ∷ ss) (d ∷ ds)
+
+-- it isn't told of the texts of a plain file
+abbrev pub AreStandingsBy : Packing → List ℕ → List (List ℕ) → List Standing → Type 0
+AreStandingsBy Plain block S ds = ds ≡ []
+AreStandingsBy Compact block S ds = AreStandings block S ds
 
 -- the number of a text is added to those before, if a text of the pool ends with it
 abbrev pub NotesEnd : List ℕ → List ℕ → ℕ → List ℕ → List ℕ → Type 0

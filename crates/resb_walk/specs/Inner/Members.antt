@@ -62,11 +62,12 @@ content_of (kind.Leaf l) = at.leaf (leaf_tree l)
 content_of (kind.List ms) = at.list (members_of ms)
 content_of (kind.Table ps) = at.entry_list (keyed_members ps)
 
--- the bytes of a text, or of an alias's path, are UTF-16
-abbrev pub HasUtf16 : Standing → Type 0
-HasUtf16 (kind.Leaf (Text b)) = AreUtf16 b.now
-HasUtf16 (kind.Leaf (Alias b)) = AreUtf16 b.now
-HasUtf16 _ = Unit {0}
+-- the bytes of a text, or of an alias's path, are UTF-16, and those of numbers are whole words
+abbrev pub IsWellSpelled : Standing → Type 0
+IsWellSpelled (kind.Leaf (Text b)) = AreUtf16 b.now
+IsWellSpelled (kind.Leaf (Alias b)) = AreUtf16 b.now
+IsWellSpelled (kind.Leaf (Numbers b)) = length b.now % 4 ≡ 0
+IsWellSpelled _ = Unit {0}
 
 -- how many members are still to come
 abbrev pub rest_length : Rest → ℕ

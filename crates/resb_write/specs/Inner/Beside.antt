@@ -2,7 +2,6 @@
 -- aren't planned beside it; and the file's head.
 --     told_beside place own   the position of a key that stands there in the pool, or else there
 --                             among the file's own, as if these began at byte 32
---     told_at_end place js ks k   the same of a key k at an end, in a file of the keys js
 --     IsKeyBlockBeside q keys us ks js ps  of used keys us and a list ks, over a pool of these
 --                             keys: those that stand in the file, and where the used ones stand
 --     IsUnplanned q block S f     the fault f may be answered where the strings S have no plan
@@ -23,17 +22,12 @@ use Rattle.resb_lent.specs.declared.head_with_pool.HeadWithPool.{HeadWithPool}
 use Rattle.resb_write.specs.FaultOf.{plan_fault}
 use Rattle.resb_write.specs.WrittenWith.{LendsKeyBy, position_beside}
 use Rattle.resb_write.specs.Inner.Files.{keys_in_file, units_in_file}
-use Rattle.resb_write.specs.Inner.KeyEnds.{near_end_position}
 use Rattle.resb_write.specs.declared.file.FileParts.{FileParts}
 use Rattle.resb_write.specs.declared.lends.Lends.{Lends}
 
 abbrev pub told_beside : Option ℕ → Option ℕ → ℕ
 told_beside (Some n) own = n + 2 ^ 31
 told_beside None own = min (unwrap_or own 0 + 4) (2 ^ 32 - 1)
-
--- the same of a key of a compact file, that lies at the end of one of the file's own keys ks
-abbrev pub told_at_end : (List ℕ → Option ℕ) → List (List ℕ) → List (List ℕ) → List ℕ → ℕ
-told_at_end place js ks k = told_beside (place k) (Some (near_end_position js ks k))
 
 pub record IsKeyBlockBeside (q : Packing) (keys : List ℕ) (us ks js : List (List ℕ)) (ps : List ℕ)
     : Type 0 where

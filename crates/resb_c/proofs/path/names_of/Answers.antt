@@ -4,7 +4,7 @@ use Rattle.std.specs.List.{slice_index}
 use Rattle.std.proofs.lemmas.Str.{IsCharBoundary-after_ascii}
 use Rattle.std.proofs.lemmas.Iterator.Consumers.{map_from_collect}
 use Rattle.std.proofs.lemmas.Iterator.Splits.{YieldsList-from_str_split}
-use Rattle.resb_c.specs.AtPaths.{is_separator}
+use Rattle.resb_c.specs.Paths.{is_separator}
 use Rattle.resb_c.proofs.PathLemmas.{has_first, is_low, parts_are_names, slashed_are_names}
 use Rattle.resb_c.proofs.path.names_of.Goals as goal
 

@@ -9,7 +9,6 @@ use Rattle.resb_icu_files.specs.TakenIn.{Taken, ends}
 use Rattle.resb_icu_files.specs.Writing.{Output}
 use Rattle.resb_icu_files.proofs.TakingLemmas.{closer_stands, group_taken, missed_later}
 use Rattle.resb_icu_files.proofs.TakingLemmas.{group_fails}
-use Rattle.resb_icu_files.proofs.WaysLemmas.{way_colon}
 use Rattle.resb_icu_files.proofs.taking_in.with_files.Goals as goal
 
 pub groups-init : goal.groups-init
@@ -43,7 +42,7 @@ copy-requires-clause-ends c =
     let p = c.in_ok-to.ensures in
     let at = rw c.in-Some.is at p.stop in
     let colon : slice_index text c.in-Some.group.at ≡ ascii.colon =
-    way_colon text c.in-Some.group.at _ at.group.stands.spelt in
+    at.group.stands.colon in
     IsCharBoundary-before_ascii text c.in_ok-to.field-0.to
     (omega (arith, at.here, at.group.order, at.group.inside, at.group.fits))
     (omega (arith, subst (λ (i : ℕ). slice_index text i ≡ ascii.colon) at.here colon))

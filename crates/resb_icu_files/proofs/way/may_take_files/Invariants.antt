@@ -1,13 +1,10 @@
--- No type is spelt before the place.
-use Rattle.std.proofs.Common.{◌≡◌, ◌-◌, ◌<◌, ◌≤◌, ℕ, None, length}
-use Rattle.resb_icu_files.specs.Ways.{way_at}
+-- No type is spelt so far behind a byte behind which it may stand.
+use Rattle.std.proofs.Common.{◌≡◌, ◌+◌, ◌<◌, ℕ, None, true, slice_index}
+use Rattle.resb_icu_files.specs.Ways.{may_precede, way_at}
 use Rattle.resb_icu_files.proofs.way.may_take_files.Given as goal
 
-abbrev pub invariant-colons : goal.invariant-colons
-invariant-colons l = record {
-  fits : l.from ≤ length l.bytes;
-  none : (k : ℕ) → k < l.from → way_at l.bytes k ≡ None;
+abbrev pub invariant-loop-at : goal.invariant-loop-at
+invariant-loop-at l = record {
+  none : (k : ℕ) → k < l.at → may_precede (slice_index l.bytes k) ≡ true
+      → way_at l.bytes (k + 1) ≡ None;
 }
-
-abbrev pub decreases-colons : goal.decreases-colons
-decreases-colons l = length l.bytes - l.from

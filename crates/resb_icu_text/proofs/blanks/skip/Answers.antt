@@ -1,6 +1,6 @@
 use Rattle.std.proofs.Common.{arith, ◌∙◌}
 use Rattle.std.proofs.lemmas.Bool.Decides.{nat_tests}
-use Rattle.resb_grammar.proofs.ReachLemmas.{reach_here}
+use Rattle.resb_icu_text.proofs.ReachLemmas.{reach_here, no_slash}
 use Rattle.resb_icu_text.proofs.BlanksLemmas.{skip_ends, no_comment_at}
 use Rattle.resb_icu_text.proofs.blanks.skip.Goals as goal
 
@@ -14,12 +14,13 @@ returns-then-b-ne47-clause-skip c =
       each = space.each;
       longest = grind (arith, nat_tests, c.byte-b.ensures.byte, c.if-b-gt32.true);
     })
-    (no_comment_at _ _ (λ e. c.if-b-ne47.true (c.byte-b.ensures.byte ∙ e))) (λ to h. h)
+    (no_comment_at _ _
+    (no_slash c.args.text.now c.behind_space-at.result (λ e. c.if-b-ne47.true (c.byte-b.ensures.byte ∙ e)))) (λ to h. h)
 
 pub returns-then-b-ne47-clause-cost : goal.returns-then-b-ne47-clause-cost
 returns-then-b-ne47-clause-cost c =
     omega (
       arith,
       reach_here c.args.text.now c.behind_space-at.result
-          (λ e. c.if-b-ne47.true (c.byte-b.ensures.byte ∙ e)),
+          (no_slash c.args.text.now c.behind_space-at.result (λ e. c.if-b-ne47.true (c.byte-b.ensures.byte ∙ e))),
     )

@@ -1,5 +1,5 @@
 use Rattle.std.proofs.Common.{arith, sym, ◌∙◌}
-use Rattle.resb_grammar.proofs.ReachLemmas.{reach_here, reach_slash}
+use Rattle.resb_icu_text.proofs.ReachLemmas.{reach_here, reach_comment}
 use Rattle.resb_icu_text.proofs.BlanksLemmas.{white_more, comment_more, skip_ends, no_comment_at}
 use Rattle.resb_icu_text.proofs.blanks.skip_all.Goals as goal
 
@@ -19,11 +19,11 @@ returns-in-None-clause-skip c =
     let run = rw c.as_bytes.ensures.value at c.blanks_end-white.ensures in
     skip_ends _ _ _ _ run c.in-None.ensures.none c.skip.invariant.so_far
 
-pub returns-then-byte-ne47-clause-skip : goal.returns-then-byte-ne47-clause-skip
-returns-then-byte-ne47-clause-skip c =
+pub returns-then-not-begins_comment-clause-skip : goal.returns-then-not-begins_comment-clause-skip
+returns-then-not-begins_comment-clause-skip c =
     let run = rw c.as_bytes.ensures.value at c.blanks_end-white.ensures in
     skip_ends _ _ _ _ run
-    (no_comment_at _ _ (λ e. c.if-byte-ne47.true (c.byte.ensures.byte ∙ e)))
+    (no_comment_at _ _ (sym c.begins_comment.ensures ∙ c.if-not-begins_comment.true))
     c.skip.invariant.so_far
 
 pub returns-in-None-clause-cost : goal.returns-in-None-clause-cost
@@ -31,15 +31,15 @@ returns-in-None-clause-cost c =
     let run = rw c.as_bytes.ensures.value at c.blanks_end-white.ensures in
     omega (
       arith,
-      reach_slash c.args.text.now c.blanks_end-white.result
-          (sym c.byte.ensures.byte ∙ c.if-byte-ne47.false),
+      reach_comment c.args.text.now c.blanks_end-white.result
+          (sym c.begins_comment.ensures ∙ c.if-not-begins_comment.false),
     )
 
-pub returns-then-byte-ne47-clause-cost : goal.returns-then-byte-ne47-clause-cost
-returns-then-byte-ne47-clause-cost c =
+pub returns-then-not-begins_comment-clause-cost : goal.returns-then-not-begins_comment-clause-cost
+returns-then-not-begins_comment-clause-cost c =
     let run = rw c.as_bytes.ensures.value at c.blanks_end-white.ensures in
     omega (
       arith,
       reach_here c.args.text.now c.blanks_end-white.result
-          (λ e. c.if-byte-ne47.true (c.byte.ensures.byte ∙ e)),
+          (sym c.begins_comment.ensures ∙ c.if-not-begins_comment.true),
     )

@@ -1,7 +1,7 @@
 use Rattle.std.proofs.Common.{ap, sym, ◌∙◌}
 use Rattle.resb_grammar.specs.Group.{hex_bytes}
 use Rattle.resb_icu_grammar.specs.Groups.{spaced_bytes}
-use Rattle.resb_icu_text.proofs.RowLemmas.{row_digits, other_digits, some_said, ok_by}
+use Rattle.resb_icu_text.proofs.RowLemmas.{row_digits, other_digits, of_one_part, some_said, ok_by}
 use Rattle.resb_icu_text.proofs.leaf.decoded.Goals as goal
 
 pub row_bytes-requires-clause-row : goal.row_bytes-requires-clause-row
@@ -21,11 +21,11 @@ pub unreachable-requires : goal.unreachable-requires
 unreachable-requires c =
     let is = c.requires.found in
     let same = c.deref.ensures.value ∙ c.in_ok-digits.ensures.says.1 is in
-    c.requires.pairs is (other_digits _ _ c.args.found c.in_default.not-InRow is
+    c.requires.pairs is (other_digits _ _ c.args.found c.in_default.not-InRow (of_one_part _ _ c.args.found is (c.requires.pairs is)) is
     ∙ sym (ap hex_bytes same) ∙ rw c.in-None.is at c.in_ok-bytes.ensures.none)
 
 pub returns-clause-bytes : goal.returns-clause-bytes
 returns-clause-bytes c = λ is.
     let same = c.deref.ensures.value ∙ c.in_ok-digits.ensures.says.1 is in
-    other_digits _ _ c.args.found c.in_default.not-InRow is
+    other_digits _ _ c.args.found c.in_default.not-InRow (of_one_part _ _ c.args.found is (c.requires.pairs is)) is
     ∙ sym (ap hex_bytes same) ∙ rw c.in-Some.is at c.in_ok-bytes.ensures.found

@@ -2,7 +2,7 @@ use Rattle.std.proofs.Common.{◌+◌, sym, ◌∙◌, arith, refl, length, leng
 use Rattle.resb_icu_grammar.specs.declared.group_kind.IcuKind.TheVariants.{IntVector as vector_kind}
 use Rattle.resb_icu_grammar.specs.Stuck.{none_yet, no_number, open_vector}
 use Rattle.resb_icu_grammar.proofs.Blocked.{no_more, a_last}
-use Rattle.resb_grammar.proofs.ReachLemmas.{reach_low}
+use Rattle.resb_icu_text.proofs.ReachLemmas.{reach_low}
 use Rattle.resb_icu_text.proofs.LeafLemmas.{continues_first, continues_end, continues_more}
 use Rattle.resb_icu_text.proofs.LeafLemmas.{counted_more, numbers_stop, number_over, leaf_lacks}
 use Rattle.resb_icu_text.proofs.LeafLemmas.{leaf_says}

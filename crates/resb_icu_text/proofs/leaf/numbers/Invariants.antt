@@ -2,7 +2,7 @@ use Rattle.std.proofs.Common.{◌+◌, ◌*◌, ◌-◌, ◌≤◌, ◌≢◌, l
 use Rattle.resb_grammar.specs.Ascii as ascii
 use Rattle.resb_grammar.specs.Limit.{number_bytes}
 use Rattle.resb_icu_text.specs.Inner.Quota.{TakesBytes}
-use Rattle.resb_grammar.specs.Inner.Reach.{reach}
+use Rattle.resb_icu_text.specs.Inner.Reach.{reach}
 use Rattle.resb_icu_text.proofs.LeafLemmas.{Continues, Counted}
 use Rattle.resb_icu_text.proofs.leaf.numbers.Given as goal
 

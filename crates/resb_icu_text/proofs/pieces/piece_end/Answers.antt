@@ -2,7 +2,7 @@ use Rattle.std.proofs.Common.{◌≡◌, ◌+◌, ◌-◌, arith, rules, refl, s
 use Rattle.resb_icu_grammar.specs.Bytes.{backslash}
 use Rattle.resb_icu_text.proofs.PiecesLemmas.{goes_bytes, fault_bytes, goes_escape, fault_escape}
 use Rattle.resb_icu_text.proofs.PiecesLemmas.{no_escape_fault, no_end_fault, says_fault}
-use Rattle.resb_icu_text.proofs.PiecesLemmas.{piece_closes, no_escape_more}
+use Rattle.resb_icu_text.proofs.PiecesLemmas.{piece_closes, no_escape_more, fault_said}
 use Rattle.resb_icu_text.proofs.StopsLemmas.{is_backslash}
 use Rattle.resb_icu_text.proofs.LengthLemmas.{escape_short}
 use Rattle.resb_icu_text.proofs.pieces.piece_end.Goals as goal
@@ -38,10 +38,11 @@ returns-in_default-escape-clause-reads c =
     let s : slice_index c.args.text.now c.in-Some.stop ≡ backslash =
     is_backslash _ _ _ f (λ e. c.if-byte-eq34.false (c.byte.ensures.byte ∙ e)) in
     says_fault _ _ _ _ _ _ c.new-in_default-escape.ensures
+    (fault_said _ _ _ _ _ _ c.escape_there.ensures
     (no_escape_fault c.args.text.now (c.args.from - 1) c.args.from c.in-Some.stop s
     c.in_default-escape.ensures.none
     (fault_bytes c.args.text.now (c.args.from - 1) c.args.from c.piece.at c.in-Some.stop f.order
-    (omega (arith, f.fits)) f.before c.piece.invariant.fault))
+    (omega (arith, f.fits)) f.before c.piece.invariant.fault)))
 
 pub piece-preserved : goal.piece-preserved
 piece-preserved c =

@@ -3,8 +3,7 @@ use Rattle.std.proofs.Common.{encode_utf8, subst, ap, slice_index, slice_range}
 use Rattle.std.specs.String.{string_bytes}
 use Rattle.std.proofs.lemmas.Str.{IsCharBoundary-before_ascii, IsCharBoundary-after_ascii}
 use Rattle.resb_icu_grammar.specs.Bytes.{backslash}
-use Rattle.resb_icu_grammar.specs.Faults.{no_escape}
-use Rattle.resb_icu_grammar.specs.declared.expected.IcuExpected.TheVariants as expect
+use Rattle.resb_icu_grammar.specs.Faults.{no_escape, escape_there}
 use Rattle.resb_icu_grammar.proofs.Faults.{fault_no_end}
 use Rattle.resb_icu_grammar.specs.Escapes.{Escape}
 use Rattle.resb_icu_text.specs.Inner.Escaped.{bytes_of}
@@ -83,7 +82,8 @@ unreachable-requires c =
     sym c.byte.ensures.byte ∙ c.if-byte-eq92.true in
     let h = c.requires.inside in
     let a = c.piece.invariant.adds h.0 h.1 in
-    fault_no_end c.args.text.now 0 c.piece.at c.piece.at expect.Escape
+    fault_no_end c.args.text.now 0 c.piece.at c.piece.at
+    (escape_there c.args.text.now (c.piece.at + 1))
     (no_escape c.piece.at s c.in-None.ensures.none) c.args.last a.rest a.inside
 
 pub piece-preserved : goal.piece-preserved

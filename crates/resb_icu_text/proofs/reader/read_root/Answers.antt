@@ -3,7 +3,7 @@ use Rattle.std.proofs.lemmas.List.{length-map}
 use Rattle.std.proofs.lemmas.Bool.{and_from, and_parts}
 use Rattle.resb_icu_text.proofs.ReadingLemmas.{text_goes_on, text_ends}
 use Rattle.resb_icu_text.specs.Inner.Kept.{entries_pass}
-use Rattle.resb_grammar.proofs.ReachLemmas.{reach_high}
+use Rattle.resb_icu_text.proofs.ReachLemmas.{reach_high}
 use Rattle.resb_icu_text.proofs.QuotaLemmas.{match_fails}
 use Rattle.resb_icu_text.proofs.reader.read_root.Goals as goal
 

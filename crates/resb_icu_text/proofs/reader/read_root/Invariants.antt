@@ -2,7 +2,7 @@ use Rattle.std.proofs.Common.{◌&&◌, ◌≤◌, ◌+◌, ◌*◌, ◌-◌, le
 use Rattle.resb_icu_grammar.specs.Machine.{at_root}
 use Rattle.resb_icu_text.specs.Inner.Quota.{GoesOn}
 use Rattle.resb_icu_text.specs.Inner.Steps.{now, stands_at, progress, spent}
-use Rattle.resb_grammar.specs.Inner.Reach.{reach}
+use Rattle.resb_icu_text.specs.Inner.Reach.{reach}
 use Rattle.resb_icu_text.specs.Inner.Reading.{groups, keys}
 use Rattle.resb_icu_text.specs.Inner.Kept.{IsKept, groups_pass, step_passes}
 use Rattle.resb_icu_text.proofs.reader.read_root.Given as goal

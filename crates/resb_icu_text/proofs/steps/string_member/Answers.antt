@@ -27,7 +27,7 @@ returns-in_err-take-clause-reads g c =
     match_fails _ _ _ c.from_residual-in_err-take.ensures.1
     (λ tree ws ks. let is = c.in_ok-found.ensures.reads in over_stops _ _ _ _ _ _
     (move.string_member _ _ _ _ _ _ (sym c.is_string.ensures ∙ c.if-is_string.false) is.string
-    is.blanks) (omega (arith, c.bytes_made.ensures is.said is.string))
+    is.blanks) (omega (arith, c.bytes_made.ensures.made is.said is.string))
     c.in_err-take.ensures refl)
 
 pub returns-in_err-said-clause-reads : goal.returns-in_err-said-clause-reads
@@ -39,6 +39,6 @@ returns-in_err-said-clause-reads g c =
 pub returns-clause-reads : goal.returns-clause-reads
 returns-clause-reads g c =
     member_string c.args.members c.args.last c.args.at c.in_ok-found.found c.in_ok-said.said
-    c.in_ok-take.ensures (λ s e. omega (arith, c.bytes_made.ensures s e))
+    c.in_ok-take.ensures (λ s e. omega (arith, c.bytes_made.ensures.made s e))
     (sym c.is_string.ensures ∙ c.if-is_string.false)
     (text_made c.in_ok-found.ensures.reads c.in_ok-said.ensures.says)

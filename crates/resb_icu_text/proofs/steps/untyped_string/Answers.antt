@@ -23,7 +23,7 @@ returns-in_err-take-clause-reads g c =
     (λ tree ws ks. let is = c.in_ok-found.ensures.reads in over_stops _ _ _ _ _ _
     (move.untyped_string _ _ _ _ is.string is.blanks
     (sym c.byte-b.ensures.byte ∙ c.if-b-eq125.true))
-    (omega (arith, c.bytes_made.ensures is.said is.string)) c.in_err-take.ensures refl)
+    (omega (arith, c.bytes_made.ensures.made is.said is.string)) c.in_err-take.ensures refl)
 
 pub returns-in_err-said-clause-reads : goal.returns-in_err-said-clause-reads
 returns-in_err-said-clause-reads g c =
@@ -33,7 +33,7 @@ returns-in_err-said-clause-reads g c =
 pub returns-then-b-eq125-clause-reads : goal.returns-then-b-eq125-clause-reads
 returns-then-b-eq125-clause-reads g c =
     untyped_one c.args.at c.in_ok-found.found c.in_ok-said.said
-    c.in_ok-take.ensures (λ s e. omega (arith, c.bytes_made.ensures s e))
+    c.in_ok-take.ensures (λ s e. omega (arith, c.bytes_made.ensures.made s e))
     (c.byte-b.ensures.inside (omega (arith, c.if-b-eq125.true)))
     (sym c.byte-b.ensures.byte ∙ c.if-b-eq125.true)
     (text_made c.in_ok-found.ensures.reads c.in_ok-said.ensures.says)
@@ -44,7 +44,7 @@ returns-in_err-take-2-clause-reads g c =
     (λ tree ws ks. let is = c.in_ok-found.ensures.reads in over_stops _ _ _ _ _ _
     (begins_with_string _ _ _ _ is.string is.blanks
     (sym c.byte-b.ensures.byte ∙ c.if-b-eq44.true))
-    (omega (arith, c.bytes_made-then-b-eq44.ensures is.said is.string))
+    (omega (arith, c.bytes_made-then-b-eq44.ensures.made is.said is.string))
     c.in_err-take-2.ensures refl)
 
 pub returns-in_err-said-2-clause-reads : goal.returns-in_err-said-2-clause-reads
@@ -56,7 +56,7 @@ pub returns-then-b-eq44-clause-reads : goal.returns-then-b-eq44-clause-reads
 returns-then-b-eq44-clause-reads g c =
     untyped_comma c.new.result c.args.at c.in_ok-found.found c.in_ok-said-2.said
     c.in_ok-take-2.ensures
-    (λ s e. omega (arith, c.bytes_made-then-b-eq44.ensures s e))
+    (λ s e. omega (arith, c.bytes_made-then-b-eq44.ensures.made s e))
     (sym c.byte-b.ensures.byte ∙ c.if-b-eq44.true)
     (text_made c.in_ok-found.ensures.reads c.in_ok-said-2.ensures.says)
     c.new.ensures.items

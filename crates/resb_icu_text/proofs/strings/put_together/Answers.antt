@@ -1,7 +1,7 @@
 use Rattle.std.proofs.Common.{◌≡◌, ◌+◌, ◌-◌, arith, ap, sym, ◌∙◌, refl, [], append-nil, slice_index}
-use Rattle.resb_grammar.proofs.ReachLemmas.{reach_quote}
+use Rattle.resb_icu_text.proofs.ReachLemmas.{reach_quote}
 use Rattle.resb_icu_grammar.specs.Words as words
-use Rattle.resb_icu_grammar.proofs.Faults.{fault_no_string}
+use Rattle.resb_icu_grammar.proofs.Faults.{fault_no_part}
 use Rattle.resb_icu_grammar.proofs.Lexical.{joined_first}
 use Rattle.resb_icu_text.proofs.LengthLemmas.{joined_short}
 use Rattle.resb_icu_text.proofs.PartsLemmas.{part_fits, all_said, others_left, left_more, left_none}
@@ -21,7 +21,7 @@ pub unreachable-requires : goal.unreachable-requires
 unreachable-requires c =
     let left = c.pieces.invariant.left _ c.requires.joined.1 in
     let q = joined_first _ _ _ _ left.here in
-    fault_no_string _ _ _ _ (piece_fault _ _ _ _ q c.in_default.ensures.reads) _ _
+    fault_no_part _ _ _ _ (piece_fault _ _ _ _ q c.in_default.ensures.reads) _ _
     (words.quoted left.here)
 
 pub pieces-preserved : goal.pieces-preserved

@@ -1,7 +1,7 @@
 use Rattle.std.proofs.Common.{◌≡◌, ◌≢◌, ◌+◌, ◌⊎◌, inl, inr, arith, sym, ◌∙◌, subst, [], slice_index}
 use Rattle.std.proofs.lemmas.Str.{IsCharBoundary-before_ascii, IsCharBoundary-after_ascii}
 use Rattle.resb_grammar.specs.Ascii as ascii
-use Rattle.resb_grammar.proofs.ReachLemmas.{reach_quote}
+use Rattle.resb_icu_text.proofs.ReachLemmas.{reach_quote}
 use Rattle.resb_icu_grammar.specs.Faults.{later_piece}
 use Rattle.resb_icu_grammar.specs.Pieces.{QuotedBytes, one_more}
 use Rattle.resb_icu_grammar.specs.Words.{HasNoEscape}

@@ -1,6 +1,6 @@
 use Rattle.std.proofs.Common.{◌≡◌, ◌+◌, ◌*◌, ◌-◌, ◌≤◌, ◌<◌, ℕ, length, slice_index}
 use Rattle.resb_grammar.specs.Ascii as ascii
-use Rattle.resb_icu_grammar.specs.Faults.{StringFault}
+use Rattle.resb_icu_grammar.specs.Faults.{PiecesFault}
 use Rattle.resb_icu_grammar.specs.Pieces.{QuotedPiece, Joined}
 use Rattle.resb_icu_grammar.specs.declared.expected.IcuExpected.{IcuExpected}
 use Rattle.resb_icu_text.proofs.PartsLemmas.{Walked}
@@ -13,8 +13,8 @@ invariant-pieces l = record {
   opens : slice_index l.text l.at ≡ ascii.quote;
   short : l.length + l.from ≤ l.at;
   walked : Walked (QuotedPiece l.text) (Joined l.text) l.from l.at l.length;
-  fault : (to : ℕ) (x : IcuExpected) → StringFault l.text l.at to x
-      → StringFault l.text l.from to x;
+  fault : (to : ℕ) (x : IcuExpected) → PiecesFault l.text l.at to x
+      → PiecesFault l.text l.from to x;
   cost : l.turns.count + 2 * l.from ≤ l.fn.turns.count + 2 * l.at;
 }
 

@@ -1,10 +1,10 @@
-use Rattle.std.proofs.Common.{◌+◌, ◌≤◌, ⊎_elim, inl, inr, arith, refl, subst, sym}
+use Rattle.std.proofs.Common.{◌≡◌, false, ◌+◌, ◌≤◌, ⊎_elim, inl, inr, arith, refl, subst, sym}
 use Rattle.std.proofs.Common.{◌∙◌, ◌∷◌, []}
 use Rattle.std.proofs.lemmas.Bool.{false≢true, and_parts}
-use Rattle.resb_icu_grammar.specs.Unquoted.{Unquoted, one_more}
+use Rattle.resb_icu_grammar.specs.Unquoted.{Unquoted, one_more, begins_unquoted}
 use Rattle.resb_icu_text.proofs.LengthLemmas.{word_short, white_moves}
 use Rattle.resb_icu_text.proofs.PartsLemmas.{walked_none, walked_more}
-use Rattle.resb_icu_text.proofs.RowLemmas.{reach_begun}
+use Rattle.resb_icu_text.proofs.ReachLemmas.{reach_begun}
 use Rattle.resb_icu_text.proofs.StringsLemmas.{word_found, row_found}
 use Rattle.resb_icu_text.proofs.strings.row.Goals as goal
 
@@ -18,10 +18,13 @@ row-init c = record {
 }
 
 pub returns-in_default-clause-reads : goal.returns-in_default-clause-reads
-returns-in_default-clause-reads c = λ to s w.
-    ⊎_elim (λ e. c.in_default.ensures.none to s
-    (subst (λ i. Unquoted c.args.text.now i to s) (sym e) w))
-    (λ b. false≢true (sym c.in_default.ensures.stops ∙ b.1)) c.row.invariant.begun
+returns-in_default-clause-reads c = (
+  λ to s w. ⊎_elim (λ e. c.in_default.ensures.none to s
+      (subst (λ i. Unquoted c.args.text.now i to s) (sym e) w))
+      (λ b. false≢true (sym c.in_default.ensures.stops ∙ b.1)) c.row.invariant.begun,
+  ⊎_elim (λ e. subst (λ i. begins_unquoted c.args.text.now i ≡ false) e c.in_default.ensures.stops)
+      (λ b. absurd (false≢true (sym c.in_default.ensures.stops ∙ b.1))) c.row.invariant.begun,
+)
 
 pub returns-in_default-clause-cost : goal.returns-in_default-clause-cost
 returns-in_default-clause-cost c =
@@ -51,7 +54,7 @@ row-preserved c =
       cost = omega (
         arith,
         c.row.invariant.cost,
-        reach_begun text c.skip-next.result begins,
+        reach_begun text c.skip-next.result (inr begins),
         c.add-in-row.ensures.most,
         c.skip-next.ensures.cost,
         word.some,
@@ -97,6 +100,36 @@ returns-else-at-from-clause-cost c =
     omega (
       arith,
       is.here,
+      is.low,
+      apart,
+      c.row.invariant.cost,
+      c.add-in-row.ensures.most,
+      c.skip-next.ensures.cost,
+      c.skip-next.ensures.order,
+      c.in-Some.ensures.found.some,
+    )
+
+pub returns-then-at-from-clause-cheap : goal.returns-then-at-from-clause-cheap
+returns-then-at-from-clause-cheap c =
+    let is = returns-then-at-from-clause-reads c in
+    omega (
+      arith,
+      is.low,
+      c.if-at-from.true,
+      c.row.invariant.cost,
+      c.add-in-row.ensures.most,
+      c.skip-next.ensures.cost,
+      c.skip-next.ensures.order,
+      c.in-Some.ensures.found.some,
+    )
+
+pub returns-else-at-from-clause-cheap : goal.returns-else-at-from-clause-cheap
+returns-else-at-from-clause-cheap c =
+    let is = returns-else-at-from-clause-reads c in
+    let apart : c.args.from + 2 ≤ c.row.at =
+    ⊎_elim (λ e. absurd (c.if-at-from.false e)) (λ b. b.0) c.row.invariant.begun in
+    omega (
+      arith,
       is.low,
       apart,
       c.row.invariant.cost,

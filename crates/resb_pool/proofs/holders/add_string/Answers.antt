@@ -3,7 +3,7 @@ use Rattle.std.specs.Cmp.Lexicographic.{bytes_decides}
 use Rattle.std.proofs.lemmas.List.{length_push}
 use Rattle.resb_pool.specs.Plan.{nows}
 use Rattle.resb_pool.specs.Inner.ToldApart.{AreTold}
-use Rattle.resb_pool.proofs.Holding.{told_more}
+use Rattle.resb_pool.proofs.Holding.{told_more, told_again}
 use Rattle.resb_pool.proofs.Interning.{stored_at, length-nows}
 use Rattle.resb_pool.proofs.holders.add_string.Goals as goal
 use Rattle.resb_pool.proofs.holders.add_string.Goals.{In_ok-index}
@@ -35,8 +35,22 @@ overflow_cast-index c =
       length_push c.args.told.now.order.items c.in_ok-index.index,
     )
 
-pub returns : goal.returns
-returns c = λ done h.
-    let a = (goal.at.returns c).In_ok-index in
+pub returns-then-is_at : goal.returns-then-is_at
+returns-then-is_at c = λ done h.
+    let keys = c.args.told.now.distinct.keys in
+    let at = c.is_at.ensures c.if-is_at.true in
+    subst (AreTold (done ++ c.args.text.now ∷ []) (nows keys)) (sym c.in_ok-push.ensures.items)
+    (told_again done keys c.args.text c.args.told.now.order.items h c.utf8.text
+    c.args.told.now.empty at.0 at.1)
+
+pub returns-then-is_empty-2 : goal.returns-then-is_empty-2
+returns-then-is_empty-2 c = λ done h.
+    let a = (goal.at.returns-then-is_empty-2 c).In_ok-index in
     subst (AreTold (done ++ c.args.text.now ∷ []) (nows c.insert_full.new.self.keys))
-    (sym c.in_ok-push.ensures.items) (more a done h)
+    (sym c.in_ok-push-2.ensures.items) (more a done h)
+
+pub returns-else-is_empty-2 : goal.returns-else-is_empty-2
+returns-else-is_empty-2 c = λ done h.
+    let a = (goal.at.returns-else-is_empty-2 c).In_ok-index in
+    subst (AreTold (done ++ c.args.text.now ∷ []) (nows c.insert_full.new.self.keys))
+    (sym c.in_ok-push-2.ensures.items) (more a done h)

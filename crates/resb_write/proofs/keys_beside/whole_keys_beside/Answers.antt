@@ -49,7 +49,7 @@ returns-clause-ok c = λ us h.
     let place = lent_place lent in
     let ks = used us list in
     let own = filter (λ k. is_none (place k)) ks in
-    let used_are : nows c.in_ok-used.used.items ≡ ks = c.in_ok-used.ensures.keys
+    let used_are : nows c.in_ok-used.used.keys.items ≡ ks = c.in_ok-used.ensures.keys
     ∙ (λ i. filter (λ k. numbered.among k i) list) in
     let js : nows c.in_ok-keys.keys.items ≡ own = c.in_ok-keys.ensures
     ∙ ap (filter (λ k. is_none (place k))) (ap nows c.deref-2.ensures.value ∙ used_are) in

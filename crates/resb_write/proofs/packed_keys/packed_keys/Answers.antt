@@ -7,6 +7,7 @@ use Rattle.resb_layout.specs.KeyBlock.{position_in}
 use Rattle.resb_layout.specs.TreeFaults.{key_fault}
 use Rattle.resb_pool.specs.declared.packing.Packing.TheVariants.{Plain}
 use Rattle.resb_write.specs.Inner.NearPositions.{IsKeyBlock, IsKeyBlockBy}
+use Rattle.resb_write.proofs.EndKeys.{block_alone}
 use Rattle.resb_write.proofs.packed_keys.packed_keys.Goals as goal
 
 alone : (us ks js : List (List ℕ)) (ps : List ℕ) → IsKeyBlock us ks js ps
@@ -23,3 +24,10 @@ returns-in-Plain-clause-ok c = IfOk-weaker c.new.result _ _ (λ b h us n.
     subst (λ q. IsKeyBlockBy q us c.args.list.now (nows b.keys.items) b.positions.items)
     (sym c.in-Plain.is)
     (alone us c.args.list.now (nows b.keys.items) b.positions.items (h us n))) c.new.ensures.ok
+
+pub returns-in-Compact-clause-ok : goal.returns-in-Compact-clause-ok
+returns-in-Compact-clause-ok c = IfOk-weaker c.end_keys.result _ _ (λ b h us n.
+    subst (λ q. IsKeyBlockBy q us c.args.list.now (nows b.keys.items) b.positions.items)
+    (sym c.in-Compact.is)
+    (block_alone us c.args.list.now (nows b.keys.items) b.positions.items (h us n)))
+    c.end_keys.ensures.ok

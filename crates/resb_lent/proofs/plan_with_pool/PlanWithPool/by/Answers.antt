@@ -1,5 +1,5 @@
 -- Each refusal with its reason, and the plan.
-use Rattle.std.proofs.Common.{◌≡◌, ◌<◌, ◌++◌, ℕ, List, Bor, Option, Some, map, length, sym}
+use Rattle.std.proofs.Common.{◌≡◌, ◌<◌, ◌++◌, ℕ, List, Option, Some, map, length, sym}
 use Rattle.std.proofs.Common.{◌∙◌, ap, subst, arith}
 use Rattle.std.specs.List.{All}
 use Rattle.std.proofs.lemmas.Result.{err_from_is_err_and}
@@ -9,7 +9,7 @@ use Rattle.resb_lent.specs.Lending.{LendsTexts}
 use Rattle.resb_lent.specs.LentBeside.{IsTextBeside}
 use Rattle.resb_lent.specs.PlanWithPool.{lacking, given, limit_of, short_limit_of, in_turn}
 use Rattle.resb_lent.specs.PlanWithPool.{NotPlannedWithBy, no_memory, own_fault, too_far}
-use Rattle.resb_lent.specs.Inner.LentEndings.{AreLentEndsBy}
+use Rattle.resb_lent.specs.Inner.LentEndings.{AreLentEndsBy, AreStandingsBy}
 use Rattle.resb_lent.specs.Inner.Within.{lent_list}
 use Rattle.resb_lent.proofs.EndedBeside.{ended_by, plan_beside}
 use Rattle.resb_lent.proofs.plan_with_pool.PlanWithPool.by.Goals as goal
@@ -21,10 +21,10 @@ returns-in_err-found-clause-err c =
     rw p.1 (λ block h. subst (NotPlannedWithBy c.args.packing block (nows c.args.strings.now))
     (sym p.2) no_memory)
 
-pub returns-in_err-own-clause-err : goal.returns-in_err-own-clause-err
-returns-in_err-own-clause-err c =
-    let p = err_from_is_err_and c.from_residual-in_err-own.result
-    c.from_residual-in_err-own.ensures.1 in
+pub returns-in_err-texts-clause-err : goal.returns-in_err-texts-clause-err
+returns-in_err-texts-clause-err c =
+    let p = err_from_is_err_and c.from_residual-in_err-texts.result
+    c.from_residual-in_err-texts.ensures.1 in
     rw p.1 (λ block h. subst (NotPlannedWithBy c.args.packing block (nows c.args.strings.now))
     (sym p.2) no_memory)
 
@@ -33,25 +33,16 @@ returns-in_err-units-clause-err c =
     let p = err_from_is_err_and c.from_residual-in_err-units.result
     c.from_residual-in_err-units.ensures.1 in
     let found = c.in_ok-found.found.items in
-    let own = c.in_ok-own.ensures ∙ ap (lacking (nows c.args.strings.now)) c.deref.ensures.value in
+    let own = c.in_ok-texts.ensures.texts
+    ∙ ap (lacking (nows c.args.strings.now)) c.deref.ensures.value in
     rw p.1 (λ block h. subst (NotPlannedWithBy c.args.packing block (nows c.args.strings.now))
     (sym p.2) (own_fault found (c.in_ok-found.ensures.lends block h)
     (subst (λ ss. NotPlanned ss c.in_err-units.field-0.0) own c.in_err-units.ensures.err)))
 
-pub returns-in_err-ended-clause-err : goal.returns-in_err-ended-clause-err
-returns-in_err-ended-clause-err c =
-    let p = err_from_is_err_and c.from_residual-in_err-ended.result
-    c.from_residual-in_err-ended.ensures.1 in
-    rw p.1 (λ block h. subst (NotPlannedWithBy c.args.packing block (nows c.args.strings.now))
-    (sym p.2) no_memory)
-
 pub plan_beside-requires : goal.plan_beside-requires
 plan_beside-requires c =
-    let own = c.in_ok-own.own.items in
-    let es = c.in_ok-ended.ended.items in
-    subst (All (λ i. i < length own)) (sym c.deref-3.ensures.value)
-    (subst (λ (z : List (Bor (List ℕ))). All (λ i. i < length z) es) c.deref-2.ensures.value
-    c.in_ok-ended.ensures.within)
+    let own = c.in_ok-texts.field-0.texts.items in
+    subst (All (λ i. i < length own)) (sym c.deref-3.ensures.value) c.in_ok-texts.ensures.within
 
 -- they are planned among all texts of the file and of the pool
 planned : (c : In_ok-units) → (block : List ℕ) → LendsTexts c.args.lent.now block
@@ -66,16 +57,17 @@ planned c block h =
     let S = nows c.args.strings.now in
     let utf8 = c.in_ok-found.ensures.utf8 in
     let found = c.in_ok-found.found.items in
-    let own = c.in_ok-own.own.items in
-    let es = c.in_ok-ended.ended.items in
+    let own = c.in_ok-texts.field-0.texts.items in
+    let es = c.in_ok-texts.field-0.ended.items in
     let us = c.in_ok-units.units.items in
     let L = lacking S found in
     let A = lent_list l ++ S in
-    let is : nows own ≡ L = c.in_ok-own.ensures ∙ ap (lacking S) c.deref.ensures.value in
+    let is : nows own ≡ L = c.in_ok-texts.ensures.texts ∙ ap (lacking S) c.deref.ensures.value in
     let ends : AreLentEndsBy way block L es =
     subst (λ (z : List (List ℕ)). AreLentEndsBy way block z es) is
-    (subst (λ (z : List (Bor (List ℕ))). AreLentEndsBy way block (nows z) es)
-    c.deref-2.ensures.value (c.in_ok-ended.ensures.ends block h)) in
+    (c.in_ok-texts.ensures.ends way block
+    (subst (AreStandingsBy way block S) (sym c.deref-2.ensures.value)
+    (c.in_ok-found.ensures.stand block h))) in
     let ended : AreEnded way A (nows own) c.deref-3.result.now =
     subst (AreEnded way A (nows own)) (sym c.deref-3.ensures.value)
     (subst (λ (z : List (List ℕ)). AreEnded way A z es) (sym is)

@@ -1,6 +1,5 @@
 use Rattle.std.proofs.Common.{arith, ◌≡◌, ◌+◌, ◌-◌, ◌<◌, length, ap, sym, ◌∙◌, subst}
-use Rattle.std.proofs.Common.{true, false, true≢false, get_or}
-use Rattle.std.specs.Cmp.Lexicographic.{bytes_decides}
+use Rattle.std.proofs.Common.{true, false, get_or}
 use Rattle.std.specs.String.{string_bytes}
 use Rattle.resb_lent.specs.Inner.Within.{StandsWithin}
 use Rattle.resb_lent.specs.declared.lent_record.LentRecord.{LentRecord}
@@ -13,8 +12,8 @@ returns-then-count-eq0 c = λ block h x. none_ends c.args.self.now block h c.arg
     (rw c.deref.ensures.value at c.count_up_to-count.ensures.behind) x.0 x.1.0
     c.if-count-eq0.true x.1.1 x.2
 
-pub returns-then-eq : goal.returns-then-eq
-returns-then-eq c = λ block h.
+pub returns-then-are_same : goal.returns-then-are_same
+returns-then-are_same c = λ block h.
     let s = c.args.text.now in
     let es = c.args.self.now.records.items in
     let count = c.count_up_to-count.result in
@@ -25,7 +24,7 @@ returns-then-eq c = λ block h.
     omega (arith, is, c.count_up_to-count.ensures.within, ap length c.deref.ensures.value) in
     let found : c.as_str.result.now ≡ string_bytes (get_or es k d).text =
     c.as_str.ensures.value ∙ ap (λ (e : LentRecord). string_bytes e.text) c.index-record.ensures in
-    let same = (bytes_decides c.as_str.result.now s).0 (sym c.if-eq.ensures) in
+    let same = c.if-are_same.ensures in
     subst (λ (e : LentRecord). StandsWithin block s s e.at) (sym c.index-record.ensures)
     (stands_whole c.args.self.now block h s c.utf8.text count
     (rw c.deref.ensures.value at c.count_up_to-count.ensures.behind) k d is inside
@@ -46,9 +45,8 @@ returns-then-has_end c = λ block h.
     c.as_str.ensures.value ∙ ap (λ (e : LentRecord). string_bytes e.text) c.index-record.ensures in
     let behind = rw c.deref.ensures.value at c.count_up_to-count.ensures.behind in
     let before = rw c.deref.ensures.value at c.count_up_to-count.ensures.before k d is in (
-      λ at x y. true≢false (sym ((bytes_decides c.as_str.result.now s).1 (found
-          ∙ same_last c.args.self.now block h s c.utf8.text count behind k d is inside before at x))
-          ∙ sym c.if-eq.ensures),
+      λ at x y. c.if-are_same.ensures (found
+          ∙ same_last c.args.self.now block h s c.utf8.text count behind k d is inside before at x),
       tells_end c.args.self.now block h s c.utf8.text count behind k d is inside before true
           (rw (← c.index-record.ensures) c.if-has_end.ensures),
     )

@@ -5,6 +5,7 @@ use Rattle.resb_format.specs.Bytes.{units_of, words_of}
 use Rattle.resb_format.specs.Error.{refusal_of}
 use Rattle.resb_pool_bundle.specs.Checks.{refusal_with}
 use Rattle.resb_pool_bundle.specs.Pool.{Pool, pool_in, parts_with}
+use Rattle.resb_pool_bundle.proofs.PassingFiles.{file_is}
 use Rattle.resb_pool_bundle.proofs.PoolSteps.{behind_all}
 use Rattle.resb_pool_bundle.proofs.head.FileHead.beside.Goals as goal
 
@@ -22,7 +23,7 @@ returns c =
     let i = c.args.self.index in
     let bs : List ℕ = i.bytes.now in
     let pool : Option Pool = option_map pool_in c.args.pool in (
-      behind_all pool bs c.args.self.passes ∙ c.in_ok-pool.ensures.0,
+      file_is pool bs (behind_all pool bs c.args.self.passes ∙ c.in_ok-pool.ensures.0),
       λ j. record {
         body = i.cut j;
         keys = c.keys.ensures j;

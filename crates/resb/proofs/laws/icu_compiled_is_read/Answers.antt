@@ -1,5 +1,0 @@
-use Rattle.resb.proofs.ReadBack.{icu_compiled_is_read}
-use Rattle.resb.proofs.laws.icu_compiled_is_read.Goals as goal
-
-pub returns : goal.returns
-returns c = icu_compiled_is_read

@@ -1,0 +1,19 @@
+-- Lemmas of this crate.
+pub mod ClaimsLemmas
+pub mod OwningLemmas
+pub mod WalkLemmas
+pub mod FrontLemmas
+pub mod Places
+pub mod Heads
+pub mod Mirrors
+pub mod CollationSame
+pub mod RolesSame
+pub mod Fronts
+pub mod Swaps
+pub mod CollationLemmas
+pub mod PartsLemmas
+pub mod PairLemmas
+pub mod PackageLemmas
+pub mod PackageSteps
+pub mod PackageLaws
+pub mod PackageOne

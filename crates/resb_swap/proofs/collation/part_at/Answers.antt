@@ -1,0 +1,5 @@
+use Rattle.resb_swap.proofs.CollationLemmas.{data_inside}
+use Rattle.resb_swap.proofs.collation.part_at.Goals as goal
+
+pub header_of-requires : goal.header_of-requires
+header_of-requires c = data_inside _ _ c.requires.headed

@@ -1,0 +1,7 @@
+-- Words of private functions: nothing here needs to be trusted.
+pub mod Seen
+pub mod Claims
+pub mod Front
+pub mod Mirror
+pub mod Tables
+pub mod Walk

@@ -42,8 +42,9 @@ KEPT = 1_700_000
 MOST_BESIDE, UP_TO = 10_000_000, 2_100_000
 # the memory of the program for a text of 7 bytes
 own = []
-# by how much the memory of two runs over texts of one length may differ
-APART = 200_000
+# by how much the memory of two runs over texts of one length may differ: the bytes of the digits
+# alone are half of LEAST_READ
+APART = 400_000
 # runs a program, and writes to a file how many units of 1024 bytes it had at most
 LAUNCHER = r'''
 #include <spawn.h>
@@ -324,7 +325,9 @@ def unmade(folder):
             with open(path, 'w', encoding='utf-8') as out:
                 out.write(text)
             words = ['compile', *form, '--limit', str(limit), path, '-o', '/dev/null']
-            status, out, said, most[one] = ran(folder, words)
+            status, out, said, bytes_of_run = ran(folder, words)
+            # a run's memory is that of its pages, which differs by some from run to run
+            most[one] = min([bytes_of_run, *(ran(folder, words)[3] for _ in range(8))])
             holds = (status, out) == (wanted, b'')
             holds = holds and (not wanted or said == refusal(path, text, limit))
             seen(holds, f'{form} {front}, {len(text)}: {status}, {said[:200]}')

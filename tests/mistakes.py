@@ -1,11 +1,13 @@
 #!/usr/bin/env python3
-"""The mistakes that people make in texts of ICU's form, beside ICU's `genrb`: a table of what each
-of the two says first.
+"""The mistakes that people make in texts of ICU's form, beside ICU's `genrb`: what each of the two
+says of each text.
 
-    mistakes.py [PROGRAM]        PROGRAM is `resb`, the proved one if none is named
+    mistakes.py [PROGRAM]        a table of what each says first
+    mistakes.py [PROGRAM] whole  each text, and all that each says of it
 
-The texts are those of tests/sessions/mistakes.bash. `genrb` names a line, or none; `resb` names
-line and column. Whether a message finds the mistake is for the reader to say.
+PROGRAM is `resb`, the proved one if none is named. The texts are those of
+tests/sessions/mistakes.bash. `genrb` names a line, or none; `resb` names line and column, and shows
+the line. Whether a message finds the mistake is for the reader to say.
 """
 import pathlib
 import re
@@ -26,13 +28,13 @@ def texts():
         yield written.stdout
 
 
-def first_line(command, folder):
-    """What a command says first, without the names of folders."""
+def said(command, folder):
+    """The lines that a command says, without the names of folders."""
     run = subprocess.run(command, cwd=folder, stdout=subprocess.PIPE, stderr=subprocess.STDOUT)
     lines = [line for line in run.stdout.decode(errors="replace").split("\n") if line.strip()]
     if run.returncode == 0 and not lines:
-        return "(takes the text)"
-    return lines[0].replace(f"{folder}/", "") if lines else f"(status {run.returncode})"
+        return ["(takes the text)"]
+    return [line.replace(f"{folder}/", "") for line in lines] or [f"(status {run.returncode})"]
 
 
 def shown(text):
@@ -41,17 +43,25 @@ def shown(text):
 
 
 def main():
-    if len(sys.argv) > 2 or sys.argv[1:] == ["--help"]:
+    words = sys.argv[1:]
+    is_whole = words[-1:] == ["whole"]
+    words = words[:-1] if is_whole else words
+    if len(words) > 1 or words == ["--help"]:
         print(__doc__)
-        return 0 if sys.argv[1:] == ["--help"] else 2
-    program = str(pathlib.Path(sys.argv[1]).resolve() if sys.argv[1:] else RESB)
-    print("| Text | `genrb` | `resb` |\n|---|---|---|")
+        return 0 if words == ["--help"] else 2
+    program = str(pathlib.Path(words[0]).resolve() if words else RESB)
+    if not is_whole:
+        print("| Text | `genrb` | `resb` |\n|---|---|---|")
     with tempfile.TemporaryDirectory() as folder:
-        for text in texts():
+        for number, text in enumerate(texts(), 1):
             (pathlib.Path(folder) / "b.txt").write_bytes(text)
-            theirs = first_line(["genrb", "-q", "b.txt"], folder)
-            ours = first_line([program, "compile", "--icu", "b.txt"], folder)
-            print("| " + " | ".join(map(shown, (text.decode(), theirs, ours))) + " |")
+            theirs = said(["genrb", "-q", "b.txt"], folder)
+            ours = said([program, "compile", "--icu", "b.txt"], folder)
+            if is_whole:
+                lines = [f"## {number}", text.decode(), "-- genrb", *theirs, "-- resb", *ours]
+                print(*lines, sep="\n")
+            else:
+                print("| " + " | ".join(map(shown, (text.decode(), theirs[0], ours[0]))) + " |")
     return 0
 
 

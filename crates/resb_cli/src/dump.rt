@@ -1,7 +1,7 @@
 //! The command `dump`: the text of a file to standard output, or of each file to a folder.
 //! What is made of a file is in `show`, and how bytes come to a place in `save`.
 use crate::folders::check_folder;
-use crate::input::{Beside, Input};
+use crate::input::{Beside, Input, Pools};
 use crate::note::Note;
 use crate::place::{Place, place_of};
 use crate::progress::Progress;
@@ -56,10 +56,12 @@ fn dump_each(rt: &HostRuntime, wanted: &DumpWords<'_>, taken: &mut Taken) -> u8 
     let mut status = 0;
     let mut progress = Progress::new(rt, wanted.files.len());
     let mut before = None;
+    let mut pools = Pools::new(wanted.pool, wanted.limit);
     for name in wanted.files.iter().copied() {
         before = match Input::next(before, rt, name, wanted.limit) {
             Ok(input) => {
-                status = status.max(settled(dump_one(rt, name, &input, wanted, taken)));
+                let source = Source { name, wanted };
+                status = status.max(settled(source.dump(rt, &input, &mut pools, taken)));
                 Some(input)
             }
             Err(e) => {
@@ -71,35 +73,6 @@ fn dump_each(rt: &HostRuntime, wanted: &DumpWords<'_>, taken: &mut Taken) -> u8 
     }
     progress.end(rt);
     status
-}
-
-/// Shows one file: the status, or that of what kept it from being shown. Its tree is made only
-/// where the keys of some table aren't seen to ascend, and where the cause is looked for that it
-/// has no text.
-fn dump_one(
-    rt: &HostRuntime,
-    name: &str,
-    input: &Input,
-    wanted: &DumpWords<'_>,
-    taken: &mut Taken,
-) -> Result<u8, u8> {
-    let opened = input.open(rt, name)?;
-    let beside = match opened.pool(rt, name, wanted.pool, wanted.limit) {
-        Err(_) if wanted.is_lenient && wanted.pool.is_none() => Beside::Nowhere,
-        beside => beside?,
-    };
-    note_pool(rt, name, &beside, taken)?;
-    let source = Source { name, wanted };
-    if wanted.is_lenient
-        && let Some(note) = note_of(rt, name, opened.bytes, &beside)
-    {
-        return source.send(rt, &note, form_ending(PrintForm::Plain), taken);
-    }
-    let subject = Subject::open(rt, name, opened.bytes, &beside)?;
-    if let Some(status) = source.dump_opened(rt, &subject, taken)? {
-        return Ok(status);
-    }
-    source.dump_tree(rt, &subject, taken)
 }
 
 /// Notes a pool bundle that is read, if it is a file of its own.
@@ -125,7 +98,7 @@ fn note_of<'f>(
     rt: &HostRuntime,
     name: &str,
     file: &'f [u8],
-    beside: &'f Beside<'f>,
+    beside: &'f Beside<'_>,
 ) -> Option<Note<'f>> {
     match beside.bundle(rt, name) {
         Ok(pool) => Note::of(file, pool),
@@ -134,6 +107,47 @@ fn note_of<'f>(
 }
 
 impl Source<'_> {
+    /// Shows the file: the status, or that of what kept it from being shown. Its pool bundle is
+    /// kept for the next file.
+    fn dump(
+        self,
+        rt: &HostRuntime,
+        input: &Input,
+        pools: &mut Pools<'_>,
+        taken: &mut Taken,
+    ) -> Result<u8, u8> {
+        let opened = input.open(rt, self.name)?;
+        let beside = match opened.pool_among(rt, self.name, pools) {
+            Err(_) if self.wanted.is_lenient && self.wanted.pool.is_none() => Beside::Nowhere,
+            beside => beside?,
+        };
+        let done = self.dump_beside(rt, opened.bytes, &beside, taken);
+        pools.keep(beside);
+        done
+    }
+
+    /// Shows the file of these bytes beside its pool bundle. Its tree is made only where the keys
+    /// of some table aren't seen to ascend, and where the cause is looked for that it has no text.
+    fn dump_beside(
+        self,
+        rt: &HostRuntime,
+        file: &[u8],
+        beside: &Beside<'_>,
+        taken: &mut Taken,
+    ) -> Result<u8, u8> {
+        note_pool(rt, self.name, beside, taken)?;
+        if self.wanted.is_lenient
+            && let Some(note) = note_of(rt, self.name, file, beside)
+        {
+            return self.send(rt, &note, form_ending(PrintForm::Plain), taken);
+        }
+        let subject = Subject::open(rt, self.name, file, beside)?;
+        if let Some(status) = self.dump_opened(rt, &subject, taken)? {
+            return Ok(status);
+        }
+        self.dump_tree(rt, &subject, taken)
+    }
+
     /// The form that is wanted.
     fn form(self) -> PrintForm {
         if self.wanted.is_json {

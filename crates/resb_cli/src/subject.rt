@@ -22,7 +22,7 @@ impl<'f> Subject<'f> {
         rt: &HostRuntime,
         name: &'f str,
         bytes: &'f [u8],
-        beside: &'f Beside<'f>,
+        beside: &'f Beside<'_>,
     ) -> Result<Subject<'f>, u8> {
         let pool = beside.name();
         let bundle = beside.bundle(rt, name)?;

@@ -58,6 +58,9 @@ TEXTS = [
     ('k:process(uca_rules){"bracket.txt"}', False),
     ('k:Include{"rules.txt"}', False),
     ('k:include{"rules.txt"} k:include{"rules.txt"}', False),
+    ('l{ k:process(dependency){"x"} } } m:process(dependency){"y"', True),
+    ('k:include{"rules.txt"} } l:include{none.txt', True),
+    ('k:process(dependency){"x"} } l "', True),
 ]
 FILES = {
     'rules.txt': b'a "b" \\ c { d } \x01\x7f\n', 'marked.txt': b'\xef\xbb\xbfmarked \xc3\xa9\n',

@@ -4,10 +4,10 @@
     icu_made.py [COUNT [SEED]] [--resb PROGRAM] [--show KIND]
 
 Run by hand where ICU's tools are installed. Both compile each text, `resb` with --compact. The
-texts are those of icu_compare.py, with every escape and every spelling of a number. A line for each
-kind counts the texts: taken by both with the same bytes (`same`), taken by both with the same tree
-(`tree`), refused by both (`refused`), taken by one alone (`genrb`, `resb`), or taken with another
-tree (`other`), which fails. --show prints the texts of a kind.
+texts are those of icu_compare.py, with every escape and every spelling of a number, and text behind
+the bundle. A line for each kind counts the texts: taken by both with the same bytes (`same`), taken
+by both with the same tree (`tree`), refused by both (`refused`), taken by one alone (`genrb`,
+`resb`), or taken with another tree (`other`), which fails. --show prints the texts of a kind.
 """
 import argparse
 import collections
@@ -28,10 +28,21 @@ ESCAPES = icu_compare.RIGHT_ESCAPES + icu_compare.OTHER_ESCAPES + [
     '\\ud84d\\udc56', '\\ud84d', '\\uDC00', '\\z', '\\%', '\\ ']
 NUMBERS = icu_compare.NUMBERS + icu_compare.OTHER_NUMBERS + [
     '010', '0777', '08', '0x7f', '0XFF', '"0x10"', '""', '"-5"', '- 1', '+0x1', '"+7"', '00']
+# what stands behind a bundle: all but the last four may
+BEHIND = [
+    ' ', '\n', 'x', ' y ', '{', '}', ',', ':', ':int{08}', '"', '"z', '""', '/', '//', '// w\n',
+    '*/', '\ufeff', '\u2029', '\ufffe', '\0', 'é', '\U0001f600', 'c{k{v}}', '\r', '\t', '+', "'",
+    '$', '\\', '/*', '/* v */', '\\q']
 
 
 class Texts(icu_compare.Texts):
     """Random texts whose strings and numbers are spelled in every way."""
+
+    def text(self):
+        text = super().text()
+        if self.few(0.2):
+            text += ''.join(self.one(BEHIND) for _ in range(self.one([1, 2, 4, 8]))).encode()
+        return text
 
     def number(self):
         return self.one(NUMBERS)

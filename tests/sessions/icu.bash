@@ -106,7 +106,9 @@ icu_row 'b{a{x} /}' 8 "a comment begins with '//' or '/*'"
 icu_row 'b{a{x} a{y}}' 8 "duplicate key 'a', first at column 3"
 icu_row 'b{a/b{x} a/b{y}}' 10 "duplicate key 'a/b', first at column 3"
 icu_row 'b{(a){x} a{y} a{z}}' 15 "duplicate key 'a', first at column 10"
-icu_row 'b{}x' 4 'the bundle ends before this, and a text has only one'
+icu_row 'b{}x\' 4 'the bundle ends before this, and a text has only one'
+icu_row 'b{} x /* y */' 5 'the bundle ends before this, and a text has only one'
+icu_row 'b{} /* x */ } /*' 13 "this '}' is one too many"
 
 # a file's text in ICU's own form, which is compiled to the same file; and a file that has none
 told 0 $'icu{\n    a{"x\303\251y"}\n    e:array{}\n    p{"100%"}\n}' '' dump --icu icu.res
@@ -146,3 +148,24 @@ told 0 $'w{
 told 1 '' 'w.txt:1:6: warning: no escape begins so; the backslash is dropped, and its character stays
 w.txt:1:30: warning: the 0 makes this number octal
 w.txt: no file is written, since this has warnings' compile --icu --strict w.txt
+# text behind the bundle, which genrb warns of too: nothing is told of it but where it begins, and
+# which `}` may be wrong
+behind_row() {
+  printf '%b' "$2" > row.txt
+  told 0 '' "${1:+row.txt:$1}" compile --icu row.txt -o row.res
+  same row.res once.res
+  [ -z "$1" ] || told 1 '' "row.txt:$1
+row.txt: no file is written, since this has warnings" compile --icu --strict row.txt -o none.res
+}
+nothing='warning: the bundle has ended before this; nothing from here on is read'
+printf 'row{a{x}}' > once.txt
+told 0 '' '' compile --icu once.txt -o once.res
+behind_row '' 'row{a{x}} // }\n'
+behind_row "1:11: $nothing" 'row{a{x}} c{n:int{08}m{{0} "x"y}}'
+behind_row "1:10: $nothing" 'row{a{x}}/'
+behind_row "1:10: $nothing" 'row{a{x}}"y'
+behind_row "2:1: $nothing" 'row{a{x}} // y\n\357\273\277'
+behind_row "1:14: $nothing" 'row{a{x}} // \342\200\251y'
+behind_row "1:11: warning: this '}' is one too many; nothing more is read" 'row{a{x}} }'
+behind_row "2:6: warning: the bundle ends with this '}', and text stands behind it; nothing more is read" \
+  'row{\n a{x}}\n c{y}\n}'

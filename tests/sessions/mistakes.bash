@@ -49,9 +49,9 @@ done << 'END'
 --icu@1:10@a group of this type has one value@b{a:int{1,2}}
 --icu@1:9@an odd number of hex digits (1): each byte has two@b{a:bin{"0"}}
 --icu@1:10@'g' is no hex digit@b{a:bin{"g0"}}
---icu@1:8@this '}' is one too many@b{a{x}}}
---icu@2:6@the bundle ends with this '}', and text stands behind it@b{\n a{x}}\n c{y}\n}
---icu@1:8@the bundle ends before this, and a text has only one@b{a{x}}c{y}
+--icu@1:8@this '}' is one too many@b{a{x}}}/*
+--icu@2:6@the bundle ends with this '}', and text stands behind it@b{\n a{x}}\n c{"\\t"}\n}
+--icu@1:8@the bundle ends before this, and a text has only one@b{a{x}}c{"\\t"}
 --icu@1:7@a quote inside a string needs a backslash before it@b{a{"x"y"}}
 --icu@1:6@a quote is missing where this string begins@b{a{x"}}
 --icu@1:5@the quote that closes this string may be missing in its line@b{a{"x\n}c{"y"}}

@@ -2,14 +2,13 @@
 --     AreWarnings form text ws    these are the warnings of a text of this form, by their places
 --     TellsWarnings o text lines  the lines tell those of a text of the form that is asked for
 --     WarnsInto o text old new r  what telling them by options answers, and leaves in the buffer
-use Rattle.std.specs.Prelude.{◌≡◌, ℕ, true, false, List, ◌++◌, length, Some, None, Result, Ok, Err}
+use Rattle.std.specs.Prelude.{◌≡◌, ℕ, true, false, List, length, Some, None, Result, Ok, Err}
 use Rattle.std.specs.Prelude.{IsPermutation, IsUtf8}
 use Rattle.std.specs.List.Sorted.{IsSortedByKey}
 use Rattle.std.specs.Ordering.{nat_cmp}
 use Rattle.resb_compile.specs.declared.compiling.TextForm.{TextForm}
 use Rattle.resb_compile.specs.declared.compiling.TextForm.TheVariants.{Plain, Icu}
-use Rattle.resb_diagnostics.specs.IcuMarks.{icu_marked}
-use Rattle.resb_diagnostics.specs.IcuWarnings.{icu_warned}
+use Rattle.resb_diagnostics.specs.IcuMarks.{icu_found}
 use Rattle.resb_diagnostics.specs.Told.{is_over, warning_lines}
 use Rattle.resb_diagnostics.specs.Warnings.{warned}
 use Rattle.resb_diagnostics.specs.declared.warning.Warning.{Warning}
@@ -25,7 +24,7 @@ use Rattle.resb_c.specs.declared.options.ResbOptions.{ResbOptions}
 -- the warnings of a text of a form
 abbrev pub warned_in : TextForm → List ℕ → List Warning
 warned_in Plain text = warned text (length text)
-warned_in Icu text = icu_warned text (length text) ++ icu_marked text (length text)
+warned_in Icu text = icu_found text
 
 -- these are they, by their places
 pub record AreWarnings (form : TextForm) (text : List ℕ) (ws : List Warning) : Type 0 where

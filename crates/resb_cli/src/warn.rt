@@ -2,7 +2,8 @@
 //! meant so.
 //! Where a warning is due is told by `resb_diagnostics`; refusals are said in `say`.
 use crate::compile::is_file_name;
-use crate::mistakes::Repeated;
+use crate::mistaken_values::end_mistake;
+use crate::mistakes::{Repeated, Spot, What};
 use crate::names::name_in;
 use crate::repeated::key_at;
 use crate::say::{fail, say_at};
@@ -97,10 +98,9 @@ fn say_warnings<R: Eprint>(rt: &R, name: &str, text: SourceText<'_>, found: &[Wa
     let source = text.read().as_bytes();
     let (mut places, mut firsts) = (Locations::new(source), Locations::new(source));
     for warning in found.iter().take(MOST_WARNINGS) {
-        let (reason, at) = (
-            warning.reason,
-            places.find(text.place_in_file(warning.place)),
-        );
+        let reason = warning.reason;
+        let (place, end) = told_at(source, text.place_in_file(warning.place), reason);
+        let at = places.find(place);
         let (key, first) = match reason {
             // a text of ICU's form with such a key is refused
             Reason::RepeatedKey(first) => (
@@ -110,17 +110,14 @@ fn say_warnings<R: Eprint>(rt: &R, name: &str, text: SourceText<'_>, found: &[Wa
             _ => ("", at),
         };
         let line = at.line;
-        say_at(
-            rt,
-            name,
-            at,
-            Told {
-                reason,
-                key,
-                first,
-                line,
-            },
-        );
+        let told = Told {
+            reason,
+            end,
+            key,
+            first,
+            line,
+        };
+        say_at(rt, name, at, told);
     }
     if found.len() > MOST_WARNINGS {
         let (name, more) = (Shown(name), found.len() - MOST_WARNINGS);
@@ -128,10 +125,29 @@ fn say_warnings<R: Eprint>(rt: &R, name: &str, text: SourceText<'_>, found: &[Wa
     }
 }
 
+/// Where a warning is told that is due at a place, and the `}` that is told in place of the text
+/// behind it, if a bundle ends with one too early or one more stands there.
+fn told_at(source: &[u8], place: usize, reason: Reason) -> (usize, Option<What<'_>>) {
+    if reason != Reason::TextBehind {
+        return (place, None);
+    }
+    let Some(spot) = Spot::new(source, place) else {
+        return (place, None);
+    };
+    match end_mistake(&spot) {
+        Some(end) if matches!(end.what, What::BraceTooMany | What::EarlyEnd) => {
+            (end.place, Some(end.what))
+        }
+        _ => (place, None),
+    }
+}
+
 /// A warning of a text, as it is said.
 #[derive(Clone, Copy)]
 struct Told<'s> {
     reason: Reason,
+    /// What ends the bundle where text behind it isn't meant to stand there; of others, nothing.
+    end: Option<What<'s>>,
     /// How a repeated key is spelled; of others, nothing.
     key: &'s str,
     /// Where a repeated key stands first; of others, their own place.
@@ -148,7 +164,10 @@ impl fmt::Display for Told<'_> {
                 let repeated = Repeated { key, first, line };
                 write!(f, "warning: {repeated}; genrb refuses that")
             }
-            reason => write!(f, "warning: {reason}"),
+            reason => match self.end {
+                Some(end) => write!(f, "warning: {end}; nothing more is read"),
+                None => write!(f, "warning: {reason}"),
+            },
         }
     }
 }

@@ -2,15 +2,17 @@
 //! for their character alone, of text behind the root, and of an unquoted string right behind a
 //! quoted piece.
 //! What is told of tokens is in `icu_warning`.
-ghost use Rattle.std.specs.Prelude.{◌≡◌, ◌+◌, ◌<◌, ◌++◌, ◌&&◌, ◌||◌, ◌==◌, not, length, OnOk};
+ghost use Rattle.std.specs.Prelude.{◌≡◌, ◌+◌, ◌<◌, ◌≤◌, ◌++◌, ◌&&◌, ◌||◌, ◌==◌, not, length};
+ghost use Rattle.std.specs.Prelude.{slice_index, IfOk, OnOk};
+ghost use Rattle.resb_icu_grammar.specs.Blanks.{are_there};
 ghost use Rattle.resb_diagnostics.specs.Braces.{icu_form};
 ghost use Rattle.resb_diagnostics.specs.IcuMarks as spec;
-ghost use Rattle.resb_diagnostics.specs.IcuMarks.{icu_marked};
+ghost use Rattle.resb_diagnostics.specs.IcuMarks.{icu_marked, behind_at};
 ghost use Rattle.resb_diagnostics.specs.IcuWarnings.{and_one};
 ghost use Rattle.resb_diagnostics.specs.Inner.Marks.{IsMarkedTo};
 
 use crate::braces::{IcuMode, Mode, Modes, depth_behind};
-use crate::icu_runs::is_unquoted;
+use crate::icu_runs::{begins_comment, is_unquoted};
 use crate::warning::{Reason, Warning};
 use std::alloc::AllocError;
 
@@ -35,6 +37,35 @@ fn escape_mark(mode: IcuMode, at: usize, byte: u8) -> Option<Warning>
             reason: Reason::UnknownEscape,
         }),
         _ => None,
+    }
+}
+
+/// The byte there, or 0 past the end.
+fn byte(text: &[u8], at: usize) -> u8
+    ensures { result ≡ slice_index text.now at }
+{
+    if at < text.len() { text[at] } else { 0 }
+}
+
+/// Whether the character U+2029 stands at a place.
+fn is_paragraph_end(text: &[u8], at: usize) -> bool
+    requires { at < length text.now }
+    ensures { result ≡ are_there 0xe2 0x80 0xa9 text.now at }
+{
+    byte(text, at) == 0xe2 && (byte(text, at + 1) == 0x80 && byte(text, at + 2) == 0xa9)
+}
+
+/// Whether what is no blank stands at a place: among tokens, or in a comment that is none.
+fn is_no_blank(mode: IcuMode, text: &[u8], at: usize) -> bool
+    requires { at < length text.now }
+    ensures { result ≡ spec.is_no_blank mode text.now at }
+{
+    match mode {
+        IcuMode::As(Mode::Tokens) => {
+            !matches!(text[at], b' ' | b'\t' | b'\r' | b'\n') && !begins_comment(text, at)
+        }
+        IcuMode::As(Mode::LineComment) => is_paragraph_end(text, at),
+        _ => false,
     }
 }
 
@@ -91,23 +122,23 @@ fn closes_piece(mode: IcuMode, byte: u8) -> bool
 }
 
 /// How far a text was looked at: what the next byte stands in, how many braces are open before it,
-/// whether the root has ended, whether text behind it was told, and whether a quoted piece stands
-/// right before the byte.
+/// whether the root has ended, and whether a quoted piece stands right before the byte.
 #[derive(Clone, Copy)]
 struct Marks {
     mode: IcuMode,
     depth: usize,
     has_ended: bool,
-    has_more: bool,
     has_piece: bool,
 }
 
 impl Marks {
-    /// Whether a byte stands behind the root, and begins no comment.
-    fn is_behind_root(self, byte: u8) -> bool
-        ensures { result ≡ (self.has_ended && spec.is_token_byte self.mode byte) }
+    /// Whether what is no blank stands at a place behind the root.
+    fn is_behind_root(self, text: &[u8], at: usize) -> bool
+        requires within { at < length text.now }
+        requires marks { IsMarkedTo text.now at self }
+        ensures { result ≡ spec.is_behind_root text.now at }
     {
-        self.has_ended && is_token_byte(self.mode, byte)
+        self.has_ended && is_no_blank(self.mode, text, at)
     }
 
     /// Whether the root has ended behind a byte.
@@ -116,14 +147,6 @@ impl Marks {
             && self.depth == 1)) }
     {
         self.has_ended || (self.mode.has_tokens() && byte == b'}' && self.depth == 1)
-    }
-
-    /// Whether text behind the root stands before a byte or with it.
-    fn tells(self, byte: u8) -> bool
-        ensures { result ≡ (self.has_more
-            || (self.has_ended && spec.is_token_byte self.mode byte)) }
-    {
-        self.has_more || self.is_behind_root(byte)
     }
 
     /// Whether a quoted piece stands right before what is behind a byte.
@@ -144,30 +167,13 @@ impl Marks {
         let mode = self.mode.behind(byte);
         let depth = depth_behind(self.mode.has_tokens(), byte, self.depth);
         let has_ended = self.ends(byte);
-        let has_more = self.tells(byte);
         let has_piece = self.leaves_piece(byte);
         Marks {
             mode,
             depth,
             has_ended,
-            has_more,
             has_piece,
         }
-    }
-
-    /// The warning of text behind the root, of which the first byte stands at a place.
-    fn behind_mark(self, text: &[u8], at: usize) -> Option<Warning>
-        requires within { at < length text.now }
-        requires marks { IsMarkedTo text.now at self }
-        ensures { result ≡ spec.behind_mark text.now at }
-    {
-        if self.is_behind_root(text[at]) && !self.has_more {
-            return Some(Warning {
-                place: at,
-                reason: Reason::TextBehind,
-            });
-        }
-        None
     }
 
     /// The warning of an unquoted string right behind a quoted piece that the byte at a place tells.
@@ -194,26 +200,31 @@ fn push_some(warning: Option<Warning>, found: &mut Vec<Warning>) -> Result<(), A
     Ok(())
 }
 
-/// Adds these warnings of a text.
-pub(crate) fn mark(text: &[u8], found: &mut Vec<Warning>) -> Result<(), AllocError>
-    ensures { OnOk result
+/// Adds these warnings of a text, and answers where text begins behind its root, or where the text
+/// ends.
+pub(crate) fn mark(text: &[u8], found: &mut Vec<Warning>) -> Result<usize, AllocError>
+    ensures marked { OnOk result
         (found.new.items ≡ found.old.items ++ icu_marked text.now (length text.now)) }
+    ensures end { IfOk result (λ end. end ≡ behind_at text.now (length text.now)) }
+    ensures within { IfOk result (λ end. end ≤ length text.now) }
 {
     let mut marks = Marks {
         mode: IcuMode::start(),
         depth: 0,
         has_ended: false,
-        has_more: false,
         has_piece: false,
     };
     'bytes: for at in 0..text.len() {
+        if marks.is_behind_root(text, at) {
+            let reason = Reason::TextBehind;
+            found.push(Warning { place: at, reason })?;
+            return Ok(at);
+        }
         let escape = escape_mark(marks.mode, at, text[at]);
         push_some(escape, found)?;
-        let behind = marks.behind_mark(text, at);
-        push_some(behind, found)?;
         let mixed = marks.mixed_mark(text, at);
         push_some(mixed, found)?;
         marks = marks.behind(text, at);
     }
-    Ok(())
+    Ok(text.len())
 }

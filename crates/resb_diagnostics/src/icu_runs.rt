@@ -45,7 +45,7 @@ pub(crate) fn is_unquoted(byte: u8) -> bool
 
 /// Whether a comment begins at a place, or seems to.
 #[inline(always)]
-fn begins_comment(text: &[u8], at: usize) -> bool
+pub(crate) fn begins_comment(text: &[u8], at: usize) -> bool
     requires { at < length text.now }
     ensures { result ≡ unquoted.begins_comment text.now at }
 {

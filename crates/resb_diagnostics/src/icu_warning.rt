@@ -1,13 +1,12 @@
 //! What a person may not have meant in a text that is a bundle of ICU's form.
 //! Where its tokens stand is found in `icu_walk`; the warnings of the other form are in `warning`.
-ghost use Rattle.std.specs.Prelude.{◌≡◌, ◌<◌, ◌≤◌, length, slice_index, false, IfOk, OnOk, ◌++◌};
+ghost use Rattle.std.specs.Prelude.{◌≡◌, ◌<◌, ◌≤◌, length, slice_index, false, IfOk, OnOk};
 ghost use Rattle.std.specs.Prelude.{IsPermutation};
 ghost use Rattle.std.specs.List.Sorted.{IsSortedByKey};
 ghost use Rattle.std.specs.Ordering.{nat_cmp};
 ghost use Rattle.resb_grammar.specs.ByteRuns as bytes;
 ghost use Rattle.resb_diagnostics.specs.IcuWarnings as spec;
-ghost use Rattle.resb_diagnostics.specs.IcuMarks.{icu_marked};
-ghost use Rattle.resb_diagnostics.specs.IcuWarnings.{icu_warned};
+ghost use Rattle.resb_diagnostics.specs.IcuMarks.{icu_found};
 ghost use Rattle.resb_diagnostics.specs.declared.icu_tokens.IcuLast.TheVariants as last;
 ghost use Rattle.resb_diagnostics.specs.Inner.IcuTokens.{HasLooked, Fits, IsIn, IsBeforeSome};
 ghost use Rattle.resb_diagnostics.specs.Inner.IcuTokens.{IsBeforeToken};
@@ -21,19 +20,21 @@ use crate::warning::{Reason, Warning};
 use std::alloc::{AllocError, Global};
 
 /// The warnings of a text of ICU's form, in order of place. They are right for a text that is a
-/// bundle of that form; for any other one they say little.
+/// bundle of that form; for any other one they say little. Text behind the bundle has one, at its
+/// first byte, and nothing more is told of it.
 pub fn icu_warnings(alloc: Global, text: &str) -> Result<Vec<Warning>, AllocError>
-    ensures exact { IfOk result
-        (λ found. IsPermutation (icu_warned text.now (length text.now)
-        ++ icu_marked text.now (length text.now)) found.items) }
+    ensures exact { IfOk result (λ found. IsPermutation (icu_found text.now) found.items) }
     ensures order { IfOk result (λ found. IsSortedByKey (λ w. w.place) nat_cmp found.items) }
 {
-    let mut look = Look::new(alloc, text.as_bytes());
-    'tokens: while look.walk.at < text.len() {
+    let bytes = text.as_bytes();
+    let mut found = Vec::new(alloc);
+    let end = mark(bytes, &mut found)?;
+    let front = &bytes[..end];
+    let mut look = Look::new(alloc, front);
+    'tokens: while look.walk.at < front.len() {
         look.advance()?;
     }
-    let mut found = look.found;
-    mark(text.as_bytes(), &mut found)?;
+    found.extend_from_slice(look.found.as_slice())?;
     found.sort_unstable();
     Ok(found)
 }

@@ -62,7 +62,7 @@ pub enum Reason {
     /// it stands for that character.
     UnknownEscape,
     /// Behind the root of a text in ICU's form stands more than blanks, the first of it here:
-    /// nothing of it is read.
+    /// nothing of it is read. In a comment that U+2029 ends it stands at that character.
     TextBehind,
     /// The unquoted string goes on with the one in quotes before it, in a text of ICU's form: a
     /// blank stands between them, and a comma or a quote may be missing.

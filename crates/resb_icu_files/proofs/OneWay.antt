@@ -18,6 +18,7 @@ use Rattle.resb_icu_grammar.specs.Unquoted.{begins_comment}
 use Rattle.resb_icu_grammar.proofs.Lexical.{Skip-one, String-one}
 use Rattle.resb_icu_files.specs.Stretches.{Passes, Stretch, Ends, nothing, more, blanks}
 use Rattle.resb_icu_files.specs.Stretches.{quoted, other, at_the_end, no_string, open_comment}
+use Rattle.resb_icu_files.specs.Stretches.{root_closes, closes_root, closer_at}
 use Rattle.resb_icu_files.specs.TakenIn.{Taken, ends, group, FaultFrom, here, later, with_group}
 use Rattle.resb_icu_files.specs.TakenIn.{ended, FirstFault, HasNoFileGroup}
 use Rattle.resb_icu_files.specs.Ways.{FileGroup, bytes_named}
@@ -62,61 +63,75 @@ group_colon : (text : List ℕ) (at brace last : ℕ) (kind : Way) (name : List 
     → FileGroup text at kind brace last name → slice_index text at ≡ ascii.colon
 group_colon text at brace last kind name g = g.colon
 
+-- the root's `}` is one
+closer_brace : (text : List ℕ) (at depth : ℕ) → closes_root text at depth ≡ true
+    → slice_index text at ≡ ascii.right_brace
+closer_brace text at depth e = eqb-true _ _ (and_parts _ _ e).0
+
 -- where such a group stands, the text doesn't end
-group_ends : (text : List ℕ) (at brace last : ℕ) (kind : Way) (name : List ℕ)
-    → FileGroup text at kind brace last name → Ends text at → ⊥
-group_ends text at brace last kind name g (at_the_end e) =
+group_ends : (text : List ℕ) (at depth brace last : ℕ) (kind : Way) (name : List ℕ)
+    → FileGroup text at kind brace last name → Ends text at depth → ⊥
+group_ends text at depth brace last kind name g (root_closes e) =
+    let colon = group_colon text at brace last kind name g in
+    omega (arith, closer_brace text at depth e, colon)
+group_ends text at depth brace last kind name g (at_the_end e) =
     let colon = group_colon text at brace last kind name g in
     omega (arith, no_byte text at e, colon)
-group_ends text at brace last kind name g (no_string q n) =
+group_ends text at depth brace last kind name g (no_string q n) =
     let colon = group_colon text at brace last kind name g in omega (arith, q, colon)
-group_ends text at brace last kind name g (open_comment b s) =
+group_ends text at depth brace last kind name g (open_comment b s) =
     let colon = group_colon text at brace last kind name g in
     omega (arith, seems_slash text at b, colon)
 
--- a stop: where a group stands, or the text ends
-data Stop (text : List ℕ) (at : ℕ) : Type 0 where
+-- a stop: where a group stands, or the root or the text ends
+data Stop (text : List ℕ) (at depth : ℕ) : Type 0 where
   a_group : (kind : Way) (brace last : ℕ) (name : List ℕ)
-      → FileGroup text at kind brace last name → Stop text at
-  an_end : Ends text at → Stop text at
+      → FileGroup text at kind brace last name → Stop text at depth
+  an_end : Ends text at depth → Stop text at depth
 
 -- where a group stands, nothing is passed
 group_stays : (text : List ℕ) (at to brace last : ℕ) (kind : Way) (name : List ℕ)
-    (closer behind : Option ℕ) → FileGroup text at kind brace last name
-    → Passes text at closer to behind → ⊥
-group_stays text at to brace last kind name closer behind g (blanks _ o s) =
+    (depth behind : ℕ) → FileGroup text at kind brace last name
+    → Passes text at depth to behind → ⊥
+group_stays text at to brace last kind name depth behind g (blanks _ o s) =
     solid_stays text at to (solid_mark text at ascii.colon
     (group_colon text at brace last kind name g) refl (λ e. omega (arith, e))) o s
-group_stays text at to brace last kind name closer behind g (quoted _ b o q t) =
+group_stays text at to brace last kind name depth behind g (quoted _ b o q t) =
     omega (arith, q, group_colon text at brace last kind name g)
-group_stays text at to brace last kind name closer behind g (other o) =
+group_stays text at to brace last kind name depth behind g (other o n) =
     o.no_group kind brace last name g
 
--- where a text ends, nothing is passed
-end_stays : (text : List ℕ) (at to : ℕ) (closer behind : Option ℕ) → Ends text at
-    → Passes text at closer to behind → ⊥
-end_stays text at to closer behind (at_the_end e) (blanks _ o s) =
+-- where the root or a text ends, nothing is passed
+end_stays : (text : List ℕ) (at to depth behind : ℕ) → Ends text at depth
+    → Passes text at depth to behind → ⊥
+end_stays text at to depth behind (root_closes e) (blanks _ o s) =
+    solid_stays text at to (solid_mark text at ascii.right_brace (closer_brace text at depth e) refl
+    (λ h. omega (arith, h))) o s
+end_stays text at to depth behind (root_closes e) (quoted _ b o q t) =
+    omega (arith, q, closer_brace text at depth e)
+end_stays text at to depth behind (root_closes e) (other o n) = false≢true (sym n ∙ e)
+end_stays text at to depth behind (at_the_end e) (blanks _ o s) =
     solid_stays text at to (solid_mark text at 0 (no_byte text at e) refl
     (λ h. omega (arith, h))) o s
-end_stays text at to closer behind (at_the_end e) (quoted _ b o q t) =
+end_stays text at to depth behind (at_the_end e) (quoted _ b o q t) =
     omega (arith, q, no_byte text at e)
-end_stays text at to closer behind (at_the_end e) (other o) = omega (arith, e, o.inside)
-end_stays text at to closer behind (no_string q n) (blanks _ o s) =
+end_stays text at to depth behind (at_the_end e) (other o n) = omega (arith, e, o.inside)
+end_stays text at to depth behind (no_string q n) (blanks _ o s) =
     solid_stays text at to (solid_mark text at ascii.quote q refl (λ h. omega (arith, h))) o s
-end_stays text at to closer behind (no_string q n) (quoted _ b o r t) = n to b t
-end_stays text at to closer behind (no_string q n) (other o) = o.no_quote q
-end_stays text at to closer behind (open_comment b solid) (blanks _ o s) =
+end_stays text at to depth behind (no_string q n) (quoted _ b o r t) = n to b t
+end_stays text at to depth behind (no_string q n) (other o m) = o.no_quote q
+end_stays text at to depth behind (open_comment b solid) (blanks _ o s) =
     solid_stays text at to solid o s
-end_stays text at to closer behind (open_comment b solid) (quoted _ c o q t) =
+end_stays text at to depth behind (open_comment b solid) (quoted _ c o q t) =
     omega (arith, q, seems_slash text at b)
-end_stays text at to closer behind (open_comment b solid) (other o) =
+end_stays text at to depth behind (open_comment b solid) (other o n) =
     false≢true (sym o.no_comment ∙ b)
 
-stop_stays : (text : List ℕ) (at to : ℕ) (closer behind : Option ℕ) → Stop text at
-    → Passes text at closer to behind → ⊥
-stop_stays text at to closer behind (a_group k b l n g) p =
-    group_stays text at to b l k n closer behind g p
-stop_stays text at to closer behind (an_end e) p = end_stays text at to closer behind e p
+stop_stays : (text : List ℕ) (at to depth behind : ℕ) → Stop text at depth
+    → Passes text at depth to behind → ⊥
+stop_stays text at to depth behind (a_group k b l n g) p =
+    group_stays text at to b l k n depth behind g p
+stop_stays text at to depth behind (an_end e) p = end_stays text at to depth behind e p
 
 -- a quote begins no blanks
 quote_stays : (text : List ℕ) (at to : ℕ) → slice_index text at ≡ ascii.quote → at < to
@@ -125,37 +140,37 @@ quote_stays text at to q o s =
     solid_stays text at to (solid_mark text at ascii.quote q refl (λ h. omega (arith, h))) o s
 
 -- what is passed at a place is one thing
-Passes-one : (text : List ℕ) (at : ℕ) (closer c d : Option ℕ) (a b : ℕ)
-    → Passes text at closer a c → Passes text at closer b d → (a ≡ b) × (c ≡ d)
-Passes-one text at closer c d a b (blanks _ o s) (blanks _ p t) = (Skip-one text at a b s t, refl)
-Passes-one text at closer c d a b (blanks _ o s) (quoted _ w p q t) =
+Passes-one : (text : List ℕ) (at depth c d a b : ℕ) → Passes text at depth a c
+    → Passes text at depth b d → (a ≡ b) × (c ≡ d)
+Passes-one text at depth c d a b (blanks _ o s) (blanks _ p t) = (Skip-one text at a b s t, refl)
+Passes-one text at depth c d a b (blanks _ o s) (quoted _ w p q t) =
     absurd (quote_stays text at a q o s)
-Passes-one text at closer c d a b (blanks _ o s) (other p) =
+Passes-one text at depth c d a b (blanks _ o s) (other p n) =
     absurd (solid_stays text at a p.solid o s)
-Passes-one text at closer c d a b (quoted _ w p q t) (blanks _ o s) =
+Passes-one text at depth c d a b (quoted _ w p q t) (blanks _ o s) =
     absurd (quote_stays text at b q o s)
-Passes-one text at closer c d a b (quoted _ w p q t) (quoted _ v o r u) =
+Passes-one text at depth c d a b (quoted _ w p q t) (quoted _ v o r u) =
     ((String-one text at a b w v t u).0, refl)
-Passes-one text at closer c d a b (quoted _ w p q t) (other o) = absurd (o.no_quote q)
-Passes-one text at closer c d a b (other p) (blanks _ o s) =
+Passes-one text at depth c d a b (quoted _ w p q t) (other o n) = absurd (o.no_quote q)
+Passes-one text at depth c d a b (other p n) (blanks _ o s) =
     absurd (solid_stays text at b p.solid o s)
-Passes-one text at closer c d a b (other o) (quoted _ w p q t) = absurd (o.no_quote q)
-Passes-one text at closer c d a b (other o) (other p) = (refl, refl)
+Passes-one text at depth c d a b (other o n) (quoted _ w p q t) = absurd (o.no_quote q)
+Passes-one text at depth c d a b (other o n) (other p m) = (refl, refl)
 
 -- a stretch to a stop is one
-Stretch-one : (text : List ℕ) (at a b : ℕ) (closer c d : Option ℕ) → Stretch text at closer a c
-    → Stretch text at closer b d → Stop text a → Stop text b → (a ≡ b) × (c ≡ d)
-Stretch-one text at a b closer c d (nothing _ _) (nothing _ _) s t = (refl, refl)
-Stretch-one text at a b closer c d (nothing _ _) (more _ mid _ _ behind _ p r) s t =
-    absurd (stop_stays text at mid closer behind s p)
-Stretch-one text at a b closer c d (more _ mid _ _ behind _ p r) (nothing _ _) s t =
-    absurd (stop_stays text at mid closer behind t p)
-Stretch-one text at a b closer c d (more _ mid _ _ behind _ p r) (more _ mid' _ _ behind' _ q u)
+Stretch-one : (text : List ℕ) (at a b depth c d : ℕ) → Stretch text at depth a c
+    → Stretch text at depth b d → Stop text a c → Stop text b d → (a ≡ b) × (c ≡ d)
+Stretch-one text at a b depth c d (nothing _ _) (nothing _ _) s t = (refl, refl)
+Stretch-one text at a b depth c d (nothing _ _) (more _ mid _ _ behind _ p r) s t =
+    absurd (stop_stays text at mid depth behind s p)
+Stretch-one text at a b depth c d (more _ mid _ _ behind _ p r) (nothing _ _) s t =
+    absurd (stop_stays text at mid depth behind t p)
+Stretch-one text at a b depth c d (more _ mid _ _ behind _ p r) (more _ mid' _ _ behind' _ q u)
     s t =
-    let same = Passes-one text at closer behind behind' mid mid' p q in
+    let same = Passes-one text at depth behind behind' mid mid' p q in
     let v : Stretch text mid behind b d =
     subst (λ (i : ℕ). Stretch text i behind b d) (sym same.0)
-    (subst (λ (o : Option ℕ). Stretch text mid' o b d) (sym same.1) u) in
+    (subst (λ (o : ℕ). Stretch text mid' o b d) (sym same.1) u) in
     Stretch-one text mid a b behind c d r v s t
 
 -- what a group takes of one file is one
@@ -242,13 +257,14 @@ record Meet (text : List ℕ) (at at' : ℕ) (kind kind' : Way) (brace brace' la
   places : at ≡ at'
   group : SameGroup kind kind' brace brace' last last' name name'
 
-groups_meet : (text : List ℕ) (from at at' : ℕ) (closer closer' : Option ℕ) (kind kind' : Way)
-    (brace brace' last last' : ℕ) (name name' : List ℕ) → Stretch text from None at closer
-    → Stretch text from None at' closer' → FileGroup text at kind brace last name
+groups_meet : (text : List ℕ) (from depth at at' deep deep' : ℕ) (kind kind' : Way)
+    (brace brace' last last' : ℕ) (name name' : List ℕ) → Stretch text from depth at deep
+    → Stretch text from depth at' deep' → FileGroup text at kind brace last name
     → FileGroup text at' kind' brace' last' name'
     → Meet text at at' kind kind' brace brace' last last' name name'
-groups_meet text from at at' closer closer' kind kind' brace brace' last last' name name' s t g h =
-    let same = (Stretch-one text from at at' None closer closer' s t
+groups_meet text from depth at at' deep deep' kind kind' brace brace' last last' name name'
+    s t g h =
+    let same = (Stretch-one text from at at' depth deep deep' s t
     (a_group kind brace last name g) (a_group kind' brace' last' name' h)).0 in
     record {
       places = same;
@@ -256,14 +272,25 @@ groups_meet text from at at' closer closer' kind kind' brace brace' last last' n
           (subst (λ (i : ℕ). FileGroup text i kind' brace' last' name') (sym same) h);
     }
 
+-- and so is how many groups are open around them
+depths_meet : (text : List ℕ) (from depth at at' deep deep' : ℕ) (kind kind' : Way)
+    (brace brace' last last' : ℕ) (name name' : List ℕ) → Stretch text from depth at deep
+    → Stretch text from depth at' deep' → FileGroup text at kind brace last name
+    → FileGroup text at' kind' brace' last' name' → deep ≡ deep'
+depths_meet text from depth at at' deep deep' kind kind' brace brace' last last' name name'
+    s t g h =
+    (Stretch-one text from at at' depth deep deep' s t
+    (a_group kind brace last name g) (a_group kind' brace' last' name' h)).1
+
 -- a stretch to a group and one to the end don't begin at one place
-no_meeting : (text : List ℕ) (from at to brace last : ℕ) (closer closer' : Option ℕ) (kind : Way)
-    (name : List ℕ) → Stretch text from None at closer → FileGroup text at kind brace last name
-    → Stretch text from None to closer' → Ends text to → ⊥
-no_meeting text from at to brace last closer closer' kind name s g t e =
-    let same = (Stretch-one text from at to None closer closer' s t
+no_meeting : (text : List ℕ) (from depth at to brace last deep deep' : ℕ) (kind : Way)
+    (name : List ℕ) → Stretch text from depth at deep → FileGroup text at kind brace last name
+    → Stretch text from depth to deep' → Ends text to deep' → ⊥
+no_meeting text from depth at to brace last deep deep' kind name s g t e =
+    let same = (Stretch-one text from at to depth deep deep' s t
     (a_group kind brace last name g) (an_end e)).0 in
-    group_ends text at brace last kind name g (subst (λ (i : ℕ). Ends text i) (sym same) e)
+    group_ends text at deep' brace last kind name g
+    (subst (λ (i : ℕ). Ends text i deep') (sym same) e)
 
 -- what is written for two groups that meet is one
 written_meet : (files : List TextFile) (text : List ℕ) (at at' : ℕ) (kind kind' : Way)
@@ -296,62 +323,72 @@ output_meet text from at at' kind kind' brace brace' last last' name name' a b m
     ∙ (ap (λ n. with_group text from at' kind' brace' last' n a m) g.names
     ∙ ap (λ w. with_group text from at' kind' brace' last' name' w m) e))))
 
-Taken-one : (files : List TextFile) (text : List ℕ) (from : ℕ) (m a b : Output)
-    → Taken files text from m a → Taken files text from m b → a ≡ b
-Taken-one files text from m a b (ends _ to closer _ s e) (ends _ to' closer' _ t f) =
-    ap (λ c. ended text from c m)
-    (Stretch-one text from to to' None closer closer' s t (an_end e) (an_end f)).1
-Taken-one files text from m a b (ends _ to closer _ s e)
-    (group _ at brace last closer' kind name w _ _ t g p r) =
-    absurd (no_meeting text from at to brace last closer' closer kind name t g s e)
-Taken-one files text from m a b (group _ at brace last closer' kind name w _ _ t g p r)
-    (ends _ to closer _ s e) =
-    absurd (no_meeting text from at to brace last closer' closer kind name t g s e)
-Taken-one files text from m a b (group _ at brace last closer kind name w _ _ s g p r)
-    (group _ at' brace' last' closer' kind' name' w' _ _ t h q u) =
-    let meet = groups_meet text from at at' closer closer' kind kind' brace brace' last last' name
+Taken-one : (files : List TextFile) (text : List ℕ) (from depth : ℕ) (m a b : Output)
+    → Taken files text from depth m a → Taken files text from depth m b → a ≡ b
+Taken-one files text from depth m a b (ends _ _ to deep _ s e) (ends _ _ to' deep' _ t f) =
+    ap (λ i. ended text from (closer_at text i) m)
+    (Stretch-one text from to to' depth deep deep' s t (an_end e) (an_end f)).0
+Taken-one files text from depth m a b (ends _ _ to deep _ s e)
+    (group _ _ at deep' brace last kind name w _ _ t g p r) =
+    absurd (no_meeting text from depth at to brace last deep' deep kind name t g s e)
+Taken-one files text from depth m a b (group _ _ at deep' brace last kind name w _ _ t g p r)
+    (ends _ _ to deep _ s e) =
+    absurd (no_meeting text from depth at to brace last deep' deep kind name t g s e)
+Taken-one files text from depth m a b (group _ _ at deep brace last kind name w _ _ s g p r)
+    (group _ _ at' deep' brace' last' kind' name' w' _ _ t h q u) =
+    let meet = groups_meet text from depth at at' deep deep' kind kind' brace brace' last last' name
     name' s t g h in
+    let depths = depths_meet text from depth at at' deep deep' kind kind' brace brace' last last'
+    name name' s t g h in
     let bytes = written_meet files text at at' kind kind' brace brace' last last' name name' w w'
     meet p q in
     let same : with_group text from at kind brace last name w m
     ≡ with_group text from at' kind' brace' last' name' w' m =
     output_meet text from at at' kind kind' brace brace' last last' name name' w w' m meet bytes in
-    Taken-one files text (last + 1) (with_group text from at kind brace last name w m) a b r
-    (subst (λ (k : Output). Taken files text (last + 1) k b) (sym same)
-    (subst (λ (i : ℕ). Taken files text (i + 1)
-    (with_group text from at' kind' brace' last' name' w' m) b) (sym meet.group.lasts) u))
+    Taken-one files text (last + 1) deep (with_group text from at kind brace last name w m) a b r
+    (subst (λ (d : ℕ). Taken files text (last + 1) d
+    (with_group text from at kind brace last name w m) b) (sym depths)
+    (subst (λ (k : Output). Taken files text (last + 1) deep' k b) (sym same)
+    (subst (λ (i : ℕ). Taken files text (i + 1) deep'
+    (with_group text from at' kind' brace' last' name' w' m) b) (sym meet.group.lasts) u)))
 
 pub one_way : (files : List TextFile) (text : List ℕ) (a b : Output)
-    → Taken files text 0 no_output a → Taken files text 0 no_output b → a ≡ b
-one_way files text a b p q = Taken-one files text 0 no_output a b p q
+    → Taken files text 0 0 no_output a → Taken files text 0 0 no_output b → a ≡ b
+one_way files text a b p q = Taken-one files text 0 0 no_output a b p q
 
 faulty_taken : (files : List TextFile) (text : List ℕ) (fault : Fault) (at : ℕ) (name : List ℕ)
-    (from : ℕ) (m a : Output) → FaultFrom files text fault at name from → Taken files text from m a
-    → ⊥
-faulty_taken files text fault at name from m a (here _ brace last closer kind s g l)
-    (ends _ to closer' _ t e) =
-    no_meeting text from at to brace last closer closer' kind name s g t e
-faulty_taken files text fault at name from m a (here _ brace last closer kind s g l)
-    (group _ at' brace' last' closer' kind' name' w _ _ t h p r) =
-    let meet = groups_meet text from at at' closer closer' kind kind' brace brace' last last' name
+    (from depth : ℕ) (m a : Output) → FaultFrom files text fault at name from depth
+    → Taken files text from depth m a → ⊥
+faulty_taken files text fault at name from depth m a (here _ _ deep brace last kind s g l)
+    (ends _ _ to deep' _ t e) =
+    no_meeting text from depth at to brace last deep deep' kind name s g t e
+faulty_taken files text fault at name from depth m a (here _ _ deep brace last kind s g l)
+    (group _ _ at' deep' brace' last' kind' name' w _ _ t h p r) =
+    let meet = groups_meet text from depth at at' deep deep' kind kind' brace brace' last last' name
     name' s t g h in
     fault_written files (slice_range text (brace' + 1) last') name' w kind' fault
     (subst (λ (k : Way). HasFault files name' k fault) meet.group.kinds
     (subst (λ (n : List ℕ). HasFault files n kind fault) meet.group.names l)) p
-faulty_taken files text fault at name from m a (later _ mid brace last closer kind named w s g p r)
-    (ends _ to closer' _ t e) =
-    no_meeting text from mid to brace last closer closer' kind named s g t e
-faulty_taken files text fault at name from m a (later _ mid brace last closer kind named w s g p r)
-    (group _ at' brace' last' closer' kind' name' w' _ _ t h q u) =
-    let meet = groups_meet text from mid at' closer closer' kind kind' brace brace' last last' named
-    name' s t g h in
-    faulty_taken files text fault at name (last + 1) _ a r
-    (subst (λ (i : ℕ). Taken files text (i + 1)
-    (with_group text from at' kind' brace' last' name' w' m) a) (sym meet.group.lasts) u)
+faulty_taken files text fault at name from depth m a
+    (later _ _ mid deep brace last kind named w s g p r) (ends _ _ to deep' _ t e) =
+    no_meeting text from depth mid to brace last deep deep' kind named s g t e
+faulty_taken files text fault at name from depth m a
+    (later _ _ mid deep brace last kind named w s g p r)
+    (group _ _ at' deep' brace' last' kind' name' w' _ _ t h q u) =
+    let meet = groups_meet text from depth mid at' deep deep' kind kind' brace brace' last last'
+    named name' s t g h in
+    let depths = depths_meet text from depth mid at' deep deep' kind kind' brace brace' last last'
+    named name' s t g h in
+    faulty_taken files text fault at name (last + 1) deep _ a r
+    (subst (λ (d : ℕ). Taken files text (last + 1) d
+    (with_group text from at' kind' brace' last' name' w' m) a) (sym depths)
+    (subst (λ (i : ℕ). Taken files text (i + 1) deep'
+    (with_group text from at' kind' brace' last' name' w' m) a) (sym meet.group.lasts) u))
 
 pub never_both : (files : List TextFile) (text : List ℕ) (fault : Fault) (at : ℕ) (name : List ℕ)
-    (a : Output) → FirstFault files text fault at name → Taken files text 0 no_output a → ⊥
-never_both files text fault at name a m t = faulty_taken files text fault at name 0 no_output a m t
+    (a : Output) → FirstFault files text fault at name → Taken files text 0 0 no_output a → ⊥
+never_both files text fault at name a m t =
+    faulty_taken files text fault at name 0 0 no_output a m t
 
 -- a group with a fault and one that is written don't meet
 fault_meet : (files : List TextFile) (text : List ℕ) (at at' : ℕ) (kind kind' : Way)
@@ -366,11 +403,11 @@ fault_meet files text at at' kind kind' brace brace' last last' name name' w fau
 
 -- from a place on one group is the first with a fault, and it has one
 Faulty-one : (files : List TextFile) (text : List ℕ) (a b : Fault) (at at' : ℕ)
-    (name name' : List ℕ) (from : ℕ) → FaultFrom files text a at name from
-    → FaultFrom files text b at' name' from → (a ≡ b) × (at ≡ at') × (name ≡ name')
-Faulty-one files text a b at at' name name' from (here _ brace last closer kind s g l)
-    (here _ brace' last' closer' kind' t h m) =
-    let meet = groups_meet text from at at' closer closer' kind kind' brace brace' last last' name
+    (name name' : List ℕ) (from depth : ℕ) → FaultFrom files text a at name from depth
+    → FaultFrom files text b at' name' from depth → (a ≡ b) × (at ≡ at') × (name ≡ name')
+Faulty-one files text a b at at' name name' from depth (here _ _ deep brace last kind s g l)
+    (here _ _ deep' brace' last' kind' t h m) =
+    let meet = groups_meet text from depth at at' deep deep' kind kind' brace brace' last last' name
     name' s t g h in (
       Fault-one files name kind a b l
           (subst (λ (k : Way). HasFault files name k b) (sym meet.group.kinds)
@@ -378,31 +415,34 @@ Faulty-one files text a b at at' name name' from (here _ brace last closer kind 
       meet.places,
       meet.group.names,
     )
-Faulty-one files text a b at at' name name' from (here _ brace last closer kind s g l)
-    (later _ mid brace' last' closer' kind' named w t h p r) =
-    let meet = groups_meet text from at mid closer closer' kind kind' brace brace' last last' name
+Faulty-one files text a b at at' name name' from depth (here _ _ deep brace last kind s g l)
+    (later _ _ mid deep' brace' last' kind' named w t h p r) =
+    let meet = groups_meet text from depth at mid deep deep' kind kind' brace brace' last last' name
     named s t g h in
     absurd (fault_meet files text at mid kind kind' brace brace' last last' name named w a meet l p)
-Faulty-one files text a b at at' name name' from
-    (later _ mid brace last closer kind named w s g p r)
-    (here _ brace' last' closer' kind' t h m) =
-    let meet = groups_meet text from at' mid closer' closer kind' kind brace' brace last' last name'
-    named t s h g in
+Faulty-one files text a b at at' name name' from depth
+    (later _ _ mid deep brace last kind named w s g p r)
+    (here _ _ deep' brace' last' kind' t h m) =
+    let meet = groups_meet text from depth at' mid deep' deep kind' kind brace' brace last' last
+    name' named t s h g in
     absurd (fault_meet files text at' mid kind' kind brace' brace last' last name' named w b meet m
     p)
-Faulty-one files text a b at at' name name' from
-    (later _ mid brace last closer kind named w s g p r)
-    (later _ mid' brace' last' closer' kind' named' w' t h q u) =
-    let meet = groups_meet text from mid mid' closer closer' kind kind' brace brace' last last'
+Faulty-one files text a b at at' name name' from depth
+    (later _ _ mid deep brace last kind named w s g p r)
+    (later _ _ mid' deep' brace' last' kind' named' w' t h q u) =
+    let meet = groups_meet text from depth mid mid' deep deep' kind kind' brace brace' last last'
     named named' s t g h in
-    Faulty-one files text a b at at' name name' (last + 1) r
-    (subst (λ (i : ℕ). FaultFrom files text b at' name' (i + 1)) (sym meet.group.lasts) u)
+    let depths = depths_meet text from depth mid mid' deep deep' kind kind' brace brace' last last'
+    named named' s t g h in
+    Faulty-one files text a b at at' name name' (last + 1) deep r
+    (subst (λ (d : ℕ). FaultFrom files text b at' name' (last + 1) d) (sym depths)
+    (subst (λ (i : ℕ). FaultFrom files text b at' name' (i + 1) deep') (sym meet.group.lasts) u))
 
 pub one_fault : (files : List TextFile) (text : List ℕ) (a b : Fault) (at at' : ℕ)
     (name name' : List ℕ) → FirstFault files text a at name → FirstFault files text b at' name'
     → (a ≡ b) × (at ≡ at') × (name ≡ name')
 one_fault files text a b at at' name name' h k =
-    Faulty-one files text a b at at' name name' 0 h k
+    Faulty-one files text a b at at' name name' 0 0 h k
 
 -- the whole of a text
 slice_whole : (text : List ℕ) → [] ++ slice_range text 0 (length text) ≡ text
@@ -418,7 +458,7 @@ ended_plain text (Some at) =
 
 -- a text without such groups is taken in as itself
 pub as_itself : (files : List TextFile) (text : List ℕ) → HasNoFileGroup text
-    → Taken files text 0 no_output (record no_output { said = text })
+    → Taken files text 0 0 no_output (record no_output { said = text })
 as_itself files text h =
-    subst (λ (o : Output). Taken files text 0 no_output o) (ended_plain text h.closer)
-    (ends 0 h.to h.closer no_output h.stretch h.ends)
+    subst (λ (o : Output). Taken files text 0 0 no_output o) (ended_plain text (closer_at text h.to))
+    (ends 0 0 h.to h.last no_output h.stretch h.ends)

@@ -9,6 +9,7 @@ use Rattle.std.proofs.lemmas.List.{get_or_past, length-append}
 use Rattle.resb_grammar.specs.Ascii as ascii
 use Rattle.resb_icu_files.specs.Places.{place_by, place_before}
 use Rattle.resb_icu_files.specs.Stretches.{Stretch, Passes, nothing, more, blanks, quoted, other}
+use Rattle.resb_icu_files.specs.Stretches.{closer_at}
 use Rattle.resb_icu_files.specs.TakenIn.{Taken, ends, group, ended}
 use Rattle.resb_icu_files.specs.Writing.{Output, no_output, copied, rewritten, with_listed}
 use Rattle.resb_icu_files.specs.Writing.{entry_of}
@@ -16,7 +17,7 @@ use Rattle.resb_icu_files.specs.declared.file.TextFile.{TextFile}
 use Rattle.resb_icu_files.specs.declared.way.Way.{Way}
 use Rattle.resb_icu_files.specs.declared.way.Way.TheVariants as way
 use Rattle.resb_icu_files.proofs.OrderLemmas.{group_order}
-use Rattle.resb_icu_files.proofs.TakingLemmas.{IsCloser, closer_stands}
+use Rattle.resb_icu_files.proofs.TakingLemmas.{IsCloser, closer_here}
 use Rattle.resb_icu_files.specs.declared.taken.Change.{Change}
 
 -- a place as far behind the end of a change, or the last one that is counted
@@ -252,28 +253,28 @@ ended_row text from (Some at) m small is j =
     (inside text at ascii.right_brace is.1 (omega arith)) small j
 
 -- a stretch ends no earlier than it begins
-passes_order : (text : List ℕ) (at to : ℕ) (closer behind : Option ℕ)
-    → Passes text at closer to behind → at ≤ to
-passes_order text at to closer behind (blanks _ o s) = omega (arith, o)
-passes_order text at to closer behind (quoted _ bytes o q t) = omega (arith, o)
-passes_order text at to closer behind (other o) = omega arith
+passes_order : (text : List ℕ) (at to depth behind : ℕ) → Passes text at depth to behind → at ≤ to
+passes_order text at to depth behind (blanks _ o s) = omega (arith, o)
+passes_order text at to depth behind (quoted _ bytes o q t) = omega (arith, o)
+passes_order text at to depth behind (other o n) = omega arith
 
-stretch_order : (text : List ℕ) (at to : ℕ) (closer last : Option ℕ)
-    → Stretch text at closer to last → at ≤ to
-stretch_order text at to closer last (nothing _ _) = omega arith
-stretch_order text at to closer last (more _ mid _ _ behind _ p s) =
-    omega (arith, passes_order text at mid closer behind p, stretch_order text mid to behind last s)
+stretch_order : (text : List ℕ) (at to depth last : ℕ) → Stretch text at depth to last → at ≤ to
+stretch_order text at to depth last (nothing _ _) = omega arith
+stretch_order text at to depth last (more _ mid _ _ behind _ p s) =
+    omega (arith, passes_order text at mid depth behind p, stretch_order text mid to behind last s)
 
-taken_row : (files : List TextFile) (text : List ℕ) (from : ℕ) (m a : Output)
-    → length text < 2 ^ 64 → InStep from m → Taken files text from m a → InRow a
-taken_row files text from m a small j (ends _ to closer _ s e) =
-    ended_row text from closer m small (closer_stands text from to closer s) j
-taken_row files text from m a small j (group _ at brace last closer kind name bytes _ _ s g w t) =
+taken_row : (files : List TextFile) (text : List ℕ) (from depth : ℕ) (m a : Output)
+    → length text < 2 ^ 64 → InStep from m → Taken files text from depth m a → InRow a
+taken_row files text from depth m a small j (ends _ _ to last _ s e) =
+    ended_row text from (closer_at text to) m small
+    (closer_here text from to (stretch_order text from to depth last s)) j
+taken_row files text from depth m a small j
+    (group _ _ at deep brace last kind name bytes _ _ s g w t) =
     let high = inside text at ascii.colon g.colon (omega arith) in
     let r = rewritten_step text from at (last + 1) bytes m
-    (stretch_order text from at None closer s) (omega (arith, high))
+    (stretch_order text from at depth deep s) (omega (arith, high))
     (omega (arith, group_order text at brace last kind name g)) small j in
-    taken_row files text (last + 1) _ a small
+    taken_row files text (last + 1) deep _ a small
     (listed_step kind (slice_range text (brace + 1) last) at name (last + 1)
     (rewritten at (last + 1) bytes (copied text from at m)) r) t
 
@@ -282,7 +283,7 @@ counted_whole : (p : ℕ) → p < 2 ^ 64 → p ≡ counted (0 + (p - 0))
 counted_whole p low = omega (arith, low)
 
 pub places_order : (files : List TextFile) (text : List ℕ) (a : Output) (p q : ℕ)
-    → length text < 2 ^ 64 → Taken files text 0 no_output a → p ≤ q → q < 2 ^ 64
+    → length text < 2 ^ 64 → Taken files text 0 0 no_output a → p ≤ q → q < 2 ^ 64
     → place_before a.changes p ≤ place_before a.changes q
 places_order files text a p q small t order low =
     let begun : InStep 0 no_output = record {
@@ -292,7 +293,7 @@ places_order files text a p q small t order low =
       order = omega arith;
       same = refl;
     } in
-    let r = taken_row files text 0 no_output a small begun t in
+    let r = taken_row files text 0 0 no_output a small begun t in
     let k = keep_order 0 0 r.last r.last_new p q a.changes r.row (omega arith) order in
     let e : fold (place_by p) p a.changes ≡ fold (place_by p) (counted (0 + (p - 0))) a.changes =
     ap (λ b. fold (place_by p) b a.changes) (counted_whole p (omega (arith, order, low))) in

@@ -1,8 +1,7 @@
 -- What stands between the groups that take files in: blanks, quoted strings, and other bytes.
--- Beside a place stands that of the `}` behind which nothing but blanks was passed, if there is
--- one: it closes the root where the text ends.
-use Rattle.std.specs.Prelude.{◌≡◌, ◌≢◌, ◌+◌, ◌<◌, ◌==◌, ℕ, true, false, Option, Some, None, List}
-use Rattle.std.specs.Prelude.{length, slice_index, if◌then◌else◌}
+-- Beside a place stands how many groups are open there; nothing is passed behind the root.
+use Rattle.std.specs.Prelude.{◌≡◌, ◌≢◌, ◌+◌, ◌-◌, ◌<◌, ◌==◌, ◌&&◌, ℕ, Bool, true, false, Option}
+use Rattle.std.specs.Prelude.{Some, None, List, length, slice_index, nat_le, if◌then◌else◌}
 use Rattle.resb_grammar.specs.Ascii as ascii
 use Rattle.resb_icu_grammar.specs.Blanks.{Skip, IsSolid}
 use Rattle.resb_icu_grammar.specs.Stuck.{NoStringAt}
@@ -22,22 +21,34 @@ pub record IsOther (text : List ℕ) (at : ℕ) : Type 0 where
 abbrev pub closer_at : List ℕ → ℕ → Option ℕ
 closer_at text at = if slice_index text at == ascii.right_brace then Some at else None
 
--- one thing is passed: blanks, which leave the `}` before them; a quoted string; or another byte
-pub data Passes (text : List ℕ) (at : ℕ) (closer : Option ℕ) : ℕ → Option ℕ → Type 0 where
-  blanks : (to : ℕ) → at < to → Skip text at to → Passes text at closer to closer
+-- the root's `}` stands there: no other group is open
+abbrev pub closes_root : List ℕ → ℕ → ℕ → Bool
+closes_root text at depth = slice_index text at == ascii.right_brace && nat_le depth 1
+
+-- how many groups are open behind a byte
+abbrev pub depth_behind : ℕ → ℕ → ℕ
+depth_behind b depth =
+    if b == ascii.left_brace then depth + 1
+    else (if b == ascii.right_brace then depth - 1 else depth)
+
+-- one thing is passed: blanks, a quoted string, or another byte but the root's `}`
+pub data Passes (text : List ℕ) (at depth : ℕ) : ℕ → ℕ → Type 0 where
+  blanks : (to : ℕ) → at < to → Skip text at to → Passes text at depth to depth
   quoted : (to : ℕ) (bytes : List ℕ) → at < to → slice_index text at ≡ ascii.quote
-      → Text text at to bytes → Passes text at closer to None
-  other : IsOther text at → Passes text at closer (at + 1) (closer_at text at)
+      → Text text at to bytes → Passes text at depth to depth
+  other : IsOther text at → closes_root text at depth ≡ false
+      → Passes text at depth (at + 1) (depth_behind (slice_index text at) depth)
 
 -- as much as stands between two places
-pub data Stretch (text : List ℕ) : ℕ → Option ℕ → ℕ → Option ℕ → Type 0 where
-  nothing : (at : ℕ) (closer : Option ℕ) → Stretch text at closer at closer
-  more : (at mid to : ℕ) (closer behind last : Option ℕ) → Passes text at closer mid behind
-      → Stretch text mid behind to last → Stretch text at closer to last
+pub data Stretch (text : List ℕ) : ℕ → ℕ → ℕ → ℕ → Type 0 where
+  nothing : (at depth : ℕ) → Stretch text at depth at depth
+  more : (at mid to depth behind last : ℕ) → Passes text at depth mid behind
+      → Stretch text mid behind to last → Stretch text at depth to last
 
--- here the text ends, or a reader has to stop: at a quote that begins no string, or at a comment
--- that has no end
-pub data Ends (text : List ℕ) (at : ℕ) : Type 0 where
-  at_the_end : at ≡ length text → Ends text at
-  no_string : slice_index text at ≡ ascii.quote → NoStringAt text at → Ends text at
-  open_comment : begins_comment text at ≡ true → IsSolid text at → Ends text at
+-- here the root or the text ends, or a reader has to stop: at a quote that begins no string, or at
+-- a comment that has no end
+pub data Ends (text : List ℕ) (at depth : ℕ) : Type 0 where
+  root_closes : closes_root text at depth ≡ true → Ends text at depth
+  at_the_end : at ≡ length text → Ends text at depth
+  no_string : slice_index text at ≡ ascii.quote → NoStringAt text at → Ends text at depth
+  open_comment : begins_comment text at ≡ true → IsSolid text at → Ends text at depth

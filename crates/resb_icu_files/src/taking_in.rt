@@ -9,7 +9,7 @@ use crate::error::FilesError;
 use crate::file::{FileNamed, TextFile};
 use crate::group::Group;
 use crate::making::Making;
-use crate::stretch::{Passed, pass};
+use crate::stretch::{Passed, closer_at, pass};
 use crate::taken::TakenIn;
 use crate::way::Way;
 use crate::writing::named;
@@ -24,7 +24,7 @@ use std::alloc::Global;
 /// `:process(transliterator){NAME}` a string of the file's rules without comments and line ends,
 /// and `:process(uca_rules){NAME}` one of its collation rules without comments and blanks.
 /// All else is copied as it is, groups that aren't of this form too, so that a reader refuses them
-/// where they stand.
+/// where they stand. So is what stands behind the root's `}`.
 ///
 /// Refused are the first group whose file isn't among these, or isn't UTF-8 where its text is
 /// taken, or is UTF-8 and has no rules, and want of memory.
@@ -34,14 +34,21 @@ pub fn with_files(alloc: Global, text: &str, files: &[TextFile]) -> Result<Taken
 {
     let mut making = Making::new(alloc);
     let mut from = 0;
+    let mut depth = 0;
     'groups: loop {
-        let Passed { to, closer, group } = pass(alloc, text, from)?;
+        let Passed {
+            to,
+            depth: deep,
+            group,
+        } = pass(alloc, text, from, depth)?;
         let Some(group) = group else {
+            let closer = closer_at(text, to);
             return Ok(making.finish(alloc, text, from, closer)?);
         };
         making.copy(text, from, to)?;
         making.write(alloc, text, files, &group)?;
         from = group.last + 1;
+        depth = deep;
     }
 }
 
@@ -62,20 +69,22 @@ fn add_file(alloc: Global, files: &mut Vec<FileNamed>, group: &Group<'_>) -> Res
 /// The files that a text takes in, in order of place, a name as often as it stands there: all but
 /// dependencies, of which nothing but the name is taken.
 pub fn files_taken(alloc: Global, text: &str) -> Result<Vec<FileNamed>, NoMemory>
-    ensures { IfOk result (λ files. TakesFiles text.now 0 (map named_of files.items)) }
+    ensures { IfOk result (λ files. TakesFiles text.now 0 0 (map named_of files.items)) }
 {
     let mut files = Vec::new(alloc);
     let mut from = 0;
+    let mut depth = 0;
     'groups: loop {
         let Passed {
             to: _,
-            closer: _,
+            depth: deep,
             group,
-        } = pass(alloc, text, from)?;
+        } = pass(alloc, text, from, depth)?;
         let Some(group) = group else {
             return Ok(files);
         };
         add_file(alloc, &mut files, &group)?;
         from = group.last + 1;
+        depth = deep;
     }
 }

@@ -10,7 +10,7 @@ use Rattle.resb_grammar.specs.declared.limit.Limit.{Limit}
 use Rattle.resb_grammar.specs.declared.limit.Weights.{Weights}
 use Rattle.resb_tree.specs.Tree.{Tree}
 use Rattle.resb_icu_grammar.specs.Blanks.{Skip}
-use Rattle.resb_icu_grammar.specs.Bundle.{Header, IcuText}
+use Rattle.resb_icu_grammar.specs.Bundle.{Header, Ending, IcuText}
 use Rattle.resb_icu_grammar.specs.Kinds.{vector_kind}
 use Rattle.resb_icu_grammar.specs.Words.{Number}
 use Rattle.resb_icu_grammar.specs.Stuck.{NumbersSoFar, none_yet, one_number, NoNumberAt}
@@ -71,7 +71,7 @@ makes_out text n ws ks t at r made m = record {
 -- what a reading comes to at the end of a text is a bundle
 pub whole_text : {w : Weights} (text : List ℕ) (n : ℕ) (places : List (List ℕ)) (tree : Tree)
     (end : ℕ) (name : List ℕ) (f : Bool) (first : ℕ) → Header text name f first
-    → IcuMakes w text n (reading_at [] places (behind_group tree) end) → Skip text end (length text)
+    → IcuMakes w text n (reading_at [] places (behind_group tree) end) → Ending text end
     → IcuText text name f tree (first_places places)
 whole_text text n places tree end name f first h made k =
     let same = Header-one text made.name name made.fallback f made.first first made.header h in

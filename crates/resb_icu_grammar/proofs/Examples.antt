@@ -25,7 +25,7 @@ use Rattle.resb_icu_grammar.specs.Words.{TypeName}
 use Rattle.resb_icu_grammar.specs.Groups.{Group, untyped, an_empty_array, one_string, no_entry}
 use Rattle.resb_icu_grammar.specs.Groups.{one_entry, Entries, typed, leaf, alias_content}
 use Rattle.resb_icu_grammar.specs.Groups.{a_string, a_comma}
-use Rattle.resb_icu_grammar.specs.Bundle.{without, IcuText, Header}
+use Rattle.resb_icu_grammar.specs.Bundle.{without, IcuText, Header, Ending, is_barred}
 use Rattle.resb_icu_grammar.specs.Machine.{in_table, among_entries, before_group, reading_at}
 use Rattle.resb_icu_grammar.specs.Machine.{BeginsGroup, key_of_entry, Standing, among_members}
 use Rattle.resb_icu_grammar.specs.Machine.{in_untyped, behind_group, Reading, Move, group_opens}
@@ -40,6 +40,7 @@ use Rattle.resb_icu_grammar.proofs.FewDigitsLemmas.{said_none, said_more, few_sa
 use Rattle.resb_icu_grammar.proofs.Lexical.{half_no_scalar}
 use Rattle.resb_icu_grammar.proofs.Moves.{one_move}
 use Rattle.resb_icu_grammar.proofs.OneRefusal.{stuck_in_one_way}
+use Rattle.resb_icu_grammar.proofs.RestRoot.{nothing_behind}
 
 -- nothing is skipped where a byte other than white and `/` stands
 stays : (text : List ℕ) (at : ℕ) → is_white (slice_index text at) ≡ false → slice_index text at ≢ 47
@@ -314,10 +315,32 @@ bundle_accepted = record {
       (stays _ 5 refl (λ h. absurd (omega arith)))) refl)
       (stays _ 6 refl (λ h. absurd (omega arith))) (no_entry 6) refl;
   closes = refl;
-  after = stays _ 7 refl (λ h. absurd (omega arith));
+  after = nothing_behind _ 7 (stays _ 7 refl (λ h. absurd (omega arith)));
   means = refl;
   lists = refl;
 }
+
+-- behind a bundle `/}` may stand, but neither a backslash nor `/*`
+behind_accepted : Ending (codes "b{}x/}") 3
+    × (is_barred (codes "b{}x/*") 4 ≡ true) × (is_barred (codes "b{}\\") 3 ≡ true)
+behind_accepted = (
+  record {
+    to = 3;
+    before = stays _ 3 refl (λ h. absurd (omega arith));
+    free = free;
+  },
+  refl,
+  refl,
+)
+  where
+    free : (k : ℕ) → 3 ≤ k → k < 6 → is_barred (codes "b{}x/}") k ≡ false
+    free zero low high = absurd (omega (arith, low))
+    free (suc zero) low high = absurd (omega (arith, low))
+    free (suc (suc zero)) low high = absurd (omega (arith, low))
+    free (suc (suc (suc zero))) low high = refl
+    free (suc (suc (suc (suc zero)))) low high = refl
+    free (suc (suc (suc (suc (suc zero))))) low high = refl
+    free (suc (suc (suc (suc (suc (suc k)))))) low high = absurd (omega (arith, high))
 
 -- `b{a}` gets stuck at the `}`: behind the key a group is expected
 stuck_there : Stuck (codes "b{a}") 3 expect.Group
@@ -549,7 +572,7 @@ two_strings_within = record {
         (table_ends _ 8 refl (refl, tt));
     sum = refl;
   };
-  after = blanks_end 9 refl (λ h. absurd (omega arith));
+  after = nothing_behind _ 9 (blanks_end 9 refl (λ h. absurd (omega arith)));
   within = lit≤ tt;
 }
   where

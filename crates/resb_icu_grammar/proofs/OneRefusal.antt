@@ -133,7 +133,7 @@ standing_stays text ws ks _ at to x _ (stuck.in_leaf kind _ _ _ h)
 -- nor where one is stuck behind a group
 end_stays : (text : List ℕ) (ws : List Waiting) (ks : List (List ℕ)) (t : Tree) (at to : ℕ)
     (x : IcuExpected) (r : Reading) → EndStuck text t at ws to x → StepOut text ks t at ws r → ⊥
-end_stays text _ ks t at _ _ r (more_text end k w) l = elim l [ ]
+end_stays text _ ks t at _ _ r (more_text end barred k low high b) l = elim l [ ]
 
 pub reading_stays : (text : List ℕ) (from r : Reading) (to : ℕ) (x : IcuExpected)
     → ReadStuck text from to x
@@ -365,7 +365,7 @@ StepStuck-one text _ at to end x y (stuck.in_leaf kind _ _ _ h) (stuck.in_leaf _
 EndStuck-one : (text : List ℕ) (ws : List Waiting) (t : Tree) (at to end : ℕ)
     (x y : IcuExpected) → EndStuck text t at ws to x → EndStuck text t at ws end y
     → (to ≡ end) × (x ≡ y)
-EndStuck-one text _ t at to end _ _ (more_text _ k w) (more_text _ l v) =
+EndStuck-one text _ t at to end _ _ (more_text _ _ k _ _ _) (more_text _ _ l _ _ _) =
     (Skip-one text at to end k l, refl)
 
 ReadStuck-one : (text : List ℕ) (r : Reading) (to end : ℕ) (x y : IcuExpected)

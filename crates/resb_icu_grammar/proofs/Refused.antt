@@ -2,6 +2,7 @@
 use Rattle.std.proofs.Common.{◌≡◌, ◌≢◌, ℕ, Bool, List, [], sym, ◌∙◌, ap, subst, arith, length, inl}
 use Rattle.std.proofs.Common.{inr}
 use Rattle.std.specs.Prelude.{slice_index}
+use Rattle.std.proofs.lemmas.Bool.{false≢true}
 use Rattle.resb_grammar.specs.Ascii as ascii
 use Rattle.resb_icu_grammar.specs.Kinds.{Kind}
 use Rattle.resb_tree.specs.Tree.{Tree}
@@ -75,12 +76,12 @@ standing_never text ws ks _ at to x (stuck.in_leaf kind _ _ _ h) =
     groups.no_leaf text (After text ws) kind at ks apart.0 apart.1
     (no_leaf_there text at kind to x h)
 
--- so it is where more than blanks stands behind the root
+-- so it is where a text stands behind the root that may not stand there
 end_never : (text : List ℕ) (ws : List Waiting) (ks : List (List ℕ)) (t : Tree) (at to : ℕ)
     (x : IcuExpected) → EndStuck text t at ws to x → Never (After text ws at t ks)
-end_never text _ ks t at _ _ (more_text end k w) m h =
-    let same : end ≡ length text = Skip-one text at end (length text) k h.after in
-    absurd (omega (arith, w, same))
+end_never text _ ks t at _ _ (more_text end barred k low high b) m h =
+    let same : h.after.to ≡ end = Skip-one text at h.after.to end h.after.before k in
+    false≢true (sym (h.after.free barred (omega (arith, same, low)) high) ∙ b)
 
 reading_never : (text : List ℕ) (r : Reading) (to : ℕ) (x : IcuExpected) → ReadStuck text r to x
     → Never (Rest text r)

@@ -1,16 +1,26 @@
--- A bundle's text is a header, and behind it the entries of its root and the end.
-use Rattle.std.proofs.Common.{◌≡◌, ℕ, Bool, List, []}
-use Rattle.std.proofs.Common.{subst, ap}
+-- A bundle's text is a header, the entries of its root, and what stands behind
+-- these.
+use Rattle.std.proofs.Common.{◌≡◌, ℕ, Bool, List, [], length}
+use Rattle.std.proofs.Common.{subst, ap, arith}
 use Rattle.resb_tree.specs.Tree.{Tree}
+use Rattle.resb_icu_grammar.specs.Blanks.{Skip}
 use Rattle.resb_icu_grammar.specs.Groups.{Entries}
 use Rattle.resb_icu_grammar.specs.Inner.Rest.{RestOfEntries}
 use Rattle.resb_grammar.specs.BundleText.{first_places}
-use Rattle.resb_icu_grammar.specs.Bundle.{Header, IcuText}
+use Rattle.resb_icu_grammar.specs.Bundle.{Header, Ending, IcuText}
 use Rattle.resb_icu_grammar.specs.Inner.Rest.{AtEnd}
 use Rattle.resb_icu_grammar.proofs.Groups.{Header-one}
 use Rattle.resb_icu_grammar.proofs.RestLists.{entries_distinct}
 
--- where a bundle's text has this header, its entries follow, and the end of the text
+-- nothing but blanks may stand behind a bundle
+pub nothing_behind : (text : List ℕ) (from : ℕ) → Skip text from (length text) → Ending text from
+nothing_behind text from k = record {
+  to = length text;
+  before = k;
+  free = λ n low high. absurd (omega (arith, low, high));
+}
+
+-- where a bundle's text has this header, its entries follow, and what stands behind it
 pub root_follows : (text name : List ℕ) (f : Bool) (a : ℕ) (t : Tree) (ks : List (List ℕ))
     → Header text name f a → RestOfEntries text (AtEnd text) [] a [] (t, ks)
     → IcuText text name f t (first_places ks)

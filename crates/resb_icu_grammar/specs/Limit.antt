@@ -14,10 +14,9 @@ use Rattle.resb_tree.specs.Weights.{text_byte_weight}
 use Rattle.resb_grammar.specs.Limit.{number_bytes, request_bytes}
 use Rattle.resb_grammar.specs.declared.limit.Limit.{Limit}
 use Rattle.resb_grammar.specs.declared.limit.Weights.{Weights}
-use Rattle.resb_icu_grammar.specs.Blanks.{Skip}
 use Rattle.resb_icu_grammar.specs.Kinds.{Kind, array_kind, table_kind, vector_kind}
 use Rattle.resb_icu_grammar.specs.Words.{Number, Text, one_part, more_parts}
-use Rattle.resb_icu_grammar.specs.Bundle.{Header}
+use Rattle.resb_icu_grammar.specs.Bundle.{Header, Ending}
 use Rattle.resb_icu_grammar.specs.Stuck.{NumbersSoFar, none_yet, one_number}
 use Rattle.resb_icu_grammar.specs.Machine.{Waiting, Standing, in_typed, behind_group, Reading}
 use Rattle.resb_icu_grammar.specs.Machine.{reading_at, at_root, Move, string_member, key_of_entry}
@@ -118,7 +117,7 @@ pub record IcuMadeWithin (text : List ℕ) (limit : Limit) : Type 0 where
   pub end : ℕ
   pub bytes : ℕ
   pub made : IcuMakes limit.weights text bytes (reading_at [] places (behind_group tree) end)
-  pub after : Skip text end (length text)
+  pub after : Ending text end
   pub within : bytes ≤ limit.bytes
 
 -- how many numbers these are

@@ -1,7 +1,7 @@
 -- A reading of a text of ICU's form from the first entry of the root on: where it stands, with what
 -- it has read so far, each step that it may make, and what is read by steps to the end.
 use Rattle.std.specs.Prelude.{◌≡◌, ◌⊎◌, ◌+◌, ℕ, Bool, true, false, List, [], ◌∷◌, ◌++◌}
-use Rattle.std.specs.Prelude.{length, slice_index}
+use Rattle.std.specs.Prelude.{slice_index}
 use Rattle.resb_grammar.specs.Ascii as ascii
 use Rattle.resb_grammar.specs.BundleText.{first_places}
 use Rattle.resb_tree.specs.Tree.{Tree, string, array, table, trees_of, map_of}
@@ -10,7 +10,7 @@ use Rattle.resb_icu_grammar.specs.Kinds.{Kind, array_kind, table_kind}
 use Rattle.resb_icu_grammar.specs.Words.{Text, KeyText}
 use Rattle.resb_icu_grammar.specs.Groups.{Last, nothing, a_string, a_group, a_comma, TypedOpening}
 use Rattle.resb_icu_grammar.specs.Groups.{LeafContent, is_member, ends_in_string, is_new}
-use Rattle.resb_icu_grammar.specs.Bundle.{Header}
+use Rattle.resb_icu_grammar.specs.Bundle.{Header, Ending}
 
 -- what is open around a group: an array with the members before it, or a table with the entries
 -- before it and its key
@@ -147,7 +147,8 @@ abbrev pub at_root : ℕ → Reading
 at_root first = reading_at [] [] (among_entries []) first
 
 -- behind a header, steps lead from the first entry of the root to behind the root, which is this
--- tree, and blanks from there to the end of the text; each key is listed at its first place alone
+-- tree, and there stands what may stand behind a bundle; each key is listed at its first place
+-- alone
 pub record IsReadToTheEnd (text name : List ℕ) (fallback : Bool) (tree : Tree)
     (keys : List (List ℕ)) : Type 0 where
   pub first : ℕ
@@ -155,5 +156,5 @@ pub record IsReadToTheEnd (text name : List ℕ) (fallback : Bool) (tree : Tree)
   pub places : List (List ℕ)
   pub header : Header text name fallback first
   pub comes : Comes text (at_root first) (reading_at [] places (behind_group tree) end)
-  pub after : Skip text end (length text)
+  pub after : Ending text end
   pub lists : keys ≡ first_places places

@@ -1,5 +1,5 @@
 -- Where a reading of a text in ICU's form cannot go on, and what was expected there.
-use Rattle.std.specs.Prelude.{◌≡◌, ◌≢◌, ◌+◌, ◌<◌, ℕ, Bool, true, false, None, List, []}
+use Rattle.std.specs.Prelude.{◌≡◌, ◌≢◌, ◌+◌, ◌≤◌, ◌<◌, ℕ, Bool, true, false, None, List, []}
 use Rattle.std.specs.Prelude.{length, slice_index, if◌then◌else◌}
 use Rattle.resb_grammar.specs.Ascii as ascii
 use Rattle.resb_tree.specs.Tree.{Tree}
@@ -9,7 +9,7 @@ use Rattle.resb_icu_grammar.specs.Kinds.{integer_kind, vector_kind}
 use Rattle.resb_icu_grammar.specs.Words.{Text, KeyText, Name, Number, TypeName, GroupType, RootType}
 use Rattle.resb_icu_grammar.specs.Expected.{instead_of}
 use Rattle.resb_icu_grammar.specs.Faults.{Told}
-use Rattle.resb_icu_grammar.specs.Bundle.{Header}
+use Rattle.resb_icu_grammar.specs.Bundle.{Header, is_barred}
 use Rattle.resb_icu_grammar.specs.Groups.{Last, is_member, ends_in_string, digits_of}
 use Rattle.resb_icu_grammar.specs.Machine.{Waiting, AreDistinct, Standing, among_members}
 use Rattle.resb_icu_grammar.specs.Machine.{among_entries, before_group, in_untyped, in_typed}
@@ -134,9 +134,9 @@ pub data StepStuck (text : List ℕ) : Standing → ℕ → ℕ → IcuExpected 
 -- a group has ended, and a reading cannot go on at a place, where this was expected
 pub data EndStuck (text : List ℕ) (t : Tree) (at : ℕ)
     : List Waiting → ℕ → IcuExpected → Type 0 where
-  -- more than blanks behind the root
-  more_text : (end : ℕ) → Skip text at end → end < length text
-      → EndStuck text t at [] end expect.EndOfText
+  -- more than blanks behind the root, with what no text behind a bundle has
+  more_text : (end barred : ℕ) → Skip text at end → end ≤ barred → barred < length text
+      → is_barred text barred ≡ true → EndStuck text t at [] end expect.EndOfText
 
 -- a reading cannot go on before the first entry, at this place, where this was expected
 pub data HeaderStuck (text : List ℕ) : ℕ → IcuExpected → Type 0 where

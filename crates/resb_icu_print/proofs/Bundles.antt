@@ -18,6 +18,7 @@ use Rattle.resb_icu_grammar.specs.Bytes.{is_word}
 use Rattle.resb_icu_grammar.specs.Blanks.{Blanks, none, Skip, without_a_mark, has_mark}
 use Rattle.resb_icu_grammar.specs.Words.{a_row, a_word, no_fallback_type}
 use Rattle.resb_icu_grammar.specs.Bundle.{Typing, without, with, IcuText}
+use Rattle.resb_icu_grammar.proofs.RestRoot.{nothing_behind}
 use Rattle.resb_print.specs.Printed.{root_type_on, entries_on, printed_bundle}
 use Rattle.resb_print.specs.Laws.{HasNoText, PrintedIsABundle}
 use Rattle.resb_print.specs.Paths.{first_found, first_cause}
@@ -155,7 +156,7 @@ module _ (text : List ℕ) where
           };
           body = r.entries;
           closes = r.brace;
-          after = end_skip r.after;
+          after = nothing_behind text (r.to + 1) (end_skip r.after);
           means = ap table (sym (map_of-keyed_trees es ascend));
           lists = refl;
         },

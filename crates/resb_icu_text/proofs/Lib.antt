@@ -2,6 +2,7 @@
 mod Lists
 mod ReachLemmas
 mod BlanksLemmas
+mod BehindLemmas
 mod WordsLemmas
 mod UnquotedLemmas
 mod NumbersLemmas

@@ -35,6 +35,7 @@ use Rattle.resb_icu_text.specs.Answer.{IcuFails, IsNoIcuText, IcuNeverMore}
 use Rattle.resb_icu_text.specs.Refusal.{want_of_memory}
 use Rattle.resb_icu_text.specs.declared.error.IcuTextError.{IcuTextError}
 use Rattle.resb_icu_text.specs.Inner.Ahead.{KeyFails}
+use Rattle.resb_icu_text.specs.Inner.Behind.{HasBarred, HasNoBarred}
 use Rattle.resb_icu_text.specs.Inner.Steps.{shown, with_key, now, Resumes, Place, StepsTo}
 use Rattle.resb_icu_text.specs.Inner.Steps.{group_place, read_now}
 use Rattle.resb_icu_text.specs.declared.steps.Waiting.{Waiting as Open}
@@ -252,29 +253,29 @@ root_ended text q tree x at os ks e =
     subst (λ vs. GoesOn text q q (reading_at vs ks (behind_group (tree x)) at)
     (reading_at [] ks (behind_group (tree x)) at)) (sym e) (λ limit a. a)
 
--- where more than blanks stands behind the root
+-- where a text stands behind the root that may not stand there
 pub text_goes_on : (text : List ℕ) (p q : Quota) (from : Reading) (at end : ℕ) (t : Tree)
     (ks : List (List ℕ)) (e : IcuTextError)
     → GoesOn text p q from (reading_at [] ks (behind_group t) at)
-    → Skip text at end → end < length text
+    → Skip text at end → HasBarred text end
     → e ≡ record { position = end; expected = expect.EndOfText } → StopsAt text p q from e
-text_goes_on text p q from at end t ks e c k w h limit a =
+text_goes_on text p q from at end t ks e c k b h limit a =
     stuck_stops (reading_at [] ks (behind_group t) at) e (none_taken q)
     (subst (λ (g : IcuTextError). ReadStuck text (reading_at [] ks (behind_group t) at)
     g.position g.expected) (sym h)
-    (behind [] ks t at end expect.EndOfText (more_text end k w)))
+    (behind [] ks t at end expect.EndOfText (more_text end b.at k b.order b.fits b.barred)))
     (λ is. absurd (false≢true is)) limit (c limit a)
 
--- where nothing but blanks does, the text is read to its end
+-- where nothing does, or a text that may, the whole text is read
 pub text_ends : (text : List ℕ) (first : ℕ) (p q : Quota) (at end : ℕ) (t : Tree)
     (ks : List (List ℕ))
     → GoesOn text p q (at_root first) (reading_at [] ks (behind_group t) at)
-    → Skip text at end → length text ≤ end → end ≤ length text → RootThere text first p q t ks
-text_ends text first p q at end t ks c k w v limit a =
+    → Skip text at end → HasNoBarred text end → RootThere text first p q t ks
+text_ends text first p q at end t ks c k free limit a =
     record {
       end = at;
       stands = c limit a;
-      after = subst (λ n. Skip text at n) (omega (arith, w, v)) k;
+      after = record { to = end; before = k; free = free };
     }
 
 -- a refusal of the header is one of the text

@@ -26,7 +26,8 @@ quote_stops b e = grind (arith, nat_tests, e)
 backslash_stops : (b : ℕ) → b ≡ backslash → is_stop b ≡ true
 backslash_stops b e = grind (arith, nat_tests, e)
 
-at_rest : (text rest : List ℕ) (from k : ℕ) → rest ≡ drop from text
+-- what is left of a text reads as the text does
+pub at_rest : (text rest : List ℕ) (from k : ℕ) → rest ≡ drop from text
     → slice_index rest k ≡ slice_index text (from + k)
 at_rest text rest from k e = ap (λ l. slice_index l k) e ∙ get_or-drop from text k 0
 

@@ -1,5 +1,6 @@
 -- Words of private functions.
 pub mod Ahead
+pub mod Behind
 pub mod Build
 pub mod Digits
 pub mod Escaped

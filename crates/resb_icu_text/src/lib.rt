@@ -3,6 +3,7 @@
 //! What the form is stands in `resb_icu_grammar`. Places count bytes of the text from its start.
 #![tactic(auto)]
 
+mod behind;
 mod blanks;
 mod build;
 mod digits;

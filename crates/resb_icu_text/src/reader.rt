@@ -24,6 +24,7 @@ ghost use Rattle.resb_icu_text.specs.Inner.Kept.{IsKept};
 ghost use Rattle.resb_icu_text.specs.Inner.Quota.{Stops, StopsAt, limit_of};
 ghost use Rattle.resb_icu_text.specs.Inner.Turns.{Halts};
 
+use crate::behind::has_barred;
 use crate::blanks::{byte, skip};
 use crate::build::Build;
 use crate::error::{IcuLimitError, IcuTextError};
@@ -45,7 +46,8 @@ use std::borrow::CowStr;
 pub enum IcuReader {}
 
 impl IcuReader {
-    /// The bundle that the text is, and the keys of its tables in order of place, each once.
+    /// The bundle that the text is, and the keys of its tables in order of place, each once. Text
+    /// behind the bundle may stand there if it has neither a backslash nor a `/*`; it isn't read.
     /// The name is a slice of the text, and so is each string and each alias's path of one piece
     /// without escapes; other strings and paths, and the bytes of binaries, are owned.
     pub fn read<'a>(
@@ -366,7 +368,7 @@ fn read_root<'a, B: Build<'a>>(
             Next::Step(next) => step = next,
             Next::Root(made, at) => {
                 let end = skip(text, at, &mut meter.turns);
-                if end < text.len() {
+                if has_barred(text, end, &mut meter.turns) {
                     return Err(IcuTextError::new(end, IcuExpected::EndOfText));
                 }
                 let OpenGroups { build, keys, .. } = open;

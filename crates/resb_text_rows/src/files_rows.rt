@@ -29,6 +29,8 @@ b{x:process(transliterator){r}} => b{x:string{"x > b ;'z # ' ;"}}
 b{x:process(uca_rules){c}} => b{x:string{"&[last \\u0061 # ]<'b # \u000a'c<\\-[' d]'\\'e"}}
 b{x{":include{f}"}/* :import{g} */} => b{x{":include{f}"}/* :import{g} */}
 b{x:include{f,}} => b{x:include{f,}}
+b{t{x:process(dependency){y}}} } z => b{t{x:string{y}} %%DEPENDENCY:array{y,}} } z
+b{x:include{f}} y:include{h}} => b{x:string{"a \"b\"\u000a"}} y:include{h}}
 b{x:include{h}} => at byte 3: no file h
 b{x:include{g}} => at byte 3: no UTF-8 in file g
 b{x:process(transliterator){s}} => at byte 3: no character by \u in file s
@@ -134,7 +136,7 @@ fn names_in(alloc: Global, text: &str) -> Result<String, Fail> {
 
 #[test]
 fn files_are_named(rt: HostRuntime) -> Result<(), Fail> {
-    let text = "b{x: import{g}y:/*/*/process(dependency){z}w:include{f}}";
+    let text = "b{x: import{g}y:/*/*/process(dependency){z}w:include{f}}:import{h}";
     assert!(rt; names_in(rt.alloc(), text)?.as_str() == "gf");
     assert!(rt; may_take_files(text));
     assert!(rt; !may_take_files("b{x:int{1}y:bin{}z{\":imp\"}}"));

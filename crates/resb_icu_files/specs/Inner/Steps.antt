@@ -20,21 +20,23 @@ pub record IsGroupAt (text : List ℕ) (at : ℕ) (g : Group) : Type 0 where
   pub group : IsGroup text g
   pub here : g.at ≡ at
 
--- what stands at a place: something is passed, a group begins, or a reader ends there
-abbrev pub IsStep : List ℕ → ℕ → Option ℕ → Step → Type 0
-IsStep text at closer (step.Past to behind) =
-    Passes text at closer to behind × (at < to) × (to ≤ length text)
-IsStep text at closer (step.Group g) = IsGroupAt text at g
-IsStep text at closer step.End = Ends text at
+-- what stands at a place where so many groups are open: something is passed, a group begins, or a
+-- reader ends there
+abbrev pub IsStep : List ℕ → ℕ → ℕ → Step → Type 0
+IsStep text at depth (step.Past to behind) =
+    Passes text at depth to behind × (at < to) × (to ≤ length text) × (behind ≤ to)
+IsStep text at depth (step.Group g) = IsGroupAt text at g
+IsStep text at depth step.End = Ends text at depth
 
 -- what stands at a place where a group begins or a reader ends
-abbrev pub IsStop : List ℕ → ℕ → Option Group → Type 0
-IsStop text at None = Ends text at
-IsStop text at (Some g) = IsGroupAt text at g
+abbrev pub IsStop : List ℕ → ℕ → ℕ → Option Group → Type 0
+IsStop text at depth None = Ends text at depth
+IsStop text at depth (Some g) = IsGroupAt text at g
 
--- a stretch was passed from a place on, up to a group or the end
-pub record IsPassed (text : List ℕ) (from : ℕ) (p : Passed) : Type 0 where
-  pub stretch : Stretch text from None p.to p.closer
+-- a stretch was passed from a place on, where so many groups are open, up to a group or the end
+pub record IsPassed (text : List ℕ) (from depth : ℕ) (p : Passed) : Type 0 where
+  pub stretch : Stretch text from depth p.to p.depth
   pub order : from ≤ p.to
   pub fits : p.to ≤ length text
-  pub stop : IsStop text p.to p.group
+  pub low : p.depth ≤ p.to
+  pub stop : IsStop text p.to p.depth p.group

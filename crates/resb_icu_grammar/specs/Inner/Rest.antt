@@ -4,12 +4,13 @@
 --     After text ws   where a group has ended, inside these groups
 --     RestOfMembers, RestOfEntries, RestOfGroup, RestOfUntyped, RestOfTyped
 --                     where members, entries, a group or what stands inside one follow
-use Rattle.std.specs.Prelude.{◌≡◌, ◌+◌, ℕ, List, [], ◌∷◌, ◌++◌, length}
+use Rattle.std.specs.Prelude.{◌≡◌, ◌+◌, ℕ, List, [], ◌∷◌, ◌++◌}
 use Rattle.std.specs.Prelude.{slice_index}
 use Rattle.resb_grammar.specs.Ascii as ascii
 use Rattle.resb_tree.specs.Tree.{Tree, array, table, trees_of, map_of}
 use Rattle.resb_icu_grammar.specs.Blanks.{Skip}
 use Rattle.resb_icu_grammar.specs.Kinds.{Kind}
+use Rattle.resb_icu_grammar.specs.Bundle.{Ending}
 use Rattle.resb_icu_grammar.specs.Machine.{Waiting, in_array, in_table, AreDistinct}
 use Rattle.resb_icu_grammar.specs.Groups.{Last, a_group, Members, Entries, Untyped, Typed, Group}
 
@@ -71,10 +72,10 @@ pub record RestOfTyped (text : List ℕ) (goal : Goal) (kind : Kind) (at : ℕ) 
   pub closes : slice_index text to ≡ ascii.right_brace
   pub then : goal (to + 1) tree (ks ++ keys) m
 
--- behind the last group stands the end of the text
+-- behind the last group stands what may stand behind a bundle
 pub record AtEnd (text : List ℕ) (at : ℕ) (t : Tree) (ks : List (List ℕ)) (m : Meaning)
     : Type 0 where
-  pub after : Skip text at (length text)
+  pub after : Ending text at
   pub means : m ≡ (t, ks)
 
 -- blanks follow a member of an array that is a group, and then the others

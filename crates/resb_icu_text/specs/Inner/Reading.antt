@@ -6,6 +6,7 @@ use Rattle.resb_grammar.specs.Ascii as ascii
 use Rattle.resb_grammar.specs.declared.limit.Limit.{Limit}
 use Rattle.resb_tree.specs.Tree.{Tree}
 use Rattle.resb_icu_grammar.specs.Blanks.{Skip}
+use Rattle.resb_icu_grammar.specs.Bundle.{Ending}
 use Rattle.resb_icu_grammar.specs.Machine.{Reading, reading_at, at_root, behind_group}
 use Rattle.resb_icu_grammar.specs.Faults.{Told}
 use Rattle.resb_icu_grammar.specs.Stuck.{HeaderStuck}
@@ -145,12 +146,12 @@ abbrev pub HeaderFails : List ℕ → IcuTextError → Type 0
 HeaderFails text e = HeaderStuck text e.position e.expected
 
 -- a reading that keeps to a limit stands behind the root, which is this tree and has these keys in
--- order of place, and nothing but blanks follow
+-- order of place, and what follows may stand behind a bundle
 pub record IsWhole (text : List ℕ) (limit : Limit) (q : Quota) (tree : Tree)
     (places : List (List ℕ)) : Type 0 where
   pub end : ℕ
   pub stands : IsAt text limit q (reading_at [] places (behind_group tree) end)
-  pub after : Skip text end (length text)
+  pub after : Ending text end
 
 -- whatever the limit, a reading that stands at the root's first entry is whole then
 abbrev pub RootThere : List ℕ → ℕ → Quota → Quota → Tree → List (List ℕ) → Type 0

@@ -9,7 +9,8 @@ stretch-preserved c =
     record {
       order = omega (arith, c.stretch.invariant.order, s.1);
       fits = s.2;
-      so_far = λ to closer rest. c.stretch.invariant.so_far to closer
+      low = s.3;
+      so_far = λ to last rest. c.stretch.invariant.so_far to last
           (more _ _ _ _ _ _ s.0 rest);
     }
 
@@ -18,6 +19,7 @@ returns-in-Group c = record {
   stretch = c.stretch.invariant.so_far _ _ (nothing _ _);
   order = c.stretch.invariant.order;
   fits = c.stretch.invariant.fits;
+  low = c.stretch.invariant.low;
   stop = rw c.in-Group.is at c.in_ok-next.ensures;
 }
 
@@ -26,5 +28,6 @@ returns-in-End c = record {
   stretch = c.stretch.invariant.so_far _ _ (nothing _ _);
   order = c.stretch.invariant.order;
   fits = c.stretch.invariant.fits;
+  low = c.stretch.invariant.low;
   stop = rw c.in-End.is at c.in_ok-next.ensures;
 }

@@ -7,8 +7,9 @@ use Rattle.resb_icu_files.proofs.taking_in.files_taken.Given as goal
 abbrev pub invariant-groups : goal.invariant-groups
 invariant-groups l = record {
   fits : l.from ≤ length l.text;
-  takes : (rest : List Named) → TakesFiles l.text l.from rest
-      → TakesFiles l.text 0 (map named_of l.files.items ++ rest);
+  low : l.depth ≤ l.from;
+  takes : (rest : List Named) → TakesFiles l.text l.from l.depth rest
+      → TakesFiles l.text 0 0 (map named_of l.files.items ++ rest);
 }
 
 abbrev pub decreases-groups : goal.decreases-groups

@@ -37,19 +37,20 @@ returns-in_err-next-clause-reads g c =
     match_fails _ _ _ c.from_residual.ensures.1 (λ limit a.
     c.in_err-next.ensures.reads limit (c.steps.invariant.comes limit a))
 
-pub returns-then-end-text-clause-reads : goal.returns-then-end-text-clause-reads
-returns-then-end-text-clause-reads g c =
+pub returns-then-has_barred-clause-reads : goal.returns-then-has_barred-clause-reads
+returns-then-has_barred-clause-reads g c =
     let next = rw c.in-Root.is at c.in_ok-next.ensures.reads in
     text_goes_on _ _ _ _ _ _ _ _ _
     (λ limit a. next.comes limit (c.steps.invariant.comes limit a))
-    c.skip-end.ensures.skip c.if-end-text.true c.new-then-end-text.ensures
+    c.skip-end.ensures.skip (c.has_barred.ensures.found c.if-has_barred.true)
+    c.new-then-has_barred.ensures
 
 pub returns-in-Root-clause-reads : goal.returns-in-Root-clause-reads
 returns-in-Root-clause-reads g c =
     let next = rw c.in-Root.is at c.in_ok-next.ensures.reads in (
       text_ends _ _ _ _ _ _ _ _
           (λ limit a. next.comes limit (c.steps.invariant.comes limit a))
-          c.skip-end.ensures.skip c.if-end-text.false c.skip-end.ensures.fits,
+          c.skip-end.ensures.skip (c.has_barred.ensures.none c.if-has_barred.false),
       λ t p. (and_parts _ _ (next.kept t p)).1,
     )
 

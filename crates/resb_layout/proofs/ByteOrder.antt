@@ -1,9 +1,10 @@
 -- Lists of bytes in their order: those that begin with a list stand in one run from it on.
 use Rattle.std.proofs.Common.{◌≡◌, ℕ, ◌+◌, List, [], ◌∷◌, ◌++◌, Bool, true, false, ◌⊎◌, inl, inr}
 use Rattle.std.proofs.Common.{refl, sym, ◌∙◌, ap, ◌<◌, ◌-◌, arith, length, get_or, reverse, drop}
-use Rattle.std.proofs.Common.{min}
+use Rattle.std.proofs.Common.{min, take}
 use Rattle.std.specs.Cmp.{nat_cmp_is}
 use Rattle.std.proofs.lemmas.List.{get_or-reverse, drop_more, length-reverse, length-drop}
+use Rattle.std.proofs.lemmas.List.{take_more_same}
 use Rattle.std.specs.Ordering.{nat_cmp, ordering_then, ordering_reverse, is_lt, is_gt}
 use Rattle.std.specs.declared.cmp.Ordering.{Ordering}
 use Rattle.std.specs.declared.cmp.Ordering.TheVariants.{Less, Equal, Greater}
@@ -125,6 +126,13 @@ module _ (l r : List ℕ) (i : ℕ) (in_left : i < length l) (in_right : i < len
       ≡ text_cmp (drop (i + 1) (reverse l)) (drop (i + 1) (reverse r))
   same_here e = from_place ∙ then_equal (nat_cmp left right) _ (ap (nat_cmp left) (sym e)
       ∙ tied_itself nat_cmp_total left)
+
+  -- and where they are the same there too, they are up to the next place
+  pub same_front : take i (reverse l) ≡ take i (reverse r) → left ≡ right
+      → take (i + 1) (reverse l) ≡ take (i + 1) (reverse r)
+  same_front front e = take_more_same (reverse l) (reverse r) i 0
+      (omega (arith, in_left, length-reverse l)) (omega (arith, in_right, length-reverse r)) front
+      (get_or-reverse l i 0 in_left ∙ e ∙ sym (get_or-reverse r i 0 in_right))
 
 -- behind the end of the shorter list the lengths decide
 shorter : (a b : List ℕ) → (length a ≡ 0) ⊎ (length b ≡ 0)

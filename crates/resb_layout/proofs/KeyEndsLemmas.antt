@@ -44,7 +44,7 @@ ends_itself k = extends_ends k k (record { rest = []; is = sym (append-nil (reve
 pub not_before : (j k : List ℕ) → Extends (reverse j) (reverse k) → is_before j k ≡ false
 not_before j k h = ap (λ l. before l (reverse k)) h.is ∙ longer_behind (reverse k) h.rest
 
-up_to_cases : (k j : List ℕ) → is_up_to k j ≡ true → (ends_with nat_eq j k ≡ true)
+pub up_to_cases : (k j : List ℕ) → is_up_to k j ≡ true → (ends_with nat_eq j k ≡ true)
     ⊎ (is_before j k ≡ true)
 up_to_cases k j e = by (ends_with nat_eq j k) refl
   where
@@ -53,10 +53,10 @@ up_to_cases k j e = by (ends_with nat_eq j k) refl
     by true f = inl f
     by false f = inr (sym (ap (λ b. b || is_before j k) f) ∙ e)
 
-ends_up_to : (k j : List ℕ) → ends_with nat_eq j k ≡ true → is_up_to k j ≡ true
+pub ends_up_to : (k j : List ℕ) → ends_with nat_eq j k ≡ true → is_up_to k j ≡ true
 ends_up_to k j e = ap (λ b. b || is_before j k) e
 
-before_up_to : (b c : Bool) → c ≡ true → (b || c) ≡ true
+pub before_up_to : (b c : Bool) → c ≡ true → (b || c) ≡ true
 before_up_to true c e = refl
 before_up_to false c e = e
 

@@ -12,5 +12,6 @@ pub mod Lists
 pub mod StringWords
 pub mod ByteOrder
 pub mod KeyEndsLemmas
+mod UpTo
 mod KeptLemmas
 mod LeastLemmas

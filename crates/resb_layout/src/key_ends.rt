@@ -27,12 +27,28 @@ fn compare_ends(left: &[u8], right: &[u8]) -> Ordering
     left.len().cmp(&right.len())
 }
 
+/// Whether bytes end with others, or stand before them in the order from the end: where they differ
+/// last, they have the lesser byte.
+fn is_up_to(left: &[u8], right: &[u8]) -> bool
+    ensures { result ≡ is_up_to_end right.now left.now }
+{
+    let shared = left.len().min(right.len());
+    for at in 0..shared {
+        let mine = left[left.len() - 1 - at];
+        let other = right[right.len() - 1 - at];
+        if mine != other {
+            return mine < other;
+        }
+    }
+    true
+}
+
 /// Whether a key ends with the bytes of another one, or stands before them in the order from the
 /// end.
 pub fn is_not_behind(bytes: &[u8], key: &str) -> bool
     ensures { result ≡ is_up_to_end bytes.now key.now }
 {
-    key.as_bytes().ends_with(bytes) || compare_ends(key.as_bytes(), bytes) == Ordering::Less
+    is_up_to(key.as_bytes(), bytes)
 }
 
 /// Keys in the order from the end.

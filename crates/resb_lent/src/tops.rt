@@ -5,10 +5,13 @@ ghost use Rattle.std.specs.Prelude.{◌≡◌, ◌+◌, ◌<◌, ◌≤◌, ℕ,
 ghost use Rattle.std.specs.Prelude.{◌⊎◌, length, map, IfOk};
 ghost use Rattle.std.specs.Bool.{MatchBool};
 ghost use Rattle.std.specs.Str.{IsUtf8};
+ghost use Rattle.std.specs.String.{string_bytes};
 ghost use Rattle.std.specs.declared.cmp.Ordering.TheVariants.{Greater};
 ghost use Rattle.resb_pool.specs.Container.{IsTop};
 ghost use Rattle.resb_pool.specs.Order.{suffix_cmp};
 ghost use Rattle.resb_pool.specs.Records.{EndsWith};
+ghost use Rattle.resb_pool.specs.Inner.Ranks.{has_far};
+ghost use Rattle.resb_pool.specs.Inner.Suffixes.{last_digits as digits_of};
 ghost use Rattle.resb_pool.specs.Inner.Tops.{IsTopOf};
 ghost use Rattle.resb_pool.specs.declared.packing.Packing.TheVariants.{Compact};
 ghost use Rattle.resb_lent.specs.Inner.Within.{record_bytes};
@@ -16,8 +19,8 @@ ghost use Rattle.resb_lent.specs.Inner.Tops.{AreTops, AreInOrder, Precedes, numb
 ghost use Rattle.resb_lent.specs.Inner.Tops.{text_of_number};
 
 use crate::lent_record::LentRecord;
-use resb_pool::Packing;
-use resb_pool::suffix_order::compare;
+use resb_pool::suffix_order::{compare, compare_near, last_digits};
+use resb_pool::{Packing, is_far};
 use std::alloc::{AllocError, Global};
 use std::cmp::Ordering;
 
@@ -74,6 +77,38 @@ pub(crate) fn tops(alloc: Global, records: &[LentRecord]) -> Result<Vec<usize>, 
     Ok(tops)
 }
 
+/// How the text of a record compares to a text in a compact file. The last digits of that text are
+/// given, and whether it has a character beyond U+FFFF.
+fn compare_to(record: &LentRecord, text: &str, digits: u128, is_far_text: bool) -> Ordering
+    requires digits { digits ≡ digits_of text.now }
+    requires far { is_far_text ≡ has_far text.now }
+    ensures { result ≡ suffix_cmp Compact (string_bytes «record».now.text) text.now }
+{
+    if is_far_text || is_far(&record.text) {
+        return compare(Packing::Compact, &record.text, text);
+    }
+    compare_near(&record.text, record.digits, text, digits)
+}
+
+/// How the text of a record compares so, by the record's number; the empty text where there is
+/// none.
+fn compare_at(
+    records: &[LentRecord],
+    number: usize,
+    text: &str,
+    digits: u128,
+    is_far_text: bool,
+) -> Ordering
+    requires digits { digits ≡ digits_of text.now }
+    requires far { is_far_text ≡ has_far text.now }
+    ensures { result ≡ suffix_cmp Compact (numbered_text records.now number) text.now }
+{
+    match records.get(number) {
+        Some(record) => compare_to(record, text, digits, is_far_text),
+        None => compare(Packing::Compact, "", text),
+    }
+}
+
 /// How many tops stand before the first that comes after a text.
 fn count_up_to(records: &[LentRecord], tops: &[usize], text: &str) -> usize
     ensures within { result ≤ length tops.now }
@@ -82,11 +117,13 @@ fn count_up_to(records: &[LentRecord], tops: &[usize], text: &str) -> usize
     ensures behind { result < length tops.now
         → suffix_cmp Compact (text_of_number records.now tops.now result) text.now ≡ Greater }
 {
+    let digits = last_digits(text);
+    let is_far_text = is_far(text);
     let mut low = 0;
     let mut high = tops.len();
     'halves: while low < high {
         let middle = low + (high - low) / 2;
-        let order = compare(Packing::Compact, text_of(records, tops[middle]), text);
+        let order = compare_at(records, tops[middle], text, digits, is_far_text);
         if order == Ordering::Greater {
             high = middle;
         } else {

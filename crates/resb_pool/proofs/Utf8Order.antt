@@ -225,7 +225,7 @@ near_chars (c ∷ cs) e = elim (cases_lt c 0x1_0000) [
       absurd (omega (arith, m, b.reaches))
 ]
 
-near_text : (t : List ℕ) → IsUtf8 t → has_far t ≡ false → units t ≡ chars t
+pub near_text : (t : List ℕ) → IsUtf8 t → has_far t ≡ false → units t ≡ chars t
 near_text t u e = near_chars (chars t) (ap has_far (encodes-chars t u) ∙ e)
 
 pub near_texts : (T : List (List ℕ)) → All IsUtf8 T → any_far T ≡ false

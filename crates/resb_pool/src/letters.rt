@@ -62,7 +62,7 @@ pub(crate) fn compare_units(left: &str, right: &str) -> Ordering
 
 /// Whether a text has a character beyond U+FFFF, which is two units. All bytes are looked at, so
 /// that many are at once.
-fn is_far(text: &str) -> bool
+pub fn is_far(text: &str) -> bool
     ensures { result ≡ has_far text.now }
 {
     let mut is_found = false;

@@ -20,6 +20,7 @@ pub mod suffix_order;
 mod texts;
 
 pub use error::PlanError;
+pub use letters::is_far;
 pub use measure::{SIZE_LIMIT, excessive_len};
 pub use offsets::Plan;
 pub use packing::Packing;

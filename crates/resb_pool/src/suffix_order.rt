@@ -6,6 +6,7 @@ ghost use Rattle.std.specs.Str.{IsUtf8};
 ghost use Rattle.resb_pool.specs.Order.{suffix_cmp};
 ghost use Rattle.resb_pool.specs.Plan.{nows};
 ghost use Rattle.resb_pool.specs.Inner.Cuts.{IsCut, IsShared, ShareEnd};
+ghost use Rattle.resb_pool.specs.Inner.Ranks.{has_far};
 ghost use Rattle.resb_pool.specs.Inner.Suffixes.{AreInOrder, IsRowOf, row_texts, row_cmp};
 ghost use Rattle.resb_pool.specs.Inner.Suffixes.{keyed_cmp};
 ghost use Rattle.resb_pool.specs.Inner.Suffixes.{char_digits, digits_backwards, key_of_digits};
@@ -324,6 +325,19 @@ pub fn compare_with_digits(
         Ordering::Equal => compare(Packing::Plain, left, right),
         other => other,
     }
+}
+
+/// How two texts without characters beyond U+FFFF compare in a compact file, as `compare` answers
+/// it, where their `last_digits` are given.
+#[inline(always)]
+pub fn compare_near(left: &str, left_digits: u128, right: &str, right_digits: u128) -> Ordering
+    requires left { left_digits ≡ digits_of left.now }
+    requires right { right_digits ≡ digits_of right.now }
+    requires near_left { has_far left.now ≡ false }
+    requires near_right { has_far right.now ≡ false }
+    ensures { result ≡ suffix_cmp Compact left.now right.now }
+{
+    compare_with_digits(left, left_digits, right, right_digits)
 }
 
 /// How two rows compare: by their first 16 digits, and where these are the same by all characters.

@@ -194,7 +194,8 @@ void resb_location(const uint8_t *text, size_t text_length, size_t place, size_t
                    size_t *column);
 
 /* Writes a file, or a pool bundle, in the other order of bytes: a little-endian one as ICU for Java
- * reads it, or a big-endian one as the calls below read it. Swapped twice it is as it was.
+ * reads it, or a big-endian one as the calls below read it. They take little-endian files alone, so
+ * a file whose byte 8 is 1 goes through this call first. Swapped twice it is as it was.
  *
  * RESB_OK: the file is the first *length bytes of out, as many as it had, and the bytes behind it
  * are as they were. RESB_TOO_SHORT: out is as it was, and *length is file_length. Else out is as it

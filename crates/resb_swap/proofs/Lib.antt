@@ -10,6 +10,7 @@ pub mod CollationSame
 pub mod RolesSame
 pub mod Fronts
 pub mod Swaps
+pub mod Orders
 pub mod CollationLemmas
 pub mod PartsLemmas
 pub mod PairLemmas

@@ -174,7 +174,7 @@ pub swaps_back : SwapsBack
 swaps_back a b s = back a b s
 
 -- a role that has a source stands in each list of roles
-from_source : (f : Numbered) (rs : List Role) (i : ℕ) (r : Role) → RolesOf f rs → Sourced f i r
+pub from_source : (f : Numbered) (rs : List Role) (i : ℕ) (r : Role) → RolesOf f rs → Sourced f i r
     → r ≢ role.Free → role_at rs i ≡ r
 from_source f rs i r h source some = elim source [
   | inl free ↦ absurd (some free)

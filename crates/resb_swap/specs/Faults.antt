@@ -1,13 +1,13 @@
 -- Why a file isn't swapped.
---     IsFault bytes e         the error names what is so
-use Rattle.std.specs.Prelude.{◌≡◌, ◌≢◌, ℕ, ◌≤◌, List, true, false, Some, slice_index}
+--     IsFault bytes e         the error names what is so, and what is checked before is not
+use Rattle.std.specs.Prelude.{◌≡◌, ◌≢◌, ℕ, ◌≤◌, List, true, false, Some, None, slice_index}
 use Rattle.resb_format.specs.Error.{refusal_of}
 use Rattle.resb_head.specs.HeadChecks.{header_refusal}
 use Rattle.resb_swap.specs.Numbers.{Numbered, numbered, word_count}
 use Rattle.resb_swap.specs.Bodies.{Reached, body_role, place_in, type_in, is_type, role_in}
 use Rattle.resb_swap.specs.Collation.{is_collation, is_whole}
 use Rattle.resb_swap.specs.Roles.{Sourced}
-use Rattle.resb_swap.specs.Swapped.{is_first_version, is_indexed}
+use Rattle.resb_swap.specs.Swapped.{IsSwappable, is_first_version, is_indexed}
 use Rattle.resb_swap.specs.declared.role.Role.{Role}
 use Rattle.resb_swap.specs.declared.role.Role.TheVariants as role
 use Rattle.resb_swap.specs.declared.error.SwapError.{SwapError}
@@ -47,11 +47,20 @@ IsBodyFault f error.Collation = HasCollation f
 IsBodyFault f error.NoMemory = Unit {0}
 IsBodyFault f _ = ⊥
 
--- what is wrong with a file: with its head, or else with its body; or memory was wanted
+-- the header passes its checks, and the characters are of the ASCII family, in units of two bytes
+abbrev pub HasCharacters : List ℕ → Type 0
+HasCharacters bytes =
+    (header_refusal true bytes ≡ None) × (slice_index bytes 9 ≡ 0) × (slice_index bytes 10 ≡ 2)
+
+-- what is wrong with a file: the first check of its head that fails, of header, characters, version
+-- and index in this order; or else what is wrong with its body; or memory was wanted
 abbrev pub IsFault : List ℕ → SwapError → Type 0
 IsFault bytes (error.Header e) = header_refusal true bytes ≡ Some (refusal_of e)
-IsFault bytes error.Ebcdic = slice_index bytes 9 ≢ 0
-IsFault bytes error.OtherCharacters = slice_index bytes 10 ≢ 2
-IsFault bytes error.FirstVersion = is_first_version bytes ≡ true
-IsFault bytes error.NoIndex = is_indexed (numbered bytes) ≡ false
-IsFault bytes e = IsBodyFault (numbered bytes) e
+IsFault bytes error.Ebcdic = (header_refusal true bytes ≡ None) × (slice_index bytes 9 ≢ 0)
+IsFault bytes error.OtherCharacters =
+    (header_refusal true bytes ≡ None) × (slice_index bytes 9 ≡ 0) × (slice_index bytes 10 ≢ 2)
+IsFault bytes error.FirstVersion = HasCharacters bytes × (is_first_version bytes ≡ true)
+IsFault bytes error.NoIndex =
+    HasCharacters bytes × (is_first_version bytes ≡ false)
+    × (is_indexed (numbered bytes) ≡ false)
+IsFault bytes e = IsSwappable bytes × IsBodyFault (numbered bytes) e

@@ -1,6 +1,6 @@
 -- The words of the contracts: the numbers of a file in either order of bytes, the roles of its
--- words, what a file in the other order is, and why there is none. `Inner` has words of private
--- functions.
+-- words, what a file in the other order is, why there is none, and what holds in either order.
+-- `Inner` has words of private functions.
 pub mod Numbers
 pub mod Collation
 pub mod Bodies
@@ -9,6 +9,7 @@ pub mod Swapped
 pub mod Faults
 pub mod Packages
 pub mod PackageFaults
+pub mod Orders
 pub mod Message
 pub mod Laws
 pub mod Inner

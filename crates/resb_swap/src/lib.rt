@@ -13,6 +13,7 @@ mod head;
 mod items;
 pub mod laws;
 mod mirror;
+mod order;
 mod package;
 mod package_error;
 #[cfg(test)]
@@ -26,6 +27,7 @@ mod table;
 mod walk;
 
 pub use error::SwapError;
+pub use order::{IcuData, data_of, little_endian, with_little_table};
 pub use package::swapped_package;
 pub use package_error::PackageSwapError;
 pub use swap::swapped;

@@ -1,7 +1,8 @@
 //! Rows of files in both orders: a file of ICU's `genrb` 72.1, and what `icupkg -tb` makes of it.
 //! Its text is `t{ a{"é"} b:bin{0102} c:intvector{1,258} d:alias{"/x"} }`.
 
-use crate::{SwapError, swapped};
+use crate::{SwapError, little_endian, swapped};
+use std::borrow::CowSlice;
 use std::test::Fail;
 
 /// The file as `genrb` writes it.
@@ -42,10 +43,25 @@ fn either_order_becomes_the_other(rt: HostRuntime) -> Result<(), Fail> {
 }
 
 #[test]
+fn either_order_is_little_endian(rt: HostRuntime) -> Result<(), Fail> {
+    let mirrored = little_endian(rt.alloc(), BIG.as_slice())?;
+    assert!(rt; mirrored.as_slice() == LITTLE.as_slice());
+    let borrowed = little_endian(rt.alloc(), LITTLE.as_slice())?;
+    assert!(rt; matches!(borrowed, CowSlice::Borrowed(_)));
+    Ok(())
+}
+
+#[test]
 fn an_ebcdic_file_is_refused(rt: HostRuntime) -> Result<(), Fail> {
     let mut file = LITTLE.to_vec(rt.alloc())?;
     assert_eq!(rt; file.len(), 152);
     file[9] = 1;
     assert!(rt; matches!(swapped(rt.alloc(), file.as_slice()), Err(SwapError::Ebcdic)));
+    assert!(rt;
+        matches!(
+            little_endian(rt.alloc(), file.as_slice()),
+            Err(SwapError::Ebcdic)
+        )
+    );
     Ok(())
 }

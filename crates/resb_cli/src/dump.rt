@@ -60,7 +60,10 @@ fn dump_each(rt: &HostRuntime, wanted: &DumpWords<'_>, taken: &mut Taken) -> u8 
     for name in wanted.files.iter().copied() {
         before = match Input::next(before, rt, name, wanted.limit) {
             Ok(input) => {
-                let source = Source { name, wanted };
+                let source = Source {
+                    name,
+                    wanted: &*wanted,
+                };
                 status = status.max(settled(source.dump(rt, &input, &mut pools, taken)));
                 Some(input)
             }
@@ -106,7 +109,7 @@ fn note_of<'f>(
     }
 }
 
-impl Source<'_> {
+impl<'f> Source<'f> {
     /// Shows the file: the status, or that of what kept it from being shown. Its pool bundle is
     /// kept for the next file.
     fn dump(
@@ -121,7 +124,12 @@ impl Source<'_> {
             Err(_) if self.wanted.is_lenient && self.wanted.pool.is_none() => Beside::Nowhere,
             beside => beside?,
         };
-        let done = self.dump_beside(rt, opened.bytes, &beside, taken);
+        // lent again, for as long as its pool bundle
+        let source = Source {
+            name: &*self.name,
+            wanted: &*self.wanted,
+        };
+        let done = source.dump_beside(rt, opened.bytes, &beside, taken);
         pools.keep(beside);
         done
     }
@@ -131,8 +139,8 @@ impl Source<'_> {
     fn dump_beside(
         self,
         rt: &HostRuntime,
-        file: &[u8],
-        beside: &Beside<'_>,
+        file: &'f [u8],
+        beside: &'f Beside<'_>,
         taken: &mut Taken,
     ) -> Result<u8, u8> {
         note_pool(rt, self.name, beside, taken)?;

@@ -8,23 +8,24 @@ ghost use Rattle.resb_lent.specs.Inner.Copies.{IsCopy, AreCopies};
 use std::alloc::{AllocError, Global};
 
 /// How many strings the table has.
-const SLOTS: usize = 256;
+const SLOTS: usize = 2048;
 
 /// The byte at a place, or 0 behind the last.
 fn byte_or_0(bytes: &[u8], place: usize) -> u8 {
     bytes.get(place).copied().unwrap_or(0)
 }
 
-/// The place of a string in the table, which its length and three of its bytes tell.
-fn slot_of(text: &str) -> u8 {
+/// The place of a string in the table, which its length and four of its bytes tell.
+fn slot_of(text: &str) -> usize
+    ensures { result < 2048 }
+{
     let bytes = text.as_bytes();
     let len = bytes.len();
-    let last = byte_or_0(bytes, len.saturating_sub(1)).wrapping_mul(31);
-    let middle = byte_or_0(bytes, len / 2).wrapping_mul(7);
-    byte_or_0(bytes, 0)
-        .wrapping_add(last)
-        .wrapping_add(middle)
-        .wrapping_add((len % 64) as u8 * 3)
+    let last = usize::from(byte_or_0(bytes, len.saturating_sub(1)));
+    let before = usize::from(byte_or_0(bytes, len.saturating_sub(2)));
+    let middle = usize::from(byte_or_0(bytes, len / 2));
+    let quarter = usize::from(byte_or_0(bytes, len / 4));
+    (last * 31 + before * 59 + middle * 197 + quarter * 7 + len % 64 * 13) % SLOTS
 }
 
 /// Whether two texts are the same. Their lengths are compared first.
@@ -53,7 +54,7 @@ pub(crate) fn find_copies(alloc: Global, strings: &[&str]) -> Result<Vec<usize>,
     let mut seen = [0; SLOTS];
     let mut copies = Vec::with_capacity(alloc, strings.len())?;
     for (number, text) in strings.iter().enumerate() {
-        let slot = slot_of(text) as usize;
+        let slot = slot_of(text);
         copies.push(copy_of(strings, seen[slot], number))?;
         seen[slot] = number;
     }

@@ -51,5 +51,6 @@ pub(crate) fn runs_in<'a>(alloc: Global, keys: &'a [u8]) -> Result<Vec<LentRun<'
         })?;
         start += len + 1;
     }
+    runs.shrink_to_fit();
     Ok(runs)
 }

@@ -142,5 +142,6 @@ pub(crate) fn records_in(
         at = record.end as usize;
         records.push(record)?;
     }
+    records.shrink_to_fit();
     Ok(records)
 }

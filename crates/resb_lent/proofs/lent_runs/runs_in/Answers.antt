@@ -1,5 +1,6 @@
-use Rattle.std.proofs.Common.{◌+◌, ◌<◌, ◌≤◌, ◌^◌, ℕ, List, arith, sym, ◌∙◌}
+use Rattle.std.proofs.Common.{◌+◌, ◌<◌, ◌≤◌, ◌^◌, ℕ, List, arith, sym, ◌∙◌, subst}
 use Rattle.resb_lent.specs.LentEnds.{IsRun}
+use Rattle.resb_lent.specs.Inner.Runs.{ListsAllRuns}
 use Rattle.resb_lent.proofs.Runs.{run_ended, ends_behind, none_behind, run_listed, all_listed}
 use Rattle.resb_lent.proofs.Wholes.{next_begins}
 use Rattle.resb_lent.proofs.lent_runs.runs_in.Goals as goal
@@ -45,4 +46,5 @@ returns c =
             t.saturating_add.ensures,
           )
     ] in
-    all_listed keys start c.keys.runs.items c.keys.invariant.listed none
+    subst (ListsAllRuns keys) (sym c.shrink_to_fit.ensures.items)
+    (all_listed keys start c.keys.runs.items c.keys.invariant.listed none)

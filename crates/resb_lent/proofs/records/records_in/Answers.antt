@@ -1,7 +1,7 @@
-use Rattle.std.proofs.Common.{arith, List, ℕ}
+use Rattle.std.proofs.Common.{arith, List, ℕ, subst, sym}
 use Rattle.resb_format.specs.Bytes.{units_of}
 use Rattle.resb_lent.specs.LentTexts.{StandsAt}
-use Rattle.resb_lent.specs.Inner.Listed.{IsRecordAt}
+use Rattle.resb_lent.specs.Inner.Listed.{IsRecordAt, ListsRecords}
 use Rattle.resb_lent.proofs.Listing.{none_listed, one_listed, all_listed, none_far}
 use Rattle.resb_lent.proofs.records.records_in.Goals as goal
 use Rattle.resb_lent.proofs.records.records_in.Goals.{else-records-test}
@@ -30,4 +30,5 @@ returns c =
       | else-records-test w ↦ λ r s. none_far block r at (omega (arith, w.records-test.false)) s
       | then-records-test+in_ok-record+in_default w ↦ rw w.in_default.is at w.in_ok-record.ensures
     ] in
-    all_listed block c.records.records.items at c.records.invariant none
+    subst (ListsRecords block) (sym c.shrink_to_fit.ensures.items)
+    (all_listed block c.records.records.items at c.records.invariant none)

@@ -66,7 +66,7 @@ no_third_bit true false = refl
 no_third_bit false fallback = refl
 
 -- a written file has nothing to do with pools
-own_file : {q : Packing} {bytes : List ℕ} {t : Tree} {fallback : Bool} {ks : List (List ℕ)}
+pub own_file : {q : Packing} {bytes : List ℕ} {t : Tree} {fallback : Bool} {ks : List (List ℕ)}
     → WrittenBy q bytes t fallback ks → IsOwnFile bytes
 own_file {q} {bytes} {t} {fallback} {ks} w =
     let has = nat_le 6 (index_length bytes) && (nat_le 2 (major bytes) || nat_le 2 (minor bytes)) in

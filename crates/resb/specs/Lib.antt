@@ -92,6 +92,9 @@ pub use Rattle.resb_swap.specs.Swapped
 pub use Rattle.resb_swap.specs.Faults as SwapFaults
 pub use Rattle.resb_swap.specs.Message as SwapMessage
 pub use Rattle.resb_swap.specs.Laws as SwapLaws
+pub use Rattle.resb_swap.specs.Packages as SwapPackages
+pub use Rattle.resb_swap.specs.PackageFaults as SwapPackageFaults
+pub use Rattle.resb_swap.specs.Orders as SwapOrders
 pub use Rattle.resb_pool_bundle.specs.Fields as HeadFields
 pub use Rattle.resb_pool_bundle.specs.Pool as PoolBundles
 pub use Rattle.resb_pool_bundle.specs.Checks as PoolBundleChecks
@@ -165,3 +168,4 @@ pub use Rattle.resb_compile.specs.Compiling
 pub use Rattle.resb_compile.specs.Errors as CompileErrors
 pub mod Headline
 pub mod Laws
+pub mod Orders

@@ -21,5 +21,8 @@ pub use resb_read::{
     Resource16BitDeserializer, SeqAccess, SortedTable, Spot, Sums, TableView, Walk,
     determine_endianness, from_bytes, from_bytes_counted, from_words, lay_words,
 };
-pub use resb_swap::{PackageSwapError, SwapError, swapped, swapped_package};
+pub use resb_swap::{
+    IcuData, PackageSwapError, SwapError, data_of, little_endian, swapped, swapped_package,
+    with_little_table,
+};
 pub use resb_write::{BinarySerializerError, Layout, Serializer};

@@ -11,6 +11,7 @@ ghost use Rattle.resb.specs.Laws.{TextIsRead, PlainIsCompiled, CompiledIsRead};
 ghost use Rattle.resb.specs.Laws.{WrittenIsRead};
 ghost use Rattle.resb.specs.Laws.{WrittenIsReadWithPool, WrittenOverPoolIsRead};
 ghost use Rattle.resb.specs.Laws.{CompiledByIsRead};
+ghost use Rattle.resb.specs.Orders.{LittleEndianIsRead, SwappedIsDenoted};
 
 // Trees and integers.
 
@@ -137,6 +138,8 @@ pub use resb_swap::laws::swapped_back;
 pub use resb_swap::laws::swapped_is_as_long;
 // A file has one swapped file.
 pub use resb_swap::laws::one_swap;
+// The bytes that `little_endian` gives of a file denote what the file does in its own order.
+pub use resb_swap::laws::little_endian_denotes;
 // A package that was swapped to the other order of bytes is swapped back to the same bytes.
 pub use resb_swap::laws::package_swapped_back;
 // A package has one swapped package.
@@ -262,4 +265,17 @@ pub fn written_over_pool_is_read()
 /// pool bundle, if it has one, as what the way's rules leave of the text's tree, memory aside.
 pub fn compiled_by_is_read()
     ensures { CompiledByIsRead }
+{}
+
+/// What `File::read::<Resource>` reads of the bytes that `little_endian` gives of a file, once
+/// `File::open` has opened them, is the tree that the file denotes in its own order of bytes,
+/// memory aside.
+pub fn little_endian_is_read()
+    ensures { LittleEndianIsRead }
+{}
+
+/// What was written of any tree, compact or not, and then swapped, denotes that tree in its own
+/// order of bytes.
+pub fn swapped_is_denoted()
+    ensures { SwappedIsDenoted }
 {}

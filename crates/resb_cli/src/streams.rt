@@ -71,27 +71,69 @@ pub(crate) fn read_input(
     if name == "-" {
         return read_from(rt.alloc(), &mut rt.stdin(), most);
     }
-    let mut file = open(rt, name, most)?;
-    read_from(rt.alloc(), &mut file, most)
+    let (mut file, size) = open(rt, name, most)?;
+    match size {
+        Some(size) => read_file(rt.alloc(), &mut file, size, most),
+        None => read_from(rt.alloc(), &mut file, most),
+    }
 }
 
-/// The file of this name, if it isn't known to be larger.
-fn open(rt: &HostRuntime, name: &str, most: u64) -> Result<File, InputError> {
+/// What has this name, and its size if it is a file, unless it is known to be larger.
+fn open(rt: &HostRuntime, name: &str, most: u64) -> Result<(File, Option<u64>), InputError> {
     if is_marked(name) {
         return Err(InputError::Failed(NO_UTF8));
     }
     let file = fs::open(rt, name).map_err(|e| InputError::Failed(cause_of(&e)))?;
-    check_size(&file, most)?;
-    Ok(file)
+    let size = size_of(&file, most)?;
+    Ok((file, size))
 }
 
-/// Refuses a folder, and a file that is known to be larger.
-fn check_size(file: &File, most: u64) -> Result<(), InputError> {
+/// The size of a file. Refuses a folder, and a file that is known to be larger.
+fn size_of(file: &File, most: u64) -> Result<Option<u64>, InputError> {
     match file.metadata() {
         Ok(found) if found.is_dir() => Err(InputError::Failed("this is a folder")),
         Ok(found) if found.is_file() && found.len() > most => Err(InputError::Larger(most)),
-        _ => Ok(()),
+        Ok(found) if found.is_file() => Ok(Some(found.len())),
+        _ => Ok(None),
     }
+}
+
+/// All that a file has, which had so many bytes when it was opened: room is made for these, and one
+/// more, behind which others may have come since.
+fn read_file(alloc: Global, file: &mut File, size: u64, most: u64) -> Result<Vec<u8>, InputError> {
+    let room = size.saturating_add(1);
+    let mut bytes = made(vec![in alloc; 0u8; room as usize]).map_err(InputError::Failed)?;
+    let filled = fill(file, bytes.as_mut_slice())?;
+    bytes.truncate(filled);
+    if (filled as u64) < room {
+        return Ok(bytes);
+    }
+    let rest = match read_from(alloc, file, most.saturating_sub(room)) {
+        Err(InputError::Larger(_)) => return Err(InputError::Larger(most)),
+        rest => rest?,
+    };
+    match bytes.extend_from_slice(rest.as_slice()) {
+        Ok(()) if bytes.len() as u64 <= most => Ok(bytes),
+        Ok(()) => Err(InputError::Larger(most)),
+        Err(_) => Err(InputError::Failed(NO_MEMORY)),
+    }
+}
+
+/// Reads into bytes until these are full or the file ends, and answers how many were read.
+fn fill(file: &mut File, bytes: &mut [u8]) -> Result<usize, InputError> {
+    let mut filled = 0usize;
+    for _ in 0..u64::MAX {
+        let Some((_, rest)) = bytes.split_at_mut_checked(filled) else {
+            break;
+        };
+        match file.read(rest) {
+            Ok(0) => break,
+            Ok(count) => filled = filled.saturating_add(count),
+            Err(e) if e.kind() == ErrorKind::Interrupted => {}
+            Err(_) => return Err(InputError::Failed("cannot be read")),
+        }
+    }
+    Ok(filled)
 }
 
 /// All that a reader has.

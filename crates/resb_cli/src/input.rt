@@ -1,6 +1,6 @@
 //! Files by their names, which may be those of items inside a package, and the pool bundles beside
 //! them. How bytes are read is in `streams`; what is said of files is in `show`.
-use crate::order::{mirrored, with_little_table};
+use crate::order::mirrored;
 use crate::packages::{found, package_in};
 use crate::say::{fail, fail_input, or_fail, refuse_memory};
 use crate::shown::Shown;
@@ -8,6 +8,7 @@ use crate::streams::{made, read_input};
 use crate::unread::Unread;
 use resb_package::Package;
 use resb_pool_bundle::{FileHead, PoolBundle};
+use resb_swap::with_little_table;
 use std::alloc::{AllocError, Global};
 use std::fmt::Display;
 use std::path::{Path, PathBuf};

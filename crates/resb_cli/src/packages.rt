@@ -1,7 +1,6 @@
 //! The commands `list` and `extract`: the items of a package of ICU's data.
 //! What a package is, is in `resb_package`.
 use crate::input::bytes_of;
-use crate::order::with_little_table;
 use crate::place::place_of;
 use crate::save::{Bytes, save, saved};
 use crate::say::{complain, or_fail, refuse_memory};
@@ -11,6 +10,7 @@ use crate::streams::made;
 use crate::taken::Taken;
 use crate::unread::Unread;
 use resb_package::{Package, PackageError};
+use resb_swap::with_little_table;
 use resb_words::ExtractWords;
 use std::alloc::{AllocError, Global};
 

@@ -1,7 +1,6 @@
 //! The command `swap`: a file in the other order of bytes, or in the one that is said.
 //! How bundles and packages are mirrored is in `resb_swap`.
 use crate::input::bytes_of;
-use crate::order::{Data, data_of, with_little_table};
 use crate::place::place_of;
 use crate::save::{Bytes, save, saved};
 use crate::say::{complain, or_fail, refuse_memory};
@@ -9,9 +8,11 @@ use crate::show::settled;
 use crate::shown::Shown;
 use crate::streams::made;
 use crate::taken::Taken;
-use resb_head::BinHeader;
+use resb_head::{BinHeader, Endianness};
 use resb_package::Package;
-use resb_swap::{PackageSwapError, SwapError, swapped, swapped_package};
+use resb_swap::{
+    IcuData, PackageSwapError, SwapError, data_of, swapped, swapped_package, with_little_table,
+};
 use resb_words::{Order, SwapWords};
 
 /// Writes the file in the order that is asked for.
@@ -32,16 +33,26 @@ fn swap_file(rt: &HostRuntime, wanted: &SwapWords<'_>) -> Result<u8, u8> {
 /// Whether a file is a bundle or a package that has the order which is asked for.
 fn has_order(file: &[u8], wanted: Option<Order>) -> bool {
     match data_of(file) {
-        Data::Bundle(order) => wanted == Some(order) && BinHeader::read_any_order(file).is_ok(),
-        Data::Package(order) => wanted == Some(order),
-        Data::Ebcdic | Data::Other => false,
+        IcuData::Bundle(order) => {
+            wanted == Some(word_of(order)) && BinHeader::read_any_order(file).is_ok()
+        }
+        IcuData::Package(order) => wanted == Some(word_of(order)),
+        IcuData::Ebcdic | IcuData::Other => false,
+    }
+}
+
+/// The word of an order of bytes.
+fn word_of(order: Endianness) -> Order {
+    match order {
+        Endianness::Little => Order::Little,
+        Endianness::Big => Order::Big,
     }
 }
 
 /// The bundle or the package in the other order of bytes; or the status, once it is said why there
 /// is none.
 fn in_other_order(rt: &HostRuntime, name: &str, file: Vec<u8>) -> Result<Vec<u8>, u8> {
-    if let Data::Package(_) = data_of(file.as_slice()) {
+    if let IcuData::Package(_) = data_of(file.as_slice()) {
         return match swapped_package(rt.alloc(), file.as_slice()) {
             Ok(other) => Ok(other),
             Err(e) => Err(refuse_package(rt, name, file, e)),

@@ -8,6 +8,8 @@
 #[cfg(test)]
 mod blame_rows;
 #[cfg(test)]
+mod order_rows;
+#[cfg(test)]
 mod page_rows;
 #[cfg(test)]
 mod pool_rows;

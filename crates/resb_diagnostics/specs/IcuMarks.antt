@@ -1,6 +1,6 @@
 -- Warnings of a text of ICU's form that its bytes tell by what each stands in: of escapes that
 -- stand for their character alone, of text behind the root, and of an unquoted string right behind
--- a quoted piece; and all warnings of a text, which tell nothing more of what stands behind the root.
+-- a quoted piece; and all warnings of a text, which tell nothing more behind the root.
 --     icu_marked text n   those of the first n bytes
 --     icu_found text      all of a text
 use Rattle.std.specs.Prelude.{ℕ, zero, suc, ◌-◌, Bool, true, false, ◌&&◌, ◌||◌, not, ◌==◌, List, []}

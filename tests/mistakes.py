@@ -6,8 +6,9 @@ says of each text.
     mistakes.py [PROGRAM] whole  each text, and all that each says of it
 
 PROGRAM is `resb`, the proved one if none is named. The texts are those of
-tests/sessions/mistakes.bash. `genrb` names a line, or none; `resb` names line and column, and shows
-the line. Whether a message finds the mistake is for the reader to say.
+tests/sessions/mistakes.bash, and some that both take, with a warning or without one. `genrb` names
+a line, or none; `resb` names line and column, and shows the line. Whether a message finds the
+mistake is for the reader to say.
 """
 import pathlib
 import re
@@ -18,6 +19,9 @@ import tempfile
 TOP = pathlib.Path(__file__).resolve().parent.parent
 RESB = TOP / "crates/resb_cli/out/resb_cli"
 ROW = re.compile(r"^--icu@[^@]*@[^@]*@(.*)$", re.M)
+# mistakes in texts that both take
+TAKEN = [b"b{a{x}}}", b"b{\n a{x}}\n c{y}\n}\n", b"b{a{x}}c{y}", b"b{a:int{010}}",
+         b'b{a{"\\d+"}}', b"b{a{Hello {0}}}"]
 
 
 def texts():
@@ -26,6 +30,7 @@ def texts():
     for spelled in ROW.findall(rows):
         written = subprocess.run(["bash", "-c", 'printf %b "$0"', spelled], stdout=subprocess.PIPE)
         yield written.stdout
+    yield from TAKEN
 
 
 def said(command, folder):
@@ -55,7 +60,7 @@ def main():
     with tempfile.TemporaryDirectory() as folder:
         for number, text in enumerate(texts(), 1):
             (pathlib.Path(folder) / "b.txt").write_bytes(text)
-            theirs = said(["genrb", "-q", "b.txt"], folder)
+            theirs = said(["genrb", "b.txt"], folder)
             ours = said([program, "compile", "--icu", "b.txt"], folder)
             if is_whole:
                 lines = [f"## {number}", text.decode(), "-- genrb", *theirs, "-- resb", *ours]

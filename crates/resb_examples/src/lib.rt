@@ -4,6 +4,7 @@
 #![tactic(auto)]
 
 pub mod names;
+pub mod orders;
 pub mod reading;
 pub mod records;
 pub mod writing;

@@ -1,21 +1,9 @@
 //! Reading without a type of one's own: by the given types, by look-ups of keys, and by a plain
 //! function over cursors.
 //! A type of one's own is shown in `records`, and one with relations of its own in `zones`.
-use resb::binary::{BinaryDeserializerError, File, PoolBundle, SwapError, little_endian};
+use resb::binary::{BinaryDeserializerError, File, PoolBundle};
 use std::alloc::Global;
 use std::collections::BTreeMap;
-use thiserror::Error;
-
-/// Why a file that may be in either order of bytes isn't read.
-#[derive(Debug, Drop, Error)]
-pub enum OrderError {
-    /// It is big-endian, and there is no little-endian one; or it was written in EBCDIC.
-    #[error("{0}")]
-    Swapping(#[from] SwapError),
-    /// It isn't what was looked for.
-    #[error("{0}")]
-    Reading(#[from] BinaryDeserializerError),
-}
 
 /// The number `base` of a zone, in a file of tables of numbers by their names.
 pub fn base_of(
@@ -40,18 +28,6 @@ pub fn names_over_a_pool<'a>(
 ) -> Result<BTreeMap<&'a str, String>, BinaryDeserializerError> {
     let pool = PoolBundle::read(pool)?;
     File::open(file, Some(pool))?.read(alloc)
-}
-
-/// The strings of such a file over such a pool bundle, each in either order of bytes. A big-endian
-/// file is mirrored, so that nothing is borrowed from what the caller has.
-pub fn names_in_either_order(
-    alloc: Global,
-    file: &[u8],
-    pool: &[u8],
-) -> Result<BTreeMap<String, String>, OrderError> {
-    let (file, pool) = (little_endian(alloc, file)?, little_endian(alloc, pool)?);
-    let pool = PoolBundle::read(&pool)?;
-    Ok(File::open(&file, Some(pool))?.read(alloc)?)
 }
 
 /// The number `base` of a zone, looked up by its keys, in a file of tables that may hold anything

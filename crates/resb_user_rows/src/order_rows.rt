@@ -1,7 +1,7 @@
 //! A file and its pool bundle in big-endian order, as `icupkg -tb` 72.1 makes them of `genrb`'s.
 //! What the little-endian ones answer is in `page_rows`.
 use resb::binary::SwapError;
-use resb_examples::reading::{OrderError, names_in_either_order};
+use resb_examples::orders::{OrderError, names_in_either_order};
 use std::alloc::{AllocError, Global};
 use std::test::Fail;
 

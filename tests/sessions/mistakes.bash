@@ -110,7 +110,8 @@ told 0 '' "$named" compile --icu named/app.txt
 told 0 '' "$named" compile --check named/app.txt -d .
 told 1 '' "$named
 named/app.txt: no file is written, since this has warnings" compile --check --strict named/app.txt
-told 1 '' 'named/app.txt: no file is written, since this has warnings' \
+told 1 '' "$named
+named/app.txt: no file is written, since this has warnings" \
   compile --check --strict --quiet named/app.txt
 told 0 '' '' compile --strict named/app.txt -o named/other.res
 told 0 '' '' compile --strict --by-name named/app.txt

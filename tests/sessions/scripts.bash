@@ -15,8 +15,8 @@ rm alone/warn.res
 told 1 '' "$warned
 warn.txt: no file is written, since this has warnings" compile --strict warn.txt -d alone
 holds alone ''
-told 1 '' 'warn.txt: no file is written, since this has warnings' \
-  compile --quiet --strict warn.txt -d alone
+told 1 '' "$warned
+warn.txt: no file is written, since this has warnings" compile --quiet --strict warn.txt -d alone
 holds alone ''
 printf 'bare{k{v}}' > bare.txt
 told 0 '' '' compile --strict names.txt bare.txt -d alone
@@ -113,7 +113,8 @@ bits.txt: no file is written, since this has warnings" compile --icu --strict bi
 holds alone ''
 told 0 '' "$bits" compile --icu --check bits.txt -d alone
 told 0 '' '' compile --icu --quiet --check bits.txt joined.txt braces.txt -d alone
-told 1 '' 'bits.txt: no file is written, since this has warnings' \
+told 1 '' "$bits
+bits.txt: no file is written, since this has warnings" \
   compile --icu --quiet --strict --check bits.txt -d alone
 told 0 '' "$bits" compile --icu --by-name bits.txt -d alone
 told 0 '' "${bits//bits.txt/icu_texts/bits.txt}

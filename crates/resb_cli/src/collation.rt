@@ -64,7 +64,7 @@ pub(crate) fn say_unbuilt(
     key: &str,
     wanted: &CompileWords<'_>,
 ) -> u8 {
-    if !wanted.is_quiet {
+    if !wanted.is_quiet || wanted.is_strict {
         let said = Said::Unbuilt;
         complain(rt, name, OfType { key, said });
     }

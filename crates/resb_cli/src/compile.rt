@@ -614,27 +614,26 @@ fn file_at_once<'t>(
     }
 }
 
-/// The status of a text's warnings, once they are said.
+/// The status of a text's warnings, once they are said: also where the call is to be quiet, if they
+/// refuse the text.
 fn warned(rt: &HostRuntime, name: &str, text: SourceText<'_>, wanted: &CompileWords<'_>) -> u8 {
     if wanted.is_quiet && !wanted.is_strict {
         return 0;
     }
     let lacks_files = match wanted.dependencies {
-        Some(folder) => text.warn_of_missing(rt, name, folder, wanted.is_quiet),
+        Some(folder) => text.warn_of_missing(rt, name, folder),
         None => false,
     };
     let is_misnamed = has_wanted_name(name, wanted) && warn_of_name(rt, name, text, wanted);
     if may_pass(text.whole().len(), wanted.limit) {
-        if !wanted.is_quiet {
-            complain(
-                rt,
-                name,
-                "its warnings may take more than the limit: none is looked for",
-            );
-        }
+        complain(
+            rt,
+            name,
+            "its warnings may take more than the limit: none is looked for",
+        );
         return u8::from(wanted.is_strict);
     }
-    match warn(rt, name, text, wanted.is_icu, wanted.is_quiet) {
+    match warn(rt, name, text, wanted.is_icu) {
         Ok(is_warned) => { u8::from((lacks_files || is_misnamed || is_warned) && wanted.is_strict) }
         Err(status) => status,
     }

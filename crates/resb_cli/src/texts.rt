@@ -74,16 +74,9 @@ impl<'s> SourceText<'s> {
         }
     }
 
-    /// Says which of the files that the text depends on aren't in a folder, unless it is to be
-    /// quiet, and answers whether there are such. The first are named; of the others the number is
-    /// said.
-    pub(crate) fn warn_of_missing(
-        &self,
-        rt: &HostRuntime,
-        name: &str,
-        folder: &str,
-        is_quiet: bool,
-    ) -> bool {
+    /// Says which of the files that the text depends on aren't in a folder, and answers whether
+    /// there are such. The first are named; of the others the number is said.
+    pub(crate) fn warn_of_missing(&self, rt: &HostRuntime, name: &str, folder: &str) -> bool {
         let Some(taken) = self.taken else {
             return false;
         };
@@ -97,13 +90,13 @@ impl<'s> SourceText<'s> {
             if Path::new(path).exists(rt) {
                 continue;
             }
-            if missing < MOST_MISSING && !is_quiet {
+            if missing < MOST_MISSING {
                 let at = location_of(self.read.as_bytes(), file.place);
                 say_at(rt, name, at, NoDependency(path));
             }
             missing = missing.saturating_add(1);
         }
-        if missing > MOST_MISSING && !is_quiet {
+        if missing > MOST_MISSING {
             complain(rt, name, MoreMissing(missing - MOST_MISSING));
         }
         missing > 0

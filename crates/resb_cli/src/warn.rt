@@ -17,15 +17,13 @@ use std::path::Path;
 /// The most warnings that are said of one text.
 const MOST_WARNINGS: usize = 20;
 
-/// Finds the warnings of a text that was compiled, of ICU's form or not, says them unless this is
-/// to be quiet, and answers whether there is any. The status of a want of memory is answered once
-/// that is said.
+/// Says the warnings of a text that was compiled, of ICU's form or not, and answers whether there
+/// is any. The status of a want of memory is answered once that is said.
 pub(crate) fn warn<R: Eprint + AllocGlobal>(
     rt: &R,
     name: &str,
     text: SourceText<'_>,
     is_icu: bool,
-    is_quiet: bool,
 ) -> Result<bool, u8> {
     let found = if is_icu {
         icu_warnings(rt.alloc(), text.whole())
@@ -35,14 +33,12 @@ pub(crate) fn warn<R: Eprint + AllocGlobal>(
     let Ok(found) = found else {
         return Err(fail(rt, name, "its warnings are not known: out of memory"));
     };
-    if !is_quiet {
-        say_warnings(rt, name, text, found.as_slice());
-    }
+    say_warnings(rt, name, text, found.as_slice());
     Ok(!found.is_empty())
 }
 
-/// Answers whether a text's bundle isn't named as the text, by whose name its file is made, and
-/// says so unless this is to be quiet.
+/// Says if a text's bundle isn't named as the text, by whose name its file is made, and answers
+/// whether that is so.
 pub(crate) fn warn_of_name<R: Eprint>(
     rt: &R,
     name: &str,
@@ -57,16 +53,14 @@ pub(crate) fn warn_of_name<R: Eprint>(
     if bundle == stem || !is_file_name(bundle) {
         return false;
     }
-    if !wanted.is_quiet {
-        let at = location_of(source, place);
-        let is_by_name = wanted.is_by_name;
-        let told = OtherName {
-            bundle,
-            stem,
-            is_by_name,
-        };
-        say_at(rt, name, at, told);
-    }
+    let at = location_of(source, place);
+    let is_by_name = wanted.is_by_name;
+    let told = OtherName {
+        bundle,
+        stem,
+        is_by_name,
+    };
+    say_at(rt, name, at, told);
     true
 }
 

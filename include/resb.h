@@ -59,7 +59,7 @@ uint32_t resb_version(void);
 /* The bytes are no file of a bundle, or, where a zone is asked for, none of zones. */
 #define RESB_NOT_A_FILE 5u
 /* The file has version 1.0 of the format, characters of another size than 2 bytes, EBCDIC, or the
- * other order of bytes: call resb_swap for a little-endian file. Versions 1.1, 1.2, 1.3, 2.0 and
+ * other order of bytes: resb_swap makes a little-endian one of it. Versions 1.1, 1.2, 1.3, 2.0 and
  * 3.0 are read by each call, with their aliases. A version or a format that isn't known at all is
  * RESB_NOT_A_FILE. */
 #define RESB_UNSUPPORTED 6u

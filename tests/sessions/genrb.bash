@@ -44,7 +44,12 @@ mkdir -p other
 told 0 '' '' genrb -q --formatVersion 3 -s source -d other root.txt
 [ "$(cmp -l built/root.res other/root.res | xargs)" = '17 2 3' ] \
   && passed=$((passed + 1)) || { failed=$((failed + 1)); echo 'genrb: a file of 3.0'; }
-told 0 'Processing file "source/root.txt"' '' genrb -v -c -s source -d other root.txt
+told 0 'Processing file "source/root.txt"
+ parsing table (null) at line 1 
+ resource hi at line 1 
+ string hi at line 1 
+ resource list at line 1 
+ array list at line 1 ' '' genrb -v -c -s source -d other root.txt
 [ "$(head -c 2 other/root.res | od -An -tx1)" = ' 90 00' ] \
   && [ "$(tail -c +33 built/root.res | cksum)" = "$(tail -c +145 other/root.res | cksum)" ] \
   && [ "$(head -c 143 other/root.res | tail -c +26 | head -c 13)" = 'Copyright (C)' ] \
@@ -57,6 +62,47 @@ for encoding in UTF-16LE UTF-16BE UTF-32LE UTF-32BE ISO-8859-1 windows-1252; do
   told 0 $'root{\n    hi{"Hell\u00f6"}\n}' '' derb -c -s other root
 done
 rm source/coded.txt
+# each group with its line, as ICU's genrb 72.1 prints them
+printf '// c\ntrace:table(nofallback)\n\n{\n a\n :\n table\n { b:string{"x"\n"y"} }\n s\n  {\n  "x"\n "y}" } // {\n list{ "x",\n {"z"},\n :int\n {4} , { { "k" } , {p{"q"}} } }\n e{} al:alias\n {"/a"} bin:bin\n{ "00" } v:intvector{ 1,\n2}\n collations{ default{"x"} al:alias{"/LOCALE"} }\n}\n' > source/trace.txt
+told 0 'Processing file "source/trace.txt"
+ parsing table (null) at line 4 
+ resource a at line 6 
+ table a at line 8 
+ parsing table a at line 8 
+ resource b at line 8 
+ string b at line 8 
+ resource s at line 11 
+ string s at line 11 
+ resource list at line 14 
+ array list at line 14 
+ resource (null) at line 15 
+ string (null) at line 15 
+ resource (null) at line 16 
+ integer (null) at line 17 
+ resource (null) at line 17 
+ array (null) at line 17 
+ resource (null) at line 17 
+ string (null) at line 17 
+ resource (null) at line 17 
+ table (null) at line 17 
+ parsing table (null) at line 17 
+ resource p at line 17 
+ string p at line 17 
+ resource e at line 18 
+ array e at line 18 
+ resource al at line 18 
+ alias al at line 19 
+ resource bin at line 19 
+ binary bin at line 20 
+ resource v at line 20 
+ vector v at line 20 
+ resource collations at line 22 
+ collation elements collations at line 22 
+ resource default at line 22 
+ string default at line 22 
+ resource al at line 22 
+ alias al at line 22 ' '' genrb -v -s source -d other trace.txt
+rm source/trace.txt
 # the same text twice is compiled once; a folder is no text
 told 0 '' '' genrb -q -s source -d other root.txt ./root.txt
 told 3 '' 'source/sub: this is a folder' genrb -q -s source -d other sub

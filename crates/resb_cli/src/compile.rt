@@ -19,6 +19,7 @@ use crate::shown::Shown;
 use crate::streams::{NO_MEMORY, made, read_input};
 use crate::taken::Taken;
 use crate::texts::{SourceText, taken_in};
+use crate::trace::trace_of;
 use crate::warn::{warn, warn_of_name};
 use crate::words::{NO_UTF8, is_marked};
 use resb_compile::{Compile, TextForm};
@@ -357,6 +358,18 @@ fn say_processed(rt: &HostRuntime, name: &str) -> Result<(), u8> {
     }
 }
 
+/// Says the groups of a text on standard output, as ICU's compiler does.
+fn say_trace(rt: &HostRuntime, text: SourceText<'_>) -> Result<(), u8> {
+    let Ok(trace) = trace_of(rt.alloc(), text.read().as_bytes()) else {
+        return Err(refuse_memory(rt, "resb"));
+    };
+    let trace = trace.as_str();
+    match status_of(rt, print!(rt; "{trace}").is_ok()) {
+        0 => Ok(()),
+        status => Err(status),
+    }
+}
+
 /// Where a text's file goes, or the status, once it is said why that is nowhere.
 fn target_of(
     rt: &HostRuntime,
@@ -576,6 +589,9 @@ fn file_of<'t>(
     if work.wanted.file.has_copyright {
         let noted = with_notice(rt.alloc(), file.bytes.as_slice());
         file.bytes = noted.map_err(|_| refuse_memory(rt, name))?;
+    }
+    if work.wanted.is_verbose {
+        say_trace(rt, text)?;
     }
     file.status = file.status.max(warned(rt, name, text, work.wanted));
     Ok(file)

@@ -49,6 +49,7 @@ mod subject;
 mod swap;
 mod taken;
 mod texts;
+mod trace;
 mod unread;
 mod warn;
 mod words;

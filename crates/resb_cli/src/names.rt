@@ -26,7 +26,7 @@ fn mark_end(source: &[u8]) -> usize {
 }
 
 /// Behind the comment that begins at a place, if one does.
-fn comment_end(source: &[u8], place: usize, is_icu: bool) -> Option<usize> {
+pub(crate) fn comment_end(source: &[u8], place: usize, is_icu: bool) -> Option<usize> {
     let (_, rest) = source.split_at_checked(place)?;
     let length = match rest {
         [b'/', b'/', ..] => line_length(rest, is_icu),

@@ -29,14 +29,31 @@ impl fmt::Display for Shown<'_> {
     }
 }
 
-/// A character in a message, shown as in a text.
+/// A character that a message names, shown as in a text, but for one that isn't seen.
 #[derive(Clone, Copy)]
 pub(crate) struct ShownCharacter(pub(crate) char);
 
 impl fmt::Display for ShownCharacter {
     fn fmt<W: fmt::Write>(&self, f: &mut fmt::Formatter<W>) -> fmt::Result {
-        write_character(f, self.0)
+        if is_unseen(self.0) {
+            write_code(f, self.0)
+        } else {
+            write_character(f, self.0)
+        }
     }
+}
+
+/// Whether a character beyond ASCII looks like a blank, or like nothing.
+fn is_unseen(c: char) -> bool {
+    matches!(
+        c,
+        '\u{a0}' | '\u{ad}' | '\u{1680}' | '\u{2000}'..='\u{200d}'
+            | '\u{202f}'
+            | '\u{205f}'
+            | '\u{2060}'
+            | '\u{3000}'
+            | '\u{feff}'
+    )
 }
 
 /// Writes a character, or what stands for one that is hidden.
@@ -44,11 +61,16 @@ fn write_character<W: fmt::Write>(f: &mut fmt::Formatter<W>, c: char) -> fmt::Re
     if c == MARK {
         Ok(())
     } else if is_hidden(c) {
-        let code = u32::from(c);
-        write!(f, "\\u{{{code:x}}}")
+        write_code(f, c)
     } else {
         f.write_char(c)
     }
+}
+
+/// Writes what stands for a character: `\u{1b}`.
+fn write_code<W: fmt::Write>(f: &mut fmt::Formatter<W>, c: char) -> fmt::Result {
+    let code = u32::from(c);
+    write!(f, "\\u{{{code:x}}}")
 }
 
 /// How many bytes JSON has where nothing is hidden in it: six for each hidden character.

@@ -102,7 +102,7 @@ told 0 'Processing file "source/trace.txt"
  string default at line 22 
  resource al at line 22 
  alias al at line 22 ' '' genrb -v -s source -d other trace.txt
-rm source/trace.txt
+rm source/trace.txt other/trace.res
 # the same text twice is compiled once; a folder is no text
 told 0 '' '' genrb -q -s source -d other root.txt ./root.txt
 told 3 '' 'source/sub: this is a folder' genrb -q -s source -d other sub

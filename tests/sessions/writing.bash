@@ -5,12 +5,11 @@ mkdir -p w/in w/out w/sub
 # a text with a warning has no file by ICU's words either
 printf 'warned{a{"x","y"\n "z"}}' > w/in/warned.txt
 printf 'clean{a{"x"}}' > w/in/clean.txt
-told 3 '' 'w/in/warned.txt:2:2: warning: this string is joined to the one before; a comma '\
-'would part them
-w/in/warned.txt: no file is written, since this has warnings' genrb --strict-warnings -s w/in -d w/out warned.txt clean.txt
+warned='w/in/warned.txt:2:2: warning: this string is joined to the one before; a comma would part them
+w/in/warned.txt: no file is written, since this has warnings'
+told 3 '' "$warned" genrb --strict-warnings -s w/in -d w/out warned.txt clean.txt
 holds w/out clean.res
-told 3 '' 'w/in/warned.txt: no file is written, since this has warnings' \
-  genrb -q --strict-warnings -s w/in -d w/out warned.txt
+told 3 '' "$warned" genrb -q --strict-warnings -s w/in -d w/out warned.txt
 told 0 '' '' genrb -q -s w/in -d w/out warned.txt
 holds w/out 'clean.res warned.res'
 rm w/out/*

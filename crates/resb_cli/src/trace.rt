@@ -30,6 +30,15 @@ struct Scan<'t> {
     line: u64,
 }
 
+/// What a group is.
+#[derive(Clone, Copy)]
+enum Kind {
+    Table,
+    Array,
+    /// Nothing lies inside, and this is said of it.
+    Leaf(&'static str),
+}
+
 /// What is open round a place.
 #[derive(Clone, Copy, PartialEq)]
 enum Inside {
@@ -118,17 +127,22 @@ impl<'t> Trace<'t> {
     /// Passes the front of a group behind its first token, or all of it if nothing lies inside.
     fn group(&mut self, key: Option<usize>, is_typed: bool, line: u64) -> Result<(), AllocError> {
         self.say(" resource", key, line)?;
-        let (said, line) = if is_typed {
+        let (kind, line) = if is_typed {
             self.scan.typed()
         } else {
             (self.scan.untyped(), line)
         };
-        match said {
-            " table" => return self.table(key, line),
-            " array" => self.open.push(Inside::Array)?,
-            _ => self.scan.pass_group(),
+        match kind {
+            Kind::Table => self.table(key, line),
+            Kind::Array => {
+                self.open.push(Inside::Array)?;
+                self.say(" array", key, line)
+            }
+            Kind::Leaf(said) => {
+                self.scan.pass_group();
+                self.say(said, key, line)
+            }
         }
-        self.say(said, key, line)
     }
 
     /// Says that a table begins.
@@ -221,25 +235,25 @@ impl<'t> Scan<'t> {
         self.at = end;
     }
 
-    /// Passes a type and its `{`: what is said of the group, and the line of the `{`.
-    fn typed(&mut self) -> (&'static str, u64) {
+    /// Passes a type and its `{`: what the group is, and the line of the `{`.
+    fn typed(&mut self) -> (Kind, u64) {
         self.pass_blanks();
-        let said = said_of(self.source.get(self.at..).unwrap_or_default());
+        let kind = kind_of(self.source.get(self.at..).unwrap_or_default());
         self.pass_strings();
         let (_, line) = self.next();
-        (said, line)
+        (kind, line)
     }
 
-    /// What is said of a group without a type, by its first tokens.
-    fn untyped(&self) -> &'static str {
+    /// What a group without a type is, by its first tokens.
+    fn untyped(&self) -> Kind {
         let mut ahead = *self;
         let (Token::Strings(_), _) = ahead.next() else {
-            return " array";
+            return Kind::Array;
         };
         match ahead.next() {
-            (Token::Comma, _) => " array",
-            (Token::Open | Token::Colon, _) => " table",
-            _ => " string",
+            (Token::Comma, _) => Kind::Array,
+            (Token::Open | Token::Colon, _) => Kind::Table,
+            _ => Kind::Leaf(" string"),
         }
     }
 
@@ -253,25 +267,26 @@ impl<'t> Scan<'t> {
     }
 }
 
-/// What is said of a group of the type that stands here.
-fn said_of(rest: &[u8]) -> &'static str {
-    let names: [(&[u8], &'static str); 9] = [
-        (b"table", " table"),
-        (b"array", " array"),
-        (b"string", " string"),
-        (b"alias", " alias"),
-        (b"bin", " binary"),
-        (b"intvector", " vector"),
-        (b"int", " integer"),
-        (b"include", " include"),
-        (b"import", " import"),
+/// What a group of the type is that stands here.
+fn kind_of(rest: &[u8]) -> Kind {
+    let kinds: [(&[u8], Kind); 9] = [
+        (b"table", Kind::Table),
+        (b"array", Kind::Array),
+        (b"string", Kind::Leaf(" string")),
+        (b"alias", Kind::Leaf(" alias")),
+        (b"bin", Kind::Leaf(" binary")),
+        (b"intvector", Kind::Leaf(" vector")),
+        (b"int", Kind::Leaf(" integer")),
+        (b"include", Kind::Leaf(" include")),
+        (b"import", Kind::Leaf(" import")),
     ];
-    for (name, said) in names {
+    for (name, kind) in kinds {
         if rest.starts_with(name) {
-            return said;
+            return kind;
         }
     }
-    ""
+    // `genrb` names no type for what stands for a file in another way
+    Kind::Leaf("")
 }
 
 /// Behind the string in quotes that begins at a place.
